@@ -37,12 +37,12 @@ pub record IsCountIn (sector : List ℕ) (part : Part) (found : ℕ) : Type 0 wh
   pub exact : found ≡ count_by (λ b. b == part.wanted) (slice_range sector part.at (part.at + part.few))
 
 -- what a call returns that wants sector n: of an honest disk this holds of it, and of the sector as a read gives it
-abbrev pub Tells : {D T E : Type 0} → Ghosts D → ℕ → (List ℕ → T → Type 0) → Result T E → D → LruCache ℕ (List ℕ)
+abbrev pub TellsSector : {D T E : Type 0} → Ghosts D → ℕ → (List ℕ → T → Type 0) → Result T E → D → LruCache ℕ (List ℕ)
     → Type 0
-Tells d n P result disk cache = IfOk result (λ told. d.honest disk
+TellsSector d n P result disk cache = IfOk result (λ told. d.honest disk
     → AreTrue (now (d.trail disk)).reads cache.entries → P ((now (d.trail disk)).reads n) told)
 
 -- a count in a part of it, which is no greater than the part whatever the disk tells
 abbrev pub TellsCount : {D E : Type 0} → Ghosts D → ℕ → Part → Result ℕ E → D → LruCache ℕ (List ℕ) → Type 0
-TellsCount d n part result disk cache = Tells d n (λ sector. IsCountIn sector part) result disk cache
+TellsCount d n part result disk cache = TellsSector d n (λ sector. IsCountIn sector part) result disk cache
     × IfOk result (λ found. found ≤ part.few)

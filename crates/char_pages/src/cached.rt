@@ -3,7 +3,7 @@ ghost use Rattle.std.specs.Prelude.{◌≡◌, ◌<◌, ◌≤◌, ◌+◌, get_
 ghost use Rattle.sector_disk.specs.declared.disk.TheConstants.{SECTOR_BYTES};
 ghost use Rattle.sector_disk.specs.Trail.{Content, CountsFault, Nowhere, now};
 ghost use Rattle.sector_disk.specs.Confined.{IsConfined};
-ghost use Rattle.char_pages.specs.Cached.{AreTrue, AddsSector, LooksUp, IsCountIn, Tells, TellsCount};
+ghost use Rattle.char_pages.specs.Cached.{AreTrue, AddsSector, LooksUp, IsCountIn, TellsSector, TellsCount};
 
 use crate::part::Part;
 use char_file::count_range;
@@ -64,7 +64,7 @@ pub(crate) fn sector_of<D: Disk>(disk: &mut D, cache: &mut Cache, n: u32) -> Res
 fn looked_up<D: Disk>(disk: &mut D, cache: &mut Cache, n: u32, at: usize) -> Result<u8, Fault>
     requires there { n < D.size disk.old }
     requires within { at < SECTOR_BYTES }
-    ensures value { Tells D.Disk n (λ sector byte. byte ≡ get_or sector at 0) result disk.old cache.old }
+    ensures value { TellsSector D.Disk n (λ sector byte. byte ≡ get_or sector at 0) result disk.old cache.old }
     ensures looked { LooksUp D.Disk n result disk.old disk.new cache.old cache.new }
 {
     let sector = sector_of(disk, cache, n)?;
@@ -81,7 +81,7 @@ pub(crate) fn byte_of<D: Disk>(
 ) -> Result<u8, Fault>
     requires there { n < D.size disk.old }
     requires within { at < SECTOR_BYTES }
-    ensures value { Tells D.Disk n (λ sector byte. byte ≡ get_or sector at 0) result disk.old cache.old }
+    ensures value { TellsSector D.Disk n (λ sector byte. byte ≡ get_or sector at 0) result disk.old cache.old }
     ensures looked { LooksUp D.Disk n result disk.old disk.new cache.old cache.new }
 {
     match newest(cache, n, at) {

@@ -8,7 +8,7 @@ use Rattle.char_file.specs.Source.{OnlyReads}
 use Rattle.char_file.proofs.Reading.{no_read, read_on}
 use Rattle.piece_ring.specs.Text.{Text, AreWithin}
 use Rattle.readers_scanners.specs.Form.{symbol}
-use Rattle.readers_scanners.specs.Reading.{bytes, Reading}
+use Rattle.readers_scanners.specs.Reading.{bytes_of_text, Reading}
 use Rattle.readers_scanners.specs.declared.symbol.Symbol.{Symbol}
 use Rattle.command_table.specs.Parameters.{name_in, names_on}
 
@@ -55,8 +55,8 @@ module _ {S : Type 0} (characters : S → List ℕ) (failures : S → ℕ) (hone
     pub calm : failures now ≡ failures start
     pub fits : length names ≤ most
     pub exact : honest start
-        → names_on (bytes (characters start) text) most first ≡ names ++ names_on (bytes (characters start) text)
-        (most - length names) (symbol (bytes (characters start) text) scanner.position)
+        → names_on (bytes_of_text (characters start) text) most first ≡ names ++ names_on (bytes_of_text (characters start) text)
+        (most - length names) (symbol (bytes_of_text (characters start) text) scanner.position)
 
   module _ (ground_self : (s : S) → same_ground s s) (ground_through : (a b c : S) → same_ground a b → same_ground b c
       → same_ground a c) where
@@ -74,9 +74,9 @@ module _ {S : Type 0} (characters : S → List ℕ) (failures : S → ℕ) (hone
           reads = no_read characters failures honest same_ground ground_self start;
           calm = refl;
           fits = omega (arith, some, size);
-          exact = λ h. names_on_more (bytes (characters start) text) most (first, scanner.position) name some (sym is)
-              ∙ (λ k. sym one k ++ names_on (bytes (characters start) text) (most - sym size k)
-              (symbol (bytes (characters start) text) scanner.position));
+          exact = λ h. names_on_more (bytes_of_text (characters start) text) most (first, scanner.position) name some (sym is)
+              ∙ (λ k. sym one k ++ names_on (bytes_of_text (characters start) text) (most - sym size k)
+              (symbol (bytes_of_text (characters start) text) scanner.position));
         }
 
     module _ (most : ℕ) (start now : S) (text : Text ℕ) (first : Symbol × ℕ) (scanner : Reading)
@@ -88,16 +88,16 @@ module _ {S : Type 0} (characters : S → List ℕ) (failures : S → ℕ) (hone
       offsets h = rw (so_far.reads.as_long, so_far.same) h
 
       -- the symbol that was scanned now is one of the bytes at the beginning
-      scanned : (s : Symbol) (end : ℕ) → (honest now → symbol (bytes (characters now) scanner.text) scanner.position
+      scanned : (s : Symbol) (end : ℕ) → (honest now → symbol (bytes_of_text (characters now) scanner.text) scanner.position
           ≡ (s, end)) → honest start
-          → symbol (bytes (characters start) text) scanner.position ≡ (s, end)
-      scanned s end there h = sym (λ k. symbol (bytes (so_far.reads.same h k) (so_far.same k)) scanner.position)
+          → symbol (bytes_of_text (characters start) text) scanner.position ≡ (s, end)
+      scanned s end there h = sym (λ k. symbol (bytes_of_text (so_far.reads.same h k) (so_far.same k)) scanner.position)
           ∙ there (so_far.reads.still h)
 
       -- one more name
       pub onward : (later : S) (next : Reading) (s : Symbol) (name : List ℕ) (more : List (List ℕ))
           → length names ≢ most → next.text ≡ scanner.text → next.position ≤ length scanner.text
-          → (honest now → symbol (bytes (characters now) scanner.text) scanner.position ≡ (s, next.position))
+          → (honest now → symbol (bytes_of_text (characters now) scanner.text) scanner.position ≡ (s, next.position))
           → Some name ≡ name_in s → more ≡ names ++ name ∷ []
           → OnlyReads characters failures honest same_ground now later → failures later ≡ failures now
           → IsGathering most start later text first next more
@@ -110,7 +110,7 @@ module _ {S : Type 0} (characters : S → List ℕ) (failures : S → ℕ) (hone
             calm = calm ∙ so_far.calm;
             fits = omega (arith, size, room, so_far.fits);
             exact = λ h.
-                let bs : List ℕ = bytes (characters start) text in
+                let bs : List ℕ = bytes_of_text (characters start) text in
                 let found = scanned s next.position there h in
                 so_far.exact h
                 ∙ (ap (λ l. names ++ l) (ap (names_on bs (most - length names)) found
@@ -122,18 +122,18 @@ module _ {S : Type 0} (characters : S → List ℕ) (failures : S → ℕ) (hone
           }
 
       -- another symbol ends the list
-      pub ended : (s : Symbol) (end : ℕ) → (honest now → symbol (bytes (characters now) scanner.text) scanner.position
+      pub ended : (s : Symbol) (end : ℕ) → (honest now → symbol (bytes_of_text (characters now) scanner.text) scanner.position
           ≡ (s, end)) → None ≡ name_in s → honest start
-          → names ≡ names_on (bytes (characters start) text) most first
+          → names ≡ names_on (bytes_of_text (characters start) text) most first
       ended s end there is h =
-          let bs : List ℕ = bytes (characters start) text in
+          let bs : List ℕ = bytes_of_text (characters start) text in
           sym (so_far.exact h ∙ (ap (λ l. names ++ l) (ap (names_on bs (most - length names)) (scanned s end there h)
           ∙ names_on_none bs (most - length names) (s, end) (sym is)) ∙ append-nil names))
 
       -- so many names are enough
-      pub filled : length names ≡ most → honest start → names ≡ names_on (bytes (characters start) text) most first
+      pub filled : length names ≡ most → honest start → names ≡ names_on (bytes_of_text (characters start) text) most first
       filled e h =
-          let bs : List ℕ = bytes (characters start) text in let none : most - length names ≡ 0 = omega (arith, e) in
+          let bs : List ℕ = bytes_of_text (characters start) text in let none : most - length names ≡ 0 = omega (arith, e) in
           sym (so_far.exact h ∙ (ap (λ l. names ++ l) (ap (λ n. names_on bs n (symbol bs scanner.position)) none
           ∙ names_on_zero bs (symbol bs scanner.position)) ∙ append-nil names))
 

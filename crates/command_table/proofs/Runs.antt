@@ -13,7 +13,7 @@ use Rattle.std.proofs.lemmas.List.Sums.{prefix_len-le-length, prefix_len_passes,
 use Rattle.std.proofs.lemmas.List.Sums.{prefix_len-drop_yes}
 use Rattle.piece_ring.specs.Text.{Text}
 use Rattle.event_bytes.specs.Bytes.{is_name_byte}
-use Rattle.readers_scanners.specs.Reading.{bytes}
+use Rattle.readers_scanners.specs.Reading.{bytes_of_text}
 use Rattle.readers_scanners.proofs.Running.{length-bytes}
 use Rattle.command_table.specs.declared.command.Command.{Command}
 use Rattle.command_table.specs.Commands.{command_named}
@@ -250,12 +250,12 @@ module _ (version : ℕ) (bs : List ℕ) (p start : ℕ) (is : start ≡ p - 18)
 -- what is called in the stretch of a text is called there
 pub called_there : (version : ℕ) (characters : List ℕ) (text : Text ℕ) (p start : ℕ) (window : List ℕ)
     (call : Option (Command × ℕ))
-    → start ≡ p - 18 → p ≤ length text → window ≡ take 37 (drop start (bytes characters text))
-    → call ≡ called_at version window (p - start) → further start call ≡ called_at version (bytes characters text) p
+    → start ≡ p - 18 → p ≤ length text → window ≡ take 37 (drop start (bytes_of_text characters text))
+    → call ≡ called_at version window (p - start) → further start call ≡ called_at version (bytes_of_text characters text) p
 called_there version characters text p start window call starts within read is =
     let size = length-bytes characters text in
     ap (further start) (is ∙ ap (λ w. called_at version w (p - start)) read)
-    ∙ sym (called_in_window version (bytes characters text) p start starts (omega (arith, within, size)))
+    ∙ sym (called_in_window version (bytes_of_text characters text) p start starts (omega (arith, within, size)))
 
 -- ---- the word is the longest run
 

@@ -5,7 +5,7 @@ use Rattle.std.proofs.Common.{refl, sym, ap, ◌∙◌}
 use Rattle.readers_scanners.specs.Form.{symbol}
 use Rattle.readers_scanners.specs.declared.symbol.Symbol.{Symbol}
 use Rattle.command_table.specs.Codes.{no_selection, no_viewer}
-use Rattle.command_table.specs.Parameters.{of_selection, of_menu, is_special, symbol_in, symbol_or, value, names}
+use Rattle.command_table.specs.Parameters.{of_selection, of_menu, is_special, symbol_in, symbol_or, value_parameter, names}
 use Rattle.command_table.specs.Deciding.{most_names}
 use Rattle.command_table.specs.Parameters.{names_or, names_in, names_on, names_from, some_names, first_names}
 use Rattle.command_table.proofs.FirstNames.{first_of_some}
@@ -18,21 +18,21 @@ module _ {T : Type 0} (read : T → List ℕ) (text : T) (pos : ℕ) (selection 
 
   pub value_of_selection : (menu : Option T) (first : Symbol) (r : Bool) → first ≡ symbol_in read (text, pos)
       → r ≡ is_special of_selection first → r ≡ true
-      → value read text pos selection menu ≡ symbol_or read no_selection selection
-  unfolding value
+      → value_parameter read text pos selection menu ≡ symbol_or read no_selection selection
+  unfolding value_parameter
   value_of_selection menu first r is e t = let at = tested of_selection first r true is e t in rw at refl
 
   pub value_of_menu : (menu : Option T) (first : Symbol) (r q : Bool) → first ≡ symbol_in read (text, pos)
       → r ≡ is_special of_selection first → r ≡ false → q ≡ is_special of_menu first → q ≡ true
-      → value read text pos selection menu ≡ symbol_or read no_viewer (option_map (λ m. (m, 0)) menu)
-  unfolding value
+      → value_parameter read text pos selection menu ≡ symbol_or read no_viewer (option_map (λ m. (m, 0)) menu)
+  unfolding value_parameter
   value_of_menu menu first r q is e f d t = let no = tested of_selection first r false is e f in
       let at = tested of_menu first q true is d t in rw (no, at) refl
 
   pub value_itself : (menu : Option T) (first : Symbol) (r q : Bool) → first ≡ symbol_in read (text, pos)
       → r ≡ is_special of_selection first → r ≡ false → q ≡ is_special of_menu first → q ≡ false
-      → value read text pos selection menu ≡ Ok first
-  unfolding value
+      → value_parameter read text pos selection menu ≡ Ok first
+  unfolding value_parameter
   value_itself menu first r q is e f d t = let no = tested of_selection first r false is e f in
       let at = tested of_menu first q false is d t in rw (no, at) (ap Ok (sym is))
 

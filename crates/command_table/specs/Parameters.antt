@@ -9,7 +9,7 @@ use Rattle.piece_ring.specs.declared.piece.Piece.{Piece}
 use Rattle.piece_ring.specs.Flat.{flat}
 use Rattle.piece_ring.specs.Text.{Text, AreWithin}
 use Rattle.readers_scanners.specs.Form.{symbol}
-use Rattle.readers_scanners.specs.Symbol.{IsShaped}
+use Rattle.readers_scanners.specs.Symbol.{IsSymbolShaped}
 use Rattle.readers_scanners.specs.declared.symbol.Symbol.{Symbol}
 use Rattle.readers_scanners.specs.declared.symbol.Symbol.TheVariants.{Name, Special}
 use Rattle.arrayvec.specs.ArrayVec.{ArrayVec}
@@ -55,8 +55,8 @@ module _ {T : Type 0} (read : T → List ℕ) where
   symbol_or code (Some place) = Ok (symbol_in place)
 
   -- the value parameter after a position
-  unfoldable pub value : T → ℕ → Option (T × ℕ) → Option T → Result Symbol ℕ
-  value text pos selection menu =
+  unfoldable pub value_parameter : T → ℕ → Option (T × ℕ) → Option T → Result Symbol ℕ
+  value_parameter text pos selection menu =
       let first = symbol_in (text, pos) in
       if is_special of_selection first then symbol_or no_selection selection else
       (if is_special of_menu first then symbol_or no_viewer (option_map (λ m. (m, 0)) menu) else Ok first)
@@ -76,20 +76,20 @@ module _ {T : Type 0} (read : T → List ℕ) where
 -- ---- of texts that are lent
 
 -- a text whose characters are in the source, and a position in it
-pub record IsPlace (count : ℕ) (place : Text ℕ × ℕ) : Type 0 where
+pub record IsTextPlace (count : ℕ) (place : Text ℕ × ℕ) : Type 0 where
   pub within : place.1 ≤ length place.0
   pub offsets : AreWithin count place.0
 
 -- the text and the position of a place that is lent
-abbrev pub place_of : Bor (List Piece) × ℕ → Text ℕ × ℕ
-place_of lent = (flat lent.0.now, lent.1)
+abbrev pub place_lent : Bor (List Piece) × ℕ → Text ℕ × ℕ
+place_lent lent = (flat lent.0.now, lent.1)
 
-abbrev pub text_of : Bor (List Piece) → Text ℕ
-text_of lent = flat lent.now
+abbrev pub text_lent : Bor (List Piece) → Text ℕ
+text_lent lent = flat lent.now
 
 -- the names of a list that was returned
-abbrev pub listed : Result (ArrayVec (List ℕ)) ℕ → Result (List (List ℕ)) ℕ
-listed r = result_map_both (λ names. names.items) (λ code. code) r
+abbrev pub listed_names : Result (ArrayVec (List ℕ)) ℕ → Result (List (List ℕ)) ℕ
+listed_names r = result_map_both (λ names. names.items) (λ code. code) r
 
 -- the first names of a list, which are read
 abbrev pub first_names : Result (List (List ℕ)) ℕ → Result (List (List ℕ)) ℕ
@@ -97,7 +97,7 @@ first_names r = result_map_both (take most_names) (λ code. code) r
 
 -- whatever a source tells, a value is a symbol that can be, or one of two codes, each for its reason
 abbrev pub IsValue : {A B : Type 0} → Option A → Option B → Result Symbol ℕ → Type 0
-IsValue selection menu r = MatchResult r IsShaped (λ code. ((code ≡ no_selection) × (selection ≡ None))
+IsValue selection menu r = MatchResult r IsSymbolShaped (λ code. ((code ≡ no_selection) × (selection ≡ None))
     ⊎ ((code ≡ no_viewer) × (menu ≡ None)))
 
 -- a list has 1 to 257 names, or none and so a code

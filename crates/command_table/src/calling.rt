@@ -1,10 +1,10 @@
 //! Which command is called at a position of a text.
 ghost use Rattle.std.specs.Prelude.{◌≡◌, ◌+◌, ◌-◌, ◌<◌, ◌≤◌, ◌^◌, length, drop, take, min, IfOk, IfSome};
 ghost use Rattle.std.specs.List.{prefix_len};
-ghost use Rattle.readers_scanners.specs.Words.{CountsFault, OnlyReads, flat, bytes};
+ghost use Rattle.readers_scanners.specs.Words.{CountsFault, OnlyReads, flat, bytes_of_text};
 ghost use Rattle.event_bytes.specs.Bytes.{is_name_byte};
 ghost use Rattle.command_table.specs.Call.{word_begin, called_at};
-ghost use Rattle.command_table.specs.Parameters.{IsPlace};
+ghost use Rattle.command_table.specs.Parameters.{IsTextPlace};
 ghost use Rattle.command_table.specs.Versions.{version_number};
 
 use crate::{ArrayVec, CharSource, Command, Fault, Text, Version};
@@ -29,9 +29,9 @@ pub fn called<S: CharSource>(
     pos: u32,
     source: &mut S,
 ) -> Result<Option<(Command, u32)>, Fault>
-    requires { IsPlace (length (S.characters source.old)) (flat text.now, pos) }
+    requires { IsTextPlace (length (S.characters source.old)) (flat text.now, pos) }
     ensures call { IfOk result (λ call. S.honest source.old
-        → call ≡ called_at (version_number version) (bytes (S.characters source.old) (flat text.now)) pos) }
+        → call ≡ called_at (version_number version) (bytes_of_text (S.characters source.old) (flat text.now)) pos) }
     ensures range { IfOk result (λ call. IfSome call (λ x. (pos < x.1) × (x.1 ≤ length (flat text.now)))) }
     ensures reads { OnlyReads S.characters S.failures S.honest S.same_ground source.old source.new }
     ensures cause { CountsFault result (S.failures source.old) (S.failures source.new) }
@@ -51,9 +51,9 @@ fn bytes_from<S: CharSource>(
     start: u32,
     source: &mut S,
 ) -> Result<ArrayVec<u8, LOOKED_AT>, Fault>
-    requires { IsPlace (length (S.characters source.old)) (flat text.now, start) }
+    requires { IsTextPlace (length (S.characters source.old)) (flat text.now, start) }
     ensures bytes { IfOk result (λ window. S.honest source.old
-        → window.items ≡ take LOOKED_AT (drop start (bytes (S.characters source.old) (flat text.now)))) }
+        → window.items ≡ take LOOKED_AT (drop start (bytes_of_text (S.characters source.old) (flat text.now)))) }
     ensures count { IfOk result (λ window. length window.items ≡ min LOOKED_AT (length (flat text.now) - start)) }
     ensures fits { IfOk result (λ window. start + length window.items < 2 ^ 32) }
     ensures reads { OnlyReads S.characters S.failures S.honest S.same_ground source.old source.new }

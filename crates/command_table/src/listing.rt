@@ -1,9 +1,9 @@
 //! Lists of names.
 ghost use Rattle.std.specs.Prelude.{◌≡◌, ◌≤◌, ◌<◌, length, IfOk, IfSome, None};
 ghost use Rattle.std.specs.Option.{option_map};
-ghost use Rattle.readers_scanners.specs.Words.{CountsFault, OnlyReads, flat, AreWithin, bytes};
-ghost use Rattle.readers_scanners.specs.Symbol.{IsShaped};
-ghost use Rattle.command_table.specs.Parameters.{IsPlace, IsNames, IsList, place_of, listed, names, names_on};
+ghost use Rattle.readers_scanners.specs.Words.{CountsFault, OnlyReads, flat, AreWithin, bytes_of_text};
+ghost use Rattle.readers_scanners.specs.Symbol.{IsSymbolShaped};
+ghost use Rattle.command_table.specs.Parameters.{IsTextPlace, IsNames, IsList, place_lent, listed_names, names, names_on};
 ghost use Rattle.command_table.specs.Parameters.{some_names, first_names};
 ghost use Rattle.command_table.specs.Deciding.{most_names};
 
@@ -29,12 +29,12 @@ pub fn names<S: CharSource>(
     sel: Option<(&Text, u32)>,
     source: &mut S,
 ) -> Result<Result<Names, u8>, Fault>
-    requires text { IsPlace (length (S.characters source.old)) (flat text.now, pos) }
-    requires sel { IfSome (option_map place_of sel) (IsPlace (length (S.characters source.old))) }
+    requires text { IsTextPlace (length (S.characters source.old)) (flat text.now, pos) }
+    requires sel { IfSome (option_map place_lent sel) (IsTextPlace (length (S.characters source.old))) }
     ensures names { IfOk result (λ r. S.honest source.old
-        → listed r ≡ first_names (names (bytes (S.characters source.old)) (flat text.now) pos
-        (option_map place_of sel.entry))) }
-    ensures kind { IfOk result (λ r. IsNames sel.entry (listed r)) }
+        → listed_names r ≡ first_names (names (bytes_of_text (S.characters source.old)) (flat text.now) pos
+        (option_map place_lent sel.entry))) }
+    ensures kind { IfOk result (λ r. IsNames sel.entry (listed_names r)) }
     ensures reads { OnlyReads S.characters S.failures S.honest S.same_ground source.old source.new }
     ensures cause { CountsFault result (S.failures source.old) (S.failures source.new) }
 {
@@ -59,13 +59,13 @@ fn list_from<S: CharSource>(
     scanner: &mut Scanner<'_>,
     source: &mut S,
 ) -> Result<Result<Names, u8>, Fault>
-    requires shape { IsShaped first.now }
+    requires shape { IsSymbolShaped first.now }
     requires within { scanner.old.position ≤ length scanner.old.text }
     requires offsets { AreWithin (length (S.characters source.old)) scanner.old.text }
     ensures names { IfOk result (λ r. S.honest source.old
-        → listed r ≡ some_names (names_on (bytes (S.characters source.old) scanner.old.text) most_names
+        → listed_names r ≡ some_names (names_on (bytes_of_text (S.characters source.old) scanner.old.text) most_names
         (first.now, scanner.old.position))) }
-    ensures kind { IfOk result (λ r. IsList (listed r)) }
+    ensures kind { IfOk result (λ r. IsList (listed_names r)) }
     ensures reads { OnlyReads S.characters S.failures S.honest S.same_ground source.old source.new }
     ensures cause { CountsFault result (S.failures source.old) (S.failures source.new) }
 {
@@ -84,11 +84,11 @@ fn names_from<S: CharSource>(
     scanner: &mut Scanner<'_>,
     source: &mut S,
 ) -> Result<Names, Fault>
-    requires shape { IsShaped first.now }
+    requires shape { IsSymbolShaped first.now }
     requires within { scanner.old.position ≤ length scanner.old.text }
     requires offsets { AreWithin (length (S.characters source.old)) scanner.old.text }
     ensures names { IfOk result (λ names. S.honest source.old
-        → names.items ≡ names_on (bytes (S.characters source.old) scanner.old.text) most_names
+        → names.items ≡ names_on (bytes_of_text (S.characters source.old) scanner.old.text) most_names
         (first.now, scanner.old.position)) }
     ensures most { IfOk result (λ names. length names.items ≤ most_names) }
     ensures reads { OnlyReads S.characters S.failures S.honest S.same_ground source.old source.new }

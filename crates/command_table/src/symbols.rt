@@ -2,9 +2,9 @@
 ghost use Rattle.std.specs.Prelude.{◌≡◌, ◌≤◌, length, IfOk};
 ghost use Rattle.readers_scanners.specs.Words.{CountsFault, OnlyReads, flat, AreWithin};
 ghost use Rattle.readers_scanners.specs.Form.{symbol as symbol_worked};
-ghost use Rattle.readers_scanners.specs.Reading.{bytes, MovesOn};
-ghost use Rattle.readers_scanners.specs.Symbol.{IsShaped};
-ghost use Rattle.command_table.specs.Parameters.{IsPlace, symbol_in, is_special, name_in};
+ghost use Rattle.readers_scanners.specs.Reading.{bytes_of_text, MovesOn};
+ghost use Rattle.readers_scanners.specs.Symbol.{IsSymbolShaped};
+ghost use Rattle.command_table.specs.Parameters.{IsTextPlace, symbol_in, is_special, name_in};
 
 use crate::{CharSource, Fault, Name, Symbol, Text};
 use readers_scanners::{Scanner, symbol_worked_out};
@@ -17,9 +17,9 @@ pub(crate) fn next_symbol<S: CharSource>(
     requires within { scanner.old.position ≤ length scanner.old.text }
     requires offsets { AreWithin (length (S.characters source.old)) scanner.old.text }
     ensures symbol { IfOk result (λ symbol. S.honest source.old
-        → symbol_worked (bytes (S.characters source.old) scanner.old.text) scanner.old.position
+        → symbol_worked (bytes_of_text (S.characters source.old) scanner.old.text) scanner.old.position
         ≡ (symbol, scanner.new.position)) }
-    ensures shape { IfOk result IsShaped }
+    ensures shape { IfOk result IsSymbolShaped }
     ensures moves { MovesOn scanner.old scanner.new }
     ensures reads { OnlyReads S.characters S.failures S.honest S.same_ground source.old source.new }
     ensures cause { CountsFault result (S.failures source.old) (S.failures source.new) }
@@ -30,10 +30,10 @@ pub(crate) fn next_symbol<S: CharSource>(
 
 /// The first symbol from `pos` on. `Fault`: the source failed in this call.
 pub fn symbol_at<S: CharSource>(text: &Text, pos: u32, source: &mut S) -> Result<Symbol, Fault>
-    requires { IsPlace (length (S.characters source.old)) (flat text.now, pos) }
+    requires { IsTextPlace (length (S.characters source.old)) (flat text.now, pos) }
     ensures symbol { IfOk result (λ symbol. S.honest source.old
-        → symbol ≡ symbol_in (bytes (S.characters source.old)) (flat text.now, pos)) }
-    ensures shape { IfOk result IsShaped }
+        → symbol ≡ symbol_in (bytes_of_text (S.characters source.old)) (flat text.now, pos)) }
+    ensures shape { IfOk result IsSymbolShaped }
     ensures reads { OnlyReads S.characters S.failures S.honest S.same_ground source.old source.new }
     ensures cause { CountsFault result (S.failures source.old) (S.failures source.new) }
 {
@@ -53,7 +53,7 @@ pub(crate) fn is_special(symbol: &Symbol, byte: u8) -> bool
 
 /// The name that a symbol is. None where it is another symbol.
 pub fn name_in(symbol: &Symbol) -> Option<Name>
-    requires { IsShaped symbol.now }
+    requires { IsSymbolShaped symbol.now }
     ensures { result ≡ name_in symbol.now }
 {
     match symbol {

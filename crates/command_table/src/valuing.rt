@@ -1,9 +1,9 @@
 //! The value parameter of a command.
 ghost use Rattle.std.specs.Prelude.{◌≡◌, length, IfOk, IfSome, MatchResult, None};
 ghost use Rattle.std.specs.Option.{option_map};
-ghost use Rattle.readers_scanners.specs.Words.{CountsFault, OnlyReads, flat, bytes};
-ghost use Rattle.readers_scanners.specs.Symbol.{IsShaped};
-ghost use Rattle.command_table.specs.Parameters.{IsPlace, IsValue, place_of, text_of, value, symbol_or};
+ghost use Rattle.readers_scanners.specs.Words.{CountsFault, OnlyReads, flat, bytes_of_text};
+ghost use Rattle.readers_scanners.specs.Symbol.{IsSymbolShaped};
+ghost use Rattle.command_table.specs.Parameters.{IsTextPlace, IsValue, place_lent, text_lent, value_parameter, symbol_or};
 
 use crate::symbols::{is_special, symbol_at};
 use crate::{CharSource, Fault, Symbol, Text, codes};
@@ -22,12 +22,12 @@ pub fn params<S: CharSource>(
     menu: Option<&Text>,
     source: &mut S,
 ) -> Result<Result<Symbol, u8>, Fault>
-    requires text { IsPlace (length (S.characters source.old)) (flat text.now, pos) }
-    requires sel { IfSome (option_map place_of sel) (IsPlace (length (S.characters source.old))) }
-    requires menu { IfSome (option_map text_of menu) (λ m. IsPlace (length (S.characters source.old)) (m, 0)) }
+    requires text { IsTextPlace (length (S.characters source.old)) (flat text.now, pos) }
+    requires sel { IfSome (option_map place_lent sel) (IsTextPlace (length (S.characters source.old))) }
+    requires menu { IfSome (option_map text_lent menu) (λ m. IsTextPlace (length (S.characters source.old)) (m, 0)) }
     ensures value { IfOk result (λ r. S.honest source.old
-        → r ≡ value (bytes (S.characters source.old)) (flat text.now) pos
-        (option_map place_of sel.entry) (option_map text_of menu.entry)) }
+        → r ≡ value_parameter (bytes_of_text (S.characters source.old)) (flat text.now) pos
+        (option_map place_lent sel.entry) (option_map text_lent menu.entry)) }
     ensures kind { IfOk result (IsValue sel.entry menu.entry) }
     ensures reads { OnlyReads S.characters S.failures S.honest S.same_ground source.old source.new }
     ensures cause { CountsFault result (S.failures source.old) (S.failures source.new) }
@@ -48,10 +48,10 @@ fn symbol_or<S: CharSource>(
     place: Option<(&Text, u32)>,
     source: &mut S,
 ) -> Result<Result<Symbol, u8>, Fault>
-    requires { IfSome (option_map place_of place) (IsPlace (length (S.characters source.old))) }
+    requires { IfSome (option_map place_lent place) (IsTextPlace (length (S.characters source.old))) }
     ensures symbol { IfOk result (λ r. S.honest source.old
-        → r ≡ symbol_or (bytes (S.characters source.old)) code (option_map place_of place.entry)) }
-    ensures kind { IfOk result (λ r. MatchResult r IsShaped (λ c. (c ≡ code) × (place.entry ≡ None))) }
+        → r ≡ symbol_or (bytes_of_text (S.characters source.old)) code (option_map place_lent place.entry)) }
+    ensures kind { IfOk result (λ r. MatchResult r IsSymbolShaped (λ c. (c ≡ code) × (place.entry ≡ None))) }
     ensures reads { OnlyReads S.characters S.failures S.honest S.same_ground source.old source.new }
     ensures cause { CountsFault result (S.failures source.old) (S.failures source.new) }
 {

@@ -16,11 +16,11 @@ use Rattle.piece_ring.specs.declared.piece.Piece.{Piece}
 use Rattle.piece_ring.specs.Flat.{flat}
 use Rattle.piece_ring.specs.Text.{Text}
 use Rattle.desktop_definitions.specs.Tables.{Files, name_cmp, lengths, with_values}
-use Rattle.desktop_definitions.specs.Desktop.{Desktop, KeptDesktop, held}
+use Rattle.desktop_definitions.specs.Desktop.{Desktop, KeptDesktop, characters_held}
 use Rattle.desktop_definitions.specs.Sound.{IsKeptWhole, IsSound}
 use Rattle.desktop_laws.specs.StepLaws.{files_held}
 use Rattle.std.proofs.lemmas.Bool.{le-leb, lt-leb}
-use Rattle.desktop_definitions.specs.Change.{plain}
+use Rattle.desktop_definitions.specs.Change.{plain_text}
 use Rattle.desktop_definitions.specs.Limits.{most_files, most_written, most_held}
 use Rattle.desktop_definitions.specs.Seen.{seen, seen_table, seen_text}
 use Rattle.desktop_definitions.specs.Step.{filed, fits}
@@ -88,34 +88,34 @@ size_more sizes sizes' files left rest name text len rising next long put_is was
 -- one more
 pub filed_more : (d : Desktop) (documents : Documents) (i : ℕ) (none : List ℕ × List ℕ) → i < length documents
     → all_filed d (take (i + 1) documents)
-    ≡ filed (all_filed d (take i documents)) (get_or documents i none).0 (plain (get_or documents i none).1)
+    ≡ filed (all_filed d (take i documents)) (get_or documents i none).0 (plain_text (get_or documents i none).1)
 unfolding all_filed
 filed_more d documents i none low =
-    fold_more (λ (x : Desktop) (e : List ℕ × List ℕ). filed x e.0 (plain e.1)) d documents i none low
+    fold_more (λ (x : Desktop) (e : List ℕ × List ℕ). filed x e.0 (plain_text e.1)) d documents i none low
 
 -- a desktop with all of them: it has their files, and their bytes count as written
 pub record IsWithFiles (d new : Desktop) (n : ℕ) : Type 0 where
   pub written : new.written ≡ d.written + n
-  pub others : held new + lengths d.files ≡ held d + lengths new.files
+  pub others : characters_held new + lengths d.files ≡ characters_held d + lengths new.files
 
-long : (bytes : List ℕ) → length (plain bytes) ≡ length bytes
+long : (bytes : List ℕ) → length (plain_text bytes) ≡ length bytes
 long bytes = length_in_look default_look bytes
 
 one_written : (d : Desktop) (x : List ℕ × List ℕ) (n : ℕ)
-    → (filed d x.0 (plain x.1)).written + n ≡ d.written + (length x.1 + n)
+    → (filed d x.0 (plain_text x.1)).written + n ≡ d.written + (length x.1 + n)
 unfolding filed
 one_written d x n = omega (arith, long x.1)
 
 one_held : (d : Desktop) (x : List ℕ × List ℕ)
-    → held (filed d x.0 (plain x.1)) + lengths d.files ≡ held d + lengths (filed d x.0 (plain x.1)).files
-unfolding filed held
+    → characters_held (filed d x.0 (plain_text x.1)) + lengths d.files ≡ characters_held d + lengths (filed d x.0 (plain_text x.1)).files
+unfolding filed characters_held
 one_held d x = omega arith
 
 pub with_files : (d : Desktop) (documents : Documents) → IsWithFiles d (all_filed d documents) (many_bytes documents)
 unfolding all_filed
 with_files d [] = record { written = omega arith; others = refl }
 with_files d (x ∷ xs) =
-    let one = filed d x.0 (plain x.1) in
+    let one = filed d x.0 (plain_text x.1) in
     let rest = with_files one xs in
     record {
       written = rest.written ∙ one_written d x (many_bytes xs) ∙ ap (λ n. d.written + n) (sym (sum_by-cons (λ e. length e.1) x xs));
@@ -151,16 +151,16 @@ module _ (d : Desktop) (documents : Documents) (sizes : Files ℕ)
     written_now : new.written ≤ most_written
     written_now = omega (arith, within, (with_files d documents).written)
 
-    pub fits_now : held d + sum_by (λ n. n) (values_of sizes) ≤ most_held + lengths d.files → fits new ≡ true
-    fits_now room = both_within new.written most_written (held new) most_held written_now
+    pub fits_now : characters_held d + sum_by (λ n. n) (values_of sizes) ≤ most_held + lengths d.files → fits new ≡ true
+    fits_now room = both_within new.written most_written (characters_held new) most_held written_now
         (omega (arith, room, sum_is, (with_files d documents).others))
 
-    pub holds_more : most_held + lengths d.files < held d + sum_by (λ n. n) (values_of sizes) → fits new ≡ false
-    holds_more past = second_past new.written most_written (held new) most_held written_now
+    pub holds_more : most_held + lengths d.files < characters_held d + sum_by (λ n. n) (values_of sizes) → fits new ≡ false
+    holds_more past = second_past new.written most_written (characters_held new) most_held written_now
         (omega (arith, past, sum_is, (with_files d documents).others))
 
   pub writes_more : most_written < d.written + many_bytes documents → fits new ≡ false
-  writes_more past = first_past new.written most_written (nat_le (held new) most_held)
+  writes_more past = first_past new.written most_written (nat_le (characters_held new) most_held)
       (omega (arith, past, (with_files d documents).written))
 
 -- ---- the sizes, document by document
@@ -176,10 +176,10 @@ unfolding all_filed seen
 none_filed characters d sizes is = is
 
 put_filed : (d : Desktop) (name bytes : List ℕ)
-    → insert_entry name_cmp (file_sizes d.files) name (length bytes) ≡ file_sizes (filed d name (plain bytes)).files
+    → insert_entry name_cmp (file_sizes d.files) name (length bytes) ≡ file_sizes (filed d name (plain_text bytes)).files
 unfolding filed
 put_filed d name bytes = ap (λ n. insert_entry name_cmp (file_sizes d.files) name n) (sym (long bytes))
-    ∙ sym (insert_seen length name_cmp d.files name (plain bytes))
+    ∙ sym (insert_seen length name_cmp d.files name (plain_text bytes))
 
 pub sizes_filed : (d : Desktop) (documents : Documents) (i : ℕ) (none : List ℕ × List ℕ) → i < length documents
     → (sizes sizes' : Files ℕ) (name bytes : List ℕ) → name ≡ (get_or documents i none).0
@@ -194,7 +194,7 @@ sizes_filed d documents i none low sizes sizes' name bytes name_is bytes_is was 
 
 -- ---- what a desktop holds beside its files
 
-pub others_held : (d : KeptDesktop) → IsKeptWhole d → lengths (seen_table [] d.files) ≤ held (seen [] d)
+pub others_held : (d : KeptDesktop) → IsKeptWhole d → lengths (seen_table [] d.files) ≤ characters_held (seen [] d)
 unfolding seen
 others_held d whole = files_held (seen [] d)
 
@@ -211,7 +211,7 @@ few_written d whole = subst (λ n. n ≤ most_written) (written_kept [] d) (whol
 -- the limits by numbers that are at hand
 module _ (characters : List ℕ) (d : KeptDesktop) (documents : Documents) (sizes : Files ℕ)
     (is : sizes ≡ file_sizes (all_filed (seen characters d) documents).files) (all files : ℕ)
-    (all_is : all ≡ held (seen characters d)) (files_is : files ≡ lengths (seen_table characters d.files))
+    (all_is : all ≡ characters_held (seen characters d)) (files_is : files ≡ lengths (seen_table characters d.files))
     (low : files ≤ all) (few : all ≤ most_held) where
   files_seen : lengths (seen_table characters d.files) ≡ lengths (seen characters d).files
   unfolding seen

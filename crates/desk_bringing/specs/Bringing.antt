@@ -7,11 +7,11 @@ use Rattle.desktop_definitions.specs.Needs.{unless}
 use Rattle.piece_ring.specs.Text.{Text}
 use Rattle.desktop_definitions.specs.Tables.{Files, with_values}
 use Rattle.desktop_definitions.specs.Desktop.{Desktop, KeptDesktop}
-use Rattle.desktop_definitions.specs.Change.{plain}
+use Rattle.desktop_definitions.specs.Change.{plain_text}
 use Rattle.desktop_definitions.specs.declared.reply.Reply.{Reply}
 use Rattle.desktop_definitions.specs.Seen.{seen}
-use Rattle.desktop_definitions.specs.Unread.{grown}
-use Rattle.desktop_definitions.specs.Step.{Outcome, filed, outcome_of, settled}
+use Rattle.desktop_definitions.specs.Unread.{characters_after}
+use Rattle.desktop_definitions.specs.Step.{Outcome, filed, outcome_of, outcome_after}
 
 -- each with its name and its bytes
 abbrev pub Documents : Type 0
@@ -28,7 +28,7 @@ all_bytes documents = flat_map (λ document. document.1) documents
 -- each is filed, one after another
 unfoldable pub all_filed : Desktop → Documents → Desktop
 all_filed d documents =
-    fold (λ (now : Desktop) (document : List ℕ × List ℕ). filed now document.0 (plain document.1)) d documents
+    fold (λ (now : Desktop) (document : List ℕ × List ℕ). filed now document.0 (plain_text document.1)) d documents
 
 -- how long each file of a table is
 abbrev pub file_sizes : Files (Text ℕ) → Files ℕ
@@ -44,11 +44,11 @@ all_brought d documents = unless (has_few_files (all_filed d documents)) too_man
 
 -- What bringing documents comes to: the desktop with all of them and Done, or the desktop as it was and No.
 unfoldable pub brought_in : Desktop → Documents → Outcome
-brought_in d documents = settled d (all_brought d documents)
+brought_in d documents = outcome_after d (all_brought d documents)
 
 -- No character is read: reply and desktop are those of the definition over every list of as many characters as were
 -- written, whatever the source tells, and the bytes of the documents come behind it.
 abbrev pub BringsUnread : KeptDesktop → KeptDesktop → Documents → Reply → Type 0
 BringsUnread before after documents reply =
     (all : List ℕ) → length all ≡ before.written
-    → outcome_of (seen (grown all (all_bytes documents) reply) after) reply ≡ brought_in (seen all before) documents
+    → outcome_of (seen (characters_after all (all_bytes documents) reply) after) reply ≡ brought_in (seen all before) documents

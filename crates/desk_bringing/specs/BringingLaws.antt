@@ -12,11 +12,11 @@ use Rattle.desktop_definitions.specs.declared.reply.Reply.TheVariants.{Done, No}
 use Rattle.desktop_definitions.specs.Limits.{too_many_files, full}
 use Rattle.desktop_definitions.specs.Tables.{name_cmp}
 use Rattle.desktop_definitions.specs.Desktop.{Desktop}
-use Rattle.desktop_definitions.specs.Opening.{dropped}
-use Rattle.desktop_definitions.specs.Change.{plain}
+use Rattle.desktop_definitions.specs.Opening.{without_unshown}
+use Rattle.desktop_definitions.specs.Change.{plain_text}
 use Rattle.desktop_definitions.specs.Looks.{AreLooks}
 use Rattle.desktop_definitions.specs.Sound.{IsSound}
-use Rattle.desktop_definitions.specs.Step.{Outcome, filed, fits, settled, outcome_of}
+use Rattle.desktop_definitions.specs.Step.{Outcome, filed, fits, outcome_after, outcome_of}
 use Rattle.desktop_laws.specs.TableLaws.{rising_put}
 use Rattle.desktop_laws.specs.LookedLaws.{looks_stay, put_looks}
 use Rattle.desktop_laws.specs.PartSound.{plain_looks}
@@ -74,14 +74,14 @@ pub all_filed_loose : (d : Desktop) (documents : Documents) → IsLoose d → Ar
 unfolding all_filed
 all_filed_loose d [] loose named = loose
 all_filed_loose d (x ∷ xs) loose named =
-    all_filed_loose (filed d x.0 (plain x.1)) xs
-    (filed_loose d x.0 (plain x.1) loose (named 0 x (omega arith)) (plain_looks x.1))
+    all_filed_loose (filed d x.0 (plain_text x.1)) xs
+    (filed_loose d x.0 (plain_text x.1) loose (named 0 x (omega arith)) (plain_looks x.1))
     (All-tail (λ (document : List ℕ × List ℕ). IsTrue (is_name document.0)) x xs named)
 
 pub all_filed_shown : (d : Desktop) (documents : Documents) → AllShown d → AllShown (all_filed d documents)
 unfolding all_filed filed
 all_filed_shown d [] shown = shown
-all_filed_shown d (x ∷ xs) shown = all_filed_shown (filed d x.0 (plain x.1)) xs shown
+all_filed_shown d (x ∷ xs) shown = all_filed_shown (filed d x.0 (plain_text x.1)) xs shown
 
 -- ---- the three outcomes
 
@@ -90,18 +90,18 @@ module _ (d : Desktop) (documents : Documents) where
   new = all_filed d documents
 
   pub brought_many : has_few_files (all_filed d documents) ≡ false
-      → outcome_of d (No too_many_files) ≡ settled d (all_brought d documents)
-  unfolding all_brought settled
+      → outcome_of d (No too_many_files) ≡ outcome_after d (all_brought d documents)
+  unfolding all_brought outcome_after
   brought_many many = rw many refl
 
   pub brought_full : has_few_files (all_filed d documents) ≡ true → AllShown (all_filed d documents)
-      → fits (all_filed d documents) ≡ false → outcome_of d (No full) ≡ settled d (all_brought d documents)
+      → fits (all_filed d documents) ≡ false → outcome_of d (No full) ≡ outcome_after d (all_brought d documents)
   unfolding all_brought
   brought_full few shown unfit = rw few (sym (settled_full d new shown unfit))
 
   pub brought_done : has_few_files (all_filed d documents) ≡ true → AllShown (all_filed d documents)
       → fits (all_filed d documents) ≡ true
-      → outcome_of (all_filed d documents) Done ≡ settled d (all_brought d documents)
+      → outcome_of (all_filed d documents) Done ≡ outcome_after d (all_brought d documents)
   unfolding all_brought
   brought_done few shown fit = rw few (sym (settled_done d new shown fit))
 
@@ -112,9 +112,9 @@ unfolding brought_in
 brought_sound d documents sound named =
     let new = all_filed d documents in
     let loose = all_filed_loose d documents (sound_loose d sound) named in
-    (elim (has_few_files new) as (λ b. has_few_files new ≡ b → IsSound (settled d (all_brought d documents)).desktop) [
+    (elim (has_few_files new) as (λ b. has_few_files new ≡ b → IsSound (outcome_after d (all_brought d documents)).desktop) [
       | false ↦ λ many. subst (λ (o : Outcome). IsSound o.desktop) (brought_many d documents many) sound
-      | true ↦ λ few. (elim (fits new) as (λ b. fits new ≡ b → IsSound (settled d (all_brought d documents)).desktop) [
+      | true ↦ λ few. (elim (fits new) as (λ b. fits new ≡ b → IsSound (outcome_after d (all_brought d documents)).desktop) [
         | false ↦ λ unfit. subst (λ (o : Outcome). IsSound o.desktop) (brought_full d documents few loose.shown unfit)
             sound
         | true ↦ λ fit. subst (λ (o : Outcome). IsSound o.desktop) (brought_done d documents few loose.shown fit)
@@ -123,11 +123,11 @@ brought_sound d documents sound named =
     ]) refl
 
 -- A refusal leaves the desktop.
-refusal_stays : (d new : Desktop) (code : ℕ) (r : Result Desktop ℕ) → outcome_of new (No code) ≡ settled d r → new ≡ d
-unfolding settled
+refusal_stays : (d new : Desktop) (code : ℕ) (r : Result Desktop ℕ) → outcome_of new (No code) ≡ outcome_after d r → new ≡ d
+unfolding outcome_after
 refusal_stays d new code (Err c) same = ap (λ (o : Outcome). o.desktop) same
-refusal_stays d new code (Ok x) same = (elim (fits (dropped x)) as (λ b. outcome_of new (No code)
-    ≡ (let o : Outcome = if b then outcome_of (dropped x) Done else outcome_of d (No full) in o) → new ≡ d) [
+refusal_stays d new code (Ok x) same = (elim (fits (without_unshown x)) as (λ b. outcome_of new (No code)
+    ≡ (let o : Outcome = if b then outcome_of (without_unshown x) Done else outcome_of d (No full) in o) → new ≡ d) [
       | true ↦ λ is. absurd (cc (ap (λ (o : Outcome). o.reply) is))
       | false ↦ λ is. ap (λ (o : Outcome). o.desktop) is
     ]) same

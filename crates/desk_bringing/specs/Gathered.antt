@@ -9,7 +9,7 @@ use Rattle.piece_ring.specs.Flat.{flat, run}
 use Rattle.event_bytes.specs.Bytes.{is_name}
 use Rattle.viewer_tracks.specs.declared.display.TheConstants.{ROWS, COLUMNS}
 use Rattle.desktop_definitions.specs.Limits.{most_pattern}
-use Rattle.desktop_definitions.specs.Tables.{name_cmp, put}
+use Rattle.desktop_definitions.specs.Tables.{name_cmp, file_put}
 use Rattle.desktop_definitions.specs.Desktop.{Desktop, KeptDesktop}
 use Rattle.desktop_definitions.specs.Viewers.{main_length}
 use Rattle.desktop_definitions.specs.Opening.{is_shown}
@@ -52,6 +52,6 @@ pub record IsFiledAs (document : List ℕ × List ℕ) (old new : List ℕ) (bef
   pub added : new ≡ old ++ document.1
   pub flat_is : flat text ≡ run before.written (length document.1) default_look
   pub after_is : after ≡ record before {
-    files = put before.files document.0 text;
+    files = file_put before.files document.0 text;
     written = before.written + length document.1;
   }

@@ -8,14 +8,14 @@ use Rattle.piece_ring.specs.Offsets.{run-AreWithin}
 use Rattle.piece_ring.specs.Text.{AreWithin}
 use Rattle.readers_scanners.specs.Reading.{contents}
 use Rattle.desktop_definitions.specs.declared.reply.Reply.TheVariants.{Done}
-use Rattle.desktop_definitions.specs.Tables.{name_cmp, put}
+use Rattle.desktop_definitions.specs.Tables.{name_cmp, file_put}
 use Rattle.desktop_definitions.specs.Desktop.{Desktop, KeptDesktop}
-use Rattle.desktop_definitions.specs.Change.{plain}
+use Rattle.desktop_definitions.specs.Change.{plain_text}
 use Rattle.desktop_definitions.specs.Looks.{AreLooks}
 use Rattle.desktop_definitions.specs.Seen.{seen, seen_text}
 use Rattle.desktop_definitions.specs.Sound.{IsWithin, IsOver}
 use Rattle.desktop_definitions.specs.Outcome.{IsAnswered}
-use Rattle.desktop_definitions.specs.Step.{filed, fits, settled, outcome_of}
+use Rattle.desktop_definitions.specs.Step.{filed, fits, outcome_after, outcome_of}
 use Rattle.desktop_laws.specs.TableLaws.{insert_seen, length_seen_text, length_seen, put_within}
 use Rattle.desktop_laws.specs.SeenLaws.{seen_longer, new_read}
 use Rattle.desktop_laws.specs.LookedLaws.{default_is_look, run_looks, seen_looks}
@@ -54,7 +54,7 @@ module _ {old now new : List ℕ} {before d after : KeptDesktop} {documents : Do
   bytes = document.1
 
   abbrev with_file : KeptDesktop
-  with_file = record d { files = put d.files document.0 more.text; written = d.written + length bytes }
+  with_file = record d { files = file_put d.files document.0 more.text; written = d.written + length bytes }
 
   long : (characters : List ℕ) → length (seen_text characters more.text) ≡ length bytes
   long characters = length_seen_text characters more.text ∙ ap length more.flat_is
@@ -87,20 +87,20 @@ module _ {old now new : List ℕ} {before d after : KeptDesktop} {documents : Do
     same_seen : seen (so_far ++ bytes) d ≡ seen so_far d
     same_seen = seen_longer so_far bytes d (subst (λ n. IsWithin n d) (sym far) is.within)
 
-    text_read : seen_text (so_far ++ bytes) more.text ≡ plain bytes
+    text_read : seen_text (so_far ++ bytes) more.text ≡ plain_text bytes
     text_read = ap (contents (so_far ++ bytes)) more.flat_is ∙ new_read so_far bytes d.written default_look far
 
     one_more : all_filed (seen all before) (documents ++ document ∷ [])
-        ≡ filed (all_filed (seen all before) documents) document.0 (plain bytes)
+        ≡ filed (all_filed (seen all before) documents) document.0 (plain_text bytes)
     unfolding all_filed
-    one_more = fold-append (λ (x : Desktop) (e : List ℕ × List ℕ). filed x e.0 (plain e.1)) (seen all before) documents
+    one_more = fold-append (λ (x : Desktop) (e : List ℕ × List ℕ). filed x e.0 (plain_text e.1)) (seen all before) documents
         (document ∷ [])
 
     one_exact : seen (all ++ all_bytes (documents ++ document ∷ [])) with_file
         ≡ all_filed (seen all before) (documents ++ document ∷ [])
     one_exact = ap (λ (l : List ℕ). seen l with_file) behind ∙ file_read (so_far ++ bytes)
         ∙ (λ k. filed (same_seen k) document.0 (text_read k))
-        ∙ ap (λ (x : Desktop). filed x document.0 (plain bytes)) (is.exact all all_long) ∙ sym one_more
+        ∙ ap (λ (x : Desktop). filed x document.0 (plain_text bytes)) (is.exact all all_long) ∙ sym one_more
 
   wider : IsWithin (d.written + length bytes) d
   wider = within_longer d.written (d.written + length bytes) d (omega arith) is.within
@@ -159,7 +159,7 @@ module _ (old new : List ℕ) (before after : KeptDesktop) (documents : Document
   here = ap (λ (l : List ℕ). seen l after) is.added ∙ is.exact old over.counted
 
   done_at : (all : List ℕ) → length all ≡ before.written → outcome_of (seen (all ++ all_bytes documents) after) Done
-      ≡ settled (seen all before) (all_brought (seen all before) documents)
+      ≡ outcome_after (seen all before) (all_brought (seen all before) documents)
   done_at all long =
       ap (λ (x : Desktop). outcome_of x Done) (is.exact all long)
       ∙ brought_done (seen all before) documents (few all)
@@ -179,7 +179,7 @@ module _ (old new : List ℕ) (before after : KeptDesktop) (documents : Document
   }
 
   pub gathered_done : (H : Type 0)
-      → IsAnswered H old new before after (settled (seen old before) (all_brought (seen old before) documents)) Done
+      → IsAnswered H old new before after (outcome_after (seen old before) (all_brought (seen old before) documents)) Done
   gathered_done H = acted H old new before after _ new_over
       (λ h. ap (λ (l : List ℕ). outcome_of (seen l after) Done) is.added ∙ done_at old over.counted)
 

@@ -1,7 +1,7 @@
 //! Documents come into a desktop.
 ghost use Rattle.std.specs.Prelude.{◌≡◌, ◌+◌, ◌≤◌, length, IfOk, OnOk};
-ghost use Rattle.desk_core.specs.Words.{IsOver, kept, most_written, Uses, DoesBringing};
-ghost use Rattle.desktop_definitions.specs.Unread.{grown};
+ghost use Rattle.desk_core.specs.Words.{IsOver, kept_desktop, most_written, Uses, DoesBringing};
+ghost use Rattle.desktop_definitions.specs.Unread.{characters_after};
 ghost use Rattle.desk_bringing.specs.Bringing.{all_brought, all_bytes, many_bytes};
 ghost use Rattle.desk_bringing.specs.Gathered.{IsFiledAs, IsGathered};
 
@@ -18,11 +18,11 @@ use text_core::Text;
 /// Each document becomes the file of its name, one after another; none does where there would be more files at the end
 /// than there may be, or where the desktop would pass the limits on characters. No character is read.
 pub fn bring<S: CharSource>(desk: &mut Desk, documents: &[Document], source: &mut S) -> StepResult
-    requires { IsOver (S.characters source.old) (kept desk.old) }
+    requires { IsOver (S.characters source.old) (kept_desktop desk.old) }
     ensures does { DoesBringing S.CharSource (all_bytes documents.now) (λ _ d. all_brought d documents.now) result
-        source.old source.new (kept desk.old) (kept desk.new) }
+        source.old source.new (kept_desktop desk.old) (kept_desktop desk.new) }
     ensures added { IfOk result (λ reply. S.characters source.new
-        ≡ grown (S.characters source.old) (all_bytes documents.now) reply) }
+        ≡ characters_after (S.characters source.old) (all_bytes documents.now) reply) }
 {
     let sizes = sizes_after(desk, documents)?;
     if sizes.len() > MOST_FILES as usize {
@@ -41,10 +41,10 @@ fn file_all<S: CharSource>(
     documents: &[Document],
     source: &mut S,
 ) -> Result<(), Stop>
-    requires over { IsOver (S.characters source.old) (kept desk.old) }
+    requires over { IsOver (S.characters source.old) (kept_desktop desk.old) }
     requires room { desk.old.written + many_bytes documents.now ≤ most_written }
     ensures gathered { OnOk result (IsGathered (S.characters source.old) (S.characters source.new)
-        (kept desk.old) (kept desk.new) documents.now) }
+        (kept_desktop desk.old) (kept_desktop desk.new) documents.now) }
     ensures uses { Uses S.CharSource result source.old source.new }
 {
     for document in documents {
@@ -58,7 +58,7 @@ fn file_one<S: CharSource>(desk: &mut Desk, document: &Document, source: &mut S)
     requires counted { length (S.characters source.old) ≡ desk.old.written }
     requires room { desk.old.written + length document.now.1 ≤ most_written }
     ensures filed { OnOk result (IsFiledAs document.now (S.characters source.old) (S.characters source.new)
-        (kept desk.old) (kept desk.new)) }
+        (kept_desktop desk.old) (kept_desktop desk.new)) }
     ensures uses { Uses S.CharSource result source.old source.new }
 {
     let bytes = document.as_bytes();

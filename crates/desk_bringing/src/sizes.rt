@@ -4,7 +4,7 @@ ghost use Rattle.std.specs.Map.{values_of};
 ghost use Rattle.std.specs.BTreeMap.{insert_entry};
 ghost use Rattle.std.specs.List.Sorted.{IsStrictlySortedBy};
 ghost use Rattle.desktop_definitions.specs.Tables.{name_cmp};
-ghost use Rattle.desk_core.specs.Words.{seen, seen_table, keys_of, kept, IsKeptWhole, most_written};
+ghost use Rattle.desk_core.specs.Words.{seen, seen_table, keys_of, kept_desktop, IsKeptWhole, most_written};
 ghost use Rattle.desktop_definitions.specs.Step.{fits};
 ghost use Rattle.desk_bringing.specs.Bringing.{all_filed, file_sizes, many_bytes};
 
@@ -46,9 +46,9 @@ fn sizes_of(alloc: Global, files: &Files) -> Result<Sizes, Stop>
 
 /// How long each file is once the documents are filed.
 pub fn sizes_after(desk: &Desk, documents: &[Document]) -> Result<Sizes, Stop>
-    requires { IsKeptWhole (kept desk.now) }
+    requires { IsKeptWhole (kept_desktop desk.now) }
     ensures sizes { IfOk result (λ sizes. (characters : List ℕ)
-        → sizes.entries ≡ file_sizes (all_filed (seen characters (kept desk.now)) documents.now).files) }
+        → sizes.entries ≡ file_sizes (all_filed (seen characters (kept_desktop desk.now)) documents.now).files) }
     ensures never_fault { ¬ IsErrOf result Stop.Fault }
 {
     let mut sizes = sizes_of(desk.alloc, &desk.files)?;
@@ -91,11 +91,11 @@ fn sizes_fit(sizes: &Sizes, room: usize) -> bool
 
 /// Whether the limits on characters hold once the documents are filed, and the files are so long.
 pub fn all_fit(desk: &Desk, documents: &[Document], sizes: &Sizes) -> bool
-    requires whole { IsKeptWhole (kept desk.now) }
+    requires whole { IsKeptWhole (kept_desktop desk.now) }
     requires sizes { (characters : List ℕ)
-        → sizes.now.entries ≡ file_sizes (all_filed (seen characters (kept desk.now)) documents.now).files }
+        → sizes.now.entries ≡ file_sizes (all_filed (seen characters (kept_desktop desk.now)) documents.now).files }
     ensures fits { (characters : List ℕ)
-        → result ≡ fits (all_filed (seen characters (kept desk.now)) documents.now) }
+        → result ≡ fits (all_filed (seen characters (kept_desktop desk.now)) documents.now) }
     ensures room { IsTrue result → desk.now.written + many_bytes documents.now ≤ most_written }
 {
     let others = desk.held() - lengths(&desk.files);

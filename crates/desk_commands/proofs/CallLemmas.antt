@@ -6,8 +6,8 @@ use Rattle.sector_disk.specs.Faults.{OneOf}
 use Rattle.char_file.specs.declared.source.CharSource.{Ghosts}
 use Rattle.piece_ring.specs.Flat.{flat}
 use Rattle.readers_scanners.specs.declared.symbol.Symbol.{Symbol}
-use Rattle.readers_scanners.specs.Symbol.{IsShaped}
-use Rattle.command_table.specs.Parameters.{IsPlace}
+use Rattle.readers_scanners.specs.Symbol.{IsSymbolShaped}
+use Rattle.command_table.specs.Parameters.{IsTextPlace}
 use Rattle.command_table.specs.declared.command.Command.{Command}
 use Rattle.desktop_definitions.specs.declared.call.ViewerCommand.{ViewerCommand}
 use Rattle.desktop_definitions.specs.declared.call.Call.{Call}
@@ -22,8 +22,8 @@ use Rattle.desktop_laws.specs.LookedLaws.{font_sets_look, colour_sets_look, offs
 use Rattle.desktop_definitions.specs.Seen.{seen}
 use Rattle.desktop_definitions.specs.Sound.{IsOver}
 use Rattle.desktop_definitions.specs.Outcome.{reply_codes}
-use Rattle.desktop_definitions.specs.Call.{text_called, meant}
-use Rattle.desktop_definitions.specs.Commands.{done_with_viewer, command_at, commanded, called}
+use Rattle.desktop_definitions.specs.Call.{text_called, target_viewer}
+use Rattle.desktop_definitions.specs.Commands.{done_with_viewer, command_at, commanded, after_call}
 use Rattle.desk_commands.specs.Calls.{IsCall}
 use Rattle.desk_core.specs.Doing.{Settles}
 use Rattle.desk_commands.proofs.ReadFirst.{Reads, refused_after}
@@ -35,7 +35,7 @@ pub ruleset looks_set = (font_sets_look, colour_sets_look, offset_sets_look)
 
 -- the word of a call stands in its text
 pub call_place : {characters : List ℕ} {d : KeptDesktop} {call : Call} → IsCall characters d call
-    → IsPlace (length characters) (flat (text_called d call.viewer call.in_menu), call.after)
+    → IsTextPlace (length characters) (flat (text_called d call.viewer call.in_menu), call.after)
 call_place {characters} {d} {call} is =
     called_place characters d call.viewer call.in_menu call.after is.over is.within
 
@@ -60,7 +60,7 @@ known_needed (Some a) = tt
 
 -- by a code that there is
 pub known_choice : {A : Type 0} (f : Symbol → Option A) (value : Result Symbol ℕ)
-    → MatchResult value IsShaped (OneOf reply_codes)
+    → MatchResult value IsSymbolShaped (OneOf reply_codes)
     → IfErr (given value (λ s. needs (f s) wrong_symbol (λ a. Ok a))) (OneOf reply_codes)
 known_choice f (Err code) kind = kind
 known_choice f (Ok symbol) kind = known_needed (f symbol)
@@ -68,16 +68,16 @@ known_choice f (Ok symbol) kind = known_needed (f symbol)
 -- ---- the viewer that is meant
 
 pub meant_some : (characters : List ℕ) (d : KeptDesktop) (command : ViewerCommand) (call : Call)
-    (found : Option ℕ) (v : ℕ) → found ≡ Some v → found ≡ meant d call
+    (found : Option ℕ) (v : ℕ) → found ≡ Some v → found ≡ target_viewer d call
     → done_with_viewer (seen characters d) command v
-    ≡ needs (meant (seen characters d) call) no_viewer (done_with_viewer (seen characters d) command)
+    ≡ needs (target_viewer (seen characters d) call) no_viewer (done_with_viewer (seen characters d) command)
 unfolding seen
 meant_some characters d command call found v is found_is =
     λ k. needs ((sym is ∙ found_is) k) no_viewer (done_with_viewer (seen characters d) command)
 
 pub meant_none : (characters : List ℕ) (d : KeptDesktop) (command : ViewerCommand) (call : Call) (found : Option ℕ)
-    → found ≡ None → found ≡ meant d call
-    → needs (meant (seen characters d) call) no_viewer (done_with_viewer (seen characters d) command) ≡ Err no_viewer
+    → found ≡ None → found ≡ target_viewer d call
+    → needs (target_viewer (seen characters d) call) no_viewer (done_with_viewer (seen characters d) command) ≡ Err no_viewer
 unfolding seen
 meant_none characters d command call found is found_is =
     λ k. needs ((sym found_is ∙ is) k) no_viewer (done_with_viewer (seen characters d) command)
@@ -92,6 +92,6 @@ called_by v in_menu x found =
 pub called_none : (version : ℕ) (x : Desktop) (v : ℕ) (in_menu : Bool) (p : ℕ) (found : Option (Command × ℕ))
     → found ≡ None
     → found ≡ command_at version (bytes_of (text_called x v in_menu)) p
-    → called version x v in_menu p ≡ Err no_command
-unfolding called
+    → after_call version x v in_menu p ≡ Err no_command
+unfolding after_call
 called_none version x v in_menu p found is found_is = λ k. called_by v in_menu x ((sym found_is ∙ is) k)

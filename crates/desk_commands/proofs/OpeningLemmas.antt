@@ -17,8 +17,8 @@ use Rattle.desktop_definitions.specs.declared.viewer.Viewer.{Viewer}
 use Rattle.desktop_definitions.specs.declared.reply.Reply.{Reply}
 use Rattle.desktop_definitions.specs.Tables.{Texts, lengths}
 use Rattle.desktop_laws.specs.TableLaws.{lengths_seen, length_seen_text}
-use Rattle.desktop_definitions.specs.Desktop.{Desktop, KeptDesktop, held}
-use Rattle.desktop_definitions.specs.Opening.{new_id, new_number, with_new, with_viewer, opening, opening_on, dropped}
+use Rattle.desktop_definitions.specs.Desktop.{Desktop, KeptDesktop, characters_held}
+use Rattle.desktop_definitions.specs.Opening.{new_id, new_number, with_new, with_viewer, after_opening, opening_on, without_unshown}
 use Rattle.desktop_definitions.specs.Outcome.{IsAnswered}
 use Rattle.desktop_definitions.specs.Seen.{seen, seen_table}
 use Rattle.desktop_definitions.specs.Sound.{IsKeptWhole}
@@ -75,7 +75,7 @@ pub left_is : (d : KeptDesktop) → IsKeptWhole d → (taken : Option ℕ) (char
     → texts ≡ kept_left (λ n. (n == 0) || still_shown taken d.viewers n) d.texts
     → files ≡ lengths (seen_table characters d.files)
     → copied ≡ length (flat d.copied) → deleted ≡ length (flat d.deleted)
-    → texts + files + copied + deleted ≡ held (dropped (without_viewer (seen characters d) taken))
+    → texts + files + copied + deleted ≡ characters_held (without_unshown (without_viewer (seen characters d) taken))
 unfolding seen
 left_is d whole taken characters texts files copied deleted t f c e =
     let sum = held_left d taken characters (whole.sound characters).shaped.viewers.ids in
@@ -86,7 +86,7 @@ pub left_low : (d : KeptDesktop) → IsKeptWhole d → (taken : Option ℕ) (tex
     → files ≡ lengths (seen_table [] d.files)
     → copied ≡ length (flat d.copied) → deleted ≡ length (flat d.deleted)
     → texts + files + copied + deleted ≤ most_held
-unfolding held seen
+unfolding characters_held seen
 left_low d whole taken texts files copied deleted t f c e =
     let few = left_fewer (λ n. (n == 0) || still_shown taken d.viewers n) d.texts in
     let all = lengths_seen [] d.texts in
@@ -132,8 +132,8 @@ answered_there {H = H} {old = old} {new = new} {d = d} {outcome = outcome} {repl
 -- a new viewer on a new text, and the characters of its menu counted
 pub opened_counted : (d after : KeptDesktop) (texts : Texts (List Piece)) (number : ℕ) (menu main : List Piece)
     (cell : ℕ × ℕ) (n : ℕ) → texts ≡ with_new d.texts main → number ≡ new_number d
-    → after ≡ dropped (opening_on (record d { texts = texts }) menu number 0 cell)
-    → record after { written = after.written + n } ≡ record (dropped (opening d menu main cell)) {
+    → after ≡ without_unshown (opening_on (record d { texts = texts }) menu number 0 cell)
+    → record after { written = after.written + n } ≡ record (without_unshown (after_opening d menu main cell)) {
       written = d.written + n;
     }
 opened_counted d after texts number menu main cell n texts_is number_is is =

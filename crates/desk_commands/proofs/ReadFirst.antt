@@ -10,7 +10,7 @@ use Rattle.desktop_definitions.specs.declared.reply.Reply.{Reply}
 use Rattle.desktop_definitions.specs.declared.reply.Reply.TheVariants.{No}
 use Rattle.desktop_definitions.specs.Desktop.{Desktop, KeptDesktop}
 use Rattle.desktop_definitions.specs.Seen.{seen}
-use Rattle.desktop_definitions.specs.Step.{settled, outcome_of}
+use Rattle.desktop_definitions.specs.Step.{outcome_after, outcome_of}
 use Rattle.desktop_definitions.specs.Sound.{IsOver}
 use Rattle.desktop_definitions.specs.Outcome.{reply_codes}
 use Rattle.desktop_laws.specs.OutcomeLaws.{refused}
@@ -41,22 +41,22 @@ module _ {S : Type 0} (s : Ghosts S) where
       IfOk-weaker result (Settles s (λ x. F x a) mid new d after) (Settles s effect old new d after)
       (λ reply done. read_answered (s.honest old) (s.honest mid) (s.characters old) (s.characters mid)
       (s.characters new) d after _ _ reply reads.still reads.as_long
-      (λ h. (λ k. settled (seen (reads.same h k) d) (F (seen (reads.same h k) d) a))
-      ∙ ap (settled (seen (s.characters old) d)) (same (is h))) done) answered
+      (λ h. (λ k. outcome_after (seen (reads.same h k) d) (F (seen (reads.same h k) d) a))
+      ∙ ap (outcome_after (seen (s.characters old) d)) (same (is h))) done) answered
 
   -- a refusal after the reads
   pub refused_after : (effect : Desktop → Result Desktop ℕ) (code : ℕ) (old mid : S) (d : KeptDesktop) → Reads old mid
       → IsOver (s.characters old) d → OneOf reply_codes code
       → (s.honest old → effect (seen (s.characters old) d) ≡ Err code)
       → Settles s effect old mid d d (No code)
-  unfolding settled
+  unfolding outcome_after
   refused_after effect code old mid d reads over known is =
       read_answered (s.honest old) (s.honest mid) (s.characters old) (s.characters mid) (s.characters mid) d d
-      (settled (seen (s.characters old) d) (effect (seen (s.characters old) d)))
+      (outcome_after (seen (s.characters old) d) (effect (seen (s.characters old) d)))
       (outcome_of (seen (s.characters mid) d) (No code))
       (No code) reads.still reads.as_long
       (λ h. ap (λ (l : List ℕ). outcome_of (seen l d) (No code)) (reads.same h)
-      ∙ sym (ap (settled (seen (s.characters old) d)) (is h)))
+      ∙ sym (ap (outcome_after (seen (s.characters old) d)) (is h)))
       (refused (s.honest mid) (s.characters mid) d (outcome_of (seen (s.characters mid) d) (No code)) code
       (over_after old mid d reads over) known (λ h. refl))
 

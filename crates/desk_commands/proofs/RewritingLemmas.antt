@@ -19,7 +19,7 @@ use Rattle.piece_ring.specs.Flat.{IsWhole, run, characters_of}
 use Rattle.piece_ring.specs.Lengths.{length-run}
 use Rattle.piece_ring.specs.Text.{AreWithin}
 use Rattle.piece_ring.proofs.Runs.{run-append, length-flat-cons}
-use Rattle.readers_scanners.specs.Reading.{bytes}
+use Rattle.readers_scanners.specs.Reading.{bytes_of_text}
 use Rattle.readers_scanners.proofs.Counting.{bytes-append, end_within}
 use Rattle.desktop_definitions.specs.Words.{keys_of, Look, Piece, Text, flat}
 use Rattle.desktop_definitions.specs.Sound.{AllWithin}
@@ -32,13 +32,13 @@ use Rattle.desk_commands.specs.Rewriting.{CanPut, Rewrites}
 
 -- one more of them, read as it stands there
 pub piece_on : (old front made made' : List ℕ) (off n byte : ℕ) (look : Look) → made' ≡ made ++ byte ∷ []
-    → byte ≡ slice_index old (off + n) → made ≡ front ++ bytes old (run off n look)
-    → made' ≡ front ++ bytes old (run off (n + 1) look)
+    → byte ≡ slice_index old (off + n) → made ≡ front ++ bytes_of_text old (run off n look)
+    → made' ≡ front ++ bytes_of_text old (run off (n + 1) look)
 piece_on old front made made' off n byte look pushed is was =
     pushed
     ∙ (λ k. was k ++ is k ∷ [])
-    ∙ append_assoc front (bytes old (run off n look)) (slice_index old (off + n) ∷ [])
-    ∙ ap (λ (l : List ℕ). front ++ l) (sym (ap (bytes old) (run-append off n 1 look)
+    ∙ append_assoc front (bytes_of_text old (run off n look)) (slice_index old (off + n) ∷ [])
+    ∙ ap (λ (l : List ℕ). front ++ l) (sym (ap (bytes_of_text old) (run-append off n 1 look)
     ∙ bytes-append old (run off n look) ((off + n, look) ∷ [])))
 
 -- ---- the pieces of a text
@@ -81,12 +81,12 @@ module _ {p : Piece} {left rest : List Piece} (first : left ≡ p ∷ rest) wher
       ∙ append_assoc text (run n p.len p.look) (laid m (flat rest))
       ∙ ap (λ (l : Text ℕ). text ++ l) (sym (laid_first n m more)) ∙ was
 
-  pub bytes_on : (old made made' all : List ℕ) → made' ≡ made ++ bytes old (characters_of p)
-      → made ++ bytes old (flat left) ≡ all → made' ++ bytes old (flat rest) ≡ all
+  pub bytes_on : (old made made' all : List ℕ) → made' ≡ made ++ bytes_of_text old (characters_of p)
+      → made ++ bytes_of_text old (flat left) ≡ all → made' ++ bytes_of_text old (flat rest) ≡ all
   bytes_on old made made' all added was =
-      ap (λ (l : List ℕ). l ++ bytes old (flat rest)) added
-      ∙ append_assoc made (bytes old (characters_of p)) (bytes old (flat rest))
-      ∙ ap (λ (l : List ℕ). made ++ l) (sym (ap (λ (ps : List Piece). bytes old (flat ps)) first
+      ap (λ (l : List ℕ). l ++ bytes_of_text old (flat rest)) added
+      ∙ append_assoc made (bytes_of_text old (characters_of p)) (bytes_of_text old (flat rest))
+      ∙ ap (λ (l : List ℕ). made ++ l) (sym (ap (λ (ps : List Piece). bytes_of_text old (flat ps)) first
       ∙ bytes-append old (characters_of p) (flat rest))) ∙ was
 
 -- ---- keys that rise
@@ -177,10 +177,10 @@ module _ {K : Type 0} {e : K × List Piece} {left later : List (K × List Piece)
         ≡ front ++ bytes_in (s.characters old) (flats all)
     read_further honest =
         let c = s.characters old in
-        let added : made' ≡ made ++ bytes c (flat e.1) =
-        one.adds.read (were.reads.still honest) ∙ ap (λ (l : List ℕ). made ++ bytes l (flat e.1)) (were.reads.same honest) in
+        let added : made' ≡ made ++ bytes_of_text c (flat e.1) =
+        one.adds.read (were.reads.still honest) ∙ ap (λ (l : List ℕ). made ++ bytes_of_text l (flat e.1)) (were.reads.same honest) in
         ap (λ (l : List ℕ). l ++ bytes_in c (flats later)) added
-        ∙ append_assoc made (bytes c (flat e.1)) (bytes_in c (flats later))
+        ∙ append_assoc made (bytes_of_text c (flat e.1)) (bytes_in c (flats later))
         ∙ ap (λ (es : List (K × List Piece)). made ++ bytes_in c (flats es)) (sym first) ∙ were.read honest
 
     inside_further : AllWithin (length (s.characters after)) later

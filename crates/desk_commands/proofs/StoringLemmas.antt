@@ -9,13 +9,13 @@ use Rattle.readers_scanners.specs.Reading.{contents}
 use Rattle.desktop_definitions.specs.declared.reply.Reply.TheVariants.{Done}
 use Rattle.desktop_definitions.specs.Limits.{most_held, too_many_files}
 use Rattle.desktop_definitions.specs.Needs.{unless}
-use Rattle.desktop_definitions.specs.Tables.{Files, put, has_room, lengths}
-use Rattle.desktop_definitions.specs.Desktop.{KeptDesktop, held}
+use Rattle.desktop_definitions.specs.Tables.{Files, file_put, has_file_room, lengths}
+use Rattle.desktop_definitions.specs.Desktop.{KeptDesktop, characters_held}
 use Rattle.desktop_definitions.specs.Viewers.{viewer_or_none, main_of, kept_main}
 use Rattle.desktop_definitions.specs.Effects.{storing_line, stored_as}
 use Rattle.desktop_definitions.specs.Log.{logged}
 use Rattle.desktop_definitions.specs.Looks.{AreLooks}
-use Rattle.desktop_definitions.specs.Step.{settled}
+use Rattle.desktop_definitions.specs.Step.{outcome_after}
 use Rattle.desktop_definitions.specs.Outcome.{IsAnswered}
 use Rattle.desktop_definitions.specs.Seen.{seen, seen_text, seen_table}
 use Rattle.desktop_definitions.specs.Sound.{IsBuilt, IsOver}
@@ -27,12 +27,12 @@ use Rattle.desktop_laws.specs.LookedLaws.{kept_text_looks}
 use Rattle.desktop_laws.specs.StoreLaws.{storing_stands, storing_short, storing_answered}
 
 module _ (H : Type 0) (old : List ℕ) (d : KeptDesktop) (over : IsOver old d) (name : List ℕ) (v : ℕ) (line : List ℕ)
-    (size gone all : ℕ) (room : has_room (seen_table old d.files) name ≡ true)
+    (size gone all : ℕ) (room : has_file_room (seen_table old d.files) name ≡ true)
     (size_is : size ≡ length (flat (kept_main d v))) (line_is : line ≡ storing_line name size)
     (all_is : all ≡ size + length line)
-    (sum : (among : List ℕ) (new : Text ℕ) → lengths (put (seen_table among d.files) name new) + gone
+    (sum : (among : List ℕ) (new : Text ℕ) → lengths (file_put (seen_table among d.files) name new) + gone
     ≡ lengths (seen_table among d.files) + length new)
-    (files : Files (List Piece)) (pieces : List Piece) (is : files ≡ put d.files name pieces)
+    (files : Files (List Piece)) (pieces : List Piece) (is : files ≡ file_put d.files name pieces)
     (valid : IsTrue (is_name name)) (same : flat pieces ≡ flat (kept_main d v)) where
   built : IsBuilt (length old) d
   built = over_built old d over
@@ -56,7 +56,7 @@ module _ (H : Type 0) (old : List ℕ) (d : KeptDesktop) (over : IsOver old d) (
       all_is sum files pieces is valid within looks reads
 
   pub copy_short : has_space (seen [] d) (length line) all gone ≡ true
-      → held (seen [] (record d { files = files })) + length line ≤ most_held
+      → characters_held (seen [] (record d { files = files })) + length line ≤ most_held
   copy_short = storing_short H old d over name (main_of (seen old d) v) line size gone all room size_seen line_is
       all_is sum files pieces is valid within looks reads
 
@@ -64,7 +64,7 @@ module _ (H : Type 0) (old : List ℕ) (d : KeptDesktop) (over : IsOver old d) (
   pub copy_answered : (new : List ℕ) (after : KeptDesktop)
       → IsExtended H old new (record d { files = files }) after (λ x. logged x line) (length line)
       → ((among : List ℕ) → has_space (seen among d) (length line) all gone ≡ true)
-      → IsAnswered H old new d after (settled (seen old d) (unless (has_room (seen old d).files name) too_many_files
+      → IsAnswered H old new d after (outcome_after (seen old d) (unless (has_file_room (seen old d).files name) too_many_files
       (Ok (stored_as (seen old d) name (main_of (seen old d) v))))) Done
   copy_answered = storing_answered H old d over name (main_of (seen old d) v) line size gone all room size_seen line_is
       all_is sum files pieces is valid within looks reads

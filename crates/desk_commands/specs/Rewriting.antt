@@ -8,7 +8,7 @@ use Rattle.char_file.specs.declared.source.CharSource.{Ghosts}
 use Rattle.piece_ring.specs.declared.piece.Piece.{Piece}
 use Rattle.piece_ring.specs.Text.{Text, AreWithin}
 use Rattle.piece_ring.specs.Flat.{flat}
-use Rattle.readers_scanners.specs.Reading.{bytes}
+use Rattle.readers_scanners.specs.Reading.{bytes_of_text}
 use Rattle.desktop_definitions.specs.Sound.{AllWithin}
 use Rattle.desktop_laws.specs.Rewriting.{kept_lengths, laid, laid_table, flats, bytes_in}
 use Rattle.desk_core.specs.declared.stop.Stop.{Stop}
@@ -42,7 +42,7 @@ module _ {S : Type 0} (s : Ghosts S) where
   pub record Rewrites (text : Text ℕ) (result : Result (List Piece) Stop) (old new : S) (made more : List ℕ)
       : Type 0 where
     pub stands : IfOk result (λ moved. flat moved ≡ laid (length made) text)
-    pub adds : Adds (bytes (s.characters old) text) (length text) result old new made more
+    pub adds : Adds (bytes_of_text (s.characters old) text) (length text) result old new made more
 
   -- Those of all texts of a table do.
   pub record RewritesAll {K A : Type 0} (table : List (K × List Piece)) (entries : A → List (K × List Piece))

@@ -1,16 +1,16 @@
 //! Calls of commands: the word that is called, and what stands after it.
 ghost use Rattle.std.specs.Prelude.{◌≡◌, ◌≤◌, length, IfOk, IfErr, IfSome, MatchResult, option_map};
 ghost use Rattle.sector_disk.specs.Faults.{OneOf};
-ghost use Rattle.readers_scanners.specs.Symbol.{IsShaped};
-ghost use Rattle.command_table.specs.Parameters.{place_of, text_of, listed, first_names};
-ghost use Rattle.desktop_definitions.specs.Call.{text_called, seen_at_marker, meant, number_in, value_of, as_name};
+ghost use Rattle.readers_scanners.specs.Symbol.{IsSymbolShaped};
+ghost use Rattle.command_table.specs.Parameters.{place_lent, text_lent, listed_names, first_names};
+ghost use Rattle.desktop_definitions.specs.Call.{text_called, seen_at_marker, target_viewer, number_in, value_of, as_name};
 ghost use Rattle.desktop_definitions.specs.Call.{as_number, names_of};
 ghost use Rattle.desktop_definitions.specs.Commands.{done_with_name, done_with_number, done_with_viewer, commanded};
-ghost use Rattle.desktop_definitions.specs.Commands.{called};
+ghost use Rattle.desktop_definitions.specs.Commands.{after_call};
 ghost use Rattle.desktop_definitions.specs.Outcome.{reply_codes as known_codes};
 ghost use Rattle.desktop_laws.specs.DeskWords.{kept_place, kept_menu};
 ghost use Rattle.desk_commands.specs.Calls.{IsCall, IsViewerOnTop, done_with_value};
-ghost use Rattle.desk_core.specs.Words.{flat, IsOnTop, needs, IsKeptWhole, IsOver, kept, Does, Tells, TellsAs};
+ghost use Rattle.desk_core.specs.Words.{flat, IsOnTop, needs, IsKeptWhole, IsOver, kept_desktop, Does, TellsValue, TellsAs};
 ghost use Rattle.desk_commands.specs.Words.{no_viewer, version_number, given, files_deleted};
 
 use crate::closings::{close_viewer, recall_viewer};
@@ -55,11 +55,11 @@ pub fn call<S: CharSource>(
     pos: u32,
     source: &mut S,
 ) -> StepResult
-    requires placed { IsOnTop id (kept desk.old).columns }
-    requires place { pos ≤ length (flat (text_called (kept desk.old) id in_menu)) }
-    requires over { IsOver (S.characters source.old) (kept desk.old) }
-    ensures { Does S.CharSource (λ d. called (version_number version) d id in_menu pos) result
-        source.old source.new (kept desk.old) (kept desk.new) }
+    requires placed { IsOnTop id (kept_desktop desk.old).columns }
+    requires place { pos ≤ length (flat (text_called (kept_desktop desk.old) id in_menu)) }
+    requires over { IsOver (S.characters source.old) (kept_desktop desk.old) }
+    ensures { Does S.CharSource (λ d. after_call (version_number version) d id in_menu pos) result
+        source.old source.new (kept_desktop desk.old) (kept_desktop desk.new) }
 {
     let found = called(version, desk.text_called(id, in_menu), pos, source)?;
     let Some((command, after)) = found else {
@@ -76,9 +76,9 @@ pub fn call<S: CharSource>(
 /// Does what a command says.
 #[tactic(auto, unfolding(desktop_definitions::specs::Commands::commanded, desktop_definitions::specs::Call::name_of, desktop_definitions::specs::Call::number_of))]
 fn obey<S: CharSource>(desk: &mut Desk, command: Command, call: Call, source: &mut S) -> StepResult
-    requires { IsCall (S.characters source.old) (kept desk.old) call }
+    requires { IsCall (S.characters source.old) (kept_desktop desk.old) call }
     ensures { Does S.CharSource (λ d. commanded d command call) result
-        source.old source.new (kept desk.old) (kept desk.new) }
+        source.old source.new (kept_desktop desk.old) (kept_desktop desk.new) }
 {
     match command {
         Command::EditOpen => command_with_value(desk, ByName(OpenDocument), call, source),
@@ -118,9 +118,9 @@ fn command_with_value<S: CharSource>(
     call: Call,
     source: &mut S,
 ) -> StepResult
-    requires { IsCall (S.characters source.old) (kept desk.old) call }
+    requires { IsCall (S.characters source.old) (kept_desktop desk.old) call }
     ensures { Does S.CharSource (λ d. done_with_value d command (value_of d call)) result
-        source.old source.new (kept desk.old) (kept desk.new) }
+        source.old source.new (kept_desktop desk.old) (kept_desktop desk.new) }
 {
     let value = value_of(desk, call, source)?;
     match command {
@@ -143,9 +143,9 @@ fn do_with_name<S: CharSource>(
     name: &Name,
     source: &mut S,
 ) -> StepResult
-    requires over { IsOver (S.characters source.old) (kept desk.old) }
+    requires over { IsOver (S.characters source.old) (kept_desktop desk.old) }
     ensures { Does S.CharSource (λ d. done_with_name d command name.now) result
-        source.old source.new (kept desk.old) (kept desk.new) }
+        source.old source.new (kept_desktop desk.old) (kept_desktop desk.new) }
 {
     match command {
         OpenDocument => open_document(desk, name, source),
@@ -163,9 +163,9 @@ fn do_with_number<S: CharSource>(
     number: i32,
     source: &mut S,
 ) -> StepResult
-    requires over { IsOver (S.characters source.old) (kept desk.old) }
+    requires over { IsOver (S.characters source.old) (kept_desktop desk.old) }
     ensures { Does S.CharSource (λ d. done_with_number d command number) result
-        source.old source.new (kept desk.old) (kept desk.new) }
+        source.old source.new (kept_desktop desk.old) (kept_desktop desk.new) }
 {
     match command {
         SetColor => set_look(desk, colour_set(number), source),
@@ -182,9 +182,9 @@ fn command_with_viewer<S: CharSource>(
     call: Call,
     source: &mut S,
 ) -> StepResult
-    requires { IsCall (S.characters source.old) (kept desk.old) call }
-    ensures { Does S.CharSource (λ d. needs (meant d call) no_viewer (done_with_viewer d command)) result
-        source.old source.new (kept desk.old) (kept desk.new) }
+    requires { IsCall (S.characters source.old) (kept_desktop desk.old) call }
+    ensures { Does S.CharSource (λ d. needs (target_viewer d call) no_viewer (done_with_viewer d command)) result
+        source.old source.new (kept_desktop desk.old) (kept_desktop desk.new) }
 {
     let Some(id) = meant(desk, call) else {
         return Ok(Reply::No(codes::NO_VIEWER));
@@ -200,9 +200,9 @@ fn do_with_viewer<S: CharSource>(
     id: u16,
     source: &mut S,
 ) -> StepResult
-    requires { IsViewerOnTop (S.characters source.old) (kept desk.old) id }
+    requires { IsViewerOnTop (S.characters source.old) (kept_desktop desk.old) id }
     ensures { Does S.CharSource (λ d. done_with_viewer d command id) result
-        source.old source.new (kept desk.old) (kept desk.new) }
+        source.old source.new (kept_desktop desk.old) (kept_desktop desk.new) }
 {
     match command {
         ViewerCommand::Close => close_viewer(desk, id, source),
@@ -216,9 +216,9 @@ fn do_with_viewer<S: CharSource>(
 /// The files of the list after the word go. Refused where there is no list, and where a name of it is no file's or
 /// stands there twice.
 fn delete_named_files<S: CharSource>(desk: &mut Desk, call: Call, source: &mut S) -> StepResult
-    requires { IsCall (S.characters source.old) (kept desk.old) call }
+    requires { IsCall (S.characters source.old) (kept_desktop desk.old) call }
     ensures { Does S.CharSource (λ d. given (names_of d call) (files_deleted d)) result
-        source.old source.new (kept desk.old) (kept desk.new) }
+        source.old source.new (kept_desktop desk.old) (kept_desktop desk.new) }
 {
     match names_of(desk, call, source)? {
         Ok(names) => delete_files(desk, names.as_slice(), source),
@@ -230,9 +230,9 @@ fn delete_named_files<S: CharSource>(desk: &mut Desk, call: Call, source: &mut S
 
 /// The viewer that is seen at the marker. None where there is none.
 fn at_marker(desk: &Desk) -> Option<u16>
-    requires { IsKeptWhole (kept desk.now) }
-    ensures viewer { result ≡ seen_at_marker (kept desk.now) }
-    ensures placed { IfSome result (λ v. IsOnTop v (kept desk.now).columns) }
+    requires { IsKeptWhole (kept_desktop desk.now) }
+    ensures viewer { result ≡ seen_at_marker (kept_desktop desk.now) }
+    ensures placed { IfSome result (λ v. IsOnTop v (kept_desktop desk.now).columns) }
 {
     let (x, y) = desk.marker?;
     let viewer = desk.tracks.at(x, y)?;
@@ -241,10 +241,10 @@ fn at_marker(desk: &Desk) -> Option<u16>
 
 /// The viewer in whose menu the word stands, or else the one at the marker. None where there is none.
 fn meant(desk: &Desk, call: Call) -> Option<u16>
-    requires whole { IsKeptWhole (kept desk.now) }
-    requires placed { IsOnTop call.viewer (kept desk.now).columns }
-    ensures viewer { result ≡ meant (kept desk.now) call }
-    ensures placed { IfSome result (λ v. IsOnTop v (kept desk.now).columns) }
+    requires whole { IsKeptWhole (kept_desktop desk.now) }
+    requires placed { IsOnTop call.viewer (kept_desktop desk.now).columns }
+    ensures viewer { result ≡ target_viewer (kept_desktop desk.now) call }
+    ensures placed { IfSome result (λ v. IsOnTop v (kept_desktop desk.now).columns) }
 {
     if call.in_menu {
         Some(call.viewer)
@@ -255,8 +255,8 @@ fn meant(desk: &Desk, call: Call) -> Option<u16>
 
 /// The text of the newest selection, and where that begins. None without a selection.
 fn selection_place(desk: &Desk) -> Option<(&Text, u32)>
-    requires { IsKeptWhole (kept desk.now) }
-    ensures { option_map place_of result ≡ kept_place (kept desk.now) }
+    requires { IsKeptWhole (kept_desktop desk.now) }
+    ensures { option_map place_lent result ≡ kept_place (kept_desktop desk.now) }
 {
     let selection = desk.newest()?;
     let viewer = viewer_or_none(&desk.viewers, selection.viewer);
@@ -265,8 +265,8 @@ fn selection_place(desk: &Desk) -> Option<(&Text, u32)>
 
 /// The menu at the marker. None where no viewer is there.
 fn menu_at_marker(desk: &Desk) -> Option<&Text>
-    requires { IsKeptWhole (kept desk.now) }
-    ensures { option_map text_of result ≡ kept_menu (kept desk.now) }
+    requires { IsKeptWhole (kept_desktop desk.now) }
+    ensures { option_map text_lent result ≡ kept_menu (kept_desktop desk.now) }
 {
     let id = at_marker(desk)?;
     let viewer = viewer_or_none(&desk.viewers, id);
@@ -278,9 +278,9 @@ type Told<T> = Result<Result<T, u8>, Fault>;
 
 /// The value after the word. Fault: the source failed in this call.
 fn value_of<S: CharSource>(desk: &Desk, call: Call, source: &mut S) -> Told<Symbol>
-    requires { IsCall (S.characters source.old) (kept desk.now) call }
-    ensures told { Tells S.CharSource result (λ d. value_of d call) source.old source.new (kept desk.now) }
-    ensures kind { IfOk result (λ value. MatchResult value IsShaped (OneOf known_codes)) }
+    requires { IsCall (S.characters source.old) (kept_desktop desk.now) call }
+    ensures told { TellsValue S.CharSource result (λ d. value_of d call) source.old source.new (kept_desktop desk.now) }
+    ensures kind { IfOk result (λ value. MatchResult value IsSymbolShaped (OneOf known_codes)) }
 {
     let text = desk.text_called(call.viewer, call.in_menu);
     params(
@@ -295,7 +295,7 @@ fn value_of<S: CharSource>(desk: &Desk, call: Call, source: &mut S) -> Told<Symb
 /// The name that a value is. Refused where it is none.
 #[tactic(auto, using(crate::proofs::CallLemmas::same_wanted))]
 fn as_name(value: Result<Symbol, u8>) -> Result<Name, u8>
-    requires { MatchResult value IsShaped (OneOf known_codes) }
+    requires { MatchResult value IsSymbolShaped (OneOf known_codes) }
     ensures { result ≡ as_name value }
 {
     name_in(&value?).ok_or(codes::WRONG_SYMBOL)
@@ -315,9 +315,9 @@ fn names_of<S: CharSource>(
     call: Call,
     source: &mut S,
 ) -> Told<ArrayVec<Name, MOST_NAMES>>
-    requires { IsCall (S.characters source.old) (kept desk.now) call }
-    ensures told { TellsAs S.CharSource listed result (λ d. first_names (names_of d call))
-        source.old source.new (kept desk.now) }
+    requires { IsCall (S.characters source.old) (kept_desktop desk.now) call }
+    ensures told { TellsAs S.CharSource listed_names result (λ d. first_names (names_of d call))
+        source.old source.new (kept_desktop desk.now) }
     ensures codes { IfOk result (λ names. IfErr names (OneOf known_codes)) }
 {
     let text = desk.text_called(call.viewer, call.in_menu);

@@ -3,7 +3,7 @@ ghost use Rattle.std.specs.Prelude.{◌≡◌, Ok, option_map};
 ghost use Rattle.viewer_tracks.specs.Display.{left_of};
 ghost use Rattle.desktop_definitions.specs.Effects.{put_away, brought_back};
 ghost use Rattle.desktop_laws.specs.DeskWords.{place_closed};
-ghost use Rattle.desk_core.specs.Words.{IsOnTop, id_number, needs, IsOver, kept, Does};
+ghost use Rattle.desk_core.specs.Words.{IsOnTop, id_number, needs, IsOver, kept_desktop, Does};
 ghost use Rattle.desk_commands.specs.Calls.{IsViewerOnTop};
 ghost use Rattle.desk_commands.specs.Words.{Track as ATrack, no_viewer, IsClosedPlace};
 
@@ -34,9 +34,9 @@ fn viewer_closed(closed: Option<ClosedViewer>) -> Option<ViewerId>
 /// Takes a viewer from the display, with what is marked in it; it is the closed one then, with its place. The one that
 /// was closed before is gone, with the texts that no other viewer shows.
 pub fn close_viewer<S: CharSource>(desk: &mut Desk, id: u16, source: &mut S) -> StepResult
-    requires { IsViewerOnTop (S.characters source.old) (kept desk.old) id }
+    requires { IsViewerOnTop (S.characters source.old) (kept_desktop desk.old) id }
     ensures { Does S.CharSource (λ d. Ok (put_away d id)) result
-        source.old source.new (kept desk.old) (kept desk.new) }
+        source.old source.new (kept_desktop desk.old) (kept_desktop desk.new) }
 {
     edits_keep_columns();
     edits_place_viewers();
@@ -50,8 +50,8 @@ pub fn close_viewer<S: CharSource>(desk: &mut Desk, id: u16, source: &mut S) -> 
 
 /// A viewer of the display with its place, as a closed one.
 fn place_closed(desk: &Desk, id: u16) -> ClosedViewer
-    requires { IsOnTop id (kept desk.now).columns }
-    ensures value { result ≡ place_closed (kept desk.now).columns id }
+    requires { IsOnTop id (kept_desktop desk.now).columns }
+    ensures value { result ≡ place_closed (kept_desktop desk.now).columns id }
     ensures place { IsClosedPlace result }
 {
     let place = desk.tracks.place_of(ViewerId(id));
@@ -66,9 +66,9 @@ fn place_closed(desk: &Desk, id: u16) -> ClosedViewer
 /// place of another viewer, that one is removed, with the texts that no other viewer shows. Refused where none was
 /// closed.
 pub fn recall_viewer<S: CharSource>(desk: &mut Desk, source: &mut S) -> StepResult
-    requires over { IsOver (S.characters source.old) (kept desk.old) }
+    requires over { IsOver (S.characters source.old) (kept_desktop desk.old) }
     ensures { Does S.CharSource (λ d. needs d.closed no_viewer λ k. Ok (brought_back d k)) result
-        source.old source.new (kept desk.old) (kept desk.new) }
+        source.old source.new (kept_desktop desk.old) (kept_desktop desk.new) }
 {
     let Some(viewer) = desk.closed else {
         return Ok(Reply::No(codes::NO_VIEWER));

@@ -1,8 +1,8 @@
 //! The command that gives up the characters that no text has any more.
 ghost use Rattle.std.specs.Prelude.{IfOk, Ok};
-ghost use Rattle.desktop_definitions.specs.Effects.{collected};
+ghost use Rattle.desktop_definitions.specs.Effects.{after_collect};
 ghost use Rattle.desktop_laws.specs.Rewriting.{IsRewritten};
-ghost use Rattle.desk_core.specs.Words.{FailsAs, OnlyReads, IsOver, kept, IsStop, Does};
+ghost use Rattle.desk_core.specs.Words.{FailsAs, OnlyReads, IsOver, kept_desktop, IsStop, Does};
 
 use crate::rewriting::{pieces_in, put_pieces, put_table};
 use char_file::CharSource;
@@ -27,9 +27,9 @@ struct WrittenAnew {
 /// All texts, files and buffers written anew; the desktop stays. NoMemory where an allocation is refused, Fault where a
 /// character could not be read.
 fn rewritten<S: CharSource>(desk: &Desk, source: &mut S) -> Result<WrittenAnew, Stop>
-    requires { IsOver (S.characters source.old) (kept desk.now) }
+    requires { IsOver (S.characters source.old) (kept_desktop desk.now) }
     ensures rewritten { IfOk result (λ new. IsRewritten (S.honest source.old) (S.characters source.old)
-        (kept desk.now) new.made.items new.texts.entries new.files.entries new.copied new.deleted) }
+        (kept_desktop desk.now) new.made.items new.texts.entries new.files.entries new.copied new.deleted) }
     ensures reads { OnlyReads S.characters S.failures S.honest S.same_ground source.old source.new }
     ensures faults { FailsAs Stop.Fault IsStop result (S.failures source.old) (S.failures source.new) }
 {
@@ -51,9 +51,9 @@ fn rewritten<S: CharSource>(desk: &Desk, source: &mut S) -> Result<WrittenAnew, 
 /// that count as written. It is never refused. NoMemory where an allocation is refused, Fault where a character could
 /// not be read.
 pub fn collect<S: CharSource>(desk: &mut Desk, source: &mut S) -> StepResult
-    requires { IsOver (S.characters source.old) (kept desk.old) }
-    ensures { Does S.CharSource (λ d. Ok (collected d)) result
-        source.old source.new (kept desk.old) (kept desk.new) }
+    requires { IsOver (S.characters source.old) (kept_desktop desk.old) }
+    ensures { Does S.CharSource (λ d. Ok (after_collect d)) result
+        source.old source.new (kept_desktop desk.old) (kept_desktop desk.new) }
 {
     let WrittenAnew {
         texts,

@@ -6,11 +6,11 @@ ghost use Rattle.desktop_definitions.specs.Effects.{opened_on_copy, document_ope
 ghost use Rattle.desktop_definitions.specs.Effects.{viewer_copied, viewer_grown};
 ghost use Rattle.desktop_definitions.specs.Gesture.{tool_opened};
 ghost use Rattle.desktop_laws.specs.DeskWords.{IsPlaceOf};
-ghost use Rattle.desk_core.specs.Words.{flat, AreWithin, Text as AText, ROWS, COLUMNS, IsOnTop, most_written, dropped};
-ghost use Rattle.desk_core.specs.Words.{seen, seen_text, IsKeptWhole, IsOver, kept};
+ghost use Rattle.desk_core.specs.Words.{flat, AreWithin, Text as AText, ROWS, COLUMNS, IsOnTop, most_written, without_unshown};
+ghost use Rattle.desk_core.specs.Words.{seen, seen_text, IsKeptWhole, IsOver, kept_desktop};
 ghost use Rattle.desk_core.specs.Words.{Does, DoesBringing};
 ghost use Rattle.desk_commands.specs.Calls.{IsViewerOnTop};
-ghost use Rattle.desk_commands.specs.Words.{AreLooks, named, file_of, plain, more_written, menu_line, opening, fits};
+ghost use Rattle.desk_commands.specs.Words.{AreLooks, file_named, file_of, plain_text, more_written, menu_line, after_opening, fits};
 
 use crate::closings::track_from;
 use crate::openings::{
@@ -43,7 +43,7 @@ fn menu_line(name: &[u8]) -> ArrayVec<u8, 100>
 
 /// How many characters the file of that name has, and 0 where there is none.
 fn file_len(files: &Files, name: &Name) -> u32
-    ensures { result ≡ length (flat (unwrap_or (named files.now.entries name.now) [])) }
+    ensures { result ≡ length (flat (unwrap_or (file_named files.now.entries name.now) [])) }
 {
     match file_of(files, name) {
         Some(text) => text.len(),
@@ -53,7 +53,7 @@ fn file_len(files: &Files, name: &Name) -> u32
 
 /// A copy of the file of that name, and an empty text where there is none. NoMemory where an allocation is refused.
 fn copy_of_file(alloc: Global, files: &Files, name: &Name) -> Result<Text, NoMemory>
-    ensures { IfOk result (λ copy. flat copy ≡ flat (unwrap_or (named files.now.entries name.now) [])) }
+    ensures { IfOk result (λ copy. flat copy ≡ flat (unwrap_or (file_named files.now.entries name.now) [])) }
 {
     match file_of(files, name) {
         Some(text) => copy_of(alloc, text),
@@ -63,8 +63,8 @@ fn copy_of_file(alloc: Global, files: &Files, name: &Name) -> Result<Text, NoMem
 
 /// The cell, as column and row, at which a viewer opens: above the marker, or else in that track.
 fn free_cell(desk: &Desk, track: Track) -> (u8, u8)
-    requires { IsKeptWhole (kept desk.now) }
-    ensures cell { result ≡ allocated (kept desk.now).columns track (kept desk.now).marker }
+    requires { IsKeptWhole (kept_desktop desk.now) }
+    ensures cell { result ≡ allocated (kept_desktop desk.now).columns track (kept_desktop desk.now).marker }
     ensures column { result.0 < COLUMNS }
     ensures row { result.1 ≤ ROWS }
 {
@@ -73,17 +73,17 @@ fn free_cell(desk: &Desk, track: Track) -> (u8, u8)
 
 /// Where a viewer stands.
 fn place_of(desk: &Desk, id: u16) -> Place
-    requires { IsOnTop id (kept desk.now).columns }
-    ensures { IsPlaceOf (kept desk.now).columns id result.x result.bottom result.top }
+    requires { IsOnTop id (kept_desktop desk.now).columns }
+    ensures { IsPlaceOf (kept_desktop desk.now).columns id result.x result.bottom result.top }
 {
     desk.tracks.place_of(ViewerId(id))
 }
 
 /// A copy of a file, or an empty text where there is none of that name, opens in the user track.
 pub fn open_document<S: CharSource>(desk: &mut Desk, name: &Name, source: &mut S) -> StepResult
-    requires over { IsOver (S.characters source.old) (kept desk.old) }
+    requires over { IsOver (S.characters source.old) (kept_desktop desk.old) }
     ensures { Does S.CharSource (λ d. Ok (document_opened d name.now)) result
-        source.old source.new (kept desk.old) (kept desk.new) }
+        source.old source.new (kept_desktop desk.old) (kept_desktop desk.new) }
 {
     let (x, y) = free_cell(desk, Track::User);
     open_named(desk, name, x, y, source)
@@ -91,9 +91,9 @@ pub fn open_document<S: CharSource>(desk: &mut Desk, name: &Name, source: &mut S
 
 /// A copy of a file opens in the system track. Refused where there is no file of that name.
 pub fn open_file<S: CharSource>(desk: &mut Desk, name: &Name, source: &mut S) -> StepResult
-    requires over { IsOver (S.characters source.old) (kept desk.old) }
+    requires over { IsOver (S.characters source.old) (kept_desktop desk.old) }
     ensures { Does S.CharSource (λ d. file_opened d name.now) result
-        source.old source.new (kept desk.old) (kept desk.new) }
+        source.old source.new (kept_desktop desk.old) (kept_desktop desk.new) }
 {
     if !desk.files.contains_key(name) {
         return Ok(Reply::No(codes::NO_FILE));
@@ -106,9 +106,9 @@ pub fn open_file<S: CharSource>(desk: &mut Desk, name: &Name, source: &mut S) ->
 pub fn open_tool<S: CharSource>(desk: &mut Desk, x: u8, y: u8, source: &mut S) -> StepResult
     requires column { x < COLUMNS }
     requires row { y < ROWS }
-    requires over { IsOver (S.characters source.old) (kept desk.old) }
+    requires over { IsOver (S.characters source.old) (kept_desktop desk.old) }
     ensures { DoesBringing S.CharSource (menu_line (codes "System.Tool")) (λ all d. tool_opened d x y) result
-        source.old source.new (kept desk.old) (kept desk.new) }
+        source.old source.new (kept_desktop desk.old) (kept_desktop desk.new) }
 {
     let Some(name) = Name::new(b"System.Tool") else {
         unreachable!()
@@ -129,10 +129,10 @@ fn open_named<S: CharSource>(
     source: &mut S,
 ) -> StepResult
     requires column { x < COLUMNS }
-    requires over { IsOver (S.characters source.old) (kept desk.old) }
+    requires over { IsOver (S.characters source.old) (kept_desktop desk.old) }
     ensures { DoesBringing S.CharSource (menu_line name.now)
         (λ all d. Ok (opened_on_copy d name.now (unwrap_or (file_of d name.now) []) (x, y))) result
-        source.old source.new (kept desk.old) (kept desk.new) }
+        source.old source.new (kept_desktop desk.old) (kept_desktop desk.new) }
 {
     let menu = menu_line(name.as_bytes());
     let len = file_len(&desk.files, name);
@@ -154,17 +154,17 @@ fn open_viewer<S: CharSource>(
     source: &mut S,
 ) -> StepResult
     requires column { x < COLUMNS }
-    requires within { AreWithin (kept desk.old).written (flat main) }
+    requires within { AreWithin (kept_desktop desk.old).written (flat main) }
     requires looks { AreLooks (flat main) }
     requires room { desk.old.written + length menu.now ≤ most_written }
     requires fits { (characters : List ℕ) (menu_text main_text : AText ℕ) → length menu_text ≡ length menu.now
         → length main_text ≡ length (flat main)
-        → fits (dropped (more_written (opening (seen characters (kept desk.old)) menu_text main_text (x, y))
+        → fits (without_unshown (more_written (after_opening (seen characters (kept_desktop desk.old)) menu_text main_text (x, y))
         (length menu.now))) ≡ true }
-    requires over { IsOver (S.characters source.old) (kept desk.old) }
+    requires over { IsOver (S.characters source.old) (kept_desktop desk.old) }
     ensures { DoesBringing S.CharSource menu.now (λ all d.
-        Ok (more_written (opening d (plain menu.now) (seen_text all main) (x, y)) (length menu.now))) result
-        source.old source.new (kept desk.old) (kept desk.new) }
+        Ok (more_written (after_opening d (plain_text menu.now) (seen_text all main) (x, y)) (length menu.now))) result
+        source.old source.new (kept_desktop desk.old) (kept_desktop desk.new) }
 {
     edits_keep_columns();
     edits_place_viewers();
@@ -178,9 +178,9 @@ fn open_viewer<S: CharSource>(
 
 /// The log opens in the system track.
 pub fn open_log<S: CharSource>(desk: &mut Desk, source: &mut S) -> StepResult
-    requires over { IsOver (S.characters source.old) (kept desk.old) }
+    requires over { IsOver (S.characters source.old) (kept_desktop desk.old) }
     ensures { Does S.CharSource (λ d. Ok (log_opened d)) result
-        source.old source.new (kept desk.old) (kept desk.new) }
+        source.old source.new (kept_desktop desk.old) (kept_desktop desk.new) }
 {
     edits_keep_columns();
     edits_place_viewers();
@@ -200,9 +200,9 @@ pub fn open_log<S: CharSource>(desk: &mut Desk, source: &mut S) -> StepResult
 /// A second viewer of a viewer's text opens in the lower half of its place, with a copy of its menu and the same
 /// first line. Refused where its place has one row.
 pub fn copy_viewer<S: CharSource>(desk: &mut Desk, id: u16, source: &mut S) -> StepResult
-    requires { IsViewerOnTop (S.characters source.old) (kept desk.old) id }
+    requires { IsViewerOnTop (S.characters source.old) (kept_desktop desk.old) id }
     ensures { Does S.CharSource (λ d. viewer_copied d id) result
-        source.old source.new (kept desk.old) (kept desk.new) }
+        source.old source.new (kept_desktop desk.old) (kept_desktop desk.new) }
 {
     edits_keep_columns();
     edits_place_viewers();
@@ -226,9 +226,9 @@ pub fn copy_viewer<S: CharSource>(desk: &mut Desk, id: u16, source: &mut S) -> S
 /// its menu and the same first line; nothing is marked in the covered track any more. Refused where the column has as
 /// many tracks as it may have.
 pub fn grow_viewer<S: CharSource>(desk: &mut Desk, id: u16, source: &mut S) -> StepResult
-    requires { IsViewerOnTop (S.characters source.old) (kept desk.old) id }
+    requires { IsViewerOnTop (S.characters source.old) (kept_desktop desk.old) id }
     ensures { Does S.CharSource (λ d. viewer_grown d id) result
-        source.old source.new (kept desk.old) (kept desk.new) }
+        source.old source.new (kept_desktop desk.old) (kept_desktop desk.new) }
 {
     let track = track_from(place_of(desk, id).x);
     if desk.tracks.levels(track) == DEPTH {

@@ -5,9 +5,9 @@ ghost use Rattle.std.specs.Fmt.{decimal};
 ghost use Rattle.screen_pictures.specs.Bytes.{space};
 ghost use Rattle.desktop_definitions.specs.Log.{line, logged, all_logged, log_shown, log_end_shown};
 ghost use Rattle.desktop_definitions.specs.Effects.{size_line, storing_line, log_cleared, directory_logged};
-ghost use Rattle.desk_commands.specs.Lines.{bytes_of_lines, total, CanLog, Logs, Shows};
+ghost use Rattle.desk_commands.specs.Lines.{bytes_of_lines, length_of_lines, CanLog, Logs, OnlyChangesSo};
 ghost use Rattle.desk_core.specs.Words.{keys_of, flat, text_in, seen_table};
-ghost use Rattle.desk_core.specs.Words.{IsOver, IsBuilt, kept, Does};
+ghost use Rattle.desk_core.specs.Words.{IsOver, IsBuilt, kept_desktop, Does};
 ghost use Rattle.desk_commands.specs.Words.{default_look, run, deleting_line};
 
 use arrayvec::ArrayVec;
@@ -84,7 +84,7 @@ fn directory_lines(alloc: Global, files: &Files) -> Result<Vec<LogLine>, NoMemor
 /// How many characters lines have.
 pub fn total(lines: &[LogLine]) -> usize
     requires { length lines.now ≤ 257 }
-    ensures value { result ≡ total lines.now }
+    ensures value { result ≡ length_of_lines lines.now }
     ensures few { result < 2 ^ 16 }
 {
     let mut sum = 0;
@@ -108,9 +108,9 @@ fn buffer_of_line(alloc: Global, first: u32, count: u32) -> Result<Buffer, NoMem
 
 /// The log becomes empty. NoMemory where an allocation is refused, Fault where a character could not be read.
 pub fn clear_log<S: CharSource>(desk: &mut Desk, source: &mut S) -> StepResult
-    requires over { IsOver (S.characters source.old) (kept desk.old) }
+    requires over { IsOver (S.characters source.old) (kept_desktop desk.old) }
     ensures { Does S.CharSource (λ d. Ok (log_cleared d)) result
-        source.old source.new (kept desk.old) (kept desk.new) }
+        source.old source.new (kept_desktop desk.old) (kept_desktop desk.new) }
 {
     let len = log_len(desk);
     if len > 0 {
@@ -122,9 +122,9 @@ pub fn clear_log<S: CharSource>(desk: &mut Desk, source: &mut S) -> StepResult
 /// A line for each file goes into the log, by rising names. Refused where the limits on characters don't hold then.
 /// NoMemory where an allocation is refused, Fault where a character could not be read.
 pub fn log_directory<S: CharSource>(desk: &mut Desk, source: &mut S) -> StepResult
-    requires over { IsOver (S.characters source.old) (kept desk.old) }
+    requires over { IsOver (S.characters source.old) (kept_desktop desk.old) }
     ensures { Does S.CharSource (λ d. Ok (directory_logged d)) result
-        source.old source.new (kept desk.old) (kept desk.new) }
+        source.old source.new (kept_desktop desk.old) (kept_desktop desk.new) }
 {
     let made = directory_lines(desk.alloc, &desk.files)?;
     let lines = made.as_slice();
@@ -138,7 +138,7 @@ pub fn log_directory<S: CharSource>(desk: &mut Desk, source: &mut S) -> StepResu
 
 /// How many characters the log has.
 fn log_len(desk: &Desk) -> u32
-    ensures { result ≡ length (flat (text_in (kept desk.now).texts 0)) }
+    ensures { result ≡ length (flat (text_in (kept_desktop desk.now).texts 0)) }
 {
     match desk.texts.get(&0) {
         Some(log) => log.len(),
@@ -153,9 +153,9 @@ pub fn log_lines<S: CharSource>(
     lines: &[LogLine],
     source: &mut S,
 ) -> Result<(), Stop>
-    requires { CanLog (S.characters source.old) (kept desk.old) (total lines.now) }
-    ensures { Logs S.CharSource (λ d. all_logged d (bytes_of_lines lines.now)) (total lines.now) result
-        source.old source.new (kept desk.old) (kept desk.new) }
+    requires { CanLog (S.characters source.old) (kept_desktop desk.old) (length_of_lines lines.now) }
+    ensures { Logs S.CharSource (λ d. all_logged d (bytes_of_lines lines.now)) (length_of_lines lines.now) result
+        source.old source.new (kept_desktop desk.old) (kept_desktop desk.new) }
 {
     for line in lines {
         log_line(desk, line.as_slice(), source)?;
@@ -166,9 +166,9 @@ pub fn log_lines<S: CharSource>(
 /// Puts a line in at the end of the log, and each viewer of the log in a track shows its end. NoMemory where an
 /// allocation is refused, Fault where a character could not be read.
 pub fn log_line<S: CharSource>(desk: &mut Desk, line: &[u8], source: &mut S) -> Result<(), Stop>
-    requires { CanLog (S.characters source.old) (kept desk.old) (length line.now) }
+    requires { CanLog (S.characters source.old) (kept_desktop desk.old) (length line.now) }
     ensures { Logs S.CharSource (λ d. logged d line.now) (length line.now) result
-        source.old source.new (kept desk.old) (kept desk.new) }
+        source.old source.new (kept_desktop desk.old) (kept_desktop desk.new) }
 {
     let end = log_len(desk);
     let mut buffer = buffer_of_line(desk.alloc, desk.written, line.len() as u32)?;
@@ -182,8 +182,8 @@ pub fn log_line<S: CharSource>(desk: &mut Desk, line: &[u8], source: &mut S) -> 
 /// Each viewer of the log in a track, be that covered or not, shows the end of the log. Fault: the source failed in
 /// this call.
 fn show_log_end<S: CharSource>(desk: &mut Desk, source: &mut S) -> Result<(), Stop>
-    requires built { IsBuilt (length (S.characters source.old)) (kept desk.old) }
-    ensures { Shows S.CharSource log_end_shown result source.old source.new (kept desk.old) (kept desk.new) }
+    requires built { IsBuilt (length (S.characters source.old)) (kept_desktop desk.old) }
+    ensures { OnlyChangesSo S.CharSource log_end_shown result source.old source.new (kept_desktop desk.old) (kept_desktop desk.new) }
 {
     for at in 0..viewer_count(desk) {
         let id = viewer_at(desk, at);
@@ -194,15 +194,15 @@ fn show_log_end<S: CharSource>(desk: &mut Desk, source: &mut S) -> Result<(), St
 
 /// How many viewers there are.
 fn viewer_count(desk: &Desk) -> usize
-    ensures { result ≡ length (kept desk.now).viewers }
+    ensures { result ≡ length (kept_desktop desk.now).viewers }
 {
     desk.viewers.len()
 }
 
 /// The id of a viewer, by its place among all.
 fn viewer_at(desk: &Desk, at: usize) -> u16
-    requires { at < length (kept desk.now).viewers }
-    ensures { slice_get (keys_of (kept desk.now).viewers) at ≡ Some result }
+    requires { at < length (kept_desktop desk.now).viewers }
+    ensures { slice_get (keys_of (kept_desktop desk.now).viewers) at ≡ Some result }
 {
     desk.viewers[at].0
 }
@@ -210,8 +210,8 @@ fn viewer_at(desk: &Desk, at: usize) -> u16
 /// The end of the log is shown in a viewer, where that shows the log and stands in a track. Fault: the source failed in
 /// this call.
 fn show_log_in<S: CharSource>(desk: &mut Desk, id: u16, source: &mut S) -> Result<(), Stop>
-    requires built { IsBuilt (length (S.characters source.old)) (kept desk.old) }
-    ensures { Shows S.CharSource (λ d. log_shown d id) result source.old source.new (kept desk.old) (kept desk.new) }
+    requires built { IsBuilt (length (S.characters source.old)) (kept_desktop desk.old) }
+    ensures { OnlyChangesSo S.CharSource (λ d. log_shown d id) result source.old source.new (kept_desktop desk.old) (kept_desktop desk.new) }
 {
     if desk.main_of(id) == 0 && desk.tracks.contains(ViewerId(id)) {
         let end = log_len(desk);

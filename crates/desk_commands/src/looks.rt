@@ -2,7 +2,7 @@
 ghost use Rattle.std.specs.Prelude.{◌≡◌, Ok};
 ghost use Rattle.desktop_definitions.specs.Looks.{font_set, colour_set, offset_set, SetsLook};
 ghost use Rattle.desktop_definitions.specs.Effects.{look_set, selection_set};
-ghost use Rattle.desk_core.specs.Words.{needs, IsOver, kept, Does};
+ghost use Rattle.desk_core.specs.Words.{needs, IsOver, kept_desktop, Does};
 ghost use Rattle.desk_commands.specs.Words.{bad_value};
 
 use char_file::CharSource;
@@ -76,9 +76,9 @@ pub fn offset_set(number: i32) -> NewLook
 /// What is typed gets a look, in the fields that are set. Refused where none are.
 pub fn set_look<S: CharSource>(desk: &mut Desk, new: NewLook, source: &mut S) -> StepResult
     requires sets { SetsLook new }
-    requires over { IsOver (S.characters source.old) (kept desk.old) }
+    requires over { IsOver (S.characters source.old) (kept_desktop desk.old) }
     ensures { Does S.CharSource (λ d. needs new bad_value λ set. Ok (look_set d set)) result
-        source.old source.new (kept desk.old) (kept desk.new) }
+        source.old source.new (kept_desktop desk.old) (kept_desktop desk.new) }
 {
     let Some(change) = new else {
         return Ok(Reply::No(codes::BAD_VALUE));
@@ -91,9 +91,9 @@ pub fn set_look<S: CharSource>(desk: &mut Desk, new: NewLook, source: &mut S) ->
 /// are, and without a selection. NoMemory where an allocation is refused.
 pub fn change_look<S: CharSource>(desk: &mut Desk, new: NewLook, source: &mut S) -> StepResult
     requires sets { SetsLook new }
-    requires over { IsOver (S.characters source.old) (kept desk.old) }
+    requires over { IsOver (S.characters source.old) (kept_desktop desk.old) }
     ensures { Does S.CharSource (λ d. needs new bad_value (selection_set d)) result
-        source.old source.new (kept desk.old) (kept desk.new) }
+        source.old source.new (kept_desktop desk.old) (kept_desktop desk.new) }
 {
     let Some(change) = new else {
         return Ok(Reply::No(codes::BAD_VALUE));

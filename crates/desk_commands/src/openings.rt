@@ -8,8 +8,8 @@ ghost use Rattle.desktop_definitions.specs.Opening.{least_unused, with_new, new_
 ghost use Rattle.desktop_definitions.specs.Opening.{opening_over};
 ghost use Rattle.desktop_laws.specs.DeskWords.{CanOpen, is_taken, still_shown, kept_left};
 ghost use Rattle.desk_core.specs.Words.{keys_of, nat_cmp, flat, Text as AText, COLUMNS, DEPTH, id_number, stack_of};
-ghost use Rattle.desk_core.specs.Words.{most_written, most_held, lengths, dropped, seen, seen_table, IsKeptWhole, kept};
-ghost use Rattle.desk_commands.specs.Words.{Track as ATrack, held, viewer_in, without_viewer, more_written, opening};
+ghost use Rattle.desk_core.specs.Words.{most_written, most_held, lengths, without_unshown, seen, seen_table, IsKeptWhole, kept_desktop};
+ghost use Rattle.desk_commands.specs.Words.{Track as ATrack, characters_held, viewer_in, without_viewer, more_written, after_opening};
 ghost use Rattle.desk_commands.specs.Words.{fits};
 
 use desk_core::desk::Desk;
@@ -110,9 +110,9 @@ fn add_viewer(viewers: &mut ViewerTable, id: u16, viewer: Viewer) -> Result<(), 
 
 /// How many characters the desktop holds without that viewer and without the texts that nobody shows then.
 fn held_without(desk: &Desk, gone: Option<ViewerId>) -> usize
-    requires { IsKeptWhole (kept desk.now) }
+    requires { IsKeptWhole (kept_desktop desk.now) }
     ensures held { (characters : List ℕ)
-        → result ≡ held (dropped (without_viewer (seen characters (kept desk.now)) (id_number gone))) }
+        → result ≡ characters_held (without_unshown (without_viewer (seen characters (kept_desktop desk.now)) (id_number gone))) }
     ensures few { result ≤ most_held }
 {
     let texts = lengths_left(&desk.texts, &desk.viewers, gone);
@@ -122,12 +122,12 @@ fn held_without(desk: &Desk, gone: Option<ViewerId>) -> usize
 /// How many characters the desktop holds without the viewer that one replaces which opens at a cell. That isn't the
 /// new one.
 fn held_before(desk: &Desk, x: u8, y: u8) -> usize
-    requires whole { IsKeptWhole (kept desk.now) }
+    requires whole { IsKeptWhole (kept_desktop desk.now) }
     requires column { x < COLUMNS }
-    ensures held { (characters : List ℕ) → result ≡ held (dropped
-        (without_viewer (seen characters (kept desk.now)) (replaced_at (kept desk.now).columns x y))) }
+    ensures held { (characters : List ℕ) → result ≡ characters_held (without_unshown
+        (without_viewer (seen characters (kept_desktop desk.now)) (replaced_at (kept_desktop desk.now).columns x y))) }
     ensures few { result ≤ most_held }
-    ensures apart { times_meant (new_id (kept desk.now)) (replaced_at (kept desk.now).columns x y) ≡ 0 }
+    ensures apart { times_meant (new_id (kept_desktop desk.now)) (replaced_at (kept_desktop desk.now).columns x y) ≡ 0 }
 {
     edits_place_viewers();
     held_without(desk, desk.tracks.replaced(x, y))
@@ -136,14 +136,14 @@ fn held_before(desk: &Desk, x: u8, y: u8) -> usize
 /// Whether the limits on characters hold once a viewer opens at a cell, with a menu that is written anew and a main
 /// text of so many characters.
 pub fn opening_fits(desk: &Desk, menu: usize, main: u32, x: u8, y: u8) -> bool
-    requires whole { IsKeptWhole (kept desk.now) }
+    requires whole { IsKeptWhole (kept_desktop desk.now) }
     requires short { menu < 2 ^ 32 }
     requires column { x < COLUMNS }
     ensures room { IsTrue result → desk.now.written + menu ≤ most_written }
     ensures fits { (characters : List ℕ) (menu_text main_text : AText ℕ) → length menu_text ≡ menu
         → length main_text ≡ main
-        → result ≡ fits (dropped (more_written
-        (opening (seen characters (kept desk.now)) menu_text main_text (x, y)) menu)) }
+        → result ≡ fits (without_unshown (more_written
+        (after_opening (seen characters (kept_desktop desk.now)) menu_text main_text (x, y)) menu)) }
 {
     within_limits(
         desk.written as usize + menu,
@@ -154,15 +154,15 @@ pub fn opening_fits(desk: &Desk, menu: usize, main: u32, x: u8, y: u8) -> bool
 /// Whether the limits on characters hold once a viewer opens at a cell on a text that is there and stays, with a
 /// menu of so many characters, of which `made` are written anew.
 pub fn opening_on_fits(desk: &Desk, made: usize, menu: usize, x: u8, y: u8) -> bool
-    requires whole { IsKeptWhole (kept desk.now) }
+    requires whole { IsKeptWhole (kept_desktop desk.now) }
     requires made { made < 2 ^ 32 }
     requires menu { menu < 2 ^ 32 }
     requires column { x < COLUMNS }
     ensures room { IsTrue result → desk.now.written + made ≤ most_written }
     ensures fits { (characters : List ℕ) (menu_text : AText ℕ) (main org : ℕ) → length menu_text ≡ menu
-        → (main ≡ 0) ⊎ (replaced_at (kept desk.now).columns x y ≡ None)
-        → result ≡ fits (dropped (more_written
-        (opening_on (seen characters (kept desk.now)) menu_text main org (x, y)) made)) }
+        → (main ≡ 0) ⊎ (replaced_at (kept_desktop desk.now).columns x y ≡ None)
+        → result ≡ fits (without_unshown (more_written
+        (opening_on (seen characters (kept_desktop desk.now)) menu_text main org (x, y)) made)) }
 {
     within_limits(desk.written as usize + made, held_before(desk, x, y) + menu)
 }
@@ -170,9 +170,9 @@ pub fn opening_on_fits(desk: &Desk, made: usize, menu: usize, x: u8, y: u8) -> b
 /// A viewer of a new menu and of the text of a number comes to the desktop, but stands nowhere yet; returns its id.
 /// NoMemory where an allocation is refused.
 fn join(desk: &mut Desk, menu: Text, main: u16, org: u32) -> Result<u16, NoMemory>
-    requires { CanOpen (kept desk.old) }
-    ensures desk { OnOk result (kept desk.new ≡ with_viewer (kept desk.old) menu main org) }
-    ensures id { IfOk result (λ id. id ≡ new_id (kept desk.old)) }
+    requires { CanOpen (kept_desktop desk.old) }
+    ensures desk { OnOk result (kept_desktop desk.new ≡ with_viewer (kept_desktop desk.old) menu main org) }
+    ensures id { IfOk result (λ id. id ≡ new_id (kept_desktop desk.old)) }
 {
     let number = add_text(&mut desk.texts, menu)?;
     let id = unused_id(desk.viewers.as_slice());
@@ -196,9 +196,9 @@ pub fn open_on(
     x: u8,
     y: u8,
 ) -> Result<(), NoMemory>
-    requires can { CanOpen (kept desk.old) }
+    requires can { CanOpen (kept_desktop desk.old) }
     requires column { x < COLUMNS }
-    ensures { OnOk result (kept desk.new ≡ dropped (opening_on (kept desk.old) menu main org (x, y))) }
+    ensures { OnOk result (kept_desktop desk.new ≡ without_unshown (opening_on (kept_desktop desk.old) menu main org (x, y))) }
 {
     let id = join(desk, menu, main, org)?;
     desk.open_at(id, x, y);
@@ -208,10 +208,10 @@ pub fn open_on(
 /// Whether the limits on characters hold once a viewer has a new track, over one that is shown, with a menu of so many
 /// characters, none of them written anew.
 pub fn opening_over_fits(desk: &Desk, menu: usize) -> bool
-    requires whole { IsKeptWhole (kept desk.now) }
+    requires whole { IsKeptWhole (kept_desktop desk.now) }
     requires menu { menu < 2 ^ 32 }
     ensures { (characters : List ℕ) (menu_text : AText ℕ) (main org : ℕ) (k : ATrack) → length menu_text ≡ menu
-        → result ≡ fits (dropped (opening_over (seen characters (kept desk.now)) menu_text main org k)) }
+        → result ≡ fits (without_unshown (opening_over (seen characters (kept_desktop desk.now)) menu_text main org k)) }
 {
     within_limits(desk.written as usize, desk.held() + menu)
 }
@@ -225,8 +225,8 @@ pub fn open_over(
     org: u32,
     track: Track,
 ) -> Result<(), NoMemory>
-    requires { CanOpen (kept desk.old) × (length (stack_of (kept desk.old).columns track) < DEPTH) }
-    ensures { OnOk result (kept desk.new ≡ opening_over (kept desk.old) menu main org track) }
+    requires { CanOpen (kept_desktop desk.old) × (length (stack_of (kept_desktop desk.old).columns track) < DEPTH) }
+    ensures { OnOk result (kept_desktop desk.new ≡ opening_over (kept_desktop desk.old) menu main org track) }
 {
     let id = join(desk, menu, main, org)?;
     desk.cover(id, track);

@@ -2,7 +2,7 @@
 //! name them there. The old texts stay.
 ghost use Rattle.std.specs.Prelude.{◌≡◌, ◌+◌, ◌<◌, ◌≤◌, ◌^◌, length};
 ghost use Rattle.piece_ring.specs.Flat.{characters_of};
-ghost use Rattle.desk_core.specs.Words.{flat, bytes};
+ghost use Rattle.desk_core.specs.Words.{flat, bytes_of_text};
 ghost use Rattle.desk_commands.specs.Rewriting.{CanPut, CanPutAll, Adds, Rewrites, RewritesAll};
 
 use char_file::CharSource;
@@ -31,7 +31,7 @@ pub fn pieces_in(buffer: &Buffer) -> Cursor<'_>
 fn put_piece<S: CharSource>(piece: Piece, made: &mut Vec<u8>, source: &mut S) -> Result<(), Stop>
     requires offsets { piece.off + piece.len < 2 ^ 32 }
     requires inside { piece.off + piece.len ≤ length (S.characters source.old) }
-    ensures { Adds S.CharSource (bytes (S.characters source.old) (characters_of piece)) piece.len result
+    ensures { Adds S.CharSource (bytes_of_text (S.characters source.old) (characters_of piece)) piece.len result
         source.old source.new made.old.items made.new.items }
 {
     for i in 0..piece.len {

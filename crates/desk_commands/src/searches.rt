@@ -1,9 +1,9 @@
 //! A text is searched, and what was deleted or copied last is put in.
 ghost use Rattle.std.specs.Prelude.{◌≡◌, ◌+◌, ◌<◌, ◌≤◌, length, take, slice_range, IfOk, IfSome, Ok, if◌then◌else◌};
-ghost use Rattle.desktop_definitions.specs.Effects.{found_at, pattern_after, searched};
+ghost use Rattle.desktop_definitions.specs.Effects.{found_at, pattern_after, after_search};
 ghost use Rattle.desktop_laws.specs.DeskWords.{start_in};
-ghost use Rattle.desk_core.specs.Words.{CountsFault, OnlyReads, flat, AreWithin, bytes, needs, IsOver};
-ghost use Rattle.desk_core.specs.Words.{kept, Does, TellsAs};
+ghost use Rattle.desk_core.specs.Words.{CountsFault, OnlyReads, flat, AreWithin, bytes_of_text, needs, IsOver};
+ghost use Rattle.desk_core.specs.Words.{kept_desktop, Does, TellsAs};
 ghost use Rattle.desk_commands.specs.Calls.{IsViewerOnTop};
 ghost use Rattle.desk_commands.specs.Words.{no_caret, most_pattern, put_at_caret};
 
@@ -30,7 +30,7 @@ fn first_bytes<S: CharSource>(
     requires within { selection.end ≤ length (flat text.now) }
     requires offsets { AreWithin (length (S.characters source.old)) (flat text.now) }
     ensures bytes { IfOk result (λ pattern. S.honest source.old → pattern.items
-        ≡ take most_pattern (slice_range (bytes (S.characters source.old) (flat text.now))
+        ≡ take most_pattern (slice_range (bytes_of_text (S.characters source.old) (flat text.now))
         selection.beg selection.end)) }
     ensures few { IfOk result (λ pattern. length pattern.items ≤ most_pattern) }
     ensures reads { OnlyReads S.characters S.failures S.honest S.same_ground source.old source.new }
@@ -60,7 +60,7 @@ fn found_at<S: CharSource>(
     requires place { pos ≤ length (flat text.now) }
     requires offsets { AreWithin (length (S.characters source.old)) (flat text.now) }
     ensures found { IfOk result (λ found. S.honest source.old
-        → found ≡ found_at (bytes (S.characters source.old) (flat text.now)) pattern.now pos) }
+        → found ≡ found_at (bytes_of_text (S.characters source.old) (flat text.now)) pattern.now pos) }
     ensures within { IfOk result (λ found. IfSome found
         (λ p. p + length pattern.now ≤ length (flat text.now))) }
     ensures reads { OnlyReads S.characters S.failures S.honest S.same_ground source.old source.new }
@@ -95,9 +95,9 @@ fn copied(bytes: &[u8]) -> Pattern
 /// The first bytes of the newest selection, 31 at most, and without one those of the last search. Fault: the source
 /// failed in this call.
 fn pattern_after<S: CharSource>(desk: &Desk, source: &mut S) -> Result<Pattern, Fault>
-    requires over { IsOver (S.characters source.old) (kept desk.now) }
+    requires over { IsOver (S.characters source.old) (kept_desktop desk.now) }
     ensures told { TellsAs S.CharSource (λ pattern. pattern.items) result pattern_after
-        source.old source.new (kept desk.now) }
+        source.old source.new (kept_desktop desk.now) }
     ensures few { IfOk result (λ pattern. length pattern.items ≤ most_pattern) }
 {
     let Some(selection) = desk.newest() else {
@@ -111,9 +111,9 @@ fn pattern_after<S: CharSource>(desk: &Desk, source: &mut S) -> Result<Pattern, 
 /// else from the beginning, and is shown. Refused without a pattern, and where it isn't found; the old pattern then
 /// stays.
 pub fn search<S: CharSource>(desk: &mut Desk, id: u16, source: &mut S) -> StepResult
-    requires { IsViewerOnTop (S.characters source.old) (kept desk.old) id }
-    ensures { Does S.CharSource (λ d. searched d id) result
-        source.old source.new (kept desk.old) (kept desk.new) }
+    requires { IsViewerOnTop (S.characters source.old) (kept_desktop desk.old) id }
+    ensures { Does S.CharSource (λ d. after_search d id) result
+        source.old source.new (kept_desktop desk.old) (kept_desktop desk.new) }
 {
     let pattern = pattern_after(desk, source)?;
     if pattern.is_empty() {
@@ -131,16 +131,16 @@ pub fn search<S: CharSource>(desk: &mut Desk, id: u16, source: &mut S) -> StepRe
 
 /// Where a search starts in a viewer's main text: at the caret, and where that isn't there at the beginning.
 fn start_in(desk: &Desk, id: u16) -> u32
-    ensures { result ≡ start_in id (kept desk.now).caret }
+    ensures { result ≡ start_in id (kept_desktop desk.now).caret }
 {
     position_in(id, desk.caret).unwrap_or(0)
 }
 
 /// What was deleted last is put in at the caret. Refused without a caret.
 pub fn recall_deleted<S: CharSource>(desk: &mut Desk, source: &mut S) -> StepResult
-    requires over { IsOver (S.characters source.old) (kept desk.old) }
+    requires over { IsOver (S.characters source.old) (kept_desktop desk.old) }
     ensures { Does S.CharSource (λ d. needs d.caret no_caret λ c. Ok (put_at_caret d d.deleted c)) result
-        source.old source.new (kept desk.old) (kept desk.new) }
+        source.old source.new (kept_desktop desk.old) (kept_desktop desk.new) }
 {
     desk.put_buffer(DeskBuffer::Deleted, source)
 }

@@ -2,12 +2,12 @@
 ghost use Rattle.std.specs.Prelude.{◌≡◌, ◌+◌, ◌≤◌, ℕ, List, [], length, fold, map, IsTrue, IfOk, Ok};
 ghost use Rattle.command_table.specs.Deciding.{is_among, can_be_deleted};
 ghost use Rattle.desktop_laws.specs.DeskWords.{can_go};
-ghost use Rattle.desktop_definitions.specs.Effects.{menu_name, stored, stored_as, without_file};
+ghost use Rattle.desktop_definitions.specs.Effects.{menu_name, after_store, stored_as, without_file};
 ghost use Rattle.desk_commands.specs.Lines.{bytes_of_lines};
 ghost use Rattle.desk_core.specs.Words.{most_held, unless, lengths, seen_table};
-ghost use Rattle.desk_core.specs.Words.{IsOver, keys_of, kept, Does, Tells};
+ghost use Rattle.desk_core.specs.Words.{IsOver, keys_of, kept_desktop, Does, TellsValue};
 ghost use Rattle.desk_commands.specs.Calls.{IsViewerOnTop};
-ghost use Rattle.desk_commands.specs.Words.{files_deleted, deleting_line, too_many_files, has_room, main_of};
+ghost use Rattle.desk_commands.specs.Words.{files_deleted, deleting_line, too_many_files, has_file_room, main_of};
 
 use crate::log::{LogLine, deleting_line, log_line, log_lines, storing_line, total};
 use crate::openings::copy_of;
@@ -87,9 +87,9 @@ fn deleting_lines(alloc: Global, names: &[Name]) -> Result<Vec<LogLine>, NoMemor
 /// twice.
 pub fn delete_files<S: CharSource>(desk: &mut Desk, names: &[Name], source: &mut S) -> StepResult
     requires few { length names.now ≤ 257 }
-    requires over { IsOver (S.characters source.old) (kept desk.old) }
+    requires over { IsOver (S.characters source.old) (kept_desktop desk.old) }
     ensures { Does S.CharSource (λ d. files_deleted d names.now) result
-        source.old source.new (kept desk.old) (kept desk.new) }
+        source.old source.new (kept_desktop desk.old) (kept_desktop desk.new) }
 {
     if !can_be_deleted(&desk.files, names) {
         return Ok(Reply::No(codes::NO_FILE));
@@ -108,9 +108,9 @@ pub fn delete_files<S: CharSource>(desk: &mut Desk, names: &[Name], source: &mut
 /// A viewer's main text becomes the file that the first symbol of its menu names, with a line of the log. Refused
 /// where that symbol is no name, and where there is no room for one more file.
 pub fn store<S: CharSource>(desk: &mut Desk, id: u16, source: &mut S) -> StepResult
-    requires { IsViewerOnTop (S.characters source.old) (kept desk.old) id }
-    ensures { Does S.CharSource (λ d. stored d id) result
-        source.old source.new (kept desk.old) (kept desk.new) }
+    requires { IsViewerOnTop (S.characters source.old) (kept_desktop desk.old) id }
+    ensures { Does S.CharSource (λ d. after_store d id) result
+        source.old source.new (kept_desktop desk.old) (kept_desktop desk.new) }
 {
     match menu_name(desk, id, source)? {
         Some(name) => store_as(desk, id, &name, source),
@@ -120,8 +120,8 @@ pub fn store<S: CharSource>(desk: &mut Desk, id: u16, source: &mut S) -> StepRes
 
 /// The first symbol of a viewer's menu. None where it is no name. Fault: the source failed in this call.
 fn menu_name<S: CharSource>(desk: &Desk, id: u16, source: &mut S) -> Result<Option<Name>, Fault>
-    requires { IsViewerOnTop (S.characters source.old) (kept desk.now) id }
-    ensures { Tells S.CharSource result (λ d. menu_name d id) source.old source.new (kept desk.now) }
+    requires { IsViewerOnTop (S.characters source.old) (kept_desktop desk.now) id }
+    ensures { TellsValue S.CharSource result (λ d. menu_name d id) source.old source.new (kept_desktop desk.now) }
 {
     let symbol = symbol_at(desk.text_called(id, true), 0, source)?;
     Ok(name_in(&symbol))
@@ -130,10 +130,10 @@ fn menu_name<S: CharSource>(desk: &Desk, id: u16, source: &mut S) -> Result<Opti
 /// A viewer's main text becomes the file of that name, with a line of the log. Refused where there is no room for
 /// one more file.
 fn store_as<S: CharSource>(desk: &mut Desk, id: u16, name: &Name, source: &mut S) -> StepResult
-    requires { IsViewerOnTop (S.characters source.old) (kept desk.old) id }
+    requires { IsViewerOnTop (S.characters source.old) (kept_desktop desk.old) id }
     ensures { Does S.CharSource
-        (λ d. unless (has_room d.files name.now) too_many_files (Ok (stored_as d name.now (main_of d id)))) result
-        source.old source.new (kept desk.old) (kept desk.new) }
+        (λ d. unless (has_file_room d.files name.now) too_many_files (Ok (stored_as d name.now (main_of d id)))) result
+        source.old source.new (kept_desktop desk.old) (kept_desktop desk.new) }
 {
     if !has_room(&desk.files, name) {
         return Ok(Reply::No(codes::TOO_MANY_FILES));

@@ -16,7 +16,7 @@ use Rattle.desktop_definitions.specs.Viewers.{text_in, viewer_or_none, selection
 use Rattle.desktop_definitions.specs.Viewers.{with_selection, unselected}
 use Rattle.desktop_definitions.specs.Gesture.{is_on_display, is_some_stretch, drawn_in}
 use Rattle.desktop_definitions.specs.Seen.{seen}
-use Rattle.desktop_definitions.specs.Step.{marked, settled}
+use Rattle.desktop_definitions.specs.Step.{marked, outcome_after}
 use Rattle.desktop_definitions.specs.Sound.{IsOver}
 use Rattle.desktop_definitions.specs.Changed.{IsChanged}
 use Rattle.desktop_definitions.specs.Outcome.{IsAnswered}
@@ -35,29 +35,29 @@ both_inside x0 y0 x1 y1 is =
 
 module _ (H : Type 0) (old : List ℕ) (d : KeptDesktop) (over : IsOver old d) where
   pub outside_answered : (test : Bool) (new : Result Desktop ℕ) → test ≡ false
-      → IsAnswered H old old d d (settled (seen old d) (unless test outside new)) (No outside)
-  unfolding settled
+      → IsAnswered H old old d d (outcome_after (seen old d) (unless test outside new)) (No outside)
+  unfolding outcome_after
   outside_answered test new is =
       refused H old d _ outside over known_outside
-      (λ h. sym (ap (λ (b : Bool). settled (seen old d) (unless b outside new)) is))
+      (λ h. sym (ap (λ (b : Bool). outcome_after (seen old d) (unless b outside new)) is))
 
   -- an effect that changes marks alone is done
   changed_done : (after : KeptDesktop) (outcome : Desktop) → IsChanged H old d after outcome 0 0
-      → IsAnswered H old old d after (settled (seen old d) (Ok outcome)) Done
+      → IsAnswered H old old d after (outcome_after (seen old d) (Ok outcome)) Done
   changed_done after outcome changed = fewer_answered H old old d after outcome 0 over refl (λ h. refl) changed
 
   pub mark_answered : (x y : ℕ) → is_on_display x y ≡ true
       → IsAnswered H old old d (marked d x y)
-      (settled (seen old d) (unless (is_on_display x y) outside (Ok (marked (seen old d) x y)))) Done
+      (outcome_after (seen old d) (unless (is_on_display x y) outside (Ok (marked (seen old d) x y)))) Done
   mark_answered x y is =
       subst (λ (b : Bool). IsAnswered H old old d (marked d x y)
-      (settled (seen old d) (unless b outside (Ok (marked (seen old d) x y)))) Done) (sym is)
+      (outcome_after (seen old d) (unless b outside (Ok (marked (seen old d) x y)))) Done) (sym is)
       (changed_done (marked d x y) (marked (seen old d) x y)
       (let cell = inside x y is in marked_changed H old d (over_built old d over) x y cell.0 cell.1))
 
   pub caret_answered : (v p : ℕ) → IsOnTop v d.columns
       → p ≤ length (flat (text_in d.texts (viewer_or_none d.viewers v).main))
-      → IsAnswered H old old d (with_caret d v p) (settled (seen old d) (Ok (with_caret (seen old d) v p))) Done
+      → IsAnswered H old old d (with_caret d v p) (outcome_after (seen old d) (Ok (with_caret (seen old d) v p))) Done
   caret_answered v p placed low =
       changed_done (with_caret d v p) (with_caret (seen old d) v p)
       (with_caret_changed H old d (over_built old d over) v p placed low)
@@ -65,7 +65,7 @@ module _ (H : Type 0) (old : List ℕ) (d : KeptDesktop) (over : IsOver old d) w
   module _ (s : Selection) (placed : IsOnTop s.viewer d.columns)
       (low : s.end ≤ length (flat (text_in d.texts (viewer_or_none d.viewers s.viewer).main))) (test : Bool)
       (test_is : test ≡ is_some_stretch s) where
-    drawn_answered : IsAnswered H old old d (drawn_in d s) (settled (seen old d) (Ok (drawn_in (seen old d) s))) Done
+    drawn_answered : IsAnswered H old old d (drawn_in d s) (outcome_after (seen old d) (Ok (drawn_in (seen old d) s))) Done
     drawn_answered = changed_done (drawn_in d s) (drawn_in (seen old d) s)
         (drawn_in_changed H old d (over_built old d over) s placed low)
 
@@ -75,16 +75,16 @@ module _ (H : Type 0) (old : List ℕ) (d : KeptDesktop) (over : IsOver old d) w
         ap (λ (t : Bool). if t then with_selection d s else unselected d s.viewer) (sym is ∙ test_is)
 
     answered_as : (after : KeptDesktop) → after ≡ drawn_in d s
-        → IsAnswered H old old d after (settled (seen old d) (Ok (drawn_in (seen old d) s))) Done
+        → IsAnswered H old old d after (outcome_after (seen old d) (Ok (drawn_in (seen old d) s))) Done
     answered_as after is =
-        subst (λ (a : KeptDesktop). IsAnswered H old old d a (settled (seen old d) (Ok (drawn_in (seen old d) s))) Done)
+        subst (λ (a : KeptDesktop). IsAnswered H old old d a (outcome_after (seen old d) (Ok (drawn_in (seen old d) s))) Done)
         (sym is) drawn_answered
 
     -- an empty stretch: nothing of its viewer is selected
     pub none_drawn : (selections : List Selection) → test ≡ false
         → selections ≡ selections_outside (λ v. v == s.viewer) d.selections
         → IsAnswered H old old d (record d { selections = selections })
-        (settled (seen old d) (Ok (drawn_in (seen old d) s))) Done
+        (outcome_after (seen old d) (Ok (drawn_in (seen old d) s))) Done
     none_drawn selections none is = answered_as (record d { selections = selections })
         ((λ k. record d { selections = is k }) ∙ drawn_as false none)
 
@@ -92,6 +92,6 @@ module _ (H : Type 0) (old : List ℕ) (d : KeptDesktop) (over : IsOver old d) w
     pub one_drawn : (selections : List Selection) → test ≡ true
         → selections ≡ selections_outside (λ v. v == s.viewer) d.selections ++ s ∷ []
         → IsAnswered H old old d (record d { selections = selections })
-        (settled (seen old d) (Ok (drawn_in (seen old d) s))) Done
+        (outcome_after (seen old d) (Ok (drawn_in (seen old d) s))) Done
     one_drawn selections some is = answered_as (record d { selections = selections })
         ((λ k. record d { selections = is k }) ∙ drawn_as true some)

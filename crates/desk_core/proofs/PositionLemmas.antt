@@ -10,14 +10,14 @@ use Rattle.std.proofs.lemmas.Bool.Decides.{eqb_tells, nat_tests}
 use Rattle.piece_ring.specs.declared.piece.Piece.{Piece}
 use Rattle.piece_ring.specs.Flat.{flat}
 use Rattle.piece_ring.specs.Text.{AreWithin}
-use Rattle.readers_scanners.specs.Reading.{bytes, contents}
+use Rattle.readers_scanners.specs.Reading.{bytes_of_text, contents}
 use Rattle.viewer_tracks.specs.Columns.{placed_top, StandsAt, IsPlaced, IsOnTop}
-use Rattle.text_frames.specs.Lines.{greatest, line_start}
+use Rattle.text_frames.specs.Lines.{greatest_where, line_start}
 use Rattle.text_frames.specs.Cells.{row_of, column_of, comes_by, stands_by, position_at, is_inside, cell_of}
 use Rattle.desktop_definitions.specs.declared.region.Region.TheVariants.{Menu, Bar, Body}
 use Rattle.desktop_definitions.specs.declared.viewer.Viewer.{Viewer}
 use Rattle.desktop_definitions.specs.declared.viewer.Selection.{Selection}
-use Rattle.desktop_definitions.specs.Tables.{Texts, numbered}
+use Rattle.desktop_definitions.specs.Tables.{Texts, text_numbered}
 use Rattle.desktop_definitions.specs.Desktop.{KeptDesktop}
 use Rattle.desktop_definitions.specs.Viewers.{bare_viewer, viewer_in, viewer_or_none, text_in, rows_of, main_of}
 use Rattle.desktop_definitions.specs.Change.{bytes_of}
@@ -60,7 +60,7 @@ main_reads characters d v = text_in_seen characters d.texts (viewer_or_none d.vi
 
 pub bytes_read : (characters : List ℕ) (d : KeptDesktop) (v : ℕ)
     → bytes_of (main_of (seen characters d) v)
-    ≡ bytes characters (flat (text_in d.texts (viewer_or_none d.viewers v).main))
+    ≡ bytes_of_text characters (flat (text_in d.texts (viewer_or_none d.viewers v).main))
 bytes_read characters d v = ap bytes_of (main_reads characters d v)
 
 pub main_long : (characters : List ℕ) (d : KeptDesktop) (v : ℕ)
@@ -70,11 +70,11 @@ main_long characters d v = long_seen characters d.texts (viewer_or_none d.viewer
 
 -- the main text of a viewer on the display is found
 pub never_none : (d : KeptDesktop) (v : ℕ) (viewer : Viewer) → IsKeptWhole d → IsPlaced v d.columns
-    → viewer ≡ viewer_or_none d.viewers v → None ≡ numbered d.texts viewer.main → ⊥
+    → viewer ≡ viewer_or_none d.viewers v → None ≡ text_numbered d.texts viewer.main → ⊥
 never_none d v viewer whole placed is none =
-    let there : IsSome (numbered d.texts (viewer_or_none d.viewers v).main) =
+    let there : IsSome (text_numbered d.texts (viewer_or_none d.viewers v).main) =
     main_kept d.written d (record { within = whole.within; shaped = λ all. (whole.sound all).shaped }) v placed in
-    let no : false ≡ true = ap is_some (none ∙ ap (λ (x : Viewer). numbered d.texts x.main) is) ∙ there in
+    let no : false ≡ true = ap is_some (none ∙ ap (λ (x : Viewer). text_numbered d.texts x.main) is) ∙ there in
     cc no
 
 org_or_none : {X : Type 0} (texts : Texts (List X)) (found : Option Viewer)
@@ -94,10 +94,10 @@ org_kept n d built v =
 
 -- ---- rows of a frame
 
-passes : (test : ℕ → Bool) (n : ℕ) → (greatest test n ≡ 0) ⊎ (test (greatest test n) ≡ true)
+passes : (test : ℕ → Bool) (n : ℕ) → (greatest_where test n ≡ 0) ⊎ (test (greatest_where test n) ≡ true)
 passes test zero = inl refl
 passes test (suc n) = (elim (test (suc n)) as (λ b. test (suc n) ≡ b
-    → (cond b (suc n) (greatest test n) ≡ 0) ⊎ (test (cond b (suc n) (greatest test n)) ≡ true)) [
+    → (cond b (suc n) (greatest_where test n) ≡ 0) ⊎ (test (cond b (suc n) (greatest_where test n)) ≡ true)) [
       | true ↦ λ is. inr is
       | false ↦ λ is. passes test n
     ]) refl
@@ -173,16 +173,16 @@ module _ (old : List ℕ) (d : KeptDesktop) (v org : ℕ) (text : List Piece)
       let low = org_kept (length old) d (over_built old d over) v in
       omega (arith, low, org_is, ap (λ (t : List Piece). length (flat t)) text_is)
 
-  bytes_as : bytes old (flat text) ≡ bytes_of (main_of (seen old d) v)
-  bytes_as = ap (λ (t : List Piece). bytes old (flat t)) text_is ∙ sym (bytes_read old d v)
+  bytes_as : bytes_of_text old (flat text) ≡ bytes_of (main_of (seen old d) v)
+  bytes_as = ap (λ (t : List Piece). bytes_of_text old (flat t)) text_is ∙ sym (bytes_read old d v)
 
   pub position_read : (column row : ℕ)
-      → position_at (bytes old (flat text)) org column row ≡ position_in (seen old d) v column row
+      → position_at (bytes_of_text old (flat text)) org column row ≡ position_in (seen old d) v column row
   unfolding position_in seen
   position_read column row = λ k. position_at (bytes_as k) (org_is k) column row
 
   pub start_read : (w h row begin : ℕ) (cell : Option (ℕ × ℕ)) (there : Bool) → 0 < w → row < h → org ≤ begin
-      → begin ≡ position_in (seen old d) v 0 row → cell ≡ cell_of w h (bytes old (flat text)) org begin
+      → begin ≡ position_in (seen old d) v 0 row → cell ≡ cell_of w h (bytes_of_text old (flat text)) org begin
       → there ≡ unwrap_or (option_map (λ (c : ℕ × ℕ). c.1 == row) cell) false
       → (if there then Some begin else None) ≡ start_of_row (seen old d) v row
   unfolding position_in start_of_row seen
@@ -202,10 +202,10 @@ module _ (old : List ℕ) (d : KeptDesktop) (v org : ℕ) (text : List Piece)
 pub share_read : (old : List ℕ) (d : KeptDesktop) (v : ℕ) (text : List Piece)
     → text ≡ text_in d.texts (viewer_or_none d.viewers v).main
     → (len row rows pos : ℕ) → len ≡ length (flat text) → rows ≡ rows_of d v → pos ≡ len * row / rows
-    → line_start (bytes old (flat text)) pos ≡ start_of_share (seen old d) v row
+    → line_start (bytes_of_text old (flat text)) pos ≡ start_of_share (seen old d) v row
 unfolding start_of_share seen
 share_read old d v text text_is len row rows pos len_is rows_is pos_is =
-    let bytes_as = ap (λ (t : List Piece). bytes old (flat t)) text_is ∙ sym (bytes_read old d v) in
+    let bytes_as = ap (λ (t : List Piece). bytes_of_text old (flat t)) text_is ∙ sym (bytes_read old d v) in
     let long : len ≡ length (main_of (seen old d) v) =
     len_is ∙ ap (λ (t : List Piece). length (flat t)) text_is ∙ sym (main_long old d v) in
     λ k. line_start (bytes_as k) ((pos_is ∙ (λ j. long j * row / rows_is j)) k)

@@ -8,16 +8,16 @@ use Rattle.piece_ring.specs.declared.piece.Piece.{Piece}
 use Rattle.piece_ring.specs.Flat.{flat}
 use Rattle.piece_ring.specs.Offsets.{stretch-AreWithin}
 use Rattle.piece_ring.specs.Text.{stretch, AreWithin}
-use Rattle.readers_scanners.specs.Reading.{bytes}
+use Rattle.readers_scanners.specs.Reading.{bytes_of_text}
 use Rattle.text_frames.specs.Cells.{cell_of}
 use Rattle.desktop_definitions.specs.declared.viewer.Selection.{Selection}
 use Rattle.desktop_definitions.specs.declared.reply.Reply.TheVariants.{No}
 use Rattle.desktop_definitions.specs.Desktop.{Desktop, KeptDesktop}
-use Rattle.desktop_definitions.specs.Tables.{numbered}
+use Rattle.desktop_definitions.specs.Tables.{text_numbered}
 use Rattle.desktop_definitions.specs.Viewers.{viewer_or_none, newest, with_selection, rows_of, kept_main}
 use Rattle.desktop_definitions.specs.Looks.{AreLooks}
 use Rattle.desktop_definitions.specs.Seen.{seen}
-use Rattle.desktop_definitions.specs.Step.{settled}
+use Rattle.desktop_definitions.specs.Step.{outcome_after}
 use Rattle.desktop_definitions.specs.Sound.{IsKeptWhole, IsBuilt, IsOver}
 use Rattle.desktop_definitions.specs.Outcome.{IsAnswered, reply_codes}
 use Rattle.desktop_laws.specs.RowLaws.{over_built, main_kept}
@@ -51,7 +51,7 @@ module _ {d : KeptDesktop} (whole : IsKeptWhole d) where
       record { placed = stands.0; place = stands.2 })
 
   pub selection_there : {o : Option Selection} → o ≡ newest d
-      → IfSome o (λ s. IsSome (numbered d.texts (viewer_or_none d.viewers s.viewer).main))
+      → IfSome o (λ s. IsSome (text_numbered d.texts (viewer_or_none d.viewers s.viewer).main))
   selection_there {o} is = if_some _ o (λ s here.
       main_kept d.written d built s.viewer
       (on_top_placed d.columns s.viewer (kept_newest d.written d s built (sym is ∙ here)).0))
@@ -110,7 +110,7 @@ buffer_goes {old} {d} {copy} buffer v over is = record {
 -- ---- refusals
 
 pub refused_effect : {H : Type 0} {old : List ℕ} {d : KeptDesktop} {effect : Result Desktop ℕ} {code : ℕ} → IsOver old d
-    → OneOf reply_codes code → effect ≡ Err code → IsAnswered H old old d d (settled (seen old d) effect) (No code)
+    → OneOf reply_codes code → effect ≡ Err code → IsAnswered H old old d d (outcome_after (seen old d) effect) (No code)
 refused_effect {H} {old} {d} {effect} {code} over known is = refusal_answered H old d effect code over known is
 
 -- ---- rows of a frame
@@ -119,7 +119,7 @@ refused_effect {H} {old} {d} {effect} {code} over known is = refusal_answered H 
 pub start_shown : {old now : List ℕ} (d : KeptDesktop) (v : ℕ) {org w h row begin : ℕ} {text : List Piece}
     {cell : Option (ℕ × ℕ)} {there is : Bool} → org ≡ (viewer_or_none d.viewers v).org → text ≡ kept_main d v → 0 < w
     → h ≡ rows_of d v → row < rows_of d v → (viewer_or_none d.viewers v).org ≤ begin
-    → begin ≡ position_in (seen old d) v 0 row → now ≡ old → cell ≡ cell_of w h (bytes now (flat text)) org begin
+    → begin ≡ position_in (seen old d) v 0 row → now ≡ old → cell ≡ cell_of w h (bytes_of_text now (flat text)) org begin
     → there ≡ unwrap_or (option_map (λ (c : ℕ × ℕ). c.1 == row) cell) false → there ≡ is
     → (if is then Some begin else None) ≡ start_of_row (seen old d) v row
 start_shown {old} {now} d v {org} {w} {h} {row} {begin} {text} {cell} {there} {is} org_is text_is wide high low
@@ -127,4 +127,4 @@ start_shown {old} {now} d v {org} {w} {h} {row} {begin} {text} {cell} {there} {i
     (λ k. if sym test k then Some begin else None)
     ∙ start_read old d v org text org_is text_is w h row begin cell there wide (omega (arith, low, high))
     (omega (arith, from, org_is)) begin_is
-    (cell_is ∙ ap (λ (l : List ℕ). cell_of w h (bytes l (flat text)) org begin) same) there_is
+    (cell_is ∙ ap (λ (l : List ℕ). cell_of w h (bytes_of_text l (flat text)) org begin) same) there_is

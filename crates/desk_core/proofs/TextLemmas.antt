@@ -12,16 +12,16 @@ use Rattle.piece_ring.specs.Flat.{flat}
 use Rattle.piece_ring.specs.Lengths.{length-inserted, length-deleted, length-looks_changed}
 use Rattle.piece_ring.specs.Offsets.{inserted-AreWithin, deleted-AreWithin, looks_changed-AreWithin}
 use Rattle.piece_ring.specs.Text.{Text, inserted, deleted, looks_changed, AreWithin}
-use Rattle.readers_scanners.specs.Reading.{bytes}
+use Rattle.readers_scanners.specs.Reading.{bytes_of_text}
 use Rattle.viewer_tracks.specs.Columns.{IsPlaced, IsOnTop, times_placed, times_meant}
 use Rattle.desktop_definitions.specs.declared.viewer.Viewer.{Viewer}
 use Rattle.desktop_definitions.specs.declared.viewer.Selection.{Selection}
-use Rattle.desktop_definitions.specs.Tables.{Texts, numbered, with_values}
+use Rattle.desktop_definitions.specs.Tables.{Texts, text_numbered, with_values}
 use Rattle.desktop_definitions.specs.Desktop.{Desktop, KeptDesktop}
 use Rattle.desktop_definitions.specs.Viewers.{bare_viewer, viewer_in, viewer_or_none, text_in, shows, unmarked}
 use Rattle.desktop_definitions.specs.Viewers.{with_selection}
 use Rattle.desktop_definitions.specs.Viewers.{rows_of, with_caret}
-use Rattle.desktop_definitions.specs.Change.{followed, insertion, deletion, looks_set, caret_shown}
+use Rattle.desktop_definitions.specs.Change.{following_viewer, insertion, deletion, looks_set, caret_shown}
 use Rattle.desktop_definitions.specs.Seen.{seen, seen_text}
 use Rattle.desktop_definitions.specs.Sound.{IsBuilt}
 use Rattle.desktop_definitions.specs.Changed.{IsChanged}
@@ -44,7 +44,7 @@ Follows d texts n viewers new =
 
 module _ (characters : List ℕ) (d : KeptDesktop) (texts : Texts (List Piece)) (n p : ℕ) (buffer : List Piece)
     (count : ℕ) (count_is : count ≡ length (flat buffer)) (built : IsBuilt (length characters) d)
-    (there : IsSome (numbered d.texts n))
+    (there : IsSome (text_numbered d.texts n))
     (set : IsSet d.texts texts n (inserted p (flat buffer) (flat (text_in d.texts n))))
     (within : AreWithin (length characters) (flat buffer)) where
   abbrev longer_text : Text ℕ
@@ -57,7 +57,7 @@ module _ (characters : List ℕ) (d : KeptDesktop) (texts : Texts (List Piece)) 
   all_within = inserted-AreWithin (length characters) p (flat buffer) (flat (text_in d.texts n)) within
       (text_within (length characters) d.texts n built.within.texts)
 
-  pub put_there : IsSome (numbered texts n)
+  pub put_there : IsSome (text_numbered texts n)
   put_there = set_there characters d texts n longer_text count 0 built there set longer all_within
 
   pub put_long : length (flat (text_in texts n)) ≡ length (flat (text_in d.texts n)) + count
@@ -73,7 +73,7 @@ module _ (characters : List ℕ) (d : KeptDesktop) (texts : Texts (List Piece)) 
   pub put_changed : AreLooks (flat buffer) → (some : 0 < count) (H : Type 0) (new : KeptDesktop)
       (viewers : List (ℕ × Viewer))
       → Follows d texts n viewers new → AreMoved n (length (flat (text_in texts n))) d.viewers viewers
-      → (H → viewers ≡ with_values (followed n (bytes characters (flat (text_in texts n))) p count 0) d.viewers)
+      → (H → viewers ≡ with_values (following_viewer n (bytes_of_text characters (flat (text_in texts n))) p count 0) d.viewers)
       → IsChanged H characters d new (insertion (seen characters d) n p (seen_text characters buffer))
       (length (flat buffer)) 0
   put_changed looks some H new viewers is moved exact =
@@ -84,12 +84,12 @@ module _ (characters : List ℕ) (d : KeptDesktop) (texts : Texts (List Piece)) 
       (kept_text_looks (length characters) d built n)) H
       (insertion (seen characters d) n p (seen_text characters buffer))
       (λ h. insertion_seen characters d n p buffer (text_in texts n) viewers (omega (arith, some, count_is)) set.is
-      (exact h ∙ ap (λ (m : ℕ). with_values (followed n (bytes characters (flat (text_in texts n))) p m 0) d.viewers)
+      (exact h ∙ ap (λ (m : ℕ). with_values (following_viewer n (bytes_of_text characters (flat (text_in texts n))) p m 0) d.viewers)
       count_is)))
 
 module _ (characters : List ℕ) (d : KeptDesktop) (texts : Texts (List Piece)) (n p q : ℕ) (some : p < q)
     (low : q ≤ length (flat (text_in d.texts n))) (built : IsBuilt (length characters) d)
-    (there : IsSome (numbered d.texts n)) (set : IsSet d.texts texts n (deleted p q (flat (text_in d.texts n)))) where
+    (there : IsSome (text_numbered d.texts n)) (set : IsSet d.texts texts n (deleted p q (flat (text_in d.texts n)))) where
   abbrev shorter_text : Text ℕ
   shorter_text = deleted p q (flat (text_in d.texts n))
 
@@ -100,7 +100,7 @@ module _ (characters : List ℕ) (d : KeptDesktop) (texts : Texts (List Piece)) 
   rest_within = deleted-AreWithin (length characters) p q (flat (text_in d.texts n))
       (text_within (length characters) d.texts n built.within.texts)
 
-  pub cut_there : IsSome (numbered texts n)
+  pub cut_there : IsSome (text_numbered texts n)
   cut_there = set_there characters d texts n shorter_text 0 (q - p) built there set shorter rest_within
 
   pub cut_long : length (flat (text_in texts n)) + (q - p) ≡ length (flat (text_in d.texts n))
@@ -115,7 +115,7 @@ module _ (characters : List ℕ) (d : KeptDesktop) (texts : Texts (List Piece)) 
 
   pub cut_changed : (H : Type 0) (new : KeptDesktop) (viewers : List (ℕ × Viewer)) → Follows d texts n viewers new
       → AreMoved n (length (flat (text_in texts n))) d.viewers viewers
-      → (H → viewers ≡ with_values (followed n (bytes characters (flat (text_in texts n))) p 0 (q - p)) d.viewers)
+      → (H → viewers ≡ with_values (following_viewer n (bytes_of_text characters (flat (text_in texts n))) p 0 (q - p)) d.viewers)
       → IsChanged H characters d new (deletion (seen characters d) n p q) 0 (q - p)
   cut_changed H new viewers is moved exact =
       set_changed characters d texts n shorter_text 0 (q - p) built there set shorter rest_within new viewers is moved
@@ -125,7 +125,7 @@ module _ (characters : List ℕ) (d : KeptDesktop) (texts : Texts (List Piece)) 
 
 module _ (characters : List ℕ) (d : KeptDesktop) (texts : Texts (List Piece)) (s : Selection) (selector : ℕ)
     (look : Look) (placed : IsOnTop s.viewer d.columns)
-    (there : IsSome (numbered d.texts (viewer_or_none d.viewers s.viewer).main)) (some : s.beg < s.end)
+    (there : IsSome (text_numbered d.texts (viewer_or_none d.viewers s.viewer).main)) (some : s.beg < s.end)
     (low : s.end ≤ length (flat (text_in d.texts (viewer_or_none d.viewers s.viewer).main)))
     (set : IsSet d.texts texts (viewer_or_none d.viewers s.viewer).main
     (looks_changed s.beg s.end selector look (flat (text_in d.texts (viewer_or_none d.viewers s.viewer).main)))) where
@@ -153,7 +153,7 @@ module _ (characters : List ℕ) (d : KeptDesktop) (texts : Texts (List Piece)) 
 
 pub relooked_by : (characters : List ℕ) (d : KeptDesktop) (texts : Texts (List Piece)) (s : Selection) (selector : ℕ)
     (look : Look) (placed : IsOnTop s.viewer d.columns)
-    (there : IsSome (numbered d.texts (viewer_or_none d.viewers s.viewer).main)) (some : s.beg < s.end)
+    (there : IsSome (text_numbered d.texts (viewer_or_none d.viewers s.viewer).main)) (some : s.beg < s.end)
     (low : s.end ≤ length (flat (text_in d.texts (viewer_or_none d.viewers s.viewer).main)))
     (w : Viewer) → w ≡ viewer_or_none d.viewers s.viewer
     → IsSet d.texts texts w.main (looks_changed s.beg s.end selector look (flat (text_in d.texts w.main)))
@@ -194,11 +194,11 @@ module _ (characters : List ℕ) (d : KeptDesktop) (v : ℕ) (built : IsBuilt (l
       (once_there (is_some (viewer_in d.viewers v)) (times_placed v d.columns)
       (times_meant v (option_map (λ k. k.viewer) d.closed)) placed ((built.shaped characters).places.once v))
 
-  main_there : IsSome (numbered d.texts (viewer_or_none d.viewers v).main)
+  main_there : IsSome (text_numbered d.texts (viewer_or_none d.viewers v).main)
   unfolding seen
   main_there =
       let n : ℕ = (viewer_or_none d.viewers v).main in
-      sym (is_some_map (seen_text characters) (numbered d.texts n))
+      sym (is_some_map (seen_text characters) (text_numbered d.texts n))
       ∙ sym (ap (λ (o : Option (Text ℕ)). is_some o) (lookup_seen (seen_text characters) (is_at (nat_cmp n)) d.texts))
       ∙ ((built.shaped characters).viewers.each v (viewer_or_none d.viewers v) viewer_there).main
 
@@ -220,7 +220,7 @@ pub caret_put : (characters : List ℕ) (d : KeptDesktop) (v : ℕ) → IsBuilt 
     → (H : Type 0) (p org rows : ℕ) (viewers : List (ℕ × Viewer))
     → p ≤ length (flat (text_in d.texts (viewer_or_none d.viewers v).main))
     → org ≤ length (flat (text_in d.texts (viewer_or_none d.viewers v).main)) → rows ≡ rows_of d v
-    → (H → org ≡ shown_org (bytes characters (flat (text_in d.texts (viewer_or_none d.viewers v).main))) rows p
+    → (H → org ≡ shown_org (bytes_of_text characters (flat (text_in d.texts (viewer_or_none d.viewers v).main))) rows p
     (viewer_or_none d.viewers v).org)
     → viewers ≡ set_value (is_at (nat_cmp v)) d.viewers (record (viewer_or_none d.viewers v) { org = org })
     → IsChanged H characters d (record (with_caret d v p) { viewers = viewers })
@@ -230,5 +230,5 @@ caret_put characters d v built placed H p org rows viewers low org_low rows_is e
     (caret_shown (seen characters d) v p) 0 0) (sym set)
     (caret_shown_changed H characters d v p org built placed low org_low
     (λ h. exact h ∙ ap (λ (r : ℕ). shown_org
-    (bytes characters (flat (text_in d.texts (viewer_or_none d.viewers v).main))) r p
+    (bytes_of_text characters (flat (text_in d.texts (viewer_or_none d.viewers v).main))) r p
     (viewer_or_none d.viewers v).org) rows_is))

@@ -5,7 +5,7 @@ use Rattle.desktop_definitions.specs.declared.reply.Reply.TheVariants.{Done, No}
 use Rattle.desktop_definitions.specs.declared.reply.Reply.{Reply}
 use Rattle.desktop_definitions.specs.Desktop.{Desktop, KeptDesktop}
 use Rattle.desktop_definitions.specs.Seen.{seen}
-use Rattle.desktop_definitions.specs.Step.{settled, outcome_of}
+use Rattle.desktop_definitions.specs.Step.{outcome_after, outcome_of}
 use Rattle.desktop_definitions.specs.Sound.{IsOver}
 use Rattle.desk_core.specs.declared.stop.Stop.{Stop}
 use Rattle.desk_core.specs.Doing.{SettlesUnread, SettlesBringing}
@@ -16,9 +16,9 @@ over_all over all long = record { counted = long; whole = over.whole }
 
 -- a refusal
 pub refusal_is : {x : Desktop} {effect : Result Desktop ℕ} {code : ℕ} → effect ≡ Err code
-    → outcome_of x (No code) ≡ settled x effect
-unfolding settled
-refusal_is {x} is = sym (ap (settled x) is)
+    → outcome_of x (No code) ≡ outcome_after x effect
+unfolding outcome_after
+refusal_is {x} is = sym (ap (outcome_after x) is)
 
 -- an effect that adds nothing brings none
 pub brings_none : (effect : Desktop → Result Desktop ℕ) (d after : KeptDesktop) (result : Result Reply Stop)

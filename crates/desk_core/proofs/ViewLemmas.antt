@@ -4,7 +4,7 @@ use Rattle.std.proofs.Common.{arith, Option, Some, None}
 use Rattle.std.specs.Prelude.{IsSome}
 use Rattle.std.specs.Option.{unwrap_or}
 use Rattle.viewer_tracks.specs.Columns.{IsPlaced}
-use Rattle.desktop_definitions.specs.Tables.{numbered}
+use Rattle.desktop_definitions.specs.Tables.{text_numbered}
 use Rattle.desktop_definitions.specs.Desktop.{KeptDesktop}
 use Rattle.desktop_definitions.specs.Viewers.{viewer_in, viewer_or_none, bare_viewer}
 use Rattle.desktop_definitions.specs.Seen.{seen, seen_table}
@@ -35,8 +35,8 @@ module _ (d : KeptDesktop) (whole : IsKeptWhole d) where
       (whole.sound []).shaped.viewers.each v (viewer_or_none d.viewers v) (the_one (viewer_in d.viewers v) bare_viewer
       (placed_is v placed))
 
-  pub menu_there : (v : ℕ) → IsPlaced v d.columns → IsSome (numbered d.texts (viewer_or_none d.viewers v).menu)
+  pub menu_there : (v : ℕ) → IsPlaced v d.columns → IsSome (text_numbered d.texts (viewer_or_none d.viewers v).menu)
   menu_there v placed = text_there [] d.texts _ (placed_viewer v placed).menu
 
-  pub main_there : (v : ℕ) → IsPlaced v d.columns → IsSome (numbered d.texts (viewer_or_none d.viewers v).main)
+  pub main_there : (v : ℕ) → IsPlaced v d.columns → IsSome (text_numbered d.texts (viewer_or_none d.viewers v).main)
   main_there v placed = text_there [] d.texts _ (placed_viewer v placed).main

@@ -5,8 +5,8 @@ use Rattle.char_file.specs.declared.source.CharSource.{Ghosts}
 use Rattle.desktop_definitions.specs.declared.reply.Reply.{Reply}
 use Rattle.desktop_definitions.specs.Desktop.{Desktop, KeptDesktop}
 use Rattle.desktop_definitions.specs.Seen.{seen}
-use Rattle.desktop_definitions.specs.Step.{settled, outcome_of}
-use Rattle.desktop_definitions.specs.Unread.{grown}
+use Rattle.desktop_definitions.specs.Step.{outcome_after, outcome_of}
+use Rattle.desktop_definitions.specs.Unread.{characters_after}
 use Rattle.desktop_definitions.specs.Outcome.{IsAnswered, IsSameSource}
 use Rattle.desk_core.specs.declared.stop.Stop.{Stop}
 use Rattle.desk_core.specs.declared.stop.Stop.TheVariants.{Fault}
@@ -17,13 +17,13 @@ use Rattle.desk_core.specs.Stops.{IsStop}
 abbrev pub SettlesUnread : (Desktop → Result Desktop ℕ) → KeptDesktop → KeptDesktop → Reply → Type 0
 SettlesUnread effect before after reply =
     (all : List ℕ) → length all ≡ before.written
-    → outcome_of (seen all after) reply ≡ settled (seen all before) (effect (seen all before))
+    → outcome_of (seen all after) reply ≡ outcome_after (seen all before) (effect (seen all before))
 
 -- Of an effect that reads none and adds these: the same, with what comes of it over each such list.
 abbrev pub SettlesBringing : List ℕ → (List ℕ → Result Desktop ℕ) → KeptDesktop → KeptDesktop → Reply → Type 0
 SettlesBringing bytes outcome before after reply =
     (all : List ℕ) → length all ≡ before.written
-    → outcome_of (seen (grown all bytes reply) after) reply ≡ settled (seen all before) (outcome all)
+    → outcome_of (seen (characters_after all bytes reply) after) reply ≡ outcome_after (seen all before) (outcome all)
 
 module _ {S : Type 0} (s : Ghosts S) where
   -- The reply, and the desktop that is kept after it, are what is settled of the effect, which says what becomes of a
@@ -31,7 +31,7 @@ module _ {S : Type 0} (s : Ghosts S) where
   abbrev pub Settles : (Desktop → Result Desktop ℕ) → S → S → KeptDesktop → KeptDesktop → Reply → Type 0
   Settles effect old new before after reply =
       IsAnswered (s.honest old) (s.characters old) (s.characters new) before after
-      (settled (seen (s.characters old) before) (effect (seen (s.characters old) before))) reply
+      (outcome_after (seen (s.characters old) before) (effect (seen (s.characters old) before))) reply
 
   -- Of the source of characters, whatever is returned.
   pub record Uses {T : Type 0} (result : Result T Stop) (old new : S) : Type 0 where

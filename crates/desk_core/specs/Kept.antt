@@ -2,8 +2,8 @@
 use Rattle.desk_core.specs.declared.desk.Desk.{Desk}
 use Rattle.desktop_definitions.specs.Desktop.{KeptDesktop}
 
-abbrev pub kept : Desk → KeptDesktop
-kept d = record {
+abbrev pub kept_desktop : Desk → KeptDesktop
+kept_desktop d = record {
   texts = d.texts.entries;
   viewers = d.viewers.items;
   columns = d.tracks;

@@ -4,13 +4,13 @@ use Rattle.piece_ring.specs.Flat.{flat}
 use Rattle.piece_ring.specs.Text.{AreWithin}
 use Rattle.piece_ring.specs.declared.piece.Piece.{Piece}
 use Rattle.desktop_definitions.specs.declared.viewer.Viewer.{Viewer}
-use Rattle.desktop_definitions.specs.Tables.{Texts, numbered}
+use Rattle.desktop_definitions.specs.Tables.{Texts, text_numbered}
 use Rattle.desktop_definitions.specs.Viewers.{text_in}
 use Rattle.desk_core.specs.declared.viewers.TextChange.{TextChange}
 
 -- the frame of a viewer's main text can be moved where there are n characters
 pub record IsMovable (n : ℕ) (texts : Texts (List Piece)) (viewer : Viewer) : Type 0 where
-  pub there : IsSome (numbered texts viewer.main)
+  pub there : IsSome (text_numbered texts viewer.main)
   pub org : viewer.org ≤ length (flat (text_in texts viewer.main))
   pub offsets : AreWithin n (flat (text_in texts viewer.main))
 

@@ -17,5 +17,5 @@ module _ {S : Type 0} (s : Ghosts S) where
     pub cause : CountsFault result (s.failures old) (s.failures new)
 
   -- What is told is what is said.
-  abbrev pub Tells : {T E : Type 0} → Result T E → (Desktop → T) → S → S → KeptDesktop → Type 0
-  Tells result said old new d = TellsAs (λ told. told) result said old new d
+  abbrev pub TellsValue : {T E : Type 0} → Result T E → (Desktop → T) → S → S → KeptDesktop → Type 0
+  TellsValue result said old new d = TellsAs (λ told. told) result said old new d

@@ -4,8 +4,8 @@
 //! may want memory, characters that are added, the change. Each promises the same: over an honest source what is
 //! `settled` of its effect, and over any source what holds of the desktop, the reply and the source whatever was read.
 ghost use Rattle.std.specs.Prelude.{◌≡◌, ◌+◌, ◌<◌, ◌≤◌, ℕ, List, [], IfOk};
-ghost use Rattle.desktop_definitions.specs.Desktop.{empty_desktop, held};
-ghost use Rattle.desk_core.specs.Words.{most_held, seen, IsOver, IsKeptWhole, kept};
+ghost use Rattle.desktop_definitions.specs.Desktop.{empty_desktop, characters_held};
+ghost use Rattle.desk_core.specs.Words.{most_held, seen, IsOver, IsKeptWhole, kept_desktop};
 
 use crate::files::Files;
 use crate::held::lengths;
@@ -57,8 +57,8 @@ pub struct Desk {
 
 /// An empty log, and nothing else.
 pub fn empty_desk(alloc: Global) -> Result<Desk, NoMemory>
-    ensures seen { IfOk result (λ d. (characters : List ℕ) → seen characters (kept d) ≡ empty_desktop) }
-    ensures over { IfOk result (λ d. IsOver [] (kept d)) }
+    ensures seen { IfOk result (λ d. (characters : List ℕ) → seen characters (kept_desktop d) ≡ empty_desktop) }
+    ensures over { IfOk result (λ d. IsOver [] (kept_desktop d)) }
 {
     let mut texts = BTreeMap::new(alloc);
     texts.insert(0, Text::new(alloc)?)?;
@@ -85,8 +85,8 @@ pub fn empty_desk(alloc: Global) -> Result<Desk, NoMemory>
 impl Desk {
     /// How many characters the desktop holds.
     pub fn held(&self) -> usize
-        requires { IsKeptWhole (kept self.now) }
-        ensures held { (characters : List ℕ) → result ≡ held (seen characters (kept self.now)) }
+        requires { IsKeptWhole (kept_desktop self.now) }
+        ensures held { (characters : List ℕ) → result ≡ characters_held (seen characters (kept_desktop self.now)) }
         ensures few { result ≤ most_held }
     {
         lengths(&self.texts)

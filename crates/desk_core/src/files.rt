@@ -1,7 +1,7 @@
 //! Files by name, as a desktop keeps them.
 ghost use Rattle.std.specs.Prelude.{◌≡◌, ◌+◌, ℕ, List, length, map, option_map, IsTrue, OnOk, OnErr, IfOk, IsErrOf};
 ghost use Rattle.event_bytes.specs.Bytes.{is_name};
-ghost use Rattle.desktop_definitions.specs.Tables.{named, put as with_file, has_room as room};
+ghost use Rattle.desktop_definitions.specs.Tables.{file_named, file_put as with_file, has_file_room as room};
 ghost use Rattle.desktop_laws.specs.DeskWords.{kept_size};
 ghost use Rattle.desktop_definitions.specs.Listing.{file_entry};
 ghost use Rattle.desk_core.specs.Words.{Text as AText, lengths, seen_table};
@@ -17,7 +17,7 @@ pub type Files = BTreeMap<Name, Text>;
 
 /// The text of the file of that name.
 pub fn file_of<'a>(files: &'a Files, name: &Name) -> Option<&'a Text>
-    ensures { option_map (λ text. text.now) result ≡ named files.now.entries name.now }
+    ensures { option_map (λ text. text.now) result ≡ file_named files.now.entries name.now }
 {
     files.get(name)
 }

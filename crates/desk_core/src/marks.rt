@@ -4,7 +4,7 @@ ghost use Rattle.desktop_definitions.specs.Step.{marked};
 ghost use Rattle.desktop_definitions.specs.Limits.{outside};
 ghost use Rattle.desktop_definitions.specs.Viewers.{with_caret};
 ghost use Rattle.desktop_definitions.specs.Gesture.{is_on_display, is_some_stretch, drawn_in};
-ghost use Rattle.desk_core.specs.Words.{IsOver, kept, IsPosition, Does, DoesUnread, unless};
+ghost use Rattle.desk_core.specs.Words.{IsOver, kept_desktop, IsPosition, Does, DoesUnread, unless};
 
 use crate::desk::Desk;
 use crate::stop::StepResult;
@@ -38,9 +38,9 @@ fn is_some_stretch(stretch: Selection) -> bool
 impl Desk {
     /// Sets the marker to a cell. Refused where that is outside the display.
     pub fn mark<S: CharSource>(&mut self, x: u8, y: u8, source: &mut S) -> StepResult
-        requires over { IsOver (S.characters source.old) (kept self.old) }
+        requires over { IsOver (S.characters source.old) (kept_desktop self.old) }
         ensures { DoesUnread S.CharSource ⊤ (λ d. unless (is_on_display x y) outside (Ok (marked d x y))) result
-            source.old source.new (kept self.old) (kept self.new) }
+            source.old source.new (kept_desktop self.old) (kept_desktop self.new) }
     {
         if !is_on_display(x, y) {
             return Ok(Reply::No(codes::OUTSIDE));
@@ -51,10 +51,10 @@ impl Desk {
 
     /// The caret comes to stand at `pos` in a viewer.
     pub fn set_caret<S: CharSource>(&mut self, id: u16, pos: u32, source: &mut S) -> StepResult
-        requires at { IsPosition (kept self.old) id pos }
-        requires over { IsOver (S.characters source.old) (kept self.old) }
+        requires at { IsPosition (kept_desktop self.old) id pos }
+        requires over { IsOver (S.characters source.old) (kept_desktop self.old) }
         ensures { Does S.CharSource (λ d. Ok (with_caret d id pos)) result
-            source.old source.new (kept self.old) (kept self.new) }
+            source.old source.new (kept_desktop self.old) (kept_desktop self.new) }
     {
         self.caret = Some(Caret {
             viewer: id,
@@ -65,10 +65,10 @@ impl Desk {
 
     /// A stretch is selected; where it is empty, nothing of its viewer is.
     pub fn select<S: CharSource>(&mut self, drawn: Selection, source: &mut S) -> StepResult
-        requires at { IsPosition (kept self.old) drawn.viewer drawn.end }
-        requires over { IsOver (S.characters source.old) (kept self.old) }
+        requires at { IsPosition (kept_desktop self.old) drawn.viewer drawn.end }
+        requires over { IsOver (S.characters source.old) (kept_desktop self.old) }
         ensures { Does S.CharSource (λ d. Ok (drawn_in d drawn)) result
-            source.old source.new (kept self.old) (kept self.new) }
+            source.old source.new (kept_desktop self.old) (kept_desktop self.new) }
     {
         if is_some_stretch(drawn) {
             select(&mut self.selections, drawn)?;

@@ -5,7 +5,7 @@ ghost use Rattle.std.specs.Map.{remove_entry};
 ghost use Rattle.desktop_definitions.specs.Viewers.{without_viewer};
 ghost use Rattle.desktop_definitions.specs.Opening.{least_unused};
 ghost use Rattle.desk_core.specs.Words.{is_at, keys_of, nat_cmp, id_number, caret_outside, selections_outside};
-ghost use Rattle.desk_core.specs.Words.{unmarked, dropped, kept};
+ghost use Rattle.desk_core.specs.Words.{unmarked, without_unshown, kept_desktop};
 
 use crate::desk::Desk;
 use crate::viewers::ViewerTable;
@@ -93,7 +93,7 @@ pub fn unused_id(viewers: &[(u16, Viewer)]) -> u16
 impl Desk {
     /// Neither the caret nor a selection stands in that viewer any more.
     pub fn unmark_viewer(&mut self, id: u16)
-        ensures { kept self.new ≡ unmarked (λ w. w == id) (kept self.old) }
+        ensures { kept_desktop self.new ≡ unmarked (λ w. w == id) (kept_desktop self.old) }
     {
         self.caret = caret_outside(self.caret, id);
         unselect(&mut self.selections, id);
@@ -101,7 +101,7 @@ impl Desk {
 
     /// The viewer of that id goes, with what is marked in it.
     fn remove_viewer(&mut self, id: u16)
-        ensures { kept self.new ≡ without_viewer (kept self.old) (Some id) }
+        ensures { kept_desktop self.new ≡ without_viewer (kept_desktop self.old) (Some id) }
     {
         remove_viewer(&mut self.viewers, id);
         self.unmark_viewer(id);
@@ -109,7 +109,7 @@ impl Desk {
 
     /// Removes the texts that no viewer shows.
     fn drop_unshown(&mut self)
-        ensures { kept self.new ≡ dropped (kept self.old) }
+        ensures { kept_desktop self.new ≡ without_unshown (kept_desktop self.old) }
     {
         let viewers = &self.viewers;
         self.texts
@@ -118,7 +118,7 @@ impl Desk {
 
     /// Removes a viewer that has lost its whole place, where there is one, and the texts that no viewer shows then.
     pub fn let_go(&mut self, gone: Option<ViewerId>)
-        ensures { kept self.new ≡ dropped (without_viewer (kept self.old) (id_number gone)) }
+        ensures { kept_desktop self.new ≡ without_unshown (without_viewer (kept_desktop self.old) (id_number gone)) }
     {
         if let Some(gone) = gone {
             self.remove_viewer(gone.0);

@@ -8,9 +8,9 @@ ghost use Rattle.desktop_definitions.specs.Looks.{IsLook, AreLooks};
 ghost use Rattle.desktop_definitions.specs.Viewers.{shows, rows_of};
 ghost use Rattle.desktop_definitions.specs.Change.{insertion, deletion, looks_set, showing, caret_shown};
 ghost use Rattle.desktop_laws.specs.DeskWords.{IsSet};
-ghost use Rattle.desk_core.specs.Words.{stretch, with_values, followed, CanFollow, AreMoved, FailsAs, IsOnTop};
-ghost use Rattle.desk_core.specs.Words.{IsPlaced, CountsFault, OnlyReads, flat, AreWithin, bytes, numbered, text_in};
-ghost use Rattle.desk_core.specs.Words.{viewer_or_none, unmarked, seen, seen_text, IsBuilt, IsChanged, kept, IsStop};
+ghost use Rattle.desk_core.specs.Words.{stretch, with_values, following_viewer, CanFollow, AreMoved, FailsAs, IsOnTop};
+ghost use Rattle.desk_core.specs.Words.{IsPlaced, CountsFault, OnlyReads, flat, AreWithin, bytes_of_text, text_numbered, text_in};
+ghost use Rattle.desk_core.specs.Words.{viewer_or_none, unmarked, seen, seen_text, IsBuilt, IsChanged, kept_desktop, IsStop};
 ghost use Rattle.desk_core.specs.Words.{IsPosition};
 ghost use Rattle.desk_core.specs.Movable.{IsChangeOf};
 
@@ -35,7 +35,7 @@ fn put_in(
     pos: u32,
     buffer: &mut Buffer,
 ) -> Result<(), NoMemory>
-    requires there { IsSome (numbered texts.old.entries number) }
+    requires there { IsSome (text_numbered texts.old.entries number) }
     requires place { pos ≤ length (flat (text_in texts.old.entries number)) }
     requires short { length (flat (text_in texts.old.entries number)) + length (flat buffer.old) < 2 ^ 32 }
     ensures { OnOk result (IsSet texts.old.entries texts.new.entries number
@@ -58,7 +58,7 @@ fn take_out(
     beg: u32,
     end: u32,
 ) -> Result<Buffer, NoMemory>
-    requires there { IsSome (numbered texts.old.entries number) }
+    requires there { IsSome (text_numbered texts.old.entries number) }
     requires some { beg < end }
     requires place { end ≤ length (flat (text_in texts.old.entries number)) }
     ensures text { OnOk result (IsSet texts.old.entries texts.new.entries number
@@ -84,7 +84,7 @@ fn relook(
     selector: u8,
     look: Look,
 ) -> Result<(), NoMemory>
-    requires there { IsSome (numbered texts.old.entries number) }
+    requires there { IsSome (text_numbered texts.old.entries number) }
     requires some { selection.beg < selection.end }
     requires place { selection.end ≤ length (flat (text_in texts.old.entries number)) }
     ensures { OnOk result (IsSet texts.old.entries texts.new.entries number
@@ -102,7 +102,7 @@ fn relook(
 impl Desk {
     /// Neither the caret nor a selection stands any more in a viewer that shows the text of that number.
     fn unmark(&mut self, number: u16)
-        ensures { kept self.new ≡ unmarked (shows (kept self.old) number) (kept self.old) }
+        ensures { kept_desktop self.new ≡ unmarked (shows (kept_desktop self.old) number) (kept_desktop self.old) }
     {
         self.caret = caret_outside(&self.viewers, number, self.caret);
         unselect(&self.viewers, number, &mut self.selections);
@@ -111,23 +111,23 @@ impl Desk {
     /// Each frame of the text that changed loses caret and selection and follows its first character. `Fault`: the
     /// source failed in this call.
     fn follow<S: CharSource>(&mut self, change: TextChange, source: &mut S) -> Result<(), Fault>
-        requires there { IsSome (numbered (kept self.old).texts change.number) }
-        requires change { IsChangeOf change (length (flat (text_in (kept self.old).texts change.number))) }
+        requires there { IsSome (text_numbered (kept_desktop self.old).texts change.number) }
+        requires change { IsChangeOf change (length (flat (text_in (kept_desktop self.old).texts change.number))) }
         requires orgs { All (CanFollow change.number change.more change.fewer
-            (length (flat (text_in (kept self.old).texts change.number)))) (kept self.old).viewers }
+            (length (flat (text_in (kept_desktop self.old).texts change.number)))) (kept_desktop self.old).viewers }
         requires offsets { AreWithin (length (S.characters source.old))
-            (flat (text_in (kept self.old).texts change.number)) }
-        ensures rest { OnOk result (kept self.new
-            ≡ record (unmarked (shows (kept self.old) change.number) (kept self.old)) {
-              viewers = (kept self.new).viewers;
+            (flat (text_in (kept_desktop self.old).texts change.number)) }
+        ensures rest { OnOk result (kept_desktop self.new
+            ≡ record (unmarked (shows (kept_desktop self.old) change.number) (kept_desktop self.old)) {
+              viewers = (kept_desktop self.new).viewers;
             }) }
-        ensures exact { OnOk result (S.honest source.old → (kept self.new).viewers ≡ with_values
-            (followed change.number
-            (bytes (S.characters source.old) (flat (text_in (kept self.old).texts change.number)))
-            change.pos change.more change.fewer) (kept self.old).viewers) }
+        ensures exact { OnOk result (S.honest source.old → (kept_desktop self.new).viewers ≡ with_values
+            (following_viewer change.number
+            (bytes_of_text (S.characters source.old) (flat (text_in (kept_desktop self.old).texts change.number)))
+            change.pos change.more change.fewer) (kept_desktop self.old).viewers) }
         ensures moved { OnOk result (AreMoved change.number
-            (length (flat (text_in (kept self.old).texts change.number)))
-            (kept self.old).viewers (kept self.new).viewers) }
+            (length (flat (text_in (kept_desktop self.old).texts change.number)))
+            (kept_desktop self.old).viewers (kept_desktop self.new).viewers) }
         ensures reads { OnlyReads S.characters S.failures S.honest S.same_ground source.old source.new }
         ensures cause { CountsFault result (S.failures source.old) (S.failures source.new) }
     {
@@ -138,8 +138,8 @@ impl Desk {
 
     /// How many rows a viewer's main frame has.
     pub fn rows_of(&self, id: u16) -> u8
-        requires { IsPlaced id (kept self.now).columns }
-        ensures rows { result ≡ rows_of (kept self.now) id }
+        requires { IsPlaced id (kept_desktop self.now).columns }
+        ensures rows { result ≡ rows_of (kept_desktop self.now) id }
         ensures few { result ≤ 31 }
     {
         let place = self.tracks.place_of(ViewerId(id));
@@ -155,18 +155,18 @@ impl Desk {
         buffer: &mut Buffer,
         source: &mut S,
     ) -> Result<(), Stop>
-        requires built { IsBuilt (length (S.characters source.old)) (kept self.old) }
-        requires there { IsSome (numbered (kept self.old).texts number) }
-        requires place { pos ≤ length (flat (text_in (kept self.old).texts number)) }
-        requires short { length (flat (text_in (kept self.old).texts number)) + length (flat buffer.old) < 2 ^ 32 }
+        requires built { IsBuilt (length (S.characters source.old)) (kept_desktop self.old) }
+        requires there { IsSome (text_numbered (kept_desktop self.old).texts number) }
+        requires place { pos ≤ length (flat (text_in (kept_desktop self.old).texts number)) }
+        requires short { length (flat (text_in (kept_desktop self.old).texts number)) + length (flat buffer.old) < 2 ^ 32 }
         requires within { AreWithin (length (S.characters source.old)) (flat buffer.old) }
         requires looks { AreLooks (flat buffer.old) }
-        ensures changed { OnOk result (IsChanged (S.honest source.old) (S.characters source.old) (kept self.old)
-            (kept self.new) (insertion (seen (S.characters source.old) (kept self.old)) number pos
+        ensures changed { OnOk result (IsChanged (S.honest source.old) (S.characters source.old) (kept_desktop self.old)
+            (kept_desktop self.new) (insertion (seen (S.characters source.old) (kept_desktop self.old)) number pos
             (seen_text (S.characters source.old) buffer.old)) (length (flat buffer.old)) 0) }
-        ensures longer { OnOk result (length (flat (text_in (kept self.new).texts number))
-            ≡ length (flat (text_in (kept self.old).texts number)) + length (flat buffer.old)) }
-        ensures columns { OnOk result ((kept self.new).columns ≡ (kept self.old).columns) }
+        ensures longer { OnOk result (length (flat (text_in (kept_desktop self.new).texts number))
+            ≡ length (flat (text_in (kept_desktop self.old).texts number)) + length (flat buffer.old)) }
+        ensures columns { OnOk result ((kept_desktop self.new).columns ≡ (kept_desktop self.old).columns) }
         ensures reads { OnlyReads S.characters S.failures S.honest S.same_ground source.old source.new }
         ensures faults { FailsAs Stop.Fault IsStop result (S.failures source.old) (S.failures source.new) }
     {
@@ -194,17 +194,17 @@ impl Desk {
         end: u32,
         source: &mut S,
     ) -> Result<Buffer, Stop>
-        requires built { IsBuilt (length (S.characters source.old)) (kept self.old) }
-        requires there { IsSome (numbered (kept self.old).texts number) }
+        requires built { IsBuilt (length (S.characters source.old)) (kept_desktop self.old) }
+        requires there { IsSome (text_numbered (kept_desktop self.old).texts number) }
         requires some { beg < end }
-        requires place { end ≤ length (flat (text_in (kept self.old).texts number)) }
-        ensures changed { OnOk result (IsChanged (S.honest source.old) (S.characters source.old) (kept self.old)
-            (kept self.new) (deletion (seen (S.characters source.old) (kept self.old)) number beg end) 0 (end - beg)) }
+        requires place { end ≤ length (flat (text_in (kept_desktop self.old).texts number)) }
+        ensures changed { OnOk result (IsChanged (S.honest source.old) (S.characters source.old) (kept_desktop self.old)
+            (kept_desktop self.new) (deletion (seen (S.characters source.old) (kept_desktop self.old)) number beg end) 0 (end - beg)) }
         ensures taken { IfOk result (λ taken. flat taken
-            ≡ stretch beg end (flat (text_in (kept self.old).texts number))) }
-        ensures shorter { OnOk result (length (flat (text_in (kept self.new).texts number)) + (end - beg)
-            ≡ length (flat (text_in (kept self.old).texts number))) }
-        ensures columns { OnOk result ((kept self.new).columns ≡ (kept self.old).columns) }
+            ≡ stretch beg end (flat (text_in (kept_desktop self.old).texts number))) }
+        ensures shorter { OnOk result (length (flat (text_in (kept_desktop self.new).texts number)) + (end - beg)
+            ≡ length (flat (text_in (kept_desktop self.old).texts number))) }
+        ensures columns { OnOk result ((kept_desktop self.new).columns ≡ (kept_desktop self.old).columns) }
         ensures reads { OnlyReads S.characters S.failures S.honest S.same_ground source.old source.new }
         ensures faults { FailsAs Stop.Fault IsStop result (S.failures source.old) (S.failures source.new) }
     {
@@ -227,17 +227,17 @@ impl Desk {
         selector: u8,
         look: Look,
     ) -> Result<(), NoMemory>
-        requires placed { IsOnTop selection.viewer (kept self.old).columns }
-        requires there { IsSome (numbered (kept self.old).texts
-            (viewer_or_none (kept self.old).viewers selection.viewer).main) }
+        requires placed { IsOnTop selection.viewer (kept_desktop self.old).columns }
+        requires there { IsSome (text_numbered (kept_desktop self.old).texts
+            (viewer_or_none (kept_desktop self.old).viewers selection.viewer).main) }
         requires some { selection.beg < selection.end }
         requires look { IsLook look }
-        requires within { selection.end ≤ length (flat (text_in (kept self.old).texts
-            (viewer_or_none (kept self.old).viewers selection.viewer).main)) }
-        ensures changed { OnOk result ((characters : List ℕ) → IsBuilt (length characters) (kept self.old)
-            → IsChanged ⊤ characters (kept self.old) (kept self.new)
-            (looks_set (seen characters (kept self.old)) selection selector look) 0 0) }
-        ensures columns { OnOk result ((kept self.new).columns ≡ (kept self.old).columns) }
+        requires within { selection.end ≤ length (flat (text_in (kept_desktop self.old).texts
+            (viewer_or_none (kept_desktop self.old).viewers selection.viewer).main)) }
+        ensures changed { OnOk result ((characters : List ℕ) → IsBuilt (length characters) (kept_desktop self.old)
+            → IsChanged ⊤ characters (kept_desktop self.old) (kept_desktop self.new)
+            (looks_set (seen characters (kept_desktop self.old)) selection selector look) 0 0) }
+        ensures columns { OnOk result ((kept_desktop self.new).columns ≡ (kept_desktop self.old).columns) }
     {
         let number = viewer_or_none(&self.viewers, selection.viewer).main;
         relook(
@@ -255,12 +255,12 @@ impl Desk {
 
     /// A viewer shows a position of its main text. Fault: the source failed in this call.
     pub fn show<S: CharSource>(&mut self, id: u16, pos: u32, source: &mut S) -> Result<(), Stop>
-        requires built { IsBuilt (length (S.characters source.old)) (kept self.old) }
-        requires placed { IsPlaced id (kept self.old).columns }
-        requires place { pos ≤ length (flat (text_in (kept self.old).texts
-            (viewer_or_none (kept self.old).viewers id).main)) }
-        ensures changed { OnOk result (IsChanged (S.honest source.old) (S.characters source.old) (kept self.old)
-            (kept self.new) (showing (seen (S.characters source.old) (kept self.old)) id pos) 0 0) }
+        requires built { IsBuilt (length (S.characters source.old)) (kept_desktop self.old) }
+        requires placed { IsPlaced id (kept_desktop self.old).columns }
+        requires place { pos ≤ length (flat (text_in (kept_desktop self.old).texts
+            (viewer_or_none (kept_desktop self.old).viewers id).main)) }
+        ensures changed { OnOk result (IsChanged (S.honest source.old) (S.characters source.old) (kept_desktop self.old)
+            (kept_desktop self.new) (showing (seen (S.characters source.old) (kept_desktop self.old)) id pos) 0 0) }
         ensures reads { OnlyReads S.characters S.failures S.honest S.same_ground source.old source.new }
         ensures faults { FailsAs Stop.Fault IsStop result (S.failures source.old) (S.failures source.new) }
     {
@@ -277,11 +277,11 @@ impl Desk {
         pos: u32,
         source: &mut S,
     ) -> Result<(), Stop>
-        requires built { IsBuilt (length (S.characters source.old)) (kept self.old) }
-        requires at { IsPosition (kept self.old) id pos }
-        ensures changed { OnOk result (IsChanged (S.honest source.old) (S.characters source.old) (kept self.old)
-            (kept self.new) (caret_shown (seen (S.characters source.old) (kept self.old)) id pos) 0 0) }
-        ensures columns { OnOk result ((kept self.new).columns ≡ (kept self.old).columns) }
+        requires built { IsBuilt (length (S.characters source.old)) (kept_desktop self.old) }
+        requires at { IsPosition (kept_desktop self.old) id pos }
+        ensures changed { OnOk result (IsChanged (S.honest source.old) (S.characters source.old) (kept_desktop self.old)
+            (kept_desktop self.new) (caret_shown (seen (S.characters source.old) (kept_desktop self.old)) id pos) 0 0) }
+        ensures columns { OnOk result ((kept_desktop self.new).columns ≡ (kept_desktop self.old).columns) }
         ensures reads { OnlyReads S.characters S.failures S.honest S.same_ground source.old source.new }
         ensures faults { FailsAs Stop.Fault IsStop result (S.failures source.old) (S.failures source.new) }
     {

@@ -5,8 +5,8 @@ ghost use Rattle.text_frames.specs.Rules.{shown_org};
 ghost use Rattle.desktop_definitions.specs.Viewers.{viewer_in};
 ghost use Rattle.desktop_laws.specs.DeskWords.{IsMoved};
 ghost use Rattle.desk_core.specs.Movable.{IsMovable, IsChangeOf};
-ghost use Rattle.desk_core.specs.Words.{is_at, with_values, followed, AreMoved, CanFollow, nat_cmp, CountsFault};
-ghost use Rattle.desk_core.specs.Words.{OnlyReads, flat, AreWithin, bytes, numbered, viewer_or_none, text_in};
+ghost use Rattle.desk_core.specs.Words.{is_at, with_values, following_viewer, AreMoved, CanFollow, nat_cmp, CountsFault};
+ghost use Rattle.desk_core.specs.Words.{OnlyReads, flat, AreWithin, bytes_of_text, text_numbered, viewer_or_none, text_in};
 ghost use Rattle.desk_core.specs.Words.{caret_outside, selections_outside};
 
 use crate::stop::NoMemory;
@@ -125,7 +125,7 @@ fn follow<S: CharSource>(
     requires offsets { AreWithin (length (S.characters source.old)) (flat text.now) }
     ensures exact { OnOk result (S.honest source.old → entry.new ≡ (
       entry.old.0,
-      followed change.number (bytes (S.characters source.old) (flat text.now)) change.pos change.more change.fewer
+      following_viewer change.number (bytes_of_text (S.characters source.old) (flat text.now)) change.pos change.more change.fewer
           entry.old.1,
     )) }
     ensures moved { OnOk result (IsMoved change.number (length (flat text.now)) entry.old entry.new) }
@@ -159,7 +159,7 @@ fn follow_all<S: CharSource>(
         viewers.old.items }
     requires offsets { AreWithin (length (S.characters source.old)) (flat text.now) }
     ensures exact { OnOk result (S.honest source.old → viewers.new.items ≡ with_values
-        (followed change.number (bytes (S.characters source.old) (flat text.now)) change.pos change.more change.fewer)
+        (following_viewer change.number (bytes_of_text (S.characters source.old) (flat text.now)) change.pos change.more change.fewer)
         viewers.old.items) }
     ensures moved { OnOk result (AreMoved change.number (length (flat text.now)) viewers.old.items viewers.new.items) }
     ensures reads { OnlyReads S.characters S.failures S.honest S.same_ground source.old source.new }
@@ -179,13 +179,13 @@ pub fn follow_text<S: CharSource>(
     change: TextChange,
     source: &mut S,
 ) -> Result<(), Fault>
-    requires there { IsSome (numbered texts.now.entries change.number) }
+    requires there { IsSome (text_numbered texts.now.entries change.number) }
     requires change { IsChangeOf change (length (flat (text_in texts.now.entries change.number))) }
     requires orgs { All (CanFollow change.number change.more change.fewer
         (length (flat (text_in texts.now.entries change.number)))) viewers.old.items }
     requires offsets { AreWithin (length (S.characters source.old)) (flat (text_in texts.now.entries change.number)) }
     ensures exact { OnOk result (S.honest source.old → viewers.new.items ≡ with_values
-        (followed change.number (bytes (S.characters source.old) (flat (text_in texts.now.entries change.number)))
+        (following_viewer change.number (bytes_of_text (S.characters source.old) (flat (text_in texts.now.entries change.number)))
         change.pos change.more change.fewer) viewers.old.items) }
     ensures moved { OnOk result (AreMoved change.number (length (flat (text_in texts.now.entries change.number)))
         viewers.old.items viewers.new.items) }
@@ -212,7 +212,7 @@ pub fn org_in<S: CharSource>(
         (viewer_or_none viewers.now.items id) }
     requires rows { rows ≤ 31 }
     requires place { pos ≤ length (flat (text_in texts.now.entries (viewer_or_none viewers.now.items id).main)) }
-    ensures exact { IfOk result (λ new. S.honest source.old → new ≡ shown_org (bytes (S.characters source.old)
+    ensures exact { IfOk result (λ new. S.honest source.old → new ≡ shown_org (bytes_of_text (S.characters source.old)
         (flat (text_in texts.now.entries (viewer_or_none viewers.now.items id).main)))
         rows pos (viewer_or_none viewers.now.items id).org) }
     ensures within { IfOk result (λ new. new

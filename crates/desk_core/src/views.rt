@@ -2,7 +2,7 @@
 ghost use Rattle.std.specs.Prelude.{◌≡◌, IsSome};
 ghost use Rattle.desktop_definitions.specs.Shown.{caret_position};
 ghost use Rattle.desktop_definitions.specs.Call.{text_called};
-ghost use Rattle.desk_core.specs.Words.{IsOnTop, numbered, text_in, kept, IsKeptWhole, viewer_or_none};
+ghost use Rattle.desk_core.specs.Words.{IsOnTop, text_numbered, text_in, kept_desktop, IsKeptWhole, viewer_or_none};
 
 use crate::desk::Desk;
 use crate::viewers::{Texts, viewer_or_none};
@@ -12,7 +12,7 @@ use text_frames::Frame;
 
 /// The text of that number, which is there.
 pub fn text_there(texts: &Texts, number: u16) -> &Text
-    requires { IsSome (numbered texts.now.entries number) }
+    requires { IsSome (text_numbered texts.now.entries number) }
     ensures { result.now ≡ text_in texts.now.entries number }
 {
     match texts.get(&number) {
@@ -40,9 +40,9 @@ pub fn position_in(id: u16, caret: Option<Caret>) -> Option<u32>
 impl Desk {
     /// The text of a viewer in which a command's word stands: its menu or its main text.
     pub fn text_called(&self, id: u16, in_menu: bool) -> &Text
-        requires whole { IsKeptWhole (kept self.now) }
-        requires placed { IsOnTop id (kept self.now).columns }
-        ensures { result.now ≡ text_called (kept self.now) id in_menu }
+        requires whole { IsKeptWhole (kept_desktop self.now) }
+        requires placed { IsOnTop id (kept_desktop self.now).columns }
+        ensures { result.now ≡ text_called (kept_desktop self.now) id in_menu }
     {
         let viewer = viewer_or_none(&self.viewers, id);
         if in_menu {
@@ -54,9 +54,9 @@ impl Desk {
 
     /// The main text of a viewer.
     pub fn main_text(&self, id: u16) -> &Text
-        requires whole { IsKeptWhole (kept self.now) }
-        requires placed { IsOnTop id (kept self.now).columns }
-        ensures { result.now ≡ text_in (kept self.now).texts (viewer_or_none (kept self.now).viewers id).main }
+        requires whole { IsKeptWhole (kept_desktop self.now) }
+        requires placed { IsOnTop id (kept_desktop self.now).columns }
+        ensures { result.now ≡ text_in (kept_desktop self.now).texts (viewer_or_none (kept_desktop self.now).viewers id).main }
     {
         let viewer = viewer_or_none(&self.viewers, id);
         match self.texts.get(&viewer.main) {
@@ -67,7 +67,7 @@ impl Desk {
 
     /// The frame in which a viewer shows it, without what is marked there.
     pub fn main_frame(&self, id: u16) -> Frame
-        ensures { result.org ≡ (viewer_or_none (kept self.now).viewers id).org }
+        ensures { result.org ≡ (viewer_or_none (kept_desktop self.now).viewers id).org }
     {
         let viewer = viewer_or_none(&self.viewers, id);
         Frame {

@@ -4,10 +4,10 @@ use Rattle.std.specs.List.{flat_map}
 use Rattle.piece_ring.specs.declared.piece.Piece.{Piece}
 use Rattle.viewer_tracks.specs.Viewers.{Entry}
 use Rattle.command_table.specs.Versions.{newest_version}
-use Rattle.desk_image.specs.Image.{Image, piece_bytes, entry_bytes, look_bytes, optional, cell_bytes, listed}
+use Rattle.desk_image.specs.Image.{Image, piece_bytes, entry_bytes, look_bytes, optional, cell_bytes, listed_bytes}
 use Rattle.desk_image.specs.Image.{text_bytes, file_bytes, pieces_bytes, viewers_bytes, stack_bytes, closed_bytes}
 use Rattle.desk_image.specs.Image.{image_bytes}
-use Rattle.event_bytes.specs.Parts.{byte, word, counted}
+use Rattle.event_bytes.specs.Parts.{byte, word_bytes, counted_bytes}
 
 pub long_pieces : (pieces : List Piece) → length (flat_map piece_bytes pieces) ≡ 12 * length pieces
 long_pieces [] = omega arith
@@ -43,7 +43,7 @@ module _ {A : Type 0} (bytes : A → List ℕ) where
 
   -- before the first item only their number was counted
   pub number_counted : (number : ℕ → List ℕ) (n : ℕ) (items : List A) → n ≡ length (number (length items))
-      → n + length (flat_map bytes items) ≡ length (listed number bytes items)
+      → n + length (flat_map bytes items) ≡ length (listed_bytes number bytes items)
   number_counted number n items long =
       let both = length-append (number (length items)) (flat_map bytes items) in
       omega (arith, both, long)
@@ -57,14 +57,14 @@ long_parts : (a b c d e f g h k l m : List ℕ)
 long_parts a b c d e f g h k l m = simp length-append
 
 pub long_image : (version : ℕ) (i : Image) → length (image_bytes version i)
-    ≡ length (look_bytes i.look) + (length (counted byte i.pattern)
-    + (length (optional cell_bytes i.marker) + (length (listed word text_bytes i.texts)
-    + (length (listed word file_bytes i.files) + (length (pieces_bytes i.copied) + (length (pieces_bytes i.deleted)
+    ≡ length (look_bytes i.look) + (length (counted_bytes byte i.pattern)
+    + (length (optional cell_bytes i.marker) + (length (listed_bytes word_bytes text_bytes i.texts)
+    + (length (listed_bytes word_bytes file_bytes i.files) + (length (pieces_bytes i.copied) + (length (pieces_bytes i.deleted)
     + (length (viewers_bytes version i.viewers) + (length (stack_bytes version i.user)
     + (length (stack_bytes version i.system) + length (optional (closed_bytes version) i.closed))))))))))
 unfolding image_bytes
 long_image version i =
-    long_parts (look_bytes i.look) (counted byte i.pattern) (optional cell_bytes i.marker)
-    (listed word text_bytes i.texts) (listed word file_bytes i.files) (pieces_bytes i.copied) (pieces_bytes i.deleted)
+    long_parts (look_bytes i.look) (counted_bytes byte i.pattern) (optional cell_bytes i.marker)
+    (listed_bytes word_bytes text_bytes i.texts) (listed_bytes word_bytes file_bytes i.files) (pieces_bytes i.copied) (pieces_bytes i.deleted)
     (viewers_bytes version i.viewers) (stack_bytes version i.user) (stack_bytes version i.system)
     (optional (closed_bytes version) i.closed)

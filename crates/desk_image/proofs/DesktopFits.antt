@@ -9,11 +9,11 @@ use Rattle.viewer_tracks.specs.declared.display.TheConstants.{ROWS, COLUMNS}
 use Rattle.viewer_tracks.specs.declared.display.Track.TheVariants.{User, System}
 use Rattle.desktop_definitions.specs.Limits.{most_held}
 use Rattle.desktop_definitions.specs.Tables.{name_cmp, lengths}
-use Rattle.desktop_definitions.specs.Desktop.{Desktop, KeptDesktop, held}
+use Rattle.desktop_definitions.specs.Desktop.{Desktop, KeptDesktop, characters_held}
 use Rattle.desktop_definitions.specs.Seen.{seen, seen_text, seen_table}
 use Rattle.desktop_definitions.specs.Sound.{IsKeptWhole, IsSound, HasLooks}
 use Rattle.desk_image.specs.Image.{InWord, IsSpellable, image_of}
-use Rattle.desk_image.specs.Fitting.{FitsCell, FitsTexts, FitsFiles, FitsImage, total, totals}
+use Rattle.desk_image.specs.Fitting.{FitsCell, FitsTexts, FitsFiles, FitsImage, length_of_pieces, totals}
 use Rattle.desk_image.proofs.PieceFits.{pieces_fit}
 use Rattle.desk_image.proofs.Room.{IsShort, short_image, most_texts}
 use Rattle.desk_image.proofs.TableFits.{text_fits, table_fits, texts_fit, files_fit}
@@ -24,8 +24,8 @@ cell_fits None within = tt
 cell_fits (Some m) within = within m refl
 
 -- the texts of a table have no more characters than the desktop holds
-texts_low : (e : Desktop) → held e ≤ most_held → lengths e.texts ≤ most_held
-unfolding held
+texts_low : (e : Desktop) → characters_held e ≤ most_held → lengths e.texts ≤ most_held
+unfolding characters_held
 texts_low e low = omega (arith, low)
 
 small : (version : ℕ) (d : KeptDesktop) → IsKeptWhole d → IsSpellable version d
@@ -57,7 +57,7 @@ desktop_fits version d whole parts =
     let are = small version d whole parts in
     let short : IsShort (image_of d) = short_image version d whole parts in
     let few : length d.texts ≤ most_texts = short.texts in
-    let low : totals d.texts + totals d.files + total d.copied + total d.deleted ≤ most_held = short.low in
+    let low : totals d.texts + totals d.files + length_of_pieces d.copied + length_of_pieces d.deleted ≤ most_held = short.low in
     let numbers = subst (λ (numbers : List ℕ). IsStrictlySortedBy nat_cmp numbers)
     (keys_of-map_values (seen_text []) d.texts) shaped.viewers.numbers in
     let rising = subst (λ (names : List (List ℕ)). IsStrictlySortedBy name_cmp names)
@@ -74,7 +74,7 @@ desktop_fits version d whole parts =
     ) in
     let copied = pieces_fit d.written (most_held - totals d.texts - totals d.files) d.copied
     (text_fits [] d.written d.copied parts.tables.copied within.copied looks.copied) (omega (arith, low)) (omega arith) in
-    let deleted = pieces_fit d.written (most_held - totals d.texts - totals d.files - total d.copied) d.deleted
+    let deleted = pieces_fit d.written (most_held - totals d.texts - totals d.files - length_of_pieces d.copied) d.deleted
     (text_fits [] d.written d.deleted parts.tables.deleted within.deleted looks.deleted) (omega (arith, low)) (omega arith) in
     let viewers = viewers_fit version (seen_table [] d.texts) d.viewers d.columns d.closed d.caret d.selections are in
     let user = column_fits version (seen_table [] d.texts) d.viewers d.columns d.closed d.caret d.selections are User in

@@ -1,12 +1,12 @@
 -- The image of the empty desktop, by computing.
 use Rattle.std.proofs.Common.{◌≡◌, ℕ, ◌<◌, ◌≤◌, ◌^◌, Bool, true, false, List, [], ◌∷◌, ◌++◌, refl, sym, arith}
 use Rattle.std.specs.Prelude.{if◌then◌else◌}
-use Rattle.event_bytes.specs.Parts.{byte, word, counted}
+use Rattle.event_bytes.specs.Parts.{byte, word_bytes, counted_bytes}
 use Rattle.viewer_tracks.specs.declared.display.TheConstants.{DEPTH}
 use Rattle.desktop_definitions.specs.Desktop.{empty_desktop}
 use Rattle.desk_image.specs.declared.empty.TheConstants.{EMPTY_IMAGE, FLAT_EMPTY_IMAGE}
 use Rattle.desk_image.specs.Image.{Image, image_of, image_bytes, has_overlays, look_bytes, optional, cell_bytes}
-use Rattle.desk_image.specs.Image.{listed, text_bytes, file_bytes, pieces_bytes}
+use Rattle.desk_image.specs.Image.{listed_bytes, text_bytes, file_bytes, pieces_bytes}
 use Rattle.desk_image.specs.Fitting.{FitsImage, FitsStack}
 use Rattle.desk_image.specs.Laws.{EmptyLaw, empty_bytes}
 use Rattle.desk_image.proofs.Images.{whole_again}
@@ -16,9 +16,9 @@ empty = image_of empty_desktop
 
 -- its bytes, by whether there are overlays
 abbrev bytes_in : Bool → List ℕ
-bytes_in overlays = look_bytes empty.look ++ (counted byte empty.pattern ++ (optional cell_bytes empty.marker
-    ++ (listed word text_bytes empty.texts ++ (listed word file_bytes empty.files
-    ++ (pieces_bytes empty.copied ++ (pieces_bytes empty.deleted ++ (((if overlays then word 0 else byte 0) ++ [])
+bytes_in overlays = look_bytes empty.look ++ (counted_bytes byte empty.pattern ++ (optional cell_bytes empty.marker
+    ++ (listed_bytes word_bytes text_bytes empty.texts ++ (listed_bytes word_bytes file_bytes empty.files
+    ++ (pieces_bytes empty.copied ++ (pieces_bytes empty.deleted ++ (((if overlays then word_bytes 0 else byte 0) ++ [])
     ++ (((if overlays then byte 1 else []) ++ (0 ∷ [])) ++ (((if overlays then byte 1 else []) ++ (0 ∷ []))
     ++ (0 ∷ []))))))))))
 

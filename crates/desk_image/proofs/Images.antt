@@ -5,7 +5,7 @@ use Rattle.std.specs.Prelude.{cond, if◌then◌else◌, ◌&&◌, nat_le, nat_l
 use Rattle.std.proofs.lemmas.Bool.{eqb-true}
 use Rattle.std.proofs.lemmas.Bool.Decides.{nat_tests}
 use Rattle.std.proofs.lemmas.List.{append-nil}
-use Rattle.event_bytes.specs.Parts.{Reader, byte, word, byte_at, pair_at, Takes, IsPart}
+use Rattle.event_bytes.specs.Parts.{Reader, byte, word_bytes, byte_at, pair_at, TakesValue, IsPart}
 use Rattle.event_bytes.proofs.EventParts.{name_part}
 use Rattle.event_bytes.proofs.PartLaws.{given, some_is, bind_some, test_some, Nothing, whole, field, last, only, recast}
 use Rattle.event_bytes.proofs.PartLaws.{byte_part, word_part}
@@ -21,17 +21,17 @@ use Rattle.desktop_definitions.specs.Tables.{Files}
 use Rattle.desk_image.specs.declared.picture.Ranked.{Ranked}
 use Rattle.desk_image.specs.declared.picture.ViewerPicture.{ViewerPicture}
 use Rattle.desk_image.specs.declared.limits.TheConstants.{MOST_VIEWERS}
-use Rattle.desk_image.specs.Image.{Image, image_with, listed, pieces_bytes, text_bytes, file_bytes, ranked_bytes}
+use Rattle.desk_image.specs.Image.{Image, image_with, listed_bytes, pieces_bytes, text_bytes, file_bytes, ranked_bytes}
 use Rattle.desk_image.specs.Image.{has_overlays, id_bytes, viewer_bytes, viewers_bytes, entry_bytes}
 use Rattle.desk_image.specs.Image.{track_bytes, depth_bytes}
 use Rattle.desk_image.specs.Image.{stack_bytes, closed_bytes, image_bytes, InByte, InLong, InId}
-use Rattle.desk_image.specs.Fitting.{Chain, FitsPieces, less, total, totals, FitsText, after_text, FitsTexts, follows}
+use Rattle.desk_image.specs.Fitting.{Chain, FitsPieces, less, length_of_pieces, totals, FitsText, after_text, FitsTexts, follows}
 use Rattle.desk_image.specs.Fitting.{FitsFile, after_file, FitsFiles, FitsRanked, FitsViewer, after_viewer, FitsViewers}
 use Rattle.desk_image.specs.Fitting.{FitsEntry, above, FitsTrack, FitsLevel, overlaid, FitsStack, FitsClosed, FitsImage}
 use Rattle.desk_image.specs.Reading.{keyed_at}
-use Rattle.desk_image.specs.Reading.{pieces_at, text_at, texts_at, file_at, files_at, ranked_at, id_at, viewer_at}
-use Rattle.desk_image.specs.Reading.{viewers_at, raw_entry_at, is_entry, entry_at, track_at, level_at, depth_at}
-use Rattle.desk_image.specs.Reading.{stack_at, side_at, raw_closed_at, is_closed, closed_at, image_at, whole_image_at}
+use Rattle.desk_image.specs.Reading.{pieces_at, text_at, texts_at, image_file_at, files_at, ranked_at, id_at, image_viewer_at}
+use Rattle.desk_image.specs.Reading.{viewers_at, raw_entry_at, is_entry, entry_at, image_track_at, level_at, depth_at}
+use Rattle.desk_image.specs.Reading.{stack_at, side_at, raw_closed_at, is_closed, closed_at, desktop_image_at, whole_image_at}
 use Rattle.desk_image.proofs.Lists.{tested, ruled, items, listed_part, optional_part}
 use Rattle.desk_image.proofs.Fields.{long_part, look_part, piece_part, pattern_part, cell_part}
 
@@ -57,16 +57,16 @@ pub text_part : (written : ℕ) → InLong written → (s : ℕ × ℕ)
 text_part written small s = keyed_part word_part (nat_le s.0) written s.1 small
 
 pub texts_part : (written room : ℕ) → InLong written
-    → IsPart (listed word text_bytes) (FitsTexts written room) (texts_at written room)
+    → IsPart (listed_bytes word_bytes text_bytes) (FitsTexts written room) (texts_at written room)
 unfolding texts_at
 texts_part written room small = listed_part after_text (text_part written small) (0, room) word_part
 
 pub file_part : (written : ℕ) → InLong written → (s : Option (List ℕ) × ℕ)
-    → IsPart file_bytes (FitsFile written s) (file_at written s)
+    → IsPart file_bytes (FitsFile written s) (image_file_at written s)
 file_part written small s = keyed_part name_part (follows s.0) written s.1 small
 
 pub files_part : (written room : ℕ) → InLong written
-    → IsPart (listed word file_bytes) (FitsFiles written room) (files_at written room)
+    → IsPart (listed_bytes word_bytes file_bytes) (FitsFiles written room) (files_at written room)
 unfolding files_at
 files_part written room small =
     recast (λ files fits. (grind (arith, nat_tests, fits.1.0), fits.1.1))
@@ -87,7 +87,7 @@ ranked_part = whole (
     last (λ (r : Ranked). r.end) (λ end. record { rank = rank; beg = beg; end = end }) long_part
     (λ end. ((tt, refl), refl)) (λ end. refl) (λ r known. rw (← known.0.1, ← known.1) refl))))
 
-id_part_in : (overlays : Bool) → IsPart (λ n. if overlays then word n else byte n)
+id_part_in : (overlays : Bool) → IsPart (λ n. if overlays then word_bytes n else byte n)
     (λ n. n < (if overlays then 2 ^ 16 else 2 ^ 8)) (λ bytes. if overlays then pair_at bytes else byte_at bytes)
 id_part_in true = word_part
 id_part_in false = byte_part
@@ -97,7 +97,7 @@ unfolding id_at
 id_part version = id_part_in (has_overlays version)
 
 pub viewer_part : (version least : ℕ)
-    → IsPart (viewer_bytes version) (FitsViewer version least) (viewer_at version least)
+    → IsPart (viewer_bytes version) (FitsViewer version least) (image_viewer_at version least)
 viewer_part version least = whole (
     field _ (λ (v : ViewerPicture). v.id) (id_part version) (λ id _.
     tested (λ (v : ViewerPicture). nat_le least v.id) (nat_le least id) (λ v known. ap (nat_le least) known.1) (λ _.
@@ -164,8 +164,8 @@ fits_entries version room (e ∷ track) small fits =
     let height : InByte e.height = omega (arith, short, small) in
     (omega (arith, count, some, short), (((fits.0.viewer, height), grind (arith, nat_tests, some, short)), others))
 
-pub track_part : (version : ℕ) → IsPart (track_bytes version) (FitsTrack version) (track_at version)
-unfolding track_at
+pub track_part : (version : ℕ) → IsPart (track_bytes version) (FitsTrack version) (image_track_at version)
+unfolding image_track_at
 track_part version =
     recast (λ track fits. entries_fit version ROWS track fits.1)
     (λ track fits. let (count, others) = fits_entries version ROWS track (omega arith) fits in
@@ -190,7 +190,7 @@ depth_part_in : (overlays : Bool) → IsPart (λ n. if overlays then byte n else
 depth_part_in true = byte_part
 depth_part_in false = record {
   takes = λ bytes n rest e.
-      subst (λ (y : ℕ × List ℕ). Takes (λ m. []) (IsDepth false) bytes y.0 y.1)
+      subst (λ (y : ℕ × List ℕ). TakesValue (λ m. []) (IsDepth false) bytes y.0 y.1)
       (some_is {A = ℕ × List ℕ} (1, bytes) (n, rest) e) (record { fits = refl; parts = refl });
   again = λ n rest fits. ap (λ m. given {A = ℕ × List ℕ} (m, rest)) (sym fits);
 }
@@ -284,8 +284,8 @@ closed_part version =
 -- ---- images
 
 pub image_part : (version written : ℕ) → InLong written
-    → IsPart (image_bytes version) (FitsImage version written) (image_at version written)
-unfolding image_bytes FitsImage image_at
+    → IsPart (image_bytes version) (FitsImage version written) (desktop_image_at version written)
+unfolding image_bytes FitsImage desktop_image_at
 image_part version written small = whole (
     field _ (λ (i : Image). i.look) look_part (λ look _.
     field _ (λ (i : Image). i.pattern) pattern_part (λ pattern _.
@@ -297,9 +297,9 @@ image_part version written small = whole (
     let room = most_held - totals texts - totals files in
     ruled (FitsPieces written) _ (λ (i : Image). i.copied) (λ i. most_held - totals i.texts - totals i.files) room
     (λ i known. rw (known.0.1, known.1) refl) (pieces_part written room small) (λ copied _.
-    let room = most_held - totals texts - totals files - total copied in
+    let room = most_held - totals texts - totals files - length_of_pieces copied in
     ruled (FitsPieces written) _ (λ (i : Image). i.deleted)
-    (λ i. most_held - totals i.texts - totals i.files - total i.copied) room
+    (λ i. most_held - totals i.texts - totals i.files - length_of_pieces i.copied) room
     (λ i known. rw (known.0.0.1, known.0.1, known.1) refl) (pieces_part written room small) (λ deleted _.
     field _ (λ (i : Image). i.viewers) (viewers_part version) (λ viewers _.
     field _ (λ (i : Image). i.user) (stack_part version) (λ user _.
@@ -328,7 +328,7 @@ pub whole_takes : (version written : ℕ) (bytes : List ℕ) (i : Image) → InL
     → FitsImage version written i × (bytes ≡ image_bytes version i)
 unfolding whole_image_at
 whole_takes version written bytes i small e =
-    let (x, x_is, e1) = bind_some (image_at version written bytes) _ _ e in
+    let (x, x_is, e1) = bind_some (desktop_image_at version written bytes) _ _ e in
     let (none_left, e2) = test_some (nat_eq (length x.1) 0) (given {A = Image × List ℕ} x) (i, []) e1 in
     let t = (image_part version written small).takes bytes i [] (x_is ∙ e2) in
     (t.fits, t.parts ∙ append-nil (image_bytes version i))
@@ -337,7 +337,7 @@ pub whole_again : (version written : ℕ) (bytes : List ℕ) (i : Image) → InL
     → bytes ≡ image_bytes version i → whole_image_at version written bytes ≡ Some (i, [])
 unfolding whole_image_at
 whole_again version written bytes i small fits exact =
-    let read : image_at version written bytes ≡ Some (i, []) =
-    ap (image_at version written) (exact ∙ sym (append-nil (image_bytes version i)))
+    let read : desktop_image_at version written bytes ≡ Some (i, []) =
+    ap (desktop_image_at version written) (exact ∙ sym (append-nil (image_bytes version i)))
     ∙ (image_part version written small).again i [] fits in
     rw read refl

@@ -7,10 +7,10 @@ use Rattle.std.proofs.lemmas.List.Elements.{All-get_or, All-from_get_or}
 use Rattle.std.specs.List.{flat_map}
 use Rattle.std.proofs.lemmas.Bool.{eqb-true}
 use Rattle.std.proofs.lemmas.List.Concat.{flat_map-cons}
-use Rattle.event_bytes.specs.Parts.{Reader, ◌>>=◌, byte_at, Takes, IsPart}
+use Rattle.event_bytes.specs.Parts.{Reader, ◌>>=◌, byte_at, TakesValue, IsPart}
 use Rattle.event_bytes.proofs.PartLaws.{given, some_is, bind_some, test_some, IsTail, Nothing, whole, field}
 use Rattle.event_bytes.proofs.PartLaws.{byte_part}
-use Rattle.desk_image.specs.Image.{optional, listed}
+use Rattle.desk_image.specs.Image.{optional, listed_bytes}
 use Rattle.desk_image.specs.Fitting.{Chain}
 use Rattle.desk_image.specs.Reading.{times, optional_at}
 
@@ -21,7 +21,7 @@ pub done : {A : Type 0} {Known : A → Type 0} (a : A) → Known a → ((x : A) 
     → IsTail Known (λ x. []) Nothing (λ bytes. Some (a, bytes))
 done {A} {Known} a known all = record {
   takes = λ bytes x rest e.
-      subst (λ (y : A × List ℕ). Known y.0 × Takes (λ x. []) Nothing bytes y.0 y.1)
+      subst (λ (y : A × List ℕ). Known y.0 × TakesValue (λ x. []) Nothing bytes y.0 y.1)
       (some_is {A = A × List ℕ} (a, bytes) (x, rest) e) (known, record { fits = tt; parts = refl });
   again = λ x rest is fits. ap (λ b. given {A = A × List ℕ} (b, rest)) (all x is);
 }
@@ -62,7 +62,7 @@ ruled {A} {X} {R} {Known} {write} {read} {others} {OthersFit} Fits next get rule
 module _ {S A : Type 0} {write : A → List ℕ} {Fits : S → A → Type 0} {item : S → Reader A} (next : S → A → S)
     (part : (s : S) → IsPart write (Fits s) (item s)) where
   abbrev AreTaken : ℕ → S → List ℕ → List A → List ℕ → Type 0
-  AreTaken n s bytes xs rest = (length xs ≡ n) × Takes (flat_map write) (Chain Fits next s) bytes xs rest
+  AreTaken n s bytes xs rest = (length xs ≡ n) × TakesValue (flat_map write) (Chain Fits next s) bytes xs rest
 
   regrouped : (x : A) (xs : List A) (rest : List ℕ)
       → flat_map write (x ∷ xs) ++ rest ≡ write x ++ (flat_map write xs ++ rest)
@@ -71,7 +71,7 @@ module _ {S A : Type 0} {write : A → List ℕ} {Fits : S → A → Type 0} {it
 
   -- an item, and those after it
   one_more : (n : ℕ) (s : S) (bytes : List ℕ) (x : A) (after : List ℕ) (xs : List A) (rest : List ℕ)
-      → Takes write (Fits s) bytes x after → AreTaken n (next s x) after xs rest
+      → TakesValue write (Fits s) bytes x after → AreTaken n (next s x) after xs rest
       → AreTaken (suc n) s bytes (x ∷ xs) rest
   one_more n s bytes x after xs rest first (count, others) = (
     ap suc count,
@@ -118,7 +118,7 @@ module _ {S A : Type 0} {write : A → List ℕ} {Fits : S → A → Type 0} {it
   -- their number, and so many items
   pub listed_part : {number : ℕ → List ℕ} {Counts : ℕ → Type 0} {number_at : Reader ℕ} (s : S)
       → IsPart number Counts number_at
-      → IsPart (listed number write) (λ xs. Counts (length xs) × Chain Fits next s xs)
+      → IsPart (listed_bytes number write) (λ xs. Counts (length xs) × Chain Fits next s xs)
       (λ bytes. number_at bytes >>= λ n. times item next n.0 s n.1)
   listed_part s counts = whole (field (λ n. times item next n s) length counts (λ n _. items n s))
 
@@ -126,7 +126,7 @@ module _ {S A : Type 0} {write : A → List ℕ} {Fits : S → A → Type 0} {it
 
 module _ {A : Type 0} {write : A → List ℕ} {Fits : A → Type 0} {read : Reader A} (part : IsPart write Fits read) where
   abbrev Here : List ℕ → Option A × List ℕ → Type 0
-  Here bytes y = Takes (optional write) (λ o. IfSome o Fits) bytes y.0 y.1
+  Here bytes y = TakesValue (optional write) (λ o. IfSome o Fits) bytes y.0 y.1
 
   abbrev behind : Reader (Option A)
   behind bytes = read bytes >>= λ x. given {A = Option A × List ℕ} (Some x.0, x.1)
@@ -160,7 +160,7 @@ module _ {A : Type 0} {write : A → List ℕ} {Fits : A → Type 0} {read : Rea
   optional_part = record { takes = from; again = option_again }
     where
       from : (bytes : List ℕ) (o : Option A) (rest : List ℕ) → optional_at read bytes ≡ Some (o, rest)
-          → Takes (optional write) (λ o. IfSome o Fits) bytes o rest
+          → TakesValue (optional write) (λ o. IfSome o Fits) bytes o rest
       from bytes o rest e =
           let (flag, flag_is, e1) =
           bind_some (byte_at bytes) (λ flag. cond (flag.0 == 0) (given {A = Option A × List ℕ} (None, flag.1))

@@ -13,7 +13,7 @@ use Rattle.desktop_definitions.specs.Limits.{most_held}
 use Rattle.desktop_definitions.specs.Looks.{IsLook, AreLooks}
 use Rattle.desktop_laws.specs.FewLaws.{few_some}
 use Rattle.desk_image.specs.Image.{AreSome}
-use Rattle.desk_image.specs.Fitting.{Chain, FitsPiece, FitsPieces, less, total}
+use Rattle.desk_image.specs.Fitting.{Chain, FitsPiece, FitsPieces, less, length_of_pieces}
 
 -- ---- parts of a list
 
@@ -55,14 +55,14 @@ kept_looks {X} {Y} f (c ∷ text) looks = All-cons (λ (c : X × Look). IsLook c
     (All-head (λ (c : Y × Look). IsLook c.1) (f c.0, c.1) (renamed f text) looks)
     (kept_looks f text (All-tail (λ (c : Y × Look). IsLook c.1) (f c.0, c.1) (renamed f text) looks))
 
-pub length_flat : (pieces : List Piece) → length (flat pieces) ≡ total pieces
+pub length_flat : (pieces : List Piece) → length (flat pieces) ≡ length_of_pieces pieces
 length_flat [] = refl
 length_flat (p ∷ ps) = length-append (characters_of p) (flat ps)
     ∙ (λ k. length-run p.off p.len p.look k + length_flat ps k)
     ∙ sym (sum_by-cons (λ (q : Piece). q.len) p ps)
 
 -- each piece has a character
-pub few_pieces : (pieces : List Piece) → AreSome pieces → length pieces ≤ total pieces
+pub few_pieces : (pieces : List Piece) → AreSome pieces → length pieces ≤ length_of_pieces pieces
 few_pieces pieces some = few_some (λ (p : Piece). p.len) pieces some
 
 -- What fits of a text: its pieces have characters, of those that were written, in looks that there are.
@@ -78,7 +78,7 @@ without_first written p ps text = record {
   looks = back (λ (c : ℕ × Look). IsLook c.1) (characters_of p) (flat ps) text.looks;
 }
 
-chain_fits : (written room : ℕ) (pieces : List Piece) → IsFitting written pieces → total pieces ≤ room
+chain_fits : (written room : ℕ) (pieces : List Piece) → IsFitting written pieces → length_of_pieces pieces ≤ room
     → Chain (FitsPiece written) less room pieces
 chain_fits written room [] text low = tt
 chain_fits written room (p ∷ ps) text low =
@@ -95,7 +95,7 @@ chain_fits written room (p ∷ ps) text low =
       chain_fits written (less room p) ps (without_first written p ps text) (omega (arith, low, sum)),
     )
 
-pub pieces_fit : (written room : ℕ) (pieces : List Piece) → IsFitting written pieces → total pieces ≤ room
+pub pieces_fit : (written room : ℕ) (pieces : List Piece) → IsFitting written pieces → length_of_pieces pieces ≤ room
     → room ≤ most_held → FitsPieces written room pieces
 pieces_fit written room pieces text low small =
     let few = few_pieces pieces text.some in

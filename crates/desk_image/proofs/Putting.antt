@@ -5,7 +5,7 @@ use Rattle.std.proofs.lemmas.List.{append-nil, append_assoc}
 use Rattle.sector_disk.specs.declared.disk.Fault.{Fault}
 use Rattle.desk_image.specs.declared.sink.ByteSink.{Ghosts}
 use Rattle.desk_image.specs.Streams.{Puts}
-use Rattle.desk_image.specs.Image.{listed}
+use Rattle.desk_image.specs.Image.{listed_bytes}
 
 module _ {K : Type 0} (k : Ghosts K) where
   -- bytes that are the same were put
@@ -79,9 +79,9 @@ module _ {K : Type 0} (k : Ghosts K)
   -- before the first item the number was put
   pub number_put : {A X : Type 0} {x : X} (number : ℕ → List ℕ) (bytes : A → List ℕ) (items : List A) (n : ℕ) {a b : K}
       → length items ≡ n → Puts {E = Fault} k (Ok x) (number n) a b
-      → IsLeft k (listed number bytes items) (flat_map bytes items) a b
+      → IsLeft k (listed_bytes number bytes items) (flat_map bytes items) a b
   number_put number bytes items n long first =
-      first_put (listed number bytes items) (number n) (flat_map bytes items)
+      first_put (listed_bytes number bytes items) (number n) (flat_map bytes items)
       (ap (λ (m : ℕ). number m ++ flat_map bytes items) long) first
 
   -- the first of the items that were left was put

@@ -11,7 +11,7 @@ use Rattle.std.proofs.lemmas.List.Elements.{All-head, All-tail}
 use Rattle.std.proofs.lemmas.List.Sums.{sum_by-cons, sum_by-le}
 use Rattle.std.proofs.lemmas.Map.Made.{keys_of-map_values}
 use Rattle.event_bytes.specs.Bytes.{is_name}
-use Rattle.event_bytes.specs.Parts.{byte, word, counted}
+use Rattle.event_bytes.specs.Parts.{byte, word_bytes, counted_bytes}
 use Rattle.piece_ring.specs.declared.piece.Piece.{Piece}
 use Rattle.viewer_tracks.specs.declared.display.TheConstants.{ROWS, DEPTH}
 use Rattle.viewer_tracks.specs.Display.{left_of}
@@ -20,7 +20,7 @@ use Rattle.viewer_tracks.specs.Columns.{IsStack}
 use Rattle.desktop_definitions.specs.declared.viewer.ClosedViewer.{ClosedViewer}
 use Rattle.desktop_definitions.specs.Limits.{most_files, most_held, most_pattern}
 use Rattle.desktop_definitions.specs.Tables.{Texts, Files}
-use Rattle.desktop_definitions.specs.Desktop.{KeptDesktop, held}
+use Rattle.desktop_definitions.specs.Desktop.{KeptDesktop, characters_held}
 use Rattle.desktop_definitions.specs.Seen.{seen, seen_text}
 use Rattle.desktop_definitions.specs.Sound.{IsKeptWhole, IsSound}
 use Rattle.desktop_laws.specs.FewLaws.{few_viewers, few_texts}
@@ -29,10 +29,10 @@ use Rattle.desk_image.specs.declared.limits.TheConstants.{IMAGE_BYTES, MOST_VIEW
 use Rattle.sector_disk.specs.declared.disk.TheConstants.{SECTOR_BYTES}
 use Rattle.desk_image.specs.declared.picture.ViewerPicture.{ViewerPicture}
 use Rattle.desk_image.specs.Image.{Image, image_of, image_bytes, IsSpellable, Spells, AreSome, picture_of}
-use Rattle.desk_image.specs.Image.{long, optional, listed, piece_bytes, pieces_bytes, cell_bytes, text_bytes}
+use Rattle.desk_image.specs.Image.{long, optional, listed_bytes, piece_bytes, pieces_bytes, cell_bytes, text_bytes}
 use Rattle.desk_image.specs.Image.{file_bytes, ranked_bytes, viewer_bytes, viewers_bytes, entry_bytes, closed_bytes}
 use Rattle.desk_image.specs.Image.{id_bytes, depth_bytes, track_bytes, stack_bytes, has_overlays}
-use Rattle.desk_image.specs.Fitting.{total, totals}
+use Rattle.desk_image.specs.Fitting.{length_of_pieces, totals}
 use Rattle.desk_image.proofs.Lists.{all_reversed}
 use Rattle.desk_image.proofs.PieceFits.{length_flat, few_pieces}
 use Rattle.desk_image.proofs.TableFits.{kept_totals}
@@ -57,7 +57,7 @@ optional_few bytes n each (Some x) = let here = each x in omega (arith, here)
 piece_twelve : (p : Piece) → length (piece_bytes p) ≤ 12
 piece_twelve p = omega arith
 
-pieces_few : (pieces : List Piece) → AreSome pieces → length (pieces_bytes pieces) ≤ 4 + 12 * total pieces
+pieces_few : (pieces : List Piece) → AreSome pieces → length (pieces_bytes pieces) ≤ 4 + 12 * length_of_pieces pieces
 pieces_few pieces some =
     let all = items_few piece_bytes 12 piece_twelve pieces in
     let few = few_pieces pieces some in
@@ -70,7 +70,7 @@ texts_few (t ∷ texts) some =
     let all = ap length (flat_map-cons text_bytes t texts) ∙ length-append (text_bytes t) (flat_map text_bytes texts) in
     let here = pieces_few t.1 (All-head AreSome t.1 (values_of texts) some) in
     let rest = texts_few texts (All-tail AreSome t.1 (values_of texts) some) in
-    let sum = sum_by-cons (λ (e : ℕ × List Piece). total e.1) t texts in
+    let sum = sum_by-cons (λ (e : ℕ × List Piece). length_of_pieces e.1) t texts in
     omega (arith, all, here, rest, sum)
 
 first_test : (a b : Bool) → (a && b) ≡ true → a ≡ true
@@ -81,10 +81,10 @@ name_few : (name : List ℕ) → IsTrue (is_name name) → length name ≤ 31
 name_few name is = leb-true (length name) 31 (first_test (nat_le (length name) 31) _ is)
 
 file_few : (f : List ℕ × List Piece) → IsTrue (is_name f.0) → AreSome f.1
-    → length (file_bytes f) ≤ 36 + 12 * total f.1
+    → length (file_bytes f) ≤ 36 + 12 * length_of_pieces f.1
 file_few f name some =
     let first = name_few f.0 name in
-    let all = length-append (counted byte f.0) (pieces_bytes f.1) in
+    let all = length-append (counted_bytes byte f.0) (pieces_bytes f.1) in
     let rest = pieces_few f.1 some in
     omega (arith, first, all, rest)
 
@@ -97,12 +97,12 @@ files_few (f ∷ files) names some =
     (All-head AreSome f.1 (values_of files) some) in
     let rest = files_few files (All-tail (λ name. IsTrue (is_name name)) f.0 (keys_of files) names)
     (All-tail AreSome f.1 (values_of files) some) in
-    let sum = sum_by-cons (λ (e : List ℕ × List Piece). total e.1) f files in
+    let sum = sum_by-cons (λ (e : List ℕ × List Piece). length_of_pieces e.1) f files in
     omega (arith, all, here, rest, sum)
 
 -- ---- viewers and tracks
 
-id_few : (overlays : Bool) (n : ℕ) → length (if overlays then word n else byte n) ≤ 2
+id_few : (overlays : Bool) (n : ℕ) → length (if overlays then word_bytes n else byte n) ≤ 2
 id_few true n = omega arith
 id_few false n = omega arith
 
@@ -112,7 +112,7 @@ viewer_few version v =
     let caret = optional_few long 4 (λ n. omega arith) v.caret in
     let selection = optional_few ranked_bytes 9 (λ r. omega arith) v.selection in
     let both = length-append (optional long v.caret) (optional ranked_bytes v.selection) in
-    let all = length-append (id_bytes version v.id) (word v.viewer.menu ++ (word v.viewer.main ++ (long v.viewer.org
+    let all = length-append (id_bytes version v.id) (word_bytes v.viewer.menu ++ (word_bytes v.viewer.main ++ (long v.viewer.org
     ++ (optional long v.caret ++ optional ranked_bytes v.selection)))) in
     omega (arith, id, caret, selection, both, all)
 
@@ -171,7 +171,7 @@ pub record IsShort (i : Image) : Type 0 where
   pub files_some : All AreSome (values_of i.files)
   pub copied : AreSome i.copied
   pub deleted : AreSome i.deleted
-  pub low : totals i.texts + totals i.files + total i.copied + total i.deleted ≤ most_held
+  pub low : totals i.texts + totals i.files + length_of_pieces i.copied + length_of_pieces i.deleted ≤ most_held
   pub viewers : length i.viewers ≤ MOST_VIEWERS
   pub user : AreLow i.user
   pub user_few : length i.user ≤ DEPTH
@@ -201,8 +201,8 @@ last_few version i short =
 
 -- the bytes of texts, files and buffers, and all that comes after them
 abbrev text_part : ℕ → Image → List ℕ
-text_part version i = listed word text_bytes i.texts
-    ++ (listed word file_bytes i.files ++ (pieces_bytes i.copied ++ (pieces_bytes i.deleted ++ last_bytes version i)))
+text_part version i = listed_bytes word_bytes text_bytes i.texts
+    ++ (listed_bytes word_bytes file_bytes i.files ++ (pieces_bytes i.copied ++ (pieces_bytes i.deleted ++ last_bytes version i)))
 
 texts_part_few : (version : ℕ) (i : Image) → IsShort i → length (text_part version i) ≤ 12 * most_held + 31000
 texts_part_few version i short =
@@ -211,9 +211,9 @@ texts_part_few version i short =
     let copied = pieces_few i.copied short.copied in
     let deleted = pieces_few i.deleted short.deleted in
     let last = last_few version i short in
-    let first = length-append (listed word text_bytes i.texts)
-    (listed word file_bytes i.files ++ (pieces_bytes i.copied ++ (pieces_bytes i.deleted ++ last_bytes version i))) in
-    let second = length-append (listed word file_bytes i.files)
+    let first = length-append (listed_bytes word_bytes text_bytes i.texts)
+    (listed_bytes word_bytes file_bytes i.files ++ (pieces_bytes i.copied ++ (pieces_bytes i.deleted ++ last_bytes version i))) in
+    let second = length-append (listed_bytes word_bytes file_bytes i.files)
     (pieces_bytes i.copied ++ (pieces_bytes i.deleted ++ last_bytes version i)) in
     let third = length-append (pieces_bytes i.copied) (pieces_bytes i.deleted ++ last_bytes version i) in
     let fourth = length-append (pieces_bytes i.deleted) (last_bytes version i) in
@@ -242,7 +242,7 @@ image_few version i short =
     let texts = texts_part_few version i short in
     let pattern = short.pattern in
     let marker = optional_few cell_bytes 2 (λ c. omega arith) i.marker in
-    let first = length-append (counted byte i.pattern) (optional cell_bytes i.marker ++ text_part version i) in
+    let first = length-append (counted_bytes byte i.pattern) (optional cell_bytes i.marker ++ text_part version i) in
     let second = length-append (optional cell_bytes i.marker) (text_part version i) in
     omega (arith, texts, pattern, marker, first, second)
 
@@ -250,8 +250,8 @@ image_few version i short =
 
 -- what a desktop holds, by its pieces
 pub held_totals : (characters : List ℕ) (d : KeptDesktop)
-    → held (seen characters d) ≡ totals d.texts + totals d.files + total d.copied + total d.deleted
-unfolding held seen
+    → characters_held (seen characters d) ≡ totals d.texts + totals d.files + length_of_pieces d.copied + length_of_pieces d.deleted
+unfolding characters_held seen
 held_totals characters d =
     let texts = lengths_seen characters d.texts ∙ kept_totals d.texts in
     let files = lengths_seen characters d.files ∙ kept_totals d.files in

@@ -5,10 +5,10 @@ use Rattle.desktop_definitions.specs.Limits.{most_held}
 use Rattle.desk_image.specs.declared.fault.ImageFault.{ImageFault}
 use Rattle.desk_image.specs.declared.picture.ViewerPicture.{ViewerPicture}
 use Rattle.desk_image.specs.declared.source.ByteSource.{Ghosts as SourceGhosts}
-use Rattle.desk_image.specs.Fitting.{total, totals}
+use Rattle.desk_image.specs.Fitting.{length_of_pieces, totals}
 use Rattle.desk_image.specs.Image.{Image, Front, Held, Shown, image_with}
-use Rattle.desk_image.specs.Reading.{optional_at, look_at, pattern_at, cell_at, texts_at, files_at, pieces_at}
-use Rattle.desk_image.specs.Reading.{viewers_at, stack_at, closed_at, image_at}
+use Rattle.desk_image.specs.Reading.{optional_at, image_look_at, pattern_at, image_cell_at, texts_at, files_at, pieces_at}
+use Rattle.desk_image.specs.Reading.{viewers_at, stack_at, closed_at, desktop_image_at}
 use Rattle.desk_image.specs.Steps.{front_at, held_at, shown_at, sections_at}
 use Rattle.desk_image.specs.Streams.{Reads}
 use Rattle.desk_image.proofs.Parts.{follows_on, fails, makes}
@@ -40,24 +40,24 @@ module _ {D E : Type 0} (next : D → Option E) where
 -- each section, and what follows it
 module _ {E : Type 0} where
   front_then : (next : Front × List ℕ → Option E) (bytes : List ℕ) → front_at bytes >>= next
-      ≡ look_at bytes >>= λ look. pattern_at look.1 >>= λ pattern. optional_at cell_at pattern.1 >>= λ marker.
+      ≡ image_look_at bytes >>= λ look. pattern_at look.1 >>= λ pattern. optional_at image_cell_at pattern.1 >>= λ marker.
       next ((look.0, pattern.0, marker.0), marker.1)
   unfolding front_at
-  front_then next bytes = three next (look_at bytes) (λ look. pattern_at look.1)
-      (λ look pattern. optional_at cell_at pattern.1) (λ look pattern marker. ((look.0, pattern.0, marker.0), marker.1))
+  front_then next bytes = three next (image_look_at bytes) (λ look. pattern_at look.1)
+      (λ look pattern. optional_at image_cell_at pattern.1) (λ look pattern marker. ((look.0, pattern.0, marker.0), marker.1))
 
   held_then : (written : ℕ) (next : Held × List ℕ → Option E) (bytes : List ℕ) → held_at written bytes >>= next
       ≡ texts_at written most_held bytes >>= λ texts.
       files_at written (most_held - totals texts.0) texts.1 >>= λ files.
       pieces_at written (most_held - totals texts.0 - totals files.0) files.1 >>= λ copied.
-      pieces_at written (most_held - totals texts.0 - totals files.0 - total copied.0) copied.1 >>= λ deleted.
+      pieces_at written (most_held - totals texts.0 - totals files.0 - length_of_pieces copied.0) copied.1 >>= λ deleted.
       next ((texts.0, files.0, copied.0, deleted.0), deleted.1)
   unfolding held_at
   held_then written next bytes = four next (texts_at written most_held bytes)
       (λ texts. files_at written (most_held - totals texts.0) texts.1)
       (λ texts files. pieces_at written (most_held - totals texts.0 - totals files.0) files.1)
       (λ texts files copied.
-      pieces_at written (most_held - totals texts.0 - totals files.0 - total copied.0) copied.1)
+      pieces_at written (most_held - totals texts.0 - totals files.0 - length_of_pieces copied.0) copied.1)
       (λ texts files copied deleted. ((texts.0, files.0, copied.0, deleted.0), deleted.1))
 
   shown_then : (version : ℕ) (next : Shown × List ℕ → Option E) (bytes : List ℕ) → shown_at version bytes >>= next
@@ -80,15 +80,15 @@ abbrev pub with_front : ℕ → ℕ → Front × List ℕ → Option (Image × L
 with_front version written front = held_at written front.1 >>= with_held version front.0
 
 pub image_in_sections : (version written : ℕ) (bytes : List ℕ)
-    → image_at version written bytes ≡ sections_at version written bytes
-unfolding image_at
+    → desktop_image_at version written bytes ≡ sections_at version written bytes
+unfolding desktop_image_at
 image_in_sections version written bytes = sym (front_then (with_front version written) bytes
-    ∙ (λ i. look_at bytes >>= λ look. pattern_at look.1 >>= λ pattern. optional_at cell_at pattern.1 >>= λ marker.
+    ∙ (λ i. image_look_at bytes >>= λ look. pattern_at look.1 >>= λ pattern. optional_at image_cell_at pattern.1 >>= λ marker.
     (held_then written (with_held version (look.0, pattern.0, marker.0)) marker.1
     ∙ (λ j. texts_at written most_held marker.1 >>= λ texts.
     files_at written (most_held - totals texts.0) texts.1 >>= λ files.
     pieces_at written (most_held - totals texts.0 - totals files.0) files.1 >>= λ copied.
-    pieces_at written (most_held - totals texts.0 - totals files.0 - total copied.0) copied.1 >>= λ deleted.
+    pieces_at written (most_held - totals texts.0 - totals files.0 - length_of_pieces copied.0) copied.1 >>= λ deleted.
     viewers_at version deleted.1 >>= λ viewers.
     shown_then version
     (with_shown (look.0, pattern.0, marker.0) (texts.0, files.0, copied.0, deleted.0) viewers.0) viewers.1
@@ -101,8 +101,8 @@ module _ {S X Z : Type 0} {s : SourceGhosts S} {x : X} {all : Z → Image} {resu
     (version written : ℕ) where
   pub after_front : {view : X → Front} → Reads s view (Ok x) front_at old mid
       → Reads s all result (λ bytes. with_front version written (view x, bytes)) mid new
-      → Reads s all result (image_at version written) old new
-  after_front front others = follows_on through (image_at version written) front
+      → Reads s all result (desktop_image_at version written) old new
+  after_front front others = follows_on through (desktop_image_at version written) front
       (λ bytes after is. image_in_sections version written bytes
       ∙ ap (λ r. r >>= with_front version written) is) others
 
@@ -129,13 +129,13 @@ module _ {S X Y Z : Type 0} {s : SourceGhosts S} {view_front : X → Front} {x :
     (held : Reads s view_held (Ok y) (held_at written) mid far) where
   after_both : {result : Result Z ImageFault} {new : S}
       → Reads s all result (λ bytes. with_held version (view_front x) (view_held y, bytes)) far new
-      → Reads s all result (image_at version written) old new
+      → Reads s all result (desktop_image_at version written) old new
   after_both others =
       after_front through version written front (after_held through version written (view_front x) held others)
 
   -- the viewers were not read
   pub without_viewers : {V : Type 0} {view : V → List ViewerPicture} {e : ImageFault} {new : S}
-      → Reads s view (Err e) (viewers_at version) far new → Reads s all (Err e) (image_at version written) old new
+      → Reads s view (Err e) (viewers_at version) far new → Reads s all (Err e) (desktop_image_at version written) old new
   without_viewers viewers = after_both (fails all (λ bytes. with_held version (view_front x) (view_held y, bytes))
       viewers (λ bytes is. ap
       (λ r. r >>= λ viewers. shown_at version viewers.1
@@ -146,14 +146,14 @@ module _ {S X Y Z : Type 0} {s : SourceGhosts S} {view_front : X → Front} {x :
     after_three : {result : Result Z ImageFault}
         → Reads s all result (λ bytes. shown_at version bytes >>= with_shown (view_front x) (view_held y) (view v))
         end new
-        → Reads s all result (image_at version written) old new
+        → Reads s all result (desktop_image_at version written) old new
     after_three others =
         after_both (after_viewers through version written (view_front x) (view_held y) viewers others)
 
     -- the tracks were not read
     pub without_shown : {W : Type 0} {view_shown : W → Shown} {e : ImageFault}
         → Reads s view_shown (Err e) (shown_at version) end new
-        → Reads s all (Err e) (image_at version written) old new
+        → Reads s all (Err e) (desktop_image_at version written) old new
     without_shown shown = after_three (fails all _ shown
         (λ bytes is. ap (λ r. r >>= with_shown (view_front x) (view_held y) (view v)) is))
 
@@ -161,6 +161,6 @@ module _ {S X Y Z : Type 0} {s : SourceGhosts S} {view_front : X → Front} {x :
     pub with_all : {W : Type 0} {view_shown : W → Shown} {w : W} (z : Z)
         → Reads s view_shown (Ok w) (shown_at version) end new
         → ((after : List ℕ) → with_shown (view_front x) (view_held y) (view v) (view_shown w, after)
-        ≡ Some (all z, after)) → Reads s all (Ok z) (image_at version written) old new
+        ≡ Some (all z, after)) → Reads s all (Ok z) (desktop_image_at version written) old new
     with_all z shown is = after_three (makes all z _ shown
         (λ bytes after read. ap (λ r. r >>= with_shown (view_front x) (view_held y) (view v)) read ∙ is after))

@@ -22,7 +22,7 @@ use Rattle.desktop_definitions.specs.Seen.{seen_text, seen_table}
 use Rattle.desktop_definitions.specs.Sound.{AllWithin}
 use Rattle.desktop_laws.specs.TableLaws.{kept_lengths}
 use Rattle.desk_image.specs.Image.{InWord, AreSome}
-use Rattle.desk_image.specs.Fitting.{Chain, FitsText, FitsFile, total, totals, after_text, after_file, follows}
+use Rattle.desk_image.specs.Fitting.{Chain, FitsText, FitsFile, length_of_pieces, totals, after_text, after_file, follows}
 use Rattle.desk_image.proofs.PieceFits.{IsFitting, pieces_fit, length_flat, kept_looks}
 
 -- ---- what the texts of a table hold
@@ -31,7 +31,7 @@ pub kept_totals : {K : Type 0} (table : List (K × List Piece)) → kept_lengths
 kept_totals [] = refl
 kept_totals {K} (e ∷ es) = sum_by-cons (λ (pieces : List Piece). length (flat pieces)) e.1 (values_of es)
     ∙ (λ k. length_flat e.1 k + kept_totals es k)
-    ∙ sym (sum_by-cons (λ (x : K × List Piece). total x.1) e es)
+    ∙ sym (sum_by-cons (λ (x : K × List Piece). length_of_pieces x.1) e es)
 
 -- ---- their texts fit
 
@@ -80,7 +80,7 @@ texts_chain : (written least room : ℕ) (texts : Texts (List Piece)) → All In
 unfolding IsStrictlySortedBy
 texts_chain written least room [] words rising from fits low small = tt
 texts_chain written least room (t ∷ texts) words rising from fits low small =
-    let sum = sum_by-cons (λ (e : ℕ × List Piece). total e.1) t texts in (
+    let sum = sum_by-cons (λ (e : ℕ × List Piece). length_of_pieces e.1) t texts in (
       (
         All-head InWord t.0 (keys_of texts) words,
         (
@@ -89,7 +89,7 @@ texts_chain written least room (t ∷ texts) words rising from fits low small =
               (All-head (IsFitting written) t.1 (values_of texts) fits) (omega (arith, sum, low)) small,
         ),
       ),
-      texts_chain written (t.0 + 1) (room - total t.1) texts (All-tail InWord t.0 (keys_of texts) words) rising.1
+      texts_chain written (t.0 + 1) (room - length_of_pieces t.1) texts (All-tail InWord t.0 (keys_of texts) words) rising.1
           (from_next t.0 (keys_of texts) rising.0) (All-tail (IsFitting written) t.1 (values_of texts) fits)
           (omega (arith, sum, low)) (omega (arith, small)),
     )
@@ -121,7 +121,7 @@ files_chain : (written : ℕ) (before : Option (List ℕ)) (room : ℕ) (files :
 unfolding IsStrictlySortedBy
 files_chain written before room [] names rising after fits low small = tt
 files_chain written before room (f ∷ files) names rising after fits low small =
-    let sum = sum_by-cons (λ (e : List ℕ × List Piece). total e.1) f files in (
+    let sum = sum_by-cons (λ (e : List ℕ × List Piece). length_of_pieces e.1) f files in (
       (
         All-head (λ name. IsTrue (is_name name)) f.0 (keys_of files) names,
         (
@@ -130,7 +130,7 @@ files_chain written before room (f ∷ files) names rising after fits low small 
               (All-head (IsFitting written) f.1 (values_of files) fits) (omega (arith, sum, low)) small,
         ),
       ),
-      files_chain written (Some f.0) (room - total f.1) files
+      files_chain written (Some f.0) (room - length_of_pieces f.1) files
           (All-tail (λ name. IsTrue (is_name name)) f.0 (keys_of files) names) rising.1
           (after_this f.0 (keys_of files) rising.0) (All-tail (IsFitting written) f.1 (values_of files) fits)
           (omega (arith, sum, low)) (omega (arith, small)),

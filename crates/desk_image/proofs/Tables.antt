@@ -6,7 +6,7 @@ use Rattle.std.specs.declared.cmp.Ordering.{Ordering}
 use Rattle.event_bytes.specs.Parts.{Reader}
 use Rattle.piece_ring.specs.declared.piece.Piece.{Piece}
 use Rattle.desk_image.specs.declared.source.ByteSource.{Ghosts as SourceGhosts}
-use Rattle.desk_image.specs.Fitting.{total, totals}
+use Rattle.desk_image.specs.Fitting.{length_of_pieces, totals}
 use Rattle.desk_image.specs.Streams.{Reads}
 use Rattle.desk_image.proofs.Loop.{IsAt, goes_on}
 use Rattle.desk_image.proofs.Rising.{Waits, IsRising, insert_last, waits_on}
@@ -14,7 +14,7 @@ use Rattle.desk_image.proofs.Totals.{totals_push}
 
 -- what an entry leaves: what keys have to pass after its key, and room
 abbrev pub after_entry : {K Q : Type 0} → (Q → K → Q) → Q × ℕ → K × List Piece → Q × ℕ
-after_entry after s e = (after s.0 e.0, s.1 - total e.1)
+after_entry after s e = (after s.0 e.0, s.1 - length_of_pieces e.1)
 
 pub record IsTableAt {S K Q : Type 0} (s : SourceGhosts S) (item : Q × ℕ → Reader (K × List Piece))
     (Fits : Q × ℕ → K × List Piece → Type 0) (cmp : K → K → Ordering) (passes : Q → K → Bool) (after : Q → K → Q)
@@ -31,7 +31,7 @@ module _ {S K Q : Type 0} {s : SourceGhosts S} {item : Q × ℕ → Reader (K ×
   -- an entry more
   pub entry_on : IsTableAt s item Fits cmp passes after count i first now table old mid
       → {X : Type 0} (view : X → K × List Piece) (x : X) (room : ℕ) → i < count → Reads s view (Ok x) (item now) mid new
-      → Fits now (view x) → passes now.0 (view x).0 ≡ true → room ≡ now.1 - total (view x).1
+      → Fits now (view x) → passes now.0 (view x).0 ≡ true → room ≡ now.1 - length_of_pieces (view x).1
       → IsTableAt s item Fits cmp passes after count (i + 1) first (after now.0 (view x).0, room)
       (insert_entry cmp table (view x).0 (view x).1) old new
   entry_on is view x room lt reads fits passed left =

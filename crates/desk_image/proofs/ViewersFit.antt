@@ -24,7 +24,7 @@ use Rattle.desktop_definitions.specs.declared.viewer.Caret.{Caret}
 use Rattle.desktop_definitions.specs.declared.viewer.Selection.{Selection}
 use Rattle.desktop_definitions.specs.declared.viewer.ClosedViewer.{ClosedViewer}
 use Rattle.desktop_definitions.specs.Limits.{most_held}
-use Rattle.desktop_definitions.specs.Tables.{Texts, numbered, lengths}
+use Rattle.desktop_definitions.specs.Tables.{Texts, text_numbered, lengths}
 use Rattle.desktop_definitions.specs.Viewers.{viewer_in, viewer_or_none, text_in, main_length}
 use Rattle.desktop_definitions.specs.Sound.{AreViewers, ArePlaces, AreMarks}
 use Rattle.desktop_definitions.specs.Sound.{times_there}
@@ -60,7 +60,7 @@ text_small n (t ∷ texts) =
     let sum = sum_by-cons length t.1 (values_of texts) in
     let rest = text_small n texts in
     elim (is_at (nat_cmp n) t.0) as (λ b. length (unwrap_or (let o : Option (Text ℕ) = cond b (Some t.1)
-    (numbered texts n) in o) []) ≤ lengths (t ∷ texts)) [
+    (text_numbered texts n) in o) []) ≤ lengths (t ∷ texts)) [
       | true ↦ omega (arith, sum)
       | false ↦ omega (arith, sum, rest)
     ]

@@ -25,8 +25,8 @@ Chain Fits next s (x ∷ xs) = Fits s x × Chain Fits next (next s x) xs
 
 -- ---- pieces, of which room characters are left
 
-abbrev pub total : List Piece → ℕ
-total pieces = sum_by (λ p. p.len) pieces
+abbrev pub length_of_pieces : List Piece → ℕ
+length_of_pieces pieces = sum_by (λ p. p.len) pieces
 
 -- some characters, of those that were written
 pub record FitsPiece (written room : ℕ) (p : Piece) : Type 0 where
@@ -48,7 +48,7 @@ abbrev pub FitsText : ℕ → ℕ × ℕ → ℕ × List Piece → Type 0
 FitsText written s t = InWord t.0 × ((nat_le s.0 t.0 ≡ true) × FitsPieces written s.1 t.1)
 
 abbrev pub after_text : ℕ × ℕ → ℕ × List Piece → ℕ × ℕ
-after_text s t = (t.0 + 1, s.1 - total t.1)
+after_text s t = (t.0 + 1, s.1 - length_of_pieces t.1)
 
 abbrev pub FitsTexts : ℕ → ℕ → Texts (List Piece) → Type 0
 FitsTexts written room texts = InWord (length texts) × Chain (FitsText written) after_text (0, room) texts
@@ -62,14 +62,14 @@ abbrev pub FitsFile : ℕ → Option (List ℕ) × ℕ → List ℕ × List Piec
 FitsFile written s f = IsTrue (is_name f.0) × ((follows s.0 f.0 ≡ true) × FitsPieces written s.1 f.1)
 
 abbrev pub after_file : Option (List ℕ) × ℕ → List ℕ × List Piece → Option (List ℕ) × ℕ
-after_file s f = (Some f.0, s.1 - total f.1)
+after_file s f = (Some f.0, s.1 - length_of_pieces f.1)
 
 abbrev pub FitsFiles : ℕ → ℕ → Files (List Piece) → Type 0
 FitsFiles written room files = (length files ≤ most_files) × Chain (FitsFile written) after_file (None, room) files
 
 -- what the texts of a table hold
 abbrev pub totals : {K : Type 0} → List (K × List Piece) → ℕ
-totals table = sum_by (λ e. total e.1) table
+totals table = sum_by (λ e. length_of_pieces e.1) table
 
 -- ---- viewers, by rising ids
 
@@ -131,7 +131,7 @@ FitsImage version written i = IsLook i.look × (FitsPattern i.pattern × (IfSome
     × (FitsTexts written most_held i.texts
     × (FitsFiles written (most_held - totals i.texts) i.files
     × (FitsPieces written (most_held - totals i.texts - totals i.files) i.copied
-    × (FitsPieces written (most_held - totals i.texts - totals i.files - total i.copied) i.deleted
+    × (FitsPieces written (most_held - totals i.texts - totals i.files - length_of_pieces i.copied) i.deleted
     × (FitsViewers version i.viewers × (FitsStack version i.user × (FitsStack version i.system
     × IfSome i.closed (FitsClosed version))))))))))
 

@@ -9,7 +9,7 @@ use Rattle.std.specs.List.{flat_map}
 use Rattle.std.specs.Int.{w32, to_be_bytes}
 use Rattle.std.specs.Int.RustNames.{unsigned_abs}
 use Rattle.std.specs.Map.{keys_of, values_of}
-use Rattle.event_bytes.specs.Parts.{byte, word, counted}
+use Rattle.event_bytes.specs.Parts.{byte, word_bytes, counted_bytes}
 use Rattle.piece_ring.specs.declared.piece.Look.{Look}
 use Rattle.piece_ring.specs.declared.piece.Piece.{Piece}
 use Rattle.viewer_tracks.specs.declared.display.Track.TheVariants.{User, System}
@@ -131,9 +131,9 @@ abbrev pub offsets : ℕ
 offsets = below_zero + unsigned_abs greatest_offset + 1
 
 -- a vertical offset, counted from the least one
-abbrev pub shifted : ℤ → ℕ
-shifted (pos n) = n + below_zero
-shifted (negsuc n) = below_zero - (n + 1)
+abbrev pub offset_code : ℤ → ℕ
+offset_code (pos n) = n + below_zero
+offset_code (negsuc n) = below_zero - (n + 1)
 
 -- 0 where there is nothing, else 1 and the value
 abbrev pub optional : {A : Type 0} → (A → List ℕ) → Option A → List ℕ
@@ -141,61 +141,61 @@ optional bytes None = byte 0
 optional bytes (Some x) = 1 ∷ bytes x
 
 -- items after their number
-abbrev pub listed : {A : Type 0} → (ℕ → List ℕ) → (A → List ℕ) → List A → List ℕ
-listed number bytes items = number (length items) ++ flat_map bytes items
+abbrev pub listed_bytes : {A : Type 0} → (ℕ → List ℕ) → (A → List ℕ) → List A → List ℕ
+listed_bytes number bytes items = number (length items) ++ flat_map bytes items
 
 abbrev pub look_bytes : Look → List ℕ
-look_bytes l = byte l.font ++ (byte l.colour ++ byte (shifted l.voff))
+look_bytes l = byte l.font ++ (byte l.colour ++ byte (offset_code l.voff))
 
 abbrev pub piece_bytes : Piece → List ℕ
 piece_bytes p = long p.off ++ (long p.len ++ (look_bytes p.look ++ byte 0))
 
 abbrev pub pieces_bytes : List Piece → List ℕ
-pieces_bytes pieces = listed long piece_bytes pieces
+pieces_bytes pieces = listed_bytes long piece_bytes pieces
 
 -- a column and a row
 abbrev pub cell_bytes : ℕ × ℕ → List ℕ
 cell_bytes c = byte c.0 ++ byte c.1
 
 abbrev pub text_bytes : ℕ × List Piece → List ℕ
-text_bytes t = word t.0 ++ pieces_bytes t.1
+text_bytes t = word_bytes t.0 ++ pieces_bytes t.1
 
 abbrev pub file_bytes : List ℕ × List Piece → List ℕ
-file_bytes f = counted byte f.0 ++ pieces_bytes f.1
+file_bytes f = counted_bytes byte f.0 ++ pieces_bytes f.1
 
 abbrev pub ranked_bytes : Ranked → List ℕ
 ranked_bytes r = byte r.rank ++ (long r.beg ++ long r.end)
 
 -- an id, or a number of viewers
 abbrev pub id_bytes : ℕ → ℕ → List ℕ
-id_bytes version n = if has_overlays version then word n else byte n
+id_bytes version n = if has_overlays version then word_bytes n else byte n
 
 abbrev pub viewer_bytes : ℕ → ViewerPicture → List ℕ
-viewer_bytes version v = id_bytes version v.id ++ (word v.viewer.menu ++ (word v.viewer.main ++ (long v.viewer.org
+viewer_bytes version v = id_bytes version v.id ++ (word_bytes v.viewer.menu ++ (word_bytes v.viewer.main ++ (long v.viewer.org
     ++ (optional long v.caret ++ optional ranked_bytes v.selection))))
 
 abbrev pub viewers_bytes : ℕ → List ViewerPicture → List ℕ
-viewers_bytes version viewers = listed (id_bytes version) (viewer_bytes version) viewers
+viewers_bytes version viewers = listed_bytes (id_bytes version) (viewer_bytes version) viewers
 
 abbrev pub entry_bytes : ℕ → Entry → List ℕ
 entry_bytes version e = id_bytes version e.viewer ++ byte e.height
 
 abbrev pub track_bytes : ℕ → List Entry → List ℕ
-track_bytes version track = listed byte (entry_bytes version) track
+track_bytes version track = listed_bytes byte (entry_bytes version) track
 
 -- a number of tracks, which isn't said where there is one in each column
 abbrev pub depth_bytes : ℕ → ℕ → List ℕ
 depth_bytes version n = if has_overlays version then byte n else []
 
 abbrev pub stack_bytes : ℕ → List (List Entry) → List ℕ
-stack_bytes version stack = listed (depth_bytes version) (track_bytes version) stack
+stack_bytes version stack = listed_bytes (depth_bytes version) (track_bytes version) stack
 
 abbrev pub closed_bytes : ℕ → ClosedViewer → List ℕ
 closed_bytes version k = id_bytes version k.viewer ++ (byte (left_of k.track) ++ byte k.top)
 
 unfoldable pub image_bytes : ℕ → Image → List ℕ
-image_bytes version i = look_bytes i.look ++ (counted byte i.pattern ++ (optional cell_bytes i.marker
-    ++ (listed word text_bytes i.texts ++ (listed word file_bytes i.files
+image_bytes version i = look_bytes i.look ++ (counted_bytes byte i.pattern ++ (optional cell_bytes i.marker
+    ++ (listed_bytes word_bytes text_bytes i.texts ++ (listed_bytes word_bytes file_bytes i.files
     ++ (pieces_bytes i.copied ++ (pieces_bytes i.deleted ++ (viewers_bytes version i.viewers
     ++ (stack_bytes version i.user ++ (stack_bytes version i.system
     ++ optional (closed_bytes version) i.closed)))))))))

@@ -6,14 +6,14 @@ use Rattle.desk_image.specs.declared.picture.Stretch.{Stretch}
 use Rattle.desk_image.specs.declared.picture.Picture.{Picture}
 use Rattle.desk_image.specs.Image.{Image}
 
-abbrev pub entry_of : Stretch → Entry
-entry_of s = record { viewer = s.viewer; height = s.height }
+abbrev pub entry_of_stretch : Stretch → Entry
+entry_of_stretch s = record { viewer = s.viewer; height = s.height }
 
-abbrev pub track_of : ArrayVec Stretch → List Entry
-track_of track = map entry_of track.items
+abbrev pub track_of_stretches : ArrayVec Stretch → List Entry
+track_of_stretches track = map entry_of_stretch track.items
 
-abbrev pub stack_of : List (ArrayVec Stretch) → List (List Entry)
-stack_of stack = map track_of stack
+abbrev pub stack_of_stretches : List (ArrayVec Stretch) → List (List Entry)
+stack_of_stretches stack = map track_of_stretches stack
 
 abbrev pub pictured : Picture → Image
 pictured p = record {
@@ -25,7 +25,7 @@ pictured p = record {
   copied = p.copied;
   deleted = p.deleted;
   viewers = p.viewers.items;
-  user = stack_of p.user.items;
-  system = stack_of p.system.items;
+  user = stack_of_stretches p.user.items;
+  system = stack_of_stretches p.system.items;
   closed = p.closed;
 }

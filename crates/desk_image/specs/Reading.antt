@@ -18,7 +18,7 @@ use Rattle.desk_image.specs.declared.picture.Ranked.{Ranked}
 use Rattle.desk_image.specs.declared.picture.ViewerPicture.{ViewerPicture}
 use Rattle.desk_image.specs.declared.limits.TheConstants.{MOST_VIEWERS}
 use Rattle.desk_image.specs.Image.{Image, image_with, has_overlays, below_zero, offsets}
-use Rattle.desk_image.specs.Fitting.{less, after_text, follows, after_file, total, totals, after_viewer, above}
+use Rattle.desk_image.specs.Fitting.{less, after_text, follows, after_file, length_of_pieces, totals, after_viewer, above}
 use Rattle.desk_image.specs.Fitting.{overlaid}
 
 -- ---- forms
@@ -59,14 +59,14 @@ raw_look_at bytes =
 abbrev pub is_look : Look → Bool
 is_look l = nat_lt l.font number_of_fonts && nat_lt l.colour number_of_colours
 
-unfoldable pub look_at : Reader Look
-look_at bytes = when is_look raw_look_at bytes
+unfoldable pub image_look_at : Reader Look
+image_look_at bytes = when is_look raw_look_at bytes
 
 unfoldable pub raw_piece_at : Reader Piece
 raw_piece_at bytes = do
   off ← long_at bytes
   len ← long_at off.1
-  look ← look_at len.1
+  look ← image_look_at len.1
   last ← byte_at look.1
   if last.0 == 0 then Some (record { off = off.0; len = len.0; look = look.0 }, last.1) else None
 
@@ -99,13 +99,13 @@ texts_at written room bytes = do
   count ← pair_at bytes
   times (text_at written) after_text count.0 (0, room) count.1
 
-abbrev pub file_at : ℕ → Option (List ℕ) × ℕ → Reader (List ℕ × List Piece)
-file_at written s bytes = keyed_at name_at (follows s.0) written s.1 bytes
+abbrev pub image_file_at : ℕ → Option (List ℕ) × ℕ → Reader (List ℕ × List Piece)
+image_file_at written s bytes = keyed_at name_at (follows s.0) written s.1 bytes
 
 unfoldable pub files_at : ℕ → ℕ → Reader (Files (List Piece))
 files_at written room bytes = do
   count ← pair_at bytes
-  if nat_le count.0 most_files then times (file_at written) after_file count.0 (None, room) count.1 else None
+  if nat_le count.0 most_files then times (image_file_at written) after_file count.0 (None, room) count.1 else None
 
 -- ---- viewers
 
@@ -116,8 +116,8 @@ ranked_at bytes = three_at byte_at long_at long_at (λ rank beg end. record { ra
 unfoldable pub id_at : ℕ → Reader ℕ
 id_at version bytes = if has_overlays version then pair_at bytes else byte_at bytes
 
-abbrev pub viewer_at : ℕ → ℕ → Reader ViewerPicture
-viewer_at version least bytes = do
+abbrev pub image_viewer_at : ℕ → ℕ → Reader ViewerPicture
+image_viewer_at version least bytes = do
   id ← id_at version bytes
   if nat_le least id.0 then (do
     menu ← pair_at id.1
@@ -138,7 +138,7 @@ viewer_at version least bytes = do
 unfoldable pub viewers_at : ℕ → Reader (List ViewerPicture)
 viewers_at version bytes = do
   count ← id_at version bytes
-  if nat_le count.0 MOST_VIEWERS then times (viewer_at version) after_viewer count.0 0 count.1 else None
+  if nat_le count.0 MOST_VIEWERS then times (image_viewer_at version) after_viewer count.0 0 count.1 else None
 
 -- ---- tracks
 
@@ -154,14 +154,14 @@ is_entry room e = nat_lt 0 e.height && nat_le e.height room
 unfoldable pub entry_at : ℕ → ℕ → Reader Entry
 entry_at version room bytes = when (is_entry room) (raw_entry_at version) bytes
 
-unfoldable pub track_at : ℕ → Reader (List Entry)
-track_at version bytes = do
+unfoldable pub image_track_at : ℕ → Reader (List Entry)
+image_track_at version bytes = do
   count ← byte_at bytes
   times (entry_at version) above count.0 ROWS count.1
 
 -- one that has so many viewers at least
 unfoldable pub level_at : ℕ → ℕ → Reader (List Entry)
-level_at version least bytes = when (λ track. nat_le least (length track)) (track_at version) bytes
+level_at version least bytes = when (λ track. nat_le least (length track)) (image_track_at version) bytes
 
 -- a number of tracks
 unfoldable pub depth_at : ℕ → Reader ℕ
@@ -187,8 +187,8 @@ raw_cell_at bytes = do
 abbrev pub is_cell : ℕ × ℕ → Bool
 is_cell c = nat_lt c.0 COLUMNS && nat_lt c.1 ROWS
 
-unfoldable pub cell_at : Reader (ℕ × ℕ)
-cell_at bytes = when is_cell raw_cell_at bytes
+unfoldable pub image_cell_at : Reader (ℕ × ℕ)
+image_cell_at bytes = when is_cell raw_cell_at bytes
 
 -- a track by its left column
 unfoldable pub side_at : Reader Track
@@ -209,15 +209,15 @@ closed_at version bytes = when is_closed (raw_closed_at version) bytes
 -- ---- the whole
 
 -- an image for which so many characters were written
-unfoldable pub image_at : ℕ → ℕ → Reader Image
-image_at version written bytes = do
-  look ← look_at bytes
+unfoldable pub desktop_image_at : ℕ → ℕ → Reader Image
+desktop_image_at version written bytes = do
+  look ← image_look_at bytes
   pattern ← pattern_at look.1
-  marker ← optional_at cell_at pattern.1
+  marker ← optional_at image_cell_at pattern.1
   texts ← texts_at written most_held marker.1
   files ← files_at written (most_held - totals texts.0) texts.1
   copied ← pieces_at written (most_held - totals texts.0 - totals files.0) files.1
-  deleted ← pieces_at written (most_held - totals texts.0 - totals files.0 - total copied.0) copied.1
+  deleted ← pieces_at written (most_held - totals texts.0 - totals files.0 - length_of_pieces copied.0) copied.1
   viewers ← viewers_at version deleted.1
   user ← stack_at version viewers.1
   system ← stack_at version user.1
@@ -231,5 +231,5 @@ image_at version written bytes = do
 -- an image, and no byte after it
 unfoldable pub whole_image_at : ℕ → ℕ → Reader Image
 whole_image_at version written bytes = do
-  image ← image_at version written bytes
+  image ← desktop_image_at version written bytes
   if length image.1 == 0 then Some image else None

@@ -7,9 +7,9 @@ use Rattle.desktop_definitions.specs.Limits.{most_held, most_pattern}
 use Rattle.desktop_definitions.specs.Tables.{Texts, Files}
 use Rattle.desk_image.specs.declared.fault.ImageFault.{ImageFault}
 use Rattle.desk_image.specs.declared.source.ByteSource.{Ghosts as SourceGhosts}
-use Rattle.desk_image.specs.Fitting.{Chain, total, totals, FitsTexts, FitsFiles, FitsPieces}
+use Rattle.desk_image.specs.Fitting.{Chain, length_of_pieces, totals, FitsTexts, FitsFiles, FitsPieces}
 use Rattle.desk_image.specs.Image.{Image, Front, Held, Shown, image_with}
-use Rattle.desk_image.specs.Reading.{times, optional_at, look_at, pattern_at, cell_at, texts_at, files_at, pieces_at}
+use Rattle.desk_image.specs.Reading.{times, optional_at, image_look_at, pattern_at, image_cell_at, texts_at, files_at, pieces_at}
 use Rattle.desk_image.specs.Reading.{viewers_at, stack_at, closed_at}
 use Rattle.desk_image.specs.Streams.{Reads}
 
@@ -51,9 +51,9 @@ pub record ReadsItems {S T X A : Type 0} (s : SourceGhosts S) (view : X → List
 
 unfoldable pub front_at : Reader Front
 front_at bytes = do
-  look ← look_at bytes
+  look ← image_look_at bytes
   pattern ← pattern_at look.1
-  marker ← optional_at cell_at pattern.1
+  marker ← optional_at image_cell_at pattern.1
   Some ((look.0, pattern.0, marker.0), marker.1)
 
 unfoldable pub held_at : ℕ → Reader Held
@@ -61,7 +61,7 @@ held_at written bytes = do
   texts ← texts_at written most_held bytes
   files ← files_at written (most_held - totals texts.0) texts.1
   copied ← pieces_at written (most_held - totals texts.0 - totals files.0) files.1
-  deleted ← pieces_at written (most_held - totals texts.0 - totals files.0 - total copied.0) copied.1
+  deleted ← pieces_at written (most_held - totals texts.0 - totals files.0 - length_of_pieces copied.0) copied.1
   Some ((texts.0, files.0, copied.0, deleted.0), deleted.1)
 
 -- each of these fits what those before it leave
@@ -69,7 +69,7 @@ abbrev pub FitHeld : ℕ → Texts (List Piece) → Files (List Piece) → List 
 FitHeld written texts files copied deleted = FitsTexts written most_held texts
     × (FitsFiles written (most_held - totals texts) files
     × (FitsPieces written (most_held - totals texts - totals files) copied
-    × FitsPieces written (most_held - totals texts - totals files - total copied) deleted))
+    × FitsPieces written (most_held - totals texts - totals files - length_of_pieces copied) deleted))
 
 unfoldable pub shown_at : ℕ → Reader Shown
 shown_at version bytes = do

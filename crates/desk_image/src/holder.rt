@@ -2,7 +2,7 @@
 ghost use Rattle.std.specs.Prelude.{◌≡◌, ◌+◌, ◌^◌, ◌<◌, List, [], ◌∷◌, ◌++◌, IfOk, OnOk};
 ghost use Rattle.piece_ring.specs.declared.piece.Piece.{Piece as APiece};
 ghost use Rattle.piece_ring.specs.Flat.{IsWhole};
-ghost use Rattle.desk_image.specs.Fitting.{total};
+ghost use Rattle.desk_image.specs.Fitting.{length_of_pieces};
 
 use piece_ring::Piece;
 use std::alloc::{AllocError, Global};
@@ -20,7 +20,7 @@ pub trait Holder: Drop + Sized {
     /// Puts a piece at the end.
     fn put(&mut self, alloc: Global, piece: Piece) -> Result<(), AllocError>
         requires whole { IsWhole piece }
-        requires fits { total (held self.old) + piece.len < 2 ^ 32 }
+        requires fits { length_of_pieces (held self.old) + piece.len < 2 ^ 32 }
         ensures { OnOk result (held self.new ≡ held self.old ++ piece ∷ []) };
 }
 

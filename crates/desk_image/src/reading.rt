@@ -11,17 +11,17 @@ ghost use Rattle.event_bytes.specs.Parts.{byte_at, pair_at, bytes_at};
 ghost use Rattle.event_bytes.specs.Reading.{name_at};
 ghost use Rattle.desktop_definitions.specs.Limits.{least_offset, greatest_offset};
 ghost use Rattle.desktop_definitions.specs.Looks.{IsLook};
-ghost use Rattle.desk_image.specs.Fitting.{FitsPiece, less, total, totals, FitsPieces, FitsText, after_text};
+ghost use Rattle.desk_image.specs.Fitting.{FitsPiece, less, length_of_pieces, totals, FitsPieces, FitsText, after_text};
 ghost use Rattle.desk_image.specs.Fitting.{FitsTexts, FitsFile, after_file, FitsFiles, follows, FitsRanked};
 ghost use Rattle.desk_image.specs.Fitting.{FitsViewer, after_viewer, FitsViewers, FitsEntry, above, FitsTrack};
 ghost use Rattle.desk_image.specs.Fitting.{FitsLevel, overlaid, FitsStack, FitsPattern, FitsCell, FitsClosed, FitsImage};
-ghost use Rattle.desk_image.specs.Pictures.{entry_of, track_of, stack_of, pictured};
-ghost use Rattle.desk_image.specs.Reading.{optional_at, long_at, offset_at, raw_look_at, look_at};
-ghost use Rattle.desk_image.specs.Reading.{raw_piece_at, piece_at, pieces_at, text_at, texts_at, file_at, files_at};
-ghost use Rattle.desk_image.specs.Reading.{ranked_at, id_at, viewer_at, viewers_at, raw_entry_at, entry_at};
-ghost use Rattle.desk_image.specs.Reading.{track_at, level_at, depth_at, stack_at};
-ghost use Rattle.desk_image.specs.Reading.{pattern_at, raw_cell_at, cell_at, side_at, raw_closed_at, closed_at};
-ghost use Rattle.desk_image.specs.Reading.{image_at, whole_image_at, is_piece as pieces};
+ghost use Rattle.desk_image.specs.Pictures.{entry_of_stretch, track_of_stretches, stack_of_stretches, pictured};
+ghost use Rattle.desk_image.specs.Reading.{optional_at, long_at, offset_at, raw_look_at, image_look_at};
+ghost use Rattle.desk_image.specs.Reading.{raw_piece_at, piece_at, pieces_at, text_at, texts_at, image_file_at, files_at};
+ghost use Rattle.desk_image.specs.Reading.{ranked_at, id_at, image_viewer_at, viewers_at, raw_entry_at, entry_at};
+ghost use Rattle.desk_image.specs.Reading.{image_track_at, level_at, depth_at, stack_at};
+ghost use Rattle.desk_image.specs.Reading.{pattern_at, raw_cell_at, image_cell_at, side_at, raw_closed_at, closed_at};
+ghost use Rattle.desk_image.specs.Reading.{desktop_image_at, whole_image_at, is_piece as pieces};
 ghost use Rattle.desk_image.specs.Steps.{ReadsItems, any_at, end_at, short_at, last_key, front_at, held_at, FitHeld};
 ghost use Rattle.desk_image.specs.Steps.{shown_at};
 ghost use Rattle.desk_image.specs.Streams.{IfThere, Reads, ReadsFit, ReadsWithin};
@@ -117,9 +117,9 @@ fn raw_look_from<S: ByteSource>(source: &mut S) -> Read<Look>
 }
 
 /// A look that characters may have.
-#[tactic(auto, unfolding(crate::specs::Reading::look_at))]
+#[tactic(auto, unfolding(crate::specs::Reading::image_look_at))]
 fn look_from<S: ByteSource>(source: &mut S) -> Read<Look>
-    ensures { ReadsFit S.ByteSource (λ look. look) result look_at IsLook source.old source.new }
+    ensures { ReadsFit S.ByteSource (λ look. look) result image_look_at IsLook source.old source.new }
 {
     let look = raw_look_from(source)?;
     if look.font < FONTS && look.colour < COLOURS {
@@ -182,7 +182,7 @@ fn many_pieces<S: ByteSource, H: Holder>(
 ) -> Read<H>
     ensures items { ReadsItems S.ByteSource H.held result (piece_at base.written) (FitsPiece base.written) less count
         room.old source.old source.new }
-    ensures left { IfOk result (λ holder. room.new ≡ room.old - total (H.held holder)) }
+    ensures left { IfOk result (λ holder. room.new ≡ room.old - length_of_pieces (H.held holder)) }
 {
     let mut pieces = H::empty(base.alloc)?;
     let mut left = *room;
@@ -199,7 +199,7 @@ fn many_pieces<S: ByteSource, H: Holder>(
 #[tactic(auto, unfolding(crate::specs::Reading::pieces_at))]
 fn pieces_from<S: ByteSource, H: Holder>(source: &mut S, base: Base, room: &mut u32) -> Read<H>
     ensures { ReadsWithin S.ByteSource H.held result (pieces_at base.written room.old)
-        (FitsPieces base.written room.old) total room.old room.new source.old source.new }
+        (FitsPieces base.written room.old) length_of_pieces room.old room.new source.old source.new }
 {
     let count = long_from(source)?;
     many_pieces(source, base, room, count)
@@ -219,7 +219,7 @@ fn text_from<S: ByteSource>(
     least: u32,
 ) -> Read<(u16, Text)>
     ensures { ReadsWithin S.ByteSource (λ text. text) result (text_at base.written (least, room.old))
-        (FitsText base.written (least, room.old)) (λ text. total text.1) room.old room.new source.old source.new }
+        (FitsText base.written (least, room.old)) (λ text. length_of_pieces text.1) room.old room.new source.old source.new }
 {
     let number = word_from(source)?;
     if (number as u32) < least {
@@ -312,7 +312,7 @@ fn comes_last(files: &Files, name: &Name) -> bool
 
 /// So many files, by rising names.
 fn many_files<S: ByteSource>(source: &mut S, base: Base, room: &mut u32, count: u16) -> Read<Files>
-    ensures items { ReadsItems S.ByteSource (λ files. files.entries) result (file_at base.written)
+    ensures items { ReadsItems S.ByteSource (λ files. files.entries) result (image_file_at base.written)
         (FitsFile base.written) after_file count (None, room.old) source.old source.new }
     ensures left { IfOk result (λ files. room.new ≡ room.old - totals files.entries) }
 {
@@ -332,8 +332,8 @@ fn file_from<S: ByteSource>(
     files: &Files,
 ) -> Read<(Name, Text)>
     ensures { ReadsWithin S.ByteSource (λ file. file) result
-        (file_at base.written (last_key files.now.entries, room.old))
-        (FitsFile base.written (last_key files.now.entries, room.old)) (λ file. total file.1)
+        (image_file_at base.written (last_key files.now.entries, room.old))
+        (FitsFile base.written (last_key files.now.entries, room.old)) (λ file. length_of_pieces file.1)
         room.old room.new source.old source.new }
 {
     let name = name_from(source)?;
@@ -374,7 +374,7 @@ fn id_from<S: ByteSource>(source: &mut S, version: Version) -> Read<u16>
 
 /// A viewer, whose id is `least` or above.
 fn viewer_from<S: ByteSource>(source: &mut S, version: Version, least: u32) -> Read<ViewerPicture>
-    ensures { ReadsFit S.ByteSource (λ viewer. viewer) result (viewer_at (version_number version) least)
+    ensures { ReadsFit S.ByteSource (λ viewer. viewer) result (image_viewer_at (version_number version) least)
         (FitsViewer (version_number version) least) source.old source.new }
 {
     let id = id_from(source, version)?;
@@ -401,7 +401,7 @@ fn many_viewers<S: ByteSource>(
     version: Version,
     count: u16,
 ) -> Read<Vec<ViewerPicture>>
-    ensures { ReadsItems S.ByteSource (λ viewers. viewers.items) result (viewer_at (version_number version))
+    ensures { ReadsItems S.ByteSource (λ viewers. viewers.items) result (image_viewer_at (version_number version))
         (FitsViewer (version_number version)) after_viewer count 0 source.old source.new }
 {
     let mut viewers = Vec::new(alloc);
@@ -436,7 +436,7 @@ fn viewers_from<S: ByteSource>(
 /// A viewer of a track, of which nothing is tested.
 #[tactic(auto, unfolding(crate::specs::Reading::raw_entry_at))]
 fn raw_entry_from<S: ByteSource>(source: &mut S, version: Version) -> Read<Stretch>
-    ensures { ReadsFit S.ByteSource entry_of result (raw_entry_at (version_number version))
+    ensures { ReadsFit S.ByteSource entry_of_stretch result (raw_entry_at (version_number version))
         (λ entry. InId (version_number version) entry.viewer) source.old source.new }
 {
     let viewer = id_from(source, version)?;
@@ -447,7 +447,7 @@ fn raw_entry_from<S: ByteSource>(source: &mut S, version: Version) -> Read<Stret
 /// A viewer of a track, which has a row, and no more than there are.
 #[tactic(auto, unfolding(crate::specs::Reading::entry_at))]
 fn entry_from<S: ByteSource>(source: &mut S, version: Version, room: u8) -> Read<Stretch>
-    ensures { ReadsFit S.ByteSource entry_of result (entry_at (version_number version) room)
+    ensures { ReadsFit S.ByteSource entry_of_stretch result (entry_at (version_number version) room)
         (FitsEntry (version_number version) room) source.old source.new }
 {
     let stretch = raw_entry_from(source, version)?;
@@ -460,7 +460,7 @@ fn entry_from<S: ByteSource>(source: &mut S, version: Version, room: u8) -> Read
 
 /// So many viewers of a track, bottom up.
 fn many_track<S: ByteSource>(source: &mut S, version: Version, count: u8) -> Read<Stretches>
-    ensures { ReadsItems S.ByteSource track_of result (entry_at (version_number version))
+    ensures { ReadsItems S.ByteSource track_of_stretches result (entry_at (version_number version))
         (FitsEntry (version_number version)) above count rows source.old source.new }
 {
     let mut track = Stretches::new();
@@ -474,9 +474,9 @@ fn many_track<S: ByteSource>(source: &mut S, version: Version, count: u8) -> Rea
 }
 
 /// A track: its viewers, after their number.
-#[tactic(auto, unfolding(crate::specs::Reading::track_at))]
+#[tactic(auto, unfolding(crate::specs::Reading::image_track_at))]
 fn track_from<S: ByteSource>(source: &mut S, version: Version) -> Read<Stretches>
-    ensures { ReadsFit S.ByteSource track_of result (track_at (version_number version)) (FitsTrack (version_number version))
+    ensures { ReadsFit S.ByteSource track_of_stretches result (image_track_at (version_number version)) (FitsTrack (version_number version))
         source.old source.new }
 {
     let count = byte_from(source)?;
@@ -486,7 +486,7 @@ fn track_from<S: ByteSource>(source: &mut S, version: Version) -> Read<Stretches
 /// A track that has so many viewers at least.
 #[tactic(auto, unfolding(crate::specs::Reading::level_at))]
 fn level_from<S: ByteSource>(source: &mut S, version: Version, least: usize) -> Read<Stretches>
-    ensures { ReadsFit S.ByteSource track_of result (level_at (version_number version) least)
+    ensures { ReadsFit S.ByteSource track_of_stretches result (level_at (version_number version) least)
         (FitsLevel (version_number version) least) source.old source.new }
 {
     let track = track_from(source, version)?;
@@ -503,7 +503,7 @@ fn many_stack<S: ByteSource>(
     version: Version,
     depth: u8,
 ) -> Read<Levels>
-    ensures { ReadsItems S.ByteSource (λ stack. stack_of stack.items) result (level_at (version_number version))
+    ensures { ReadsItems S.ByteSource (λ stack. stack_of_stretches stack.items) result (level_at (version_number version))
         (FitsLevel (version_number version)) overlaid depth 0 source.old source.new }
 {
     let mut stack = Vec::new(alloc);
@@ -532,7 +532,7 @@ fn depth_from<S: ByteSource>(source: &mut S, version: Version) -> Read<u8>
 /// The tracks of a column, after their number.
 #[tactic(auto, unfolding(crate::specs::Reading::stack_at))]
 fn stack_from<S: ByteSource>(alloc: Global, source: &mut S, version: Version) -> Read<Levels>
-    ensures { ReadsFit S.ByteSource (λ stack. stack_of stack.items) result (stack_at (version_number version))
+    ensures { ReadsFit S.ByteSource (λ stack. stack_of_stretches stack.items) result (stack_at (version_number version))
         (FitsStack (version_number version)) source.old source.new }
 {
     let depth = depth_from(source, version)?;
@@ -593,9 +593,9 @@ fn raw_cell_from<S: ByteSource>(source: &mut S) -> Read<(u8, u8)>
 }
 
 /// A cell of the display.
-#[tactic(auto, unfolding(crate::specs::Reading::cell_at))]
+#[tactic(auto, unfolding(crate::specs::Reading::image_cell_at))]
 fn cell_from<S: ByteSource>(source: &mut S) -> Read<(u8, u8)>
-    ensures { ReadsFit S.ByteSource (λ cell. cell) result cell_at FitsCell source.old source.new }
+    ensures { ReadsFit S.ByteSource (λ cell. cell) result image_cell_at FitsCell source.old source.new }
 {
     let cell = raw_cell_from(source)?;
     if cell.0 < COLUMNS && cell.1 < ROWS {
@@ -620,7 +620,7 @@ fn position_from<S: ByteSource>(source: &mut S) -> Read<Option<u32>>
 
 /// A cell of the display, where there is one.
 fn marker_from<S: ByteSource>(source: &mut S) -> Read<Option<(u8, u8)>>
-    ensures { ReadsFit S.ByteSource (λ cell. cell) result (optional_at cell_at) (IfThere FitsCell) source.old source.new }
+    ensures { ReadsFit S.ByteSource (λ cell. cell) result (optional_at image_cell_at) (IfThere FitsCell) source.old source.new }
 {
     match byte_from(source)? {
         0 => Ok(None),
@@ -746,10 +746,10 @@ fn held_from<S: ByteSource>(alloc: Global, source: &mut S, written: u32) -> Read
 #[tactic(auto, unfolding(crate::specs::Steps::shown_at))]
 fn shown_from<S: ByteSource>(alloc: Global, source: &mut S, version: Version) -> Read<Shown>
     ensures reads { Reads S.ByteSource
-        (λ shown. (stack_of shown.user.items, stack_of shown.system.items, shown.closed)) result
+        (λ shown. (stack_of_stretches shown.user.items, stack_of_stretches shown.system.items, shown.closed)) result
         (shown_at (version_number version)) source.old source.new }
-    ensures user { IfOk result (λ shown. FitsStack (version_number version) (stack_of shown.user.items)) }
-    ensures system { IfOk result (λ shown. FitsStack (version_number version) (stack_of shown.system.items)) }
+    ensures user { IfOk result (λ shown. FitsStack (version_number version) (stack_of_stretches shown.user.items)) }
+    ensures system { IfOk result (λ shown. FitsStack (version_number version) (stack_of_stretches shown.system.items)) }
     ensures closed { IfOk result (λ shown. IfSome shown.closed (FitsClosed (version_number version))) }
 {
     let user = stack_from(alloc, source, version)?;
@@ -770,7 +770,7 @@ fn picture_from<S: ByteSource>(
     version: Version,
     written: u32,
 ) -> Read<Picture>
-    ensures reads { Reads S.ByteSource pictured result (image_at (version_number version) written)
+    ensures reads { Reads S.ByteSource pictured result (desktop_image_at (version_number version) written)
         source.old source.new }
     ensures fits { IfOk result (λ picture. FitsImage (version_number version) written (pictured picture)) }
 {

@@ -1,11 +1,11 @@
 //! Putting an image of the newest version, part by part.
 ghost use Rattle.std.specs.Prelude.{◌≡◌, ◌<◌, ◌^◌, length, OnOk};
-ghost use Rattle.event_bytes.specs.Parts.{byte, word, counted};
+ghost use Rattle.event_bytes.specs.Parts.{byte, word_bytes, counted_bytes};
 ghost use Rattle.command_table.specs.Versions.{newest_version};
 ghost use Rattle.piece_ring.specs.Flat.{flat};
 ghost use Rattle.desktop_definitions.specs.Looks.{IsLook, AreLooks};
 ghost use Rattle.desk_image.specs.Streams.{Puts};
-ghost use Rattle.desk_image.specs.Pictures.{entry_of};
+ghost use Rattle.desk_image.specs.Pictures.{entry_of_stretch};
 ghost use Rattle.desk_image.specs.Image.{look_bytes, piece_bytes, pieces_bytes, cell_bytes, ranked_bytes, viewer_bytes};
 ghost use Rattle.desk_image.specs.Image.{entry_bytes, closed_bytes, long, optional, AreSome};
 
@@ -23,7 +23,7 @@ pub fn put_byte<K: ByteSink>(sink: &mut K, number: u8) -> Result<(), Fault>
 
 /// Puts a number of two bytes.
 pub fn put_word<K: ByteSink>(sink: &mut K, number: u16) -> Result<(), Fault>
-    ensures { Puts K.ByteSink result (word number) sink.old sink.new }
+    ensures { Puts K.ByteSink result (word_bytes number) sink.old sink.new }
 {
     sink.put(&number.to_be_bytes())
 }
@@ -38,7 +38,7 @@ fn put_long<K: ByteSink>(sink: &mut K, number: u32) -> Result<(), Fault>
 /// Puts bytes after their number.
 pub fn put_counted<K: ByteSink>(sink: &mut K, bytes: &[u8]) -> Result<(), Fault>
     requires { length bytes.now < 2 ^ 8 }
-    ensures { Puts K.ByteSink result (counted byte bytes.now) sink.old sink.new }
+    ensures { Puts K.ByteSink result (counted_bytes byte bytes.now) sink.old sink.new }
 {
     put_byte(sink, bytes.len() as u8)?;
     put_bytes(sink, bytes)
@@ -137,7 +137,7 @@ pub fn put_viewer<K: ByteSink>(sink: &mut K, picture: ViewerPicture) -> Result<(
 
 /// Puts a viewer of a track with how many rows it has.
 pub fn put_entry<K: ByteSink>(sink: &mut K, entry: Stretch) -> Result<(), Fault>
-    ensures { Puts K.ByteSink result (entry_bytes newest_version (entry_of entry)) sink.old sink.new }
+    ensures { Puts K.ByteSink result (entry_bytes newest_version (entry_of_stretch entry)) sink.old sink.new }
 {
     put_word(sink, entry.viewer)?;
     put_byte(sink, entry.height)

@@ -12,11 +12,11 @@ use Rattle.viewer_tracks.specs.declared.display.Track.TheVariants.{User, System}
 use Rattle.viewer_tracks.specs.declared.display.TheConstants.{ROWS, DEPTH}
 use Rattle.viewer_tracks.specs.Display.{track_at, left_of}
 use Rattle.viewer_tracks.specs.Viewers.{Entry, IsTrack, bottom_of, times_in}
-use Rattle.viewer_tracks.specs.Columns.{Columns, IsColumns, IsPlaced, IsOnTop, shown, with_shown, stack_of}
-use Rattle.viewer_tracks.specs.Columns.{topmost, with_topmost, with_stack, times_placed, after_open_track, after_change}
+use Rattle.viewer_tracks.specs.Columns.{Columns, IsColumns, IsPlaced, IsOnTop, shown_track, with_shown, stack_of}
+use Rattle.viewer_tracks.specs.Columns.{topmost, with_topmost, with_stack, times_placed, after_open_track, columns_changed}
 use Rattle.viewer_tracks.proofs.ColumnLemmas.{change_lowers, times-with_stack}
 use Rattle.desk_image.specs.declared.picture.Stretch.{Stretch}
-use Rattle.desk_image.specs.Pictures.{entry_of, track_of, stack_of as levels_of}
+use Rattle.desk_image.specs.Pictures.{entry_of_stretch, track_of_stretches, stack_of_stretches as levels_of}
 use Rattle.desk_image.proofs.Lists.{all_reversed}
 use Rattle.desk_imaging.specs.Images.{Levels, CanBuild}
 use Rattle.desk_imaging.proofs.Stacks.{times_reversed}
@@ -38,7 +38,7 @@ on_top c System v =
     omega (arith, itself)
 
 pub lowered : (c : Columns) (k : Track) (v h : ℕ) → IsColumns c → ¬ IsPlaced v c → length (stack_of c k) < DEPTH
-    → 0 < h → h ≤ ROWS → after_change (after_open_track c v (left_of k)) v h
+    → 0 < h → h ≤ ROWS → columns_changed (after_open_track c v (left_of k)) v h
     ≡ with_stack c k ((record { viewer = v; height = h } ∷ []) ∷ stack_of c k)
 lowered c User v h sound fresh room some within = change_lowers c v (left_of User) h sound fresh room some within
 lowered c System v h sound fresh room some within = change_lowers c v (left_of System) h sound fresh room some within
@@ -47,17 +47,17 @@ lowered c System v h sound fresh room some within = change_lowers c v (left_of S
 
 module _ (c d : Columns) (k : Track) (e : Entry) (rest : List Entry)
     (is : d ≡ with_stack c k ((e ∷ []) ∷ stack_of c k)) where
-  lowest_shown : shown d k ≡ e ∷ []
-  lowest_shown = ap (λ (x : Columns). shown x k) is ∙ on_side k
+  lowest_shown : shown_track d k ≡ e ∷ []
+  lowest_shown = ap (λ (x : Columns). shown_track x k) is ∙ on_side k
     where
-      on_side : (j : Track) → shown (with_stack c j ((e ∷ []) ∷ stack_of c j)) j ≡ e ∷ []
+      on_side : (j : Track) → shown_track (with_stack c j ((e ∷ []) ∷ stack_of c j)) j ≡ e ∷ []
       on_side User = refl
       on_side System = refl
 
-  pub rest_heights : IsTrack (e ∷ rest) → IsTrack (shown d k ++ rest)
+  pub rest_heights : IsTrack (e ∷ rest) → IsTrack (shown_track d k ++ rest)
   rest_heights track = subst (λ (t : List Entry). IsTrack (t ++ rest)) (sym lowest_shown) track
 
-  pub rest_bottom : e.height ≡ bottom_of (shown d k) (length (shown d k))
+  pub rest_bottom : e.height ≡ bottom_of (shown_track d k) (length (shown_track d k))
   rest_bottom =
       let one : bottom_of (e ∷ []) 1 ≡ e.height = sum_by-cons (λ (x : Entry). x.height) e [] ∙ omega arith in
       sym one ∙ ap (λ (t : List Entry). bottom_of t (length t)) (sym lowest_shown)
@@ -74,11 +74,11 @@ module _ (c d : Columns) (k : Track) (e : Entry) (rest : List Entry)
       let one = once v in
       omega (arith, same, placed, over, alone, all, one)
 
-  pub laid : with_shown d k (shown d k ++ rest) ≡ with_stack c k ((e ∷ rest) ∷ stack_of c k)
-  laid = ap (λ (x : Columns). with_shown x k (shown x k ++ rest)) is ∙ on_side k
+  pub laid : with_shown d k (shown_track d k ++ rest) ≡ with_stack c k ((e ∷ rest) ∷ stack_of c k)
+  laid = ap (λ (x : Columns). with_shown x k (shown_track x k ++ rest)) is ∙ on_side k
     where
       on_side : (j : Track) → with_shown (with_stack c j ((e ∷ []) ∷ stack_of c j)) j
-          (shown (with_stack c j ((e ∷ []) ∷ stack_of c j)) j ++ rest) ≡ with_stack c j ((e ∷ rest) ∷ stack_of c j)
+          (shown_track (with_stack c j ((e ∷ []) ∷ stack_of c j)) j ++ rest) ≡ with_stack c j ((e ∷ rest) ∷ stack_of c j)
       on_side User = refl
       on_side System = refl
 
@@ -100,9 +100,9 @@ first_fits e rest track =
 
 -- the track of a level, as an image has it
 pub level_is : (stack : List (ArrayVec Stretch)) (n : ℕ) (x : ArrayVec Stretch) (ss : List Stretch) → n < length stack
-    → x ≡ get_or stack n x → ss ≡ x.items → map entry_of ss ≡ get_or (levels_of stack) n []
+    → x ≡ get_or stack n x → ss ≡ x.items → map entry_of_stretch ss ≡ get_or (levels_of stack) n []
 level_is stack n x ss low is items =
-    ap (map entry_of) items ∙ ap track_of is ∙ sym (get_or-map track_of stack n x [] low)
+    ap (map entry_of_stretch) items ∙ ap track_of_stretches is ∙ sym (get_or-map track_of_stretches stack n x [] low)
 
 -- ---- one track after another
 
@@ -170,18 +170,18 @@ module _ (c : Columns) (k : Track) (levels : Levels) where
         omega (arith, placed, turned, part, one)
 
     -- the lowest one, in the track that is all filler
-    nothing_shown : shown c k ≡ []
+    nothing_shown : shown_track c k ≡ []
     nothing_shown = on_side k can.empty
       where
-        on_side : (j : Track) → stack_of c j ≡ [] ∷ [] → shown c j ≡ []
+        on_side : (j : Track) → stack_of c j ≡ [] ∷ [] → shown_track c j ≡ []
         on_side User is = ap topmost is
         on_side System is = ap topmost is
 
-    pub lowest_heights : IsTrack (shown c k ++ get_or levels 0 [])
+    pub lowest_heights : IsTrack (shown_track c k ++ get_or levels 0 [])
     lowest_heights =
         subst (λ (t : List Entry). IsTrack (t ++ get_or levels 0 [])) (sym nothing_shown) (track_there 0 some_levels)
 
-    pub lowest_bottom : 0 ≡ bottom_of (shown c k) (length (shown c k))
+    pub lowest_bottom : 0 ≡ bottom_of (shown_track c k) (length (shown_track c k))
     lowest_bottom = ap (λ (t : List Entry). bottom_of t (length t)) (sym nothing_shown)
 
     pub lowest_once : (v : ℕ) → times_placed v c + times_in v (get_or levels 0 []) ≤ 1
@@ -190,7 +190,7 @@ module _ (c : Columns) (k : Track) (levels : Levels) where
         let one = can.once v in
         omega (arith, part, one)
 
-    pub lowest_built : with_shown c k (shown c k ++ get_or levels 0 []) ≡ built 1
+    pub lowest_built : with_shown c k (shown_track c k ++ get_or levels 0 []) ≡ built 1
     lowest_built = ap (λ (t : List Entry). with_shown c k (t ++ get_or levels 0 [])) nothing_shown ∙ on_side k can.empty
         ∙ ap (with_stack c k) (reversed_more 0 some_levels)
       where

@@ -19,13 +19,13 @@ use Rattle.viewer_tracks.specs.declared.display.Track.TheVariants.{User, System}
 use Rattle.viewer_tracks.specs.declared.display.TheConstants.{ROWS}
 use Rattle.viewer_tracks.specs.Display.{left_of}
 use Rattle.viewer_tracks.specs.Viewers.{Entry, IsTrack, bottom_of, top_of, tops, lowest_reaching, times_in}
-use Rattle.viewer_tracks.specs.Edits.{with_entry, with_height, with_viewer, open_entry, open_top, takes_place, put_into}
+use Rattle.viewer_tracks.specs.Edits.{with_entry, with_height, entry_with_viewer, open_entry, open_top, takes_place, put_into}
 use Rattle.viewer_tracks.specs.Edits.{opened}
-use Rattle.viewer_tracks.specs.Columns.{Columns, IsColumns, times_on, topmost, with_topmost, shown, with_shown, times_placed}
+use Rattle.viewer_tracks.specs.Columns.{Columns, IsColumns, times_on, topmost, with_topmost, shown_track, with_shown, times_placed}
 use Rattle.viewer_tracks.specs.Columns.{IsPlaced, after_open}
 use Rattle.viewer_tracks.proofs.StackLemmas.{times-with_topmost}
 use Rattle.desk_image.specs.declared.picture.Stretch.{Stretch}
-use Rattle.desk_image.specs.Pictures.{entry_of, track_of, stack_of}
+use Rattle.desk_image.specs.Pictures.{entry_of_stretch, track_of_stretches, stack_of_stretches}
 use Rattle.desk_imaging.specs.Images.{first_some}
 
 -- ---- the first that gives something
@@ -65,18 +65,18 @@ range_gives h a n =
 
 -- ---- viewers on one another
 
-pub times_are : (v : ℕ) (ss : List Stretch) → sum_by (λ s. cond (s.viewer == v) 1 0) ss ≡ times_in v (map entry_of ss)
+pub times_are : (v : ℕ) (ss : List Stretch) → sum_by (λ s. cond (s.viewer == v) 1 0) ss ≡ times_in v (map entry_of_stretch ss)
 times_are v [] = refl
 times_are v (s ∷ ss) = sum_by-cons (λ (s : Stretch). (let n : ℕ = cond (s.viewer == v) 1 0 in n)) s ss
     ∙ ap (λ n. cond (s.viewer == v) 1 0 + n) (times_are v ss)
-    ∙ sym (sum_by-cons (λ (e : Entry). (let n : ℕ = cond (e.viewer == v) 1 0 in n)) (entry_of s) (map entry_of ss))
+    ∙ sym (sum_by-cons (λ (e : Entry). (let n : ℕ = cond (e.viewer == v) 1 0 in n)) (entry_of_stretch s) (map entry_of_stretch ss))
 
 pub times_over : (v : ℕ) (stack : List (ArrayVec Stretch))
-    → sum_by (λ track. times_in v (track_of track)) stack ≡ times_on v (stack_of stack)
+    → sum_by (λ track. times_in v (track_of_stretches track)) stack ≡ times_on v (stack_of_stretches stack)
 times_over v [] = refl
-times_over v (t ∷ stack) = sum_by-cons (λ (track : ArrayVec Stretch). times_in v (track_of track)) t stack
-    ∙ ap (λ n. times_in v (track_of t) + n) (times_over v stack)
-    ∙ sym (sum_by-cons (times_in v) (track_of t) (stack_of stack))
+times_over v (t ∷ stack) = sum_by-cons (λ (track : ArrayVec Stretch). times_in v (track_of_stretches track)) t stack
+    ∙ ap (λ n. times_in v (track_of_stretches t) + n) (times_over v stack)
+    ∙ sym (sum_by-cons (times_in v) (track_of_stretches t) (stack_of_stretches stack))
 
 one_small : (b : Bool) → (let n : ℕ = cond b 1 0 in n) ≤ 1
 one_small true = omega arith
@@ -148,7 +148,7 @@ module _ (t : List Entry) (v h : ℕ) (some : 0 < h) (fits : heights t + h ≤ R
       (record { viewer = v; height = all }) in
       let size : all ≡ h = omega (arith, all_rows) in
       (λ k. put_into t v (entry k) (top k))
-      ∙ ap (λ b. cond b (with_entry (with_viewer v) t (length t)) lower) none_there
+      ∙ ap (λ b. cond b (with_entry (entry_with_viewer v) t (length t)) lower) none_there
       ∙ ap (λ l. insert l (length t) (record { viewer = v; height = all }))
       (past_the_end (λ e. with_height (e.height - all) e) t)
       ∙ insert_last t (record { viewer = v; height = all })
@@ -181,13 +181,13 @@ as_topmost : (s : List (List Entry)) → 0 < length s → s ≡ with_topmost s (
 as_topmost [] some = absurd (omega (arith, some))
 as_topmost (t ∷ s) some = refl
 
-pub as_shown : (c : Columns) (k : Track) → IsColumns c → c ≡ with_shown c k (shown c k)
+pub as_shown : (c : Columns) (k : Track) → IsColumns c → c ≡ with_shown c k (shown_track c k)
 as_shown c User sound = λ k. record c { user = as_topmost c.user sound.user.some k }
 as_shown c System sound = λ k. record c { system = as_topmost c.system sound.system.some k }
 
 -- how often a viewer is placed, where another track is shown
 placed_on : (v : ℕ) (c : Columns) (k : Track) (t : List Entry) → IsColumns c
-    → times_placed v (with_shown c k t) + times_in v (shown c k) ≡ times_placed v c + times_in v t
+    → times_placed v (with_shown c k t) + times_in v (shown_track c k) ≡ times_placed v c + times_in v t
 placed_on v c User t sound = let one = times-with_topmost v c.user t sound.user.some in omega (arith, one)
 placed_on v c System t sound = let one = times-with_topmost v c.system t sound.system.some in omega (arith, one)
 
@@ -203,63 +203,63 @@ after_those P (e ∷ t) more all = after_those P t more (All-tail P e (t ++ more
 module _ (c : Columns) (k : Track) (ss : List Stretch) (i : ℕ) (d : Stretch) (low : i < length ss) where
   -- what the track has before the i-th
   abbrev pub done : List Entry
-  done = shown c k ++ map entry_of (take i ss)
+  done = shown_track c k ++ map entry_of_stretch (take i ss)
 
-  inside : i < length (map entry_of ss)
-  inside = let same = length-map {B = Entry} ss entry_of in omega (arith, same, low)
+  inside : i < length (map entry_of_stretch ss)
+  inside = let same = length-map {B = Entry} ss entry_of_stretch in omega (arith, same, low)
 
-  here : get_or (map entry_of ss) i (entry_of d) ≡ entry_of (get_or ss i d)
-  here = get_or-map entry_of ss i d (entry_of d) low
+  here : get_or (map entry_of_stretch ss) i (entry_of_stretch d) ≡ entry_of_stretch (get_or ss i d)
+  here = get_or-map entry_of_stretch ss i d (entry_of_stretch d) low
 
-  more : shown c k ++ map entry_of (take (i + 1) ss) ≡ done ++ entry_of (get_or ss i d) ∷ []
-  more = ap (λ l. shown c k ++ l)
-      (ap (map entry_of) (take_more ss i d low) ∙ map-append entry_of (take i ss) (get_or ss i d ∷ []))
-      ∙ sym (append_assoc (shown c k) (map entry_of (take i ss)) (entry_of (get_or ss i d) ∷ []))
+  more : shown_track c k ++ map entry_of_stretch (take (i + 1) ss) ≡ done ++ entry_of_stretch (get_or ss i d) ∷ []
+  more = ap (λ l. shown_track c k ++ l)
+      (ap (map entry_of_stretch) (take_more ss i d low) ∙ map-append entry_of_stretch (take i ss) (get_or ss i d ∷ []))
+      ∙ sym (append_assoc (shown_track c k) (map entry_of_stretch (take i ss)) (entry_of_stretch (get_or ss i d) ∷ []))
 
-  part : (f : Entry → ℕ) → sum_by f (map entry_of (take i ss)) + f (entry_of (get_or ss i d))
-      ≤ sum_by f (map entry_of ss)
+  part : (f : Entry → ℕ) → sum_by f (map entry_of_stretch (take i ss)) + f (entry_of_stretch (get_or ss i d))
+      ≤ sum_by f (map entry_of_stretch ss)
   part f =
-      let all = sum_by_more_le f (map entry_of ss) i (entry_of d) inside in
-      let front : sum_by f (take i (map entry_of ss)) ≡ sum_by f (map entry_of (take i ss)) =
-      ap (sum_by f) (take-map entry_of i ss) in
-      let last : f (get_or (map entry_of ss) i (entry_of d)) ≡ f (entry_of (get_or ss i d)) = ap f here in
+      let all = sum_by_more_le f (map entry_of_stretch ss) i (entry_of_stretch d) inside in
+      let front : sum_by f (take i (map entry_of_stretch ss)) ≡ sum_by f (map entry_of_stretch (take i ss)) =
+      ap (sum_by f) (take-map entry_of_stretch i ss) in
+      let last : f (get_or (map entry_of_stretch ss) i (entry_of_stretch d)) ≡ f (entry_of_stretch (get_or ss i d)) = ap f here in
       omega (arith, all, front, last)
 
-  pub height_more : heights (shown c k ++ map entry_of (take (i + 1) ss)) ≡ heights done + (get_or ss i d).height
+  pub height_more : heights (shown_track c k ++ map entry_of_stretch (take (i + 1) ss)) ≡ heights done + (get_or ss i d).height
   height_more =
       let whole = ap heights more in
-      let sum = sum_by-append (λ (e : Entry). e.height) done (entry_of (get_or ss i d) ∷ []) in
-      let one = sum_by-cons (λ (e : Entry). e.height) (entry_of (get_or ss i d)) [] in
+      let sum = sum_by-append (λ (e : Entry). e.height) done (entry_of_stretch (get_or ss i d) ∷ []) in
+      let one = sum_by-cons (λ (e : Entry). e.height) (entry_of_stretch (get_or ss i d)) [] in
       omega (arith, whole, sum, one)
 
   pub not_there : IsColumns c
-      → times_placed (get_or ss i d).viewer c + times_in (get_or ss i d).viewer (map entry_of ss) ≤ 1
+      → times_placed (get_or ss i d).viewer c + times_in (get_or ss i d).viewer (map entry_of_stretch ss) ≤ 1
       → ¬ IsPlaced (get_or ss i d).viewer (with_shown c k done)
   not_there sound once placed =
       let v = (get_or ss i d).viewer in
       let all = placed_on v c k done sound in
-      let sum = sum_by-append (λ (e : Entry). (let n : ℕ = cond (e.viewer == v) 1 0 in n)) (shown c k)
-      (map entry_of (take i ss)) in
+      let sum = sum_by-append (λ (e : Entry). (let n : ℕ = cond (e.viewer == v) 1 0 in n)) (shown_track c k)
+      (map entry_of_stretch (take i ss)) in
       let some = part (λ e. (let n : ℕ = cond (e.viewer == v) 1 0 in n)) in
       let itself : (v == v) ≡ true = eq-eqb v v refl in
       let one : cond (v == v) 1 0 ≡ 1 = ap (λ b. (let n : ℕ = cond b 1 0 in n)) itself in
       omega (arith, all, sum, some, one, once, placed)
 
-  module _ (track : IsTrack (shown c k ++ map entry_of ss)) where
+  module _ (track : IsTrack (shown_track c k ++ map entry_of_stretch ss)) where
     here_some : 0 < (get_or ss i d).height
     here_some = subst (λ (e : Entry). 0 < e.height) here
-        (after_those (λ (e : Entry). 0 < e.height) (shown c k) (map entry_of ss) track.some i (entry_of d) inside)
+        (after_those (λ (e : Entry). 0 < e.height) (shown_track c k) (map entry_of_stretch ss) track.some i (entry_of_stretch d) inside)
 
     pub rows_fit : heights done + (get_or ss i d).height ≤ ROWS
     rows_fit =
         let all = part (λ e. e.height) in
         let fits = track.fits in
-        let before = sum_by-append (λ (e : Entry). e.height) (shown c k) (map entry_of (take i ss)) in
-        let whole = sum_by-append (λ (e : Entry). e.height) (shown c k) (map entry_of ss) in
+        let before = sum_by-append (λ (e : Entry). e.height) (shown_track c k) (map entry_of_stretch (take i ss)) in
+        let whole = sum_by-append (λ (e : Entry). e.height) (shown_track c k) (map entry_of_stretch ss) in
         omega (arith, all, fits, before, whole)
 
     pub piled : after_open (with_shown c k done) (get_or ss i d).viewer (left_of k)
         (heights done + (get_or ss i d).height)
-        ≡ with_shown c k (shown c k ++ map entry_of (take (i + 1) ss))
+        ≡ with_shown c k (shown_track c k ++ map entry_of_stretch (take (i + 1) ss))
     piled = opened_on done (get_or ss i d).viewer (get_or ss i d).height here_some rows_fit c k
         ∙ ap (with_shown c k) (sym more)

@@ -26,7 +26,7 @@ use Rattle.desk_image.specs.declared.picture.Ranked.{Ranked}
 use Rattle.desk_image.specs.declared.picture.ViewerPicture.{ViewerPicture}
 use Rattle.desktop_definitions.specs.Shown.{caret_position}
 use Rattle.desk_image.specs.Image.{ranked_in, picture_of}
-use Rattle.desk_imaging.specs.Images.{viewers_of, first_some, caret_at, caret_of, with_rank, selected_at, selected_as}
+use Rattle.desk_imaging.specs.Images.{viewers_of, first_some, picture_caret, first_caret, with_rank, selected_at, selected_as}
 use Rattle.desk_imaging.specs.Images.{most_ranks, selections_of}
 
 pub viewers_back : (caret : Option Caret) (selections : List Selection) (viewers : List (ℕ × Viewer))
@@ -112,11 +112,11 @@ caret_there c = ap (λ b. at_position c.viewer (let o : Option ℕ = cond b (Som
 
 pub caret_back : (caret : Option Caret) (selections : List Selection) (viewers : List (ℕ × Viewer))
     → ((c : Caret) → caret ≡ Some c → IsSome (viewer_in viewers c.viewer))
-    → caret_of (map (picture_of caret selections) viewers) ≡ caret
-unfolding caret_of
+    → first_caret (map (picture_of caret selections) viewers) ≡ caret
+unfolding first_caret
 caret_back caret selections viewers there =
-    first_map caret_at (picture_of caret selections) viewers
-    ∙ first_back (λ e. caret_at (picture_of caret selections e)) viewers caret
+    first_map picture_caret (picture_of caret selections) viewers
+    ∙ first_back (λ e. picture_caret (picture_of caret selections e)) viewers caret
     (λ e c is. caret_given caret e.0 c is)
     (λ c is. (let one = found_one viewers c.viewer (there c is) in
     (c.viewer, one.0, one.1, ap (λ o. at_position c.viewer (caret_position c.viewer o)) is ∙ caret_there c)))

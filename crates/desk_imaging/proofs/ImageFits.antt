@@ -29,7 +29,7 @@ use Rattle.desktop_definitions.specs.Tables.{Texts, Files, name_cmp}
 use Rattle.desktop_laws.specs.TableLaws.{kept_lengths}
 use Rattle.desk_image.specs.declared.picture.ViewerPicture.{ViewerPicture}
 use Rattle.desk_image.specs.Image.{InWord, InId, AreSome, has_overlays}
-use Rattle.desk_image.specs.Fitting.{Chain, FitsPiece, FitsText, FitsFile, FitsViewer, FitsEntry, less, total, totals}
+use Rattle.desk_image.specs.Fitting.{Chain, FitsPiece, FitsText, FitsFile, FitsViewer, FitsEntry, less, length_of_pieces, totals}
 use Rattle.desk_image.specs.Fitting.{FitsTrack, FitsLevel, FitsStack, after_text, after_file, after_viewer, above}
 use Rattle.desk_image.specs.Fitting.{overlaid, follows}
 use Rattle.desk_image.proofs.Lists.{all_reversed}
@@ -66,7 +66,7 @@ pieces_fit written room (p ∷ ps) chain =
     }
 
 pub total_fits : (written room : ℕ) (pieces : List Piece) → Chain (FitsPiece written) less room pieces
-    → total pieces ≤ room
+    → length_of_pieces pieces ≤ room
 total_fits written room [] chain = omega arith
 total_fits written room (p ∷ ps) chain =
     let rest = total_fits written (less room p) ps chain.1 in
@@ -74,7 +74,7 @@ total_fits written room (p ∷ ps) chain =
     let short = chain.0.short in
     omega (arith, rest, sum, short)
 
-pub length_flat : (pieces : List Piece) → length (flat pieces) ≡ total pieces
+pub length_flat : (pieces : List Piece) → length (flat pieces) ≡ length_of_pieces pieces
 length_flat [] = refl
 length_flat (p ∷ ps) = length-append (characters_of p) (flat ps)
     ∙ (λ k. length-run p.off p.len p.look k + length_flat ps k)
@@ -83,7 +83,7 @@ length_flat (p ∷ ps) = length-append (characters_of p) (flat ps)
 pub kept_totals : {K : Type 0} (table : List (K × List Piece)) → kept_lengths table ≡ totals table
 kept_totals [] = refl
 kept_totals {K} (e ∷ es) = sum_by-cons (λ (pieces : List Piece). length (flat pieces)) e.1 (values_of es)
-    ∙ (λ k. length_flat e.1 k + kept_totals es k) ∙ sym (sum_by-cons (λ (x : K × List Piece). total x.1) e es)
+    ∙ (λ k. length_flat e.1 k + kept_totals es k) ∙ sym (sum_by-cons (λ (x : K × List Piece). length_of_pieces x.1) e es)
 
 -- looks are seen as they are kept
 pub seen_looks : {X Y : Type 0} (f : X → Y) (text : Text X) → AreLooks text → AreLooks (renamed f text)
@@ -136,11 +136,11 @@ none_fit : {K : Type 0} (written room : ℕ) → AreTableFit {K = K} written roo
 none_fit written room = record { each = All-nil (AreFit written); fits = omega arith }
 
 more_fit : {K : Type 0} (written room : ℕ) (e : K × List Piece) (table : List (K × List Piece))
-    → Chain (FitsPiece written) less room e.1 → AreTableFit written (room - total e.1) table
+    → Chain (FitsPiece written) less room e.1 → AreTableFit written (room - length_of_pieces e.1) table
     → AreTableFit written room (e ∷ table)
 more_fit {K} written room e table chain rest =
     let short = total_fits written room e.1 chain in
-    let sum = sum_by-cons (λ (x : K × List Piece). total x.1) e table in
+    let sum = sum_by-cons (λ (x : K × List Piece). length_of_pieces x.1) e table in
     let fewer = rest.fits in
     record {
       each = All-cons (AreFit written) e.1 (values_of table) (pieces_fit written room e.1 chain) rest.each;
@@ -163,7 +163,7 @@ texts_fit written least room [] chain = record {
 texts_fit written least room (t ∷ texts) chain =
     let here = chain.0 in
     let word : InWord t.0 = here.0 in
-    let rest = texts_fit written (t.0 + 1) (room - total t.1) texts chain.1 in
+    let rest = texts_fit written (t.0 + 1) (room - length_of_pieces t.1) texts chain.1 in
     record {
       pieces = more_fit written room t texts here.1.1.1 rest.pieces;
       numbers = numbers_rise least t.0 (keys_of texts) here.1.0 rest.numbers;
@@ -197,7 +197,7 @@ files_fit written before room [] chain = record {
 }
 files_fit written before room (f ∷ files) chain =
     let here = chain.0 in
-    let rest = files_fit written (Some f.0) (room - total f.1) files chain.1 in
+    let rest = files_fit written (Some f.0) (room - length_of_pieces f.1) files chain.1 in
     record {
       pieces = more_fit written room f files here.1.1.1 rest.pieces;
       rise = more_rise name_cmp (λ low. before ≡ Some low) (λ low. Some f.0 ≡ Some low) f.0 (keys_of files) rest.rise

@@ -24,16 +24,16 @@ use Rattle.desktop_definitions.specs.Desktop.{KeptDesktop}
 use Rattle.desktop_definitions.specs.Opening.{is_shown}
 use Rattle.desktop_definitions.specs.Viewers.{viewer_in, viewer_or_none, main_length}
 use Rattle.desktop_definitions.specs.Seen.{seen, seen_text, seen_table}
-use Rattle.desktop_definitions.specs.Sound.{IsViewer, AreViewers, ArePlaces, IsCaret, IsSelection, AreMarks}
+use Rattle.desktop_definitions.specs.Sound.{IsViewer, AreViewers, ArePlaces, IsCaretPlaced, IsSelection, AreMarks}
 use Rattle.desktop_definitions.specs.Sound.{IsShaped, IsSound}
 use Rattle.desktop_laws.specs.TextLaws.{text_there, long_seen}
 use Rattle.desktop_laws.specs.ViewLaws.{placed_there, viewer_at_place, few_selections}
 use Rattle.desk_image.specs.declared.picture.Ranked.{Ranked}
 use Rattle.desktop_definitions.specs.Shown.{caret_position}
 use Rattle.desk_image.specs.Image.{Image, image_of, picture_of, ranked_in}
-use Rattle.desk_imaging.specs.Images.{is_desktop, IsDesktopOf, times_tracked, viewers_of, caret_of, selections_of}
+use Rattle.desk_imaging.specs.Images.{is_desktop, IsDesktopOf, times_tracked, viewers_of, first_caret, selections_of}
 use Rattle.desk_imaging.specs.Images.{leaves_menu, is_framed, are_texts, has_id, is_closed_known, stands_once}
-use Rattle.desk_imaging.specs.Images.{are_placed, main_size, is_caret, is_selection, is_pictured}
+use Rattle.desk_imaging.specs.Images.{are_placed, main_size, is_caret_within, is_selection, is_pictured}
 use Rattle.desk_imaging.specs.Images.{Levels, highest, is_on_top, most_ranks, same_ranked}
 use Rattle.desk_imaging.proofs.ImageBack.{selections_back, caret_back, viewers_back}
 use Rattle.desk_imaging.proofs.ImageMade.{id_is}
@@ -143,9 +143,9 @@ module _ (viewers : List (ℕ × Viewer)) (columns : Columns) (closed : Option C
 
     module _ (texts : Texts (List Piece)) where
       caret_passes : (caret : Option Caret)
-          → ForSome caret (IsCaret columns (main_length (seen_table [] texts) viewers))
-          → is_caret texts viewers user system caret ≡ true
-      unfolding is_caret
+          → ForSome caret (IsCaretPlaced columns (main_length (seen_table [] texts) viewers))
+          → is_caret_within texts viewers user system caret ≡ true
+      unfolding is_caret_within
       caret_passes None stands = refl
       caret_passes (Some c) stands =
           let is = stands c refl in
@@ -186,15 +186,15 @@ pictures_pass caret selections (e ∷ viewers) =
 -- ---- the whole
 
 passes : (written : ℕ) (i : Image) (viewers : List (ℕ × Viewer)) (caret : Option Caret) (selections : List Selection)
-    → viewers_of i.viewers ≡ viewers → caret_of i.viewers ≡ caret → selections_of i.viewers ≡ selections
+    → viewers_of i.viewers ≡ viewers → first_caret i.viewers ≡ caret → selections_of i.viewers ≡ selections
     → nat_le written most_written ≡ true → are_placed i.user i.system i.closed viewers ≡ true
-    → are_texts i.texts viewers ≡ true → is_caret i.texts viewers i.user i.system caret ≡ true
+    → are_texts i.texts viewers ≡ true → is_caret_within i.texts viewers i.user i.system caret ≡ true
     → list_all (is_selection i.texts viewers i.user i.system) selections ≡ true
     → list_all (is_pictured caret selections) i.viewers ≡ true → is_desktop written i ≡ true
 unfolding is_desktop
 passes written i viewers caret selections vs c ss low placed texts at all pictured =
     (λ k. nat_le written most_written && (are_placed i.user i.system i.closed (vs k) && (are_texts i.texts (vs k)
-    && (is_caret i.texts (vs k) i.user i.system (c k)
+    && (is_caret_within i.texts (vs k) i.user i.system (c k)
     && (list_all (is_selection i.texts (vs k) i.user i.system) (ss k)
     && list_all (is_pictured (c k) (ss k)) i.viewers)))))
     ∙ both _ _ low (both _ _ placed (both _ _ texts (both _ _ at (both _ _ all pictured))))

@@ -3,7 +3,7 @@ use Rattle.std.proofs.Common.{◌≡◌, ℕ, ◌+◌, ◌-◌, ◌<◌, ◌≤�
 use Rattle.std.proofs.Common.{add-one, arith}
 use Rattle.std.proofs.Common.{slice_index_or, ◌++◌, map, refl}
 use Rattle.std.proofs.lemmas.List.{append_assoc, length-reverse}
-use Rattle.event_bytes.specs.Parts.{byte, word, counted}
+use Rattle.event_bytes.specs.Parts.{byte, word_bytes, counted_bytes}
 use Rattle.viewer_tracks.specs.declared.display.Track.{Track}
 use Rattle.viewer_tracks.specs.declared.display.Track.TheVariants.{User, System}
 use Rattle.viewer_tracks.specs.Viewers.{Entry}
@@ -20,11 +20,11 @@ use Rattle.desktop_laws.specs.OpeningDone.{kept_viewers}
 use Rattle.desktop_laws.specs.TableLaws.{length_seen}
 use Rattle.desk_core.proofs.ViewLemmas.{few}
 use Rattle.desk_image.specs.declared.limits.TheConstants.{IMAGE_BYTES}
-use Rattle.desk_image.specs.Image.{look_bytes, cell_bytes, optional, listed, text_bytes, file_bytes, pieces_bytes}
+use Rattle.desk_image.specs.Image.{look_bytes, cell_bytes, optional, listed_bytes, text_bytes, file_bytes, pieces_bytes}
 use Rattle.desk_image.specs.Image.{viewers_bytes, stack_bytes, closed_bytes, picture_of, image_of, image_bytes, deepest}
 use Rattle.desk_image.specs.Image.{IsSpellable}
 use Rattle.desk_image.specs.Laws.{RoomLaw}
-use Rattle.desk_imaging.specs.Images.{AreReady, settings_long, tables_long, display_long}
+use Rattle.desk_imaging.specs.Images.{CanBeImaged, settings_long, tables_long, display_long}
 use Rattle.desk_image.proofs.Counting.{long_image}
 
 -- ---- one element after another
@@ -74,7 +74,7 @@ module _ (d : KeptDesktop) (whole : IsKeptWhole d) where
   few_levels User = (whole.sound []).shaped.places.columns_hold.user.few
   few_levels System = (whole.sound []).shaped.places.columns_hold.system.few
 
-  pub are_ready : AreReady d
+  pub are_ready : CanBeImaged d
   unfolding seen
   are_ready =
       let shaped = (whole.sound []).shaped in
@@ -94,10 +94,10 @@ module _ (d : KeptDesktop) (whole : IsKeptWhole d) where
 -- ---- the whole image, in three groups
 
 abbrev pub settings_bytes : KeptDesktop → List ℕ
-settings_bytes d = look_bytes d.look ++ (counted byte d.pattern ++ optional cell_bytes d.marker)
+settings_bytes d = look_bytes d.look ++ (counted_bytes byte d.pattern ++ optional cell_bytes d.marker)
 
 abbrev pub tables_bytes : KeptDesktop → List ℕ
-tables_bytes d = listed word text_bytes d.texts ++ (listed word file_bytes d.files
+tables_bytes d = listed_bytes word_bytes text_bytes d.texts ++ (listed_bytes word_bytes file_bytes d.files
     ++ (pieces_bytes d.copied ++ pieces_bytes d.deleted))
 
 abbrev pub display_bytes : KeptDesktop → List ℕ
@@ -115,8 +115,8 @@ pub image_in_three : (d : KeptDesktop)
     → settings_bytes d ++ (tables_bytes d ++ display_bytes d) ≡ image_bytes newest_version (image_of d)
 unfolding image_bytes image_of
 image_in_three d =
-    grouped (look_bytes d.look) (counted byte d.pattern) (optional cell_bytes d.marker)
-    (listed word text_bytes d.texts) (listed word file_bytes d.files) (pieces_bytes d.copied) (pieces_bytes d.deleted)
+    grouped (look_bytes d.look) (counted_bytes byte d.pattern) (optional cell_bytes d.marker)
+    (listed_bytes word_bytes text_bytes d.texts) (listed_bytes word_bytes file_bytes d.files) (pieces_bytes d.copied) (pieces_bytes d.deleted)
     (viewers_bytes newest_version (map (picture_of d.caret d.selections) d.viewers))
     (stack_bytes newest_version (reverse (stack_of d.columns User)))
     (stack_bytes newest_version (reverse (stack_of d.columns System)))

@@ -25,23 +25,23 @@ use Rattle.desktop_definitions.specs.declared.viewer.Selection.{Selection}
 use Rattle.desktop_definitions.specs.declared.viewer.ClosedViewer.{ClosedViewer}
 use Rattle.desktop_definitions.specs.Limits.{most_written, most_held}
 use Rattle.event_bytes.specs.Bytes.{is_name}
-use Rattle.desktop_definitions.specs.Tables.{Texts, numbered, name_cmp}
-use Rattle.desktop_definitions.specs.Desktop.{held}
+use Rattle.desktop_definitions.specs.Tables.{Texts, text_numbered, name_cmp}
+use Rattle.desktop_definitions.specs.Desktop.{characters_held}
 use Rattle.desktop_definitions.specs.Viewers.{viewer_in, viewer_or_none, main_length}
 use Rattle.desktop_definitions.specs.Opening.{is_shown}
 use Rattle.desktop_definitions.specs.Seen.{seen, seen_text, seen_table}
-use Rattle.desktop_definitions.specs.Sound.{IsViewer, AreViewers, ArePlaces, IsClosedPlace, IsCaret, IsSelection}
+use Rattle.desktop_definitions.specs.Sound.{IsViewer, AreViewers, ArePlaces, IsClosedPlace, IsCaretPlaced, IsSelection}
 use Rattle.desktop_definitions.specs.Sound.{AreMarks, AreFiles, HasLooks, IsShaped, IsSound, IsWithin}
 use Rattle.desktop_definitions.specs.Looks.{AreLooks}
 use Rattle.desktop_laws.specs.TableLaws.{length_seen, length_seen_text, lengths_seen}
 use Rattle.desktop_laws.specs.TextLaws.{there_seen, long_seen}
 use Rattle.desktop_laws.specs.PlaceLaws.{at_same, at_is}
 use Rattle.desk_image.specs.Image.{Image, image_of, IsSpellable}
-use Rattle.desk_image.specs.Fitting.{FitsImage, FitsStack, FitsClosed, FitsCell, totals, total}
+use Rattle.desk_image.specs.Fitting.{FitsImage, FitsStack, FitsClosed, FitsCell, totals, length_of_pieces}
 use Rattle.desk_imaging.specs.Images.{is_desktop, IsDesktopOf, drafted, Levels, times_tracked, are_known, is_on_top}
-use Rattle.desk_imaging.specs.Images.{viewers_of, caret_of, selections_of}
+use Rattle.desk_imaging.specs.Images.{viewers_of, first_caret, selections_of}
 use Rattle.desk_imaging.specs.Images.{leaves_menu, is_framed, are_texts, has_id, is_closed_known, stands_once}
-use Rattle.desk_imaging.specs.Images.{are_placed, highest, main_size, is_caret, is_selection, is_pictured}
+use Rattle.desk_imaging.specs.Images.{are_placed, highest, main_size, is_caret_within, is_selection, is_pictured}
 use Rattle.desk_imaging.proofs.Stacks.{times_reversed, not_in_tracks}
 use Rattle.desk_imaging.proofs.ImageFits.{stack_fits, few_levels}
 use Rattle.desk_imaging.proofs.ImageFits.{texts_fit, files_fit, viewers_fit, pieces_fit, total_fits, AreFit}
@@ -116,20 +116,20 @@ module _ (version written : ℕ) (i : Image) (fits : FitsImage version written i
 
   deleted_is : AreFit written i.deleted
   unfolding FitsImage
-  deleted_is = pieces_fit written (most_held - totals i.texts - totals i.files - total i.copied) i.deleted
+  deleted_is = pieces_fit written (most_held - totals i.texts - totals i.files - length_of_pieces i.copied) i.deleted
       fits.1.1.1.1.1.1.0.1
 
   viewers_are : AreViewersFit version 0 i.viewers
   unfolding FitsImage
   viewers_are = viewers_fit version 0 i.viewers fits.1.1.1.1.1.1.1.0.1.1
 
-  all_held : totals i.texts + totals i.files + total i.copied + total i.deleted ≤ most_held
+  all_held : totals i.texts + totals i.files + length_of_pieces i.copied + length_of_pieces i.deleted ≤ most_held
   unfolding FitsImage
   all_held =
       let texts = texts_are.pieces.fits in
       let files = files_are.pieces.fits in
       let copied = total_fits written (most_held - totals i.texts - totals i.files) i.copied fits.1.1.1.1.1.0.1 in
-      let deleted = total_fits written (most_held - totals i.texts - totals i.files - total i.copied) i.deleted
+      let deleted = total_fits written (most_held - totals i.texts - totals i.files - length_of_pieces i.copied) i.deleted
       fits.1.1.1.1.1.1.0.1 in
       omega (arith, texts, files, copied, deleted)
 
@@ -156,8 +156,8 @@ module _ (version written : ℕ) (i : Image) (fits : FitsImage version written i
   }
 
   module _ (characters : List ℕ) where
-    drafted_held : held (seen characters (drafted written i)) ≤ most_held
-    unfolding held seen
+    drafted_held : characters_held (seen characters (drafted written i)) ≤ most_held
+    unfolding characters_held seen
     drafted_held =
         let all = all_held in
         let texts = lengths_seen characters i.texts ∙ kept_totals i.texts in
@@ -210,9 +210,9 @@ record ArePassed (written : ℕ) (i : Image) : Type 0 where
   low : nat_le written most_written ≡ true
   placed : are_placed i.user i.system i.closed (viewers_of i.viewers) ≡ true
   texts : are_texts i.texts (viewers_of i.viewers) ≡ true
-  caret : is_caret i.texts (viewers_of i.viewers) i.user i.system (caret_of i.viewers) ≡ true
+  caret : is_caret_within i.texts (viewers_of i.viewers) i.user i.system (first_caret i.viewers) ≡ true
   selections : list_all (is_selection i.texts (viewers_of i.viewers) i.user i.system) (selections_of i.viewers) ≡ true
-  pictured : list_all (is_pictured (caret_of i.viewers) (selections_of i.viewers)) i.viewers ≡ true
+  pictured : list_all (is_pictured (first_caret i.viewers) (selections_of i.viewers)) i.viewers ≡ true
 
 passed : (written : ℕ) (i : Image) → is_desktop written i ≡ true → ArePassed written i
 unfolding is_desktop
@@ -226,7 +226,7 @@ passed written i is =
 
 -- What are_texts tests.
 record AreTested (texts : Texts (List Piece)) (viewers : List (ℕ × Viewer)) : Type 0 where
-  log : is_some (numbered texts 0) ≡ true
+  log : is_some (text_numbered texts 0) ≡ true
   framed : list_all (is_framed texts viewers) viewers ≡ true
   used : list_all (is_shown viewers) (keys_of texts) ≡ true
 
@@ -359,9 +359,9 @@ module _ (characters : List ℕ) (texts : Texts (List Piece)) (viewers : List (�
     on_top : (v : ℕ) → is_on_top user system v ≡ true → IsOnTop v columns_of
     on_top v is = ltb-true 0 (times_in v (highest user) + times_in v (highest system)) is
 
-    caret_holds : (c : Caret) → is_caret texts viewers user system (Some c) ≡ true
-        → IsCaret columns_of (main_length (seen_table characters texts) viewers) c
-    unfolding is_caret
+    caret_holds : (c : Caret) → is_caret_within texts viewers user system (Some c) ≡ true
+        → IsCaretPlaced columns_of (main_length (seen_table characters texts) viewers) c
+    unfolding is_caret_within
     caret_holds c is =
         let parts = and_parts _ _ is in
         let same = long_seen characters texts (viewer_or_none viewers c.viewer).main in
@@ -394,15 +394,15 @@ module _ (written : ℕ) (i : Image) (makes : is_desktop written i ≡ true) whe
   once_tracked v = tracked_once i.user i.system i.closed (viewers_of i.viewers) placed v
 
   marks_hold : (characters : List ℕ) → AreMarks (record { user = reverse i.user; system = reverse i.system })
-      (main_length (seen_table characters i.texts) (viewers_of i.viewers)) (caret_of i.viewers)
+      (main_length (seen_table characters i.texts) (viewers_of i.viewers)) (first_caret i.viewers)
       (selections_of i.viewers)
   marks_hold characters = record {
     caret_stands = λ c is. caret_holds characters i.texts (viewers_of i.viewers) i.user i.system c
-        (ap (is_caret i.texts (viewers_of i.viewers) i.user i.system) (sym is) ∙ tests.caret);
+        (ap (is_caret_within i.texts (viewers_of i.viewers) i.user i.system) (sym is) ∙ tests.caret);
     all_stand = λ k s low. selection_holds characters i.texts (viewers_of i.viewers) i.user i.system _
         (AllPass-from_list_all (is_selection i.texts (viewers_of i.viewers) i.user i.system) (selections_of i.viewers)
         tests.selections k s low);
-    one_each = λ v. one_in_each (caret_of i.viewers) i.viewers v tests.pictured;
+    one_each = λ v. one_in_each (first_caret i.viewers) i.viewers v tests.pictured;
   }
 
   module _ (version : ℕ) (fits : FitsImage version written i) where
@@ -441,7 +441,7 @@ module _ (written : ℕ) (i : Image) (makes : is_desktop written i ≡ true) whe
     image_is = λ k. record i {
       user = reverse-reverse i.user k;
       system = reverse-reverse i.system k;
-      viewers = pictures_are (caret_of i.viewers) (selections_of i.viewers) i.viewers tests.pictured k;
+      viewers = pictures_are (first_caret i.viewers) (selections_of i.viewers) i.viewers tests.pictured k;
     }
 
     pub made : IsDesktopOf written i (drafted written i)

@@ -7,7 +7,7 @@ use Rattle.std.specs.List.{list_all, list_any, filter_map, range_with_len}
 use Rattle.std.specs.Map.{keys_of, values_of}
 use Rattle.piece_ring.specs.declared.piece.Piece.{Piece}
 use Rattle.piece_ring.specs.Flat.{flat}
-use Rattle.event_bytes.specs.Parts.{byte, word, counted}
+use Rattle.event_bytes.specs.Parts.{byte, word_bytes, counted_bytes}
 use Rattle.viewer_tracks.specs.Viewers.{Entry, times_in}
 use Rattle.viewer_tracks.specs.declared.display.Track.{Track}
 use Rattle.viewer_tracks.specs.declared.display.Track.TheVariants.{User, System}
@@ -19,7 +19,7 @@ use Rattle.desktop_definitions.specs.declared.viewer.ClosedViewer.{ClosedViewer}
 use Rattle.desktop_definitions.specs.Limits.{newest_version, most_written}
 use Rattle.desktop_definitions.specs.Looks.{IsLook, AreLooks}
 use Rattle.desktop_definitions.specs.Seen.{seen_text, seen_table}
-use Rattle.desktop_definitions.specs.Tables.{Texts, numbered}
+use Rattle.desktop_definitions.specs.Tables.{Texts, text_numbered}
 use Rattle.desktop_definitions.specs.Desktop.{KeptDesktop}
 use Rattle.desktop_definitions.specs.Viewers.{text_in, viewer_or_none}
 use Rattle.desktop_definitions.specs.Opening.{is_shown}
@@ -27,7 +27,7 @@ use Rattle.desktop_definitions.specs.Sound.{IsKeptWhole}
 use Rattle.desk_image.specs.declared.picture.Ranked.{Ranked}
 use Rattle.desk_image.specs.declared.picture.ViewerPicture.{ViewerPicture}
 use Rattle.desktop_definitions.specs.Shown.{caret_position}
-use Rattle.desk_image.specs.Image.{Image, ranked_in, image_of, picture_of, listed, optional}
+use Rattle.desk_image.specs.Image.{Image, ranked_in, image_of, picture_of, listed_bytes, optional}
 use Rattle.desk_image.specs.Image.{look_bytes, cell_bytes, closed_bytes, text_bytes, file_bytes, pieces_bytes}
 use Rattle.desk_image.specs.Image.{viewers_bytes, stack_bytes, deepest}
 
@@ -38,7 +38,7 @@ pub record CanBePut {K : Type 0} (table : List (K × List Piece)) : Type 0 where
   pub few : length table < 2 ^ 16
   pub looks : All AreLooks (values_of (seen_table [] table))
 
-pub record AreReady (d : KeptDesktop) : Type 0 where
+pub record CanBeImaged (d : KeptDesktop) : Type 0 where
   pub look : IsLook d.look
   pub pattern : length d.pattern < 2 ^ 8
   pub texts : CanBePut d.texts
@@ -53,10 +53,10 @@ pub record AreReady (d : KeptDesktop) : Type 0 where
 -- ---- how many bytes an image of the newest version has, in three groups of its parts
 
 abbrev pub settings_long : KeptDesktop → ℕ
-settings_long d = length (look_bytes d.look) + (length (counted byte d.pattern) + length (optional cell_bytes d.marker))
+settings_long d = length (look_bytes d.look) + (length (counted_bytes byte d.pattern) + length (optional cell_bytes d.marker))
 
 abbrev pub tables_long : KeptDesktop → ℕ
-tables_long d = length (listed word text_bytes d.texts) + (length (listed word file_bytes d.files)
+tables_long d = length (listed_bytes word_bytes text_bytes d.texts) + (length (listed_bytes word_bytes file_bytes d.files)
     + (length (pieces_bytes d.copied) + length (pieces_bytes d.deleted)))
 
 abbrev pub display_long : KeptDesktop → ℕ
@@ -67,23 +67,23 @@ display_long d = length (viewers_bytes newest_version (map (picture_of d.caret d
 
 -- ---- the desktop that has the parts of an image
 
-abbrev pub viewer_entry : ViewerPicture → ℕ × Viewer
-viewer_entry p = (p.id, p.viewer)
+abbrev pub picture_entry : ViewerPicture → ℕ × Viewer
+picture_entry p = (p.id, p.viewer)
 
 abbrev pub viewers_of : List ViewerPicture → List (ℕ × Viewer)
-viewers_of pictures = map viewer_entry pictures
+viewers_of pictures = map picture_entry pictures
 
 -- what f gives first
 abbrev pub first_some : {A B : Type 0} → (A → Option B) → List A → Option B
 first_some f [] = None
 first_some f (x ∷ xs) = option_or (f x) (first_some f xs)
 
-abbrev pub caret_at : ViewerPicture → Option Caret
-caret_at p = option_map (λ n. record { viewer = p.id; position = n }) p.caret
+abbrev pub picture_caret : ViewerPicture → Option Caret
+picture_caret p = option_map (λ n. record { viewer = p.id; position = n }) p.caret
 
 -- the caret of the first viewer that has one
-unfoldable pub caret_of : List ViewerPicture → Option Caret
-caret_of pictures = first_some caret_at pictures
+unfoldable pub first_caret : List ViewerPicture → Option Caret
+first_caret pictures = first_some picture_caret pictures
 
 -- a viewer's selection, where it has that rank
 abbrev pub with_rank : ℕ → ViewerPicture → Option Ranked → Option Selection
@@ -112,7 +112,7 @@ drafted written i = record {
   texts = i.texts;
   viewers = viewers_of i.viewers;
   columns = record { user = reverse i.user; system = reverse i.system };
-  caret = caret_of i.viewers;
+  caret = first_caret i.viewers;
   selections = selections_of i.viewers;
   marker = i.marker;
   closed = i.closed;
@@ -137,13 +137,13 @@ leaves_menu e other = not (other.1.main == e.1.menu) && (not (other.1.menu == e.
 -- both texts of a viewer are there, and its menu is its own
 unfoldable pub is_framed : Texts (List Piece) → List (ℕ × Viewer) → ℕ × Viewer → Bool
 is_framed texts viewers e =
-    is_some (numbered texts e.1.menu) && (is_some (numbered texts e.1.main)
+    is_some (text_numbered texts e.1.menu) && (is_some (text_numbered texts e.1.main)
     && (nat_le e.1.org (size_of texts e.1.main)
     && (not (e.1.menu == 0) && list_all (leaves_menu e) viewers)))
 
 unfoldable pub are_texts : Texts (List Piece) → List (ℕ × Viewer) → Bool
 are_texts texts viewers =
-    is_some (numbered texts 0) && (list_all (is_framed texts viewers) viewers
+    is_some (text_numbered texts 0) && (list_all (is_framed texts viewers) viewers
     && list_all (is_shown viewers) (keys_of texts))
 
 -- ---- places
@@ -198,9 +198,9 @@ main_size texts viewers v = size_of texts (viewer_or_none viewers v).main
 
 module _ (texts : Texts (List Piece)) (viewers : List (ℕ × Viewer)) (user system : Levels) where
   -- a caret stands in a viewer of a track that is shown, within its text
-  unfoldable pub is_caret : Option Caret → Bool
-  is_caret None = true
-  is_caret (Some c) = is_on_top user system c.viewer && nat_le c.position (main_size texts viewers c.viewer)
+  unfoldable pub is_caret_within : Option Caret → Bool
+  is_caret_within None = true
+  is_caret_within (Some c) = is_on_top user system c.viewer && nat_le c.position (main_size texts viewers c.viewer)
 
   -- a selection has some character, of a viewer of a track that is shown
   unfoldable pub is_selection : Selection → Bool
@@ -227,9 +227,9 @@ unfoldable pub is_desktop : ℕ → Image → Bool
 is_desktop written i =
     nat_le written most_written && (are_placed i.user i.system i.closed (viewers_of i.viewers)
     && (are_texts i.texts (viewers_of i.viewers)
-    && (is_caret i.texts (viewers_of i.viewers) i.user i.system (caret_of i.viewers)
+    && (is_caret_within i.texts (viewers_of i.viewers) i.user i.system (first_caret i.viewers)
     && (list_all (is_selection i.texts (viewers_of i.viewers) i.user i.system) (selections_of i.viewers)
-    && list_all (is_pictured (caret_of i.viewers) (selections_of i.viewers)) i.viewers))))
+    && list_all (is_pictured (first_caret i.viewers) (selections_of i.viewers)) i.viewers))))
 
 -- A desktop that holds together has these parts, and so many characters were written for it.
 pub record IsDesktopOf (written : ℕ) (i : Image) (d : KeptDesktop) : Type 0 where

@@ -4,10 +4,10 @@ ghost use Rattle.std.specs.Prelude.{IfOk, OnOk};
 ghost use Rattle.std.specs.Option.{option_to_list};
 ghost use Rattle.viewer_tracks.specs.declared.display.TheConstants.{DEPTH, ROWS};
 ghost use Rattle.viewer_tracks.specs.Viewers.{IsTrack, bottom_of, times_in};
-ghost use Rattle.viewer_tracks.specs.Columns.{IsColumns, IsPlaced, IsStack, shown, stack_of, with_shown, with_stack};
+ghost use Rattle.viewer_tracks.specs.Columns.{IsColumns, IsPlaced, IsStack, shown_track, stack_of, with_shown, with_stack};
 ghost use Rattle.viewer_tracks.specs.Columns.{times_placed};
-ghost use Rattle.desk_image.specs.Pictures.{entry_of, stack_of as levels_of};
-ghost use Rattle.desk_imaging.specs.Images.{viewers_of, caret_of, selected_at, selected_as, selections_of};
+ghost use Rattle.desk_image.specs.Pictures.{entry_of_stretch, stack_of_stretches as levels_of};
+ghost use Rattle.desk_imaging.specs.Images.{viewers_of, first_caret, selected_at, selected_as, selections_of};
 ghost use Rattle.desk_imaging.specs.Images.{most_ranks, times_tracked, CanBuild};
 
 use desk_core::stop::NoMemory;
@@ -34,7 +34,7 @@ pub fn viewers_of(alloc: Global, pictures: &[ViewerPicture]) -> Result<ViewerTab
 
 /// The caret of the first viewer that has one.
 pub fn caret_of(pictures: &[ViewerPicture]) -> Option<Caret>
-    ensures { result ≡ caret_of pictures.now }
+    ensures { result ≡ first_caret pictures.now }
 {
     for picture in pictures {
         if let Some(position) = picture.caret {
@@ -111,10 +111,10 @@ pub fn selections_of(alloc: Global, pictures: &[ViewerPicture]) -> Result<Vec<Se
 /// `bottom`, up to which the track is full.
 fn pile(tracks: &mut Tracks, stretches: &[Stretch], track: Track, bottom: u8)
     requires sound { IsColumns tracks.old }
-    requires heights { IsTrack (shown tracks.old track ++ map entry_of stretches.now) }
-    requires bottom { bottom ≡ bottom_of (shown tracks.old track) (length (shown tracks.old track)) }
-    requires once { (v : ℕ) → times_placed v tracks.old + times_in v (map entry_of stretches.now) ≤ 1 }
-    ensures piled { tracks.new ≡ with_shown tracks.old track (shown tracks.old track ++ map entry_of stretches.now) }
+    requires heights { IsTrack (shown_track tracks.old track ++ map entry_of_stretch stretches.now) }
+    requires bottom { bottom ≡ bottom_of (shown_track tracks.old track) (length (shown_track tracks.old track)) }
+    requires once { (v : ℕ) → times_placed v tracks.old + times_in v (map entry_of_stretch stretches.now) ≤ 1 }
+    ensures piled { tracks.new ≡ with_shown tracks.old track (shown_track tracks.old track ++ map entry_of_stretch stretches.now) }
     ensures sound { IsColumns tracks.new }
 {
     let mut top = bottom;
@@ -130,7 +130,7 @@ fn lay_lowest(tracks: &mut Tracks, lowest: Stretch, track: Track)
     requires fresh { ¬ IsPlaced lowest.viewer tracks.old }
     requires room { length (stack_of tracks.old track) < DEPTH }
     requires fits { (0 < lowest.height) × (lowest.height ≤ ROWS) }
-    ensures laid { tracks.new ≡ with_stack tracks.old track ((entry_of lowest ∷ []) ∷ stack_of tracks.old track) }
+    ensures laid { tracks.new ≡ with_stack tracks.old track ((entry_of_stretch lowest ∷ []) ∷ stack_of tracks.old track) }
     ensures sound { IsColumns tracks.new }
 {
     tracks.open_track(ViewerId(lowest.viewer), track.left());
@@ -142,9 +142,9 @@ fn lay(tracks: &mut Tracks, stretches: &[Stretch], track: Track)
     requires sound { IsColumns tracks.old }
     requires some { 0 < length stretches.now }
     requires room { length (stack_of tracks.old track) < DEPTH }
-    requires heights { IsTrack (map entry_of stretches.now) }
-    requires once { (v : ℕ) → times_placed v tracks.old + times_in v (map entry_of stretches.now) ≤ 1 }
-    ensures laid { tracks.new ≡ with_stack tracks.old track (map entry_of stretches.now ∷ stack_of tracks.old track) }
+    requires heights { IsTrack (map entry_of_stretch stretches.now) }
+    requires once { (v : ℕ) → times_placed v tracks.old + times_in v (map entry_of_stretch stretches.now) ≤ 1 }
+    ensures laid { tracks.new ≡ with_stack tracks.old track (map entry_of_stretch stretches.now ∷ stack_of tracks.old track) }
     ensures sound { IsColumns tracks.new }
 {
     let Some((lowest, above)) = stretches.split_first() else {
@@ -157,7 +157,7 @@ fn lay(tracks: &mut Tracks, stretches: &[Stretch], track: Track)
 /// The viewers of the track of a level, bottom up. The lowest track has level 0.
 fn on_level(stack: &[Stretches], level: usize) -> &[Stretch]
     requires { level < length stack.now }
-    ensures viewers { map entry_of result.now ≡ get_or (levels_of stack.now) level [] }
+    ensures viewers { map entry_of_stretch result.now ≡ get_or (levels_of stack.now) level [] }
     ensures within { level < length (levels_of stack.now) }
 {
     stack[level].as_slice()

@@ -1,15 +1,15 @@
 //! How many bytes the image of a desktop has, in the newest version.
 ghost use Rattle.std.specs.Prelude.{◌≡◌, ◌<◌, ◌≤◌, ◌^◌, ◌+◌, length, map, reverse};
 ghost use Rattle.desktop_definitions.specs.Limits.{newest_version};
-ghost use Rattle.event_bytes.specs.Parts.{word};
+ghost use Rattle.event_bytes.specs.Parts.{word_bytes};
 ghost use Rattle.viewer_tracks.specs.Columns.{stack_of, track_on};
 ghost use Rattle.desktop_definitions.specs.Sound.{IsKeptWhole};
-ghost use Rattle.desk_image.specs.Image.{picture_of, image_of, listed, text_bytes, file_bytes, viewers_bytes};
+ghost use Rattle.desk_image.specs.Image.{picture_of, image_of, listed_bytes, text_bytes, file_bytes, viewers_bytes};
 ghost use Rattle.desk_image.specs.Image.{pieces_bytes, track_bytes, stack_bytes};
 ghost use Rattle.desk_image.specs.Image.{image_bytes, IsSpellable};
 ghost use Rattle.desk_image.specs.declared.limits.TheConstants.{IMAGE_BYTES};
 ghost use Rattle.desk_imaging.specs.Images.{settings_long, tables_long, display_long};
-ghost use Rattle.desk_core.specs.Kept.{kept};
+ghost use Rattle.desk_core.specs.Kept.{kept_desktop};
 
 use crate::imaging::picture_of;
 use desk_core::desk::Desk;
@@ -48,8 +48,8 @@ fn text_len(number: u16, text: &Text) -> usize
 
 /// How many bytes texts have, after how many there are.
 fn texts_len(texts: &Texts) -> usize
-    requires { length (listed word text_bytes texts.now.entries) < 2 ^ 32 }
-    ensures { result ≡ length (listed word text_bytes texts.now.entries) }
+    requires { length (listed_bytes word_bytes text_bytes texts.now.entries) < 2 ^ 32 }
+    ensures { result ≡ length (listed_bytes word_bytes text_bytes texts.now.entries) }
 {
     let mut sum = 2;
     for (number, text) in texts {
@@ -67,8 +67,8 @@ fn file_len(name: &Name, text: &Text) -> usize
 
 /// How many bytes files have, after how many there are.
 fn files_len(files: &Files) -> usize
-    requires { length (listed word file_bytes files.now.entries) < 2 ^ 32 }
-    ensures { result ≡ length (listed word file_bytes files.now.entries) }
+    requires { length (listed_bytes word_bytes file_bytes files.now.entries) < 2 ^ 32 }
+    ensures { result ≡ length (listed_bytes word_bytes file_bytes files.now.entries) }
 {
     let mut sum = 2;
     for (name, text) in files {
@@ -94,16 +94,16 @@ fn viewers_len(viewers: &[(u16, Viewer)], caret: Option<Caret>, selections: &[Se
 
 /// How many bytes the look in which characters are typed, the pattern and the marker have.
 fn settings_len(desk: &Desk) -> usize
-    requires { length (kept desk.now).pattern < 2 ^ 8 }
-    ensures { result ≡ settings_long (kept desk.now) }
+    requires { length (kept_desktop desk.now).pattern < 2 ^ 8 }
+    ensures { result ≡ settings_long (kept_desktop desk.now) }
 {
     LOOK_BYTES + (1 + desk.pattern.len() + cell_len(desk.marker))
 }
 
 /// How many bytes the texts, files and buffers have.
 fn tables_len(desk: &Desk) -> usize
-    requires { tables_long (kept desk.now) < 2 ^ 32 }
-    ensures { result ≡ tables_long (kept desk.now) }
+    requires { tables_long (kept_desktop desk.now) < 2 ^ 32 }
+    ensures { result ≡ tables_long (kept_desktop desk.now) }
 {
     let buffers = buffer_len(&desk.copied) + buffer_len(&desk.deleted);
     texts_len(&desk.texts) + (files_len(&desk.files) + buffers)
@@ -111,11 +111,11 @@ fn tables_len(desk: &Desk) -> usize
 
 /// How many bytes the viewers have with what is marked in them.
 fn pictures_len(desk: &Desk) -> usize
-    requires marks { length (kept desk.now).selections ≤ 255 }
+    requires marks { length (kept_desktop desk.now).selections ≤ 255 }
     requires few { length (viewers_bytes newest_version
-        (map (picture_of (kept desk.now).caret (kept desk.now).selections) (kept desk.now).viewers)) < 2 ^ 32 }
+        (map (picture_of (kept_desktop desk.now).caret (kept_desktop desk.now).selections) (kept_desktop desk.now).viewers)) < 2 ^ 32 }
     ensures { result ≡ length (viewers_bytes newest_version
-        (map (picture_of (kept desk.now).caret (kept desk.now).selections) (kept desk.now).viewers)) }
+        (map (picture_of (kept_desktop desk.now).caret (kept_desktop desk.now).selections) (kept_desktop desk.now).viewers)) }
 {
     viewers_len(&desk.viewers, desk.caret, &desk.selections)
 }
@@ -144,10 +144,10 @@ fn stack_len(tracks: &Tracks, track: Track) -> usize
 
 /// How many bytes the viewers, the tracks and the viewer that was closed last have.
 fn display_len(desk: &Desk) -> usize
-    requires marks { length (kept desk.now).selections ≤ 255 }
+    requires marks { length (kept_desktop desk.now).selections ≤ 255 }
     requires few { length (viewers_bytes newest_version
-        (map (picture_of (kept desk.now).caret (kept desk.now).selections) (kept desk.now).viewers)) < 2 ^ 32 }
-    ensures { result ≡ display_long (kept desk.now) }
+        (map (picture_of (kept_desktop desk.now).caret (kept_desktop desk.now).selections) (kept_desktop desk.now).viewers)) < 2 ^ 32 }
+    ensures { result ≡ display_long (kept_desktop desk.now) }
 {
     let system = stack_len(&desk.tracks, Track::System) + closed_len(desk.closed);
     pictures_len(desk) + (stack_len(&desk.tracks, Track::User) + system)
@@ -155,20 +155,20 @@ fn display_len(desk: &Desk) -> usize
 
 /// The image of the desktop has room, and has as many bytes as its parts.
 fn image_has_room(desk: &Desk)
-    requires whole { IsKeptWhole (kept desk.now) }
-    requires spellable { IsSpellable newest_version (kept desk.now) }
-    ensures room { length (image_bytes newest_version (image_of (kept desk.now))) ≤ IMAGE_BYTES }
-    ensures parts { length (image_bytes newest_version (image_of (kept desk.now)))
-        ≡ settings_long (kept desk.now) + (tables_long (kept desk.now) + display_long (kept desk.now)) }
+    requires whole { IsKeptWhole (kept_desktop desk.now) }
+    requires spellable { IsSpellable newest_version (kept_desktop desk.now) }
+    ensures room { length (image_bytes newest_version (image_of (kept_desktop desk.now))) ≤ IMAGE_BYTES }
+    ensures parts { length (image_bytes newest_version (image_of (kept_desktop desk.now)))
+        ≡ settings_long (kept_desktop desk.now) + (tables_long (kept_desktop desk.now) + display_long (kept_desktop desk.now)) }
 {
     images_have_room();
 }
 
 /// How many bytes the image of the desktop has.
 pub fn image_len(desk: &Desk) -> u32
-    requires whole { IsKeptWhole (kept desk.now) }
-    requires spellable { IsSpellable newest_version (kept desk.now) }
-    ensures { result ≡ length (image_bytes newest_version (image_of (kept desk.now))) }
+    requires whole { IsKeptWhole (kept_desktop desk.now) }
+    requires spellable { IsSpellable newest_version (kept_desktop desk.now) }
+    ensures { result ≡ length (image_bytes newest_version (image_of (kept_desktop desk.now))) }
 {
     image_has_room(desk);
     (settings_len(desk) + (tables_len(desk) + display_len(desk))) as u32

@@ -4,8 +4,8 @@ ghost use Rattle.desk_image.specs.Image.{IsSpellable};
 ghost use Rattle.desk_image.specs.Fitting.{FitsImage, FitsSome};
 ghost use Rattle.desk_image.specs.Pictures.{pictured};
 ghost use Rattle.desktop_definitions.specs.Desktop.{KeptDesktop};
-ghost use Rattle.desk_core.specs.Kept.{kept};
-ghost use Rattle.desk_imaging.specs.Images.{viewers_of, caret_of, selections_of, drafted, is_desktop, IsDesktopOf};
+ghost use Rattle.desk_core.specs.Kept.{kept_desktop};
+ghost use Rattle.desk_imaging.specs.Images.{viewers_of, first_caret, selections_of, drafted, is_desktop, IsDesktopOf};
 
 use crate::drafts::{caret_of, selections_of, tracks_of, viewers_of};
 use crate::parts::{are_pictured, are_placed, are_selections, are_texts, is_caret};
@@ -29,7 +29,7 @@ fn is_desktop(
     requires system { length picture.now.system.items < 2 ^ 8 }
     requires few { length selections.now < 2 ^ 8 }
     requires viewers { viewers.now.items ≡ viewers_of picture.now.viewers.items }
-    requires caret { caret ≡ caret_of picture.now.viewers.items }
+    requires caret { caret ≡ first_caret picture.now.viewers.items }
     requires selections { selections.now ≡ selections_of picture.now.viewers.items }
     ensures { result ≡ is_desktop written (pictured picture.now) }
 {
@@ -56,9 +56,9 @@ fn desk_of(
     requires fits { FitsSome written (pictured picture) }
     requires makes { is_desktop written (pictured picture) ≡ true }
     requires viewers { viewers.items ≡ viewers_of picture.viewers.items }
-    requires caret { caret ≡ caret_of picture.viewers.items }
+    requires caret { caret ≡ first_caret picture.viewers.items }
     requires selections { selections.items ≡ selections_of picture.viewers.items }
-    ensures { kept result ≡ drafted written (pictured picture) }
+    ensures { kept_desktop result ≡ drafted written (pictured picture) }
 {
     let tracks = tracks_of(picture.user.as_slice(), picture.system.as_slice());
     Desk {
@@ -82,9 +82,9 @@ fn desk_of(
 /// The desktop with the parts of an image, for which so many characters were written. Damaged where they make none.
 pub fn assemble(alloc: Global, picture: Picture, written: u32) -> Result<Desk, ImageFault>
     requires { FitsSome written (pictured picture) }
-    ensures made { IfOk result (λ d. IsDesktopOf written (pictured picture) (kept d)) }
+    ensures made { IfOk result (λ d. IsDesktopOf written (pictured picture) (kept_desktop d)) }
     ensures parts { (version : ℕ) → FitsImage version written (pictured picture)
-        → IfOk result (λ d. IsSpellable version (kept d)) }
+        → IfOk result (λ d. IsSpellable version (kept_desktop d)) }
     ensures damaged { IsErrOf result ImageFault.Damaged
         → (d : KeptDesktop) → ¬ IsDesktopOf written (pictured picture) d }
     ensures never_fault { ¬ IsErrOf result ImageFault.Fault }

@@ -2,19 +2,19 @@
 ghost use Rattle.std.specs.Prelude.{◌≡◌, ◌<◌, ◌≤◌, ◌^◌, ◌++◌, [], length, map, reverse, All, IfOk, OnOk};
 ghost use Rattle.std.specs.Map.{keys_of, values_of};
 ghost use Rattle.desktop_definitions.specs.Limits.{newest_version};
-ghost use Rattle.event_bytes.specs.Parts.{byte, word, counted};
+ghost use Rattle.event_bytes.specs.Parts.{byte, word_bytes, counted_bytes};
 ghost use Rattle.viewer_tracks.specs.declared.display.Track.TheVariants.{User, System};
 ghost use Rattle.viewer_tracks.specs.Columns.{stack_of, track_on};
 ghost use Rattle.desktop_definitions.specs.Looks.{IsLook, AreLooks};
 ghost use Rattle.desktop_definitions.specs.Seen.{seen_text};
 ghost use Rattle.desktop_definitions.specs.Sound.{IsKeptWhole};
 ghost use Rattle.desk_image.specs.Streams.{Puts};
-ghost use Rattle.desk_image.specs.Image.{ranked_in, picture_of, image_of, listed, text_bytes, file_bytes};
+ghost use Rattle.desk_image.specs.Image.{ranked_in, picture_of, image_of, listed_bytes, text_bytes, file_bytes};
 ghost use Rattle.desk_image.specs.Image.{pieces_bytes, viewers_bytes, track_bytes, stack_bytes, image_bytes};
 ghost use Rattle.desk_image.specs.Image.{look_bytes, cell_bytes, closed_bytes, optional};
 ghost use Rattle.desk_image.specs.Image.{InWord, AreSome, AreSpellable, IsSpellable};
-ghost use Rattle.desk_core.specs.Kept.{kept};
-ghost use Rattle.desk_imaging.specs.Images.{AreReady, CanBePut};
+ghost use Rattle.desk_core.specs.Kept.{kept_desktop};
+ghost use Rattle.desk_imaging.specs.Images.{CanBeImaged, CanBePut};
 
 use crate::image_size::image_len;
 use char_file::Fault;
@@ -72,7 +72,7 @@ fn put_text<K: ByteSink>(sink: &mut K, number: u16, text: &Text) -> Result<(), F
 /// Puts texts with their numbers, after how many there are. Once they were put no piece was empty.
 fn put_texts<K: ByteSink>(sink: &mut K, texts: &Texts) -> Result<(), Fault>
     requires can { CanBePut texts.now.entries }
-    ensures puts { Puts K.ByteSink result (listed word text_bytes texts.now.entries) sink.old sink.new }
+    ensures puts { Puts K.ByteSink result (listed_bytes word_bytes text_bytes texts.now.entries) sink.old sink.new }
     ensures some { OnOk result (All AreSome (values_of texts.now.entries)) }
     ensures numbers { OnOk result (All InWord (keys_of texts.now.entries)) }
 {
@@ -96,7 +96,7 @@ fn put_file<K: ByteSink>(sink: &mut K, name: &Name, text: &Text) -> Result<(), F
 /// Puts files, after how many there are. Once they were put no piece was empty.
 fn put_files<K: ByteSink>(sink: &mut K, files: &Files) -> Result<(), Fault>
     requires can { CanBePut files.now.entries }
-    ensures puts { Puts K.ByteSink result (listed word file_bytes files.now.entries) sink.old sink.new }
+    ensures puts { Puts K.ByteSink result (listed_bytes word_bytes file_bytes files.now.entries) sink.old sink.new }
     ensures some { OnOk result (All AreSome (values_of files.now.entries)) }
 {
     put_word(sink, files.len() as u16)?;
@@ -223,30 +223,30 @@ fn put_stack<K: ByteSink>(sink: &mut K, tracks: &Tracks, track: Track) -> Result
 
 /// Puts the bytes for which a text was searched last.
 fn put_pattern<K: ByteSink>(desk: &Desk, sink: &mut K) -> Result<(), Fault>
-    requires { length (kept desk.now).pattern < 2 ^ 8 }
-    ensures { Puts K.ByteSink result (counted byte (kept desk.now).pattern) sink.old sink.new }
+    requires { length (kept_desktop desk.now).pattern < 2 ^ 8 }
+    ensures { Puts K.ByteSink result (counted_bytes byte (kept_desktop desk.now).pattern) sink.old sink.new }
 {
     put_counted(sink, desk.pattern.as_slice())
 }
 
 /// Puts the viewers with what is marked in them.
 fn put_pictures<K: ByteSink>(desk: &Desk, sink: &mut K) -> Result<(), Fault>
-    requires few { length (kept desk.now).viewers < 2 ^ 16 }
-    requires marks { length (kept desk.now).selections ≤ 255 }
+    requires few { length (kept_desktop desk.now).viewers < 2 ^ 16 }
+    requires marks { length (kept_desktop desk.now).selections ≤ 255 }
     ensures puts { Puts K.ByteSink result (viewers_bytes newest_version
-        (map (picture_of (kept desk.now).caret (kept desk.now).selections) (kept desk.now).viewers))
+        (map (picture_of (kept_desktop desk.now).caret (kept_desktop desk.now).selections) (kept_desktop desk.now).viewers))
         sink.old sink.new }
-    ensures ids { OnOk result (All InWord (keys_of (kept desk.now).viewers)) }
+    ensures ids { OnOk result (All InWord (keys_of (kept_desktop desk.now).viewers)) }
 {
     put_viewers(sink, &desk.viewers, desk.caret, &desk.selections)
 }
 
 /// Puts the look in which characters are typed, the pattern and the marker.
 fn put_settings<K: ByteSink>(desk: &Desk, sink: &mut K) -> Result<(), Fault>
-    requires look { IsLook (kept desk.now).look }
-    requires short { length (kept desk.now).pattern < 2 ^ 8 }
-    ensures { Puts K.ByteSink result (look_bytes (kept desk.now).look ++ (counted byte (kept desk.now).pattern
-        ++ optional cell_bytes (kept desk.now).marker)) sink.old sink.new }
+    requires look { IsLook (kept_desktop desk.now).look }
+    requires short { length (kept_desktop desk.now).pattern < 2 ^ 8 }
+    ensures { Puts K.ByteSink result (look_bytes (kept_desktop desk.now).look ++ (counted_bytes byte (kept_desktop desk.now).pattern
+        ++ optional cell_bytes (kept_desktop desk.now).marker)) sink.old sink.new }
 {
     put_look(sink, desk.look)?;
     put_pattern(desk, sink)?;
@@ -255,11 +255,11 @@ fn put_settings<K: ByteSink>(desk: &Desk, sink: &mut K) -> Result<(), Fault>
 
 /// Puts the texts, the files and both buffers. Once they were put no piece was empty.
 fn put_tables<K: ByteSink>(desk: &Desk, sink: &mut K) -> Result<(), Fault>
-    requires { AreReady (kept desk.now) }
-    ensures puts { Puts K.ByteSink result (listed word text_bytes (kept desk.now).texts
-        ++ (listed word file_bytes (kept desk.now).files ++ (pieces_bytes (kept desk.now).copied
-        ++ pieces_bytes (kept desk.now).deleted))) sink.old sink.new }
-    ensures tables { OnOk result (AreSpellable (kept desk.now)) }
+    requires { CanBeImaged (kept_desktop desk.now) }
+    ensures puts { Puts K.ByteSink result (listed_bytes word_bytes text_bytes (kept_desktop desk.now).texts
+        ++ (listed_bytes word_bytes file_bytes (kept_desktop desk.now).files ++ (pieces_bytes (kept_desktop desk.now).copied
+        ++ pieces_bytes (kept_desktop desk.now).deleted))) sink.old sink.new }
+    ensures tables { OnOk result (AreSpellable (kept_desktop desk.now)) }
 {
     put_texts(sink, &desk.texts)?;
     put_files(sink, &desk.files)?;
@@ -269,14 +269,14 @@ fn put_tables<K: ByteSink>(desk: &Desk, sink: &mut K) -> Result<(), Fault>
 
 /// Puts the viewers, the tracks in which they stand, and the one that was closed last.
 fn put_display<K: ByteSink>(desk: &Desk, sink: &mut K) -> Result<(), Fault>
-    requires few { length (kept desk.now).viewers < 2 ^ 16 }
-    requires marks { length (kept desk.now).selections ≤ 255 }
+    requires few { length (kept_desktop desk.now).viewers < 2 ^ 16 }
+    requires marks { length (kept_desktop desk.now).selections ≤ 255 }
     ensures puts { Puts K.ByteSink result (viewers_bytes newest_version
-        (map (picture_of (kept desk.now).caret (kept desk.now).selections) (kept desk.now).viewers)
-        ++ (stack_bytes newest_version (reverse (stack_of (kept desk.now).columns User))
-        ++ (stack_bytes newest_version (reverse (stack_of (kept desk.now).columns System))
-        ++ optional (closed_bytes newest_version) (kept desk.now).closed))) sink.old sink.new }
-    ensures ids { OnOk result (All InWord (keys_of (kept desk.now).viewers)) }
+        (map (picture_of (kept_desktop desk.now).caret (kept_desktop desk.now).selections) (kept_desktop desk.now).viewers)
+        ++ (stack_bytes newest_version (reverse (stack_of (kept_desktop desk.now).columns User))
+        ++ (stack_bytes newest_version (reverse (stack_of (kept_desktop desk.now).columns System))
+        ++ optional (closed_bytes newest_version) (kept_desktop desk.now).closed))) sink.old sink.new }
+    ensures ids { OnOk result (All InWord (keys_of (kept_desktop desk.now).viewers)) }
 {
     put_pictures(desk, sink)?;
     put_stack(sink, &desk.tracks, Track::User)?;
@@ -286,9 +286,9 @@ fn put_display<K: ByteSink>(desk: &Desk, sink: &mut K) -> Result<(), Fault>
 
 /// Puts the parts of the image, one after another.
 fn put_parts<K: ByteSink>(desk: &Desk, sink: &mut K) -> Result<(), Fault>
-    requires { AreReady (kept desk.now) }
-    ensures puts { Puts K.ByteSink result (image_bytes newest_version (image_of (kept desk.now))) sink.old sink.new }
-    ensures spellable { OnOk result (IsSpellable newest_version (kept desk.now)) }
+    requires { CanBeImaged (kept_desktop desk.now) }
+    ensures puts { Puts K.ByteSink result (image_bytes newest_version (image_of (kept_desktop desk.now))) sink.old sink.new }
+    ensures spellable { OnOk result (IsSpellable newest_version (kept_desktop desk.now)) }
 {
     put_settings(desk, sink)?;
     put_tables(desk, sink)?;
@@ -297,10 +297,10 @@ fn put_parts<K: ByteSink>(desk: &Desk, sink: &mut K) -> Result<(), Fault>
 
 /// Puts the image of the desktop, and returns how many bytes it has. `Fault`: the sink failed in this call.
 pub fn put_image<K: ByteSink>(desk: &Desk, sink: &mut K) -> Result<u32, Fault>
-    requires { IsKeptWhole (kept desk.now) }
-    ensures spelled { IfOk result (λ n. IsSpellable newest_version (kept desk.now)
-        × (n ≡ length (image_bytes newest_version (image_of (kept desk.now))))) }
-    ensures puts { Puts K.ByteSink result (image_bytes newest_version (image_of (kept desk.now))) sink.old sink.new }
+    requires { IsKeptWhole (kept_desktop desk.now) }
+    ensures spelled { IfOk result (λ n. IsSpellable newest_version (kept_desktop desk.now)
+        × (n ≡ length (image_bytes newest_version (image_of (kept_desktop desk.now))))) }
+    ensures puts { Puts K.ByteSink result (image_bytes newest_version (image_of (kept_desktop desk.now))) sink.old sink.new }
 {
     put_parts(desk, sink)?;
     Ok(image_len(desk))

@@ -5,10 +5,10 @@ ghost use Rattle.std.specs.Map.{keys_of};
 ghost use Rattle.viewer_tracks.specs.Viewers.{times_in};
 ghost use Rattle.viewer_tracks.specs.Columns.{times_on, times_meant};
 ghost use Rattle.desktop_definitions.specs.Opening.{is_shown};
-ghost use Rattle.desk_image.specs.Pictures.{entry_of, stack_of as levels_of};
+ghost use Rattle.desk_image.specs.Pictures.{entry_of_stretch, stack_of_stretches as levels_of};
 ghost use Rattle.desk_imaging.specs.Images.{size_of, leaves_menu, is_framed, are_texts, has_id};
 ghost use Rattle.desk_imaging.specs.Images.{are_known, is_closed_known, highest};
-ghost use Rattle.desk_imaging.specs.Images.{stands_once, are_placed, is_on_top, main_size, is_caret, is_selection};
+ghost use Rattle.desk_imaging.specs.Images.{stands_once, are_placed, is_on_top, main_size, is_caret_within, is_selection};
 ghost use Rattle.desk_imaging.specs.Images.{same_ranked, is_pictured};
 
 use crate::imaging::ranked_in;
@@ -91,7 +91,7 @@ pub fn are_texts(texts: &Texts, viewers: &ViewerTable) -> bool
 #[tactic(auto, using(crate::proofs::DraftLemmas::times_are))]
 /// How often a viewer stands in a track.
 fn times_in(stretches: &[Stretch], id: u16) -> usize
-    ensures { result ≡ times_in id (map entry_of stretches.now) }
+    ensures { result ≡ times_in id (map entry_of_stretch stretches.now) }
 {
     let mut times = 0;
     for stretch in stretches {
@@ -129,7 +129,7 @@ fn times_closed(closed: Option<ClosedViewer>, id: u16) -> usize
 
 /// Whether all of a track are viewers.
 fn are_viewers(viewers: &ViewerTable, stretches: &[Stretch]) -> bool
-    ensures { result ≡ list_all (λ e. has_id viewers.now.items e.viewer) (map entry_of stretches.now) }
+    ensures { result ≡ list_all (λ e. has_id viewers.now.items e.viewer) (map entry_of_stretch stretches.now) }
 {
     stretches
         .iter()
@@ -231,7 +231,7 @@ fn main_size(texts: &Texts, viewers: &ViewerTable, id: u16) -> u32
 }
 
 /// Whether a caret stands in a viewer of a track that is shown, within its text.
-#[tactic(auto, unfolding(crate::specs::Images::is_caret))]
+#[tactic(auto, unfolding(crate::specs::Images::is_caret_within))]
 pub fn is_caret(
     texts: &Texts,
     viewers: &ViewerTable,
@@ -239,7 +239,7 @@ pub fn is_caret(
     system: &[Stretches],
     caret: Option<Caret>,
 ) -> bool
-    ensures { result ≡ is_caret texts.now.entries viewers.now.items (levels_of user.now) (levels_of system.now)
+    ensures { result ≡ is_caret_within texts.now.entries viewers.now.items (levels_of user.now) (levels_of system.now)
         caret }
 {
     match caret {

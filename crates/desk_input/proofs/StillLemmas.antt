@@ -5,7 +5,7 @@ use Rattle.char_file.specs.declared.source.CharSource.{Ghosts}
 use Rattle.desktop_definitions.specs.declared.reply.Reply.{Reply}
 use Rattle.desktop_definitions.specs.Desktop.{Desktop, KeptDesktop}
 use Rattle.desktop_definitions.specs.Seen.{seen}
-use Rattle.desktop_definitions.specs.Step.{settled}
+use Rattle.desktop_definitions.specs.Step.{outcome_after}
 use Rattle.desktop_definitions.specs.Sound.{IsOver}
 use Rattle.desktop_definitions.specs.Outcome.{IsAnswered}
 use Rattle.desk_core.specs.declared.stop.Stop.{Stop}
@@ -16,7 +16,7 @@ use Rattle.desk_core.proofs.UnreadLemmas.{over_all}
 abbrev pub Answers : (Desktop → Result Desktop ℕ) → KeptDesktop → KeptDesktop → Reply → Type 1
 Answers effect before after reply =
     (H : Type 0) (all : List ℕ) → IsOver all before
-    → IsAnswered H all all before after (settled (seen all before) (effect (seen all before))) reply
+    → IsAnswered H all all before after (outcome_after (seen all before) (effect (seen all before))) reply
 
 module _ {S : Type 0} (s : Ghosts S) (ground_self : (a : S) → s.same_ground a a) (source : S) where
   uses_none : (reply : Reply) → Uses s {T = Reply} (Ok reply) source source

@@ -4,8 +4,8 @@ ghost use Rattle.std.specs.Option.{option_map, unwrap_or};
 ghost use Rattle.desktop_definitions.specs.Viewers.{with_org};
 ghost use Rattle.desktop_definitions.specs.Gesture.{scrolled_to_row, scrolled_to_share};
 ghost use Rattle.desk_core.specs.Mouse.{start_of_row, start_of_share};
-ghost use Rattle.desk_core.specs.Words.{IsOnTop, IsOver, kept, IsPosition, Does, DoesUnread};
-ghost use Rattle.desk_input.specs.Reads.{IsRow, Tells};
+ghost use Rattle.desk_core.specs.Words.{IsOnTop, IsOver, kept_desktop, IsPosition, Does, DoesUnread};
+ghost use Rattle.desk_input.specs.Reads.{IsMainRow, TellsValue};
 
 use crate::places::{Read, position_in, text_width};
 use char_file::CharSource;
@@ -47,9 +47,9 @@ fn line_in_row(begin: u32, cell: Option<(u8, u8)>, row: u8) -> Option<u32>
 
 /// Where the line begins that a viewer shows in a row of its main frame. None where it shows none there.
 fn start_of_row<S: CharSource>(desk: &Desk, id: u16, row: u8, source: &mut S) -> Read<Option<u32>>
-    requires at { IsRow (S.characters source.old) (kept desk.now) id row }
-    ensures told { Tells S.CharSource result (λ d. start_of_row d id row) source.old source.new (kept desk.now) }
-    ensures within { IfOk result (λ start. IfSome start (IsPosition (kept desk.now) id)) }
+    requires at { IsMainRow (S.characters source.old) (kept_desktop desk.now) id row }
+    ensures told { TellsValue S.CharSource result (λ d. start_of_row d id row) source.old source.new (kept_desktop desk.now) }
+    ensures within { IfOk result (λ start. IfSome start (IsPosition (kept_desktop desk.now) id)) }
 {
     let begin = position_in(desk, id, 0, row, source)?;
     let frame = desk.main_frame(id);
@@ -60,9 +60,9 @@ fn start_of_row<S: CharSource>(desk: &Desk, id: u16, row: u8, source: &mut S) ->
 
 /// Where the line begins that stands as far down in a viewer's main text as a row in its main frame.
 fn start_of_share<S: CharSource>(desk: &Desk, id: u16, row: u8, source: &mut S) -> Read<u32>
-    requires at { IsRow (S.characters source.old) (kept desk.now) id row }
-    ensures told { Tells S.CharSource result (λ d. start_of_share d id row) source.old source.new (kept desk.now) }
-    ensures within { IfOk result (IsPosition (kept desk.now) id) }
+    requires at { IsMainRow (S.characters source.old) (kept_desktop desk.now) id row }
+    ensures told { TellsValue S.CharSource result (λ d. start_of_share d id row) source.old source.new (kept_desktop desk.now) }
+    ensures within { IfOk result (IsPosition (kept_desktop desk.now) id) }
 {
     let text = desk.main_text(id);
     let pos = share(text.len(), row, desk.rows_of(id));
@@ -72,16 +72,16 @@ fn start_of_share<S: CharSource>(desk: &Desk, id: u16, row: u8, source: &mut S) 
 
 /// A viewer shows its main text from that position on.
 fn begin_at(desk: &mut Desk, id: u16, org: u32)
-    ensures { kept desk.new ≡ with_org (kept desk.old) id org }
+    ensures { kept_desktop desk.new ≡ with_org (kept_desktop desk.old) id org }
 {
     set_org(&mut desk.viewers, id, org);
 }
 
 /// The line in that row of a viewer comes first, where there is one.
 pub fn scroll_row<S: CharSource>(desk: &mut Desk, id: u16, row: u8, source: &mut S) -> StepResult
-    requires at { IsRow (S.characters source.old) (kept desk.old) id row }
+    requires at { IsMainRow (S.characters source.old) (kept_desktop desk.old) id row }
     ensures { Does S.CharSource (λ d. Ok (scrolled_to_row d id row)) result
-        source.old source.new (kept desk.old) (kept desk.new) }
+        source.old source.new (kept_desktop desk.old) (kept_desktop desk.new) }
 {
     let Some(start) = start_of_row(desk, id, row, source)? else {
         return Ok(Reply::Done);
@@ -92,9 +92,9 @@ pub fn scroll_row<S: CharSource>(desk: &mut Desk, id: u16, row: u8, source: &mut
 
 /// The line comes first that stands as far down in the text as the row in the frame.
 pub fn scroll_share<S: CharSource>(desk: &mut Desk, id: u16, row: u8, source: &mut S) -> StepResult
-    requires at { IsRow (S.characters source.old) (kept desk.old) id row }
+    requires at { IsMainRow (S.characters source.old) (kept_desktop desk.old) id row }
     ensures { Does S.CharSource (λ d. Ok (scrolled_to_share d id row)) result
-        source.old source.new (kept desk.old) (kept desk.new) }
+        source.old source.new (kept_desktop desk.old) (kept_desktop desk.new) }
 {
     let start = start_of_share(desk, id, row, source)?;
     begin_at(desk, id, start);
@@ -103,10 +103,10 @@ pub fn scroll_share<S: CharSource>(desk: &mut Desk, id: u16, row: u8, source: &m
 
 /// A viewer shows its text from the beginning.
 pub fn scroll_top<S: CharSource>(desk: &mut Desk, id: u16, source: &mut S) -> StepResult
-    requires placed { IsOnTop id (kept desk.old).columns }
-    requires over { IsOver (S.characters source.old) (kept desk.old) }
+    requires placed { IsOnTop id (kept_desktop desk.old).columns }
+    requires over { IsOver (S.characters source.old) (kept_desktop desk.old) }
     ensures { DoesUnread S.CharSource ⊤ (λ d. Ok (with_org d id 0)) result
-        source.old source.new (kept desk.old) (kept desk.new) }
+        source.old source.new (kept_desktop desk.old) (kept_desktop desk.new) }
 {
     begin_at(desk, id, 0);
     Ok(Reply::Done)

@@ -1,9 +1,9 @@
 //! What typing and the keys do.
 ghost use Rattle.std.specs.Prelude.{◌≡◌, ◌+◌, ◌<◌, is_none, true, ⊤};
 ghost use Rattle.event_bytes.specs.declared.keys.Key.TheVariants.{Back, Copy, Cut, Escape};
-ghost use Rattle.desktop_definitions.specs.Keys.{typed, pressed};
+ghost use Rattle.desktop_definitions.specs.Keys.{after_typing, after_key};
 ghost use Rattle.desktop_definitions.specs.Unread.{key_needs_no_byte};
-ghost use Rattle.desk_core.specs.Words.{newest, IsOver, kept, DoesUnread};
+ghost use Rattle.desk_core.specs.Words.{newest, IsOver, kept_desktop, DoesUnread};
 
 use char_file::CharSource;
 use desk_core::desk::Desk;
@@ -15,9 +15,9 @@ use event_bytes::{Key, TypedBytes};
 /// The bytes go to the caret in the current look, and the caret after them, where it is shown. Refused without a
 /// caret.
 pub fn type_bytes<S: CharSource>(desk: &mut Desk, bytes: &TypedBytes, source: &mut S) -> StepResult
-    requires { IsOver (S.characters source.old) (kept desk.old) }
-    ensures { DoesUnread S.CharSource (is_none (kept desk.old).caret ≡ true) (λ d. typed d bytes.now) result
-        source.old source.new (kept desk.old) (kept desk.new) }
+    requires { IsOver (S.characters source.old) (kept_desktop desk.old) }
+    ensures { DoesUnread S.CharSource (is_none (kept_desktop desk.old).caret ≡ true) (λ d. after_typing d bytes.now) result
+        source.old source.new (kept_desktop desk.old) (kept_desktop desk.new) }
 {
     let Some(caret) = desk.caret_place() else {
         return Ok(Reply::No(codes::NO_CARET));
@@ -36,9 +36,9 @@ pub fn type_bytes<S: CharSource>(desk: &mut Desk, bytes: &TypedBytes, source: &m
 /// Does what a key means.
 #[tactic(auto, unfolding(desktop_definitions::specs::Unread::key_needs_no_byte))]
 pub fn press<S: CharSource>(desk: &mut Desk, key: Key, source: &mut S) -> StepResult
-    requires { IsOver (S.characters source.old) (kept desk.old) }
-    ensures { DoesUnread S.CharSource (key_needs_no_byte (kept desk.old) key ≡ true) (λ d. pressed d key) result
-        source.old source.new (kept desk.old) (kept desk.new) }
+    requires { IsOver (S.characters source.old) (kept_desktop desk.old) }
+    ensures { DoesUnread S.CharSource (key_needs_no_byte (kept_desktop desk.old) key ≡ true) (λ d. after_key d key) result
+        source.old source.new (kept_desktop desk.old) (kept_desktop desk.new) }
 {
     match key {
         Key::Back => take_back(desk, source),
@@ -51,9 +51,9 @@ pub fn press<S: CharSource>(desk: &mut Desk, key: Key, source: &mut S) -> StepRe
 
 /// The character before the caret is taken out, where there is one. Refused without a caret.
 fn take_back<S: CharSource>(desk: &mut Desk, source: &mut S) -> StepResult
-    requires { IsOver (S.characters source.old) (kept desk.old) }
-    ensures { DoesUnread S.CharSource (is_none (kept desk.old).caret ≡ true) (λ d. pressed d Back) result
-        source.old source.new (kept desk.old) (kept desk.new) }
+    requires { IsOver (S.characters source.old) (kept_desktop desk.old) }
+    ensures { DoesUnread S.CharSource (is_none (kept_desktop desk.old).caret ≡ true) (λ d. after_key d Back) result
+        source.old source.new (kept_desktop desk.old) (kept_desktop desk.new) }
 {
     let Some(caret) = desk.caret_place() else {
         return Ok(Reply::No(codes::NO_CARET));
@@ -71,8 +71,8 @@ fn take_back<S: CharSource>(desk: &mut Desk, source: &mut S) -> StepResult
 
 /// The newest selection goes into the copied buffer. Refused without a selection.
 fn copy<S: CharSource>(desk: &mut Desk, source: &mut S) -> StepResult
-    requires { IsOver (S.characters source.old) (kept desk.old) }
-    ensures { DoesUnread S.CharSource ⊤ (λ d. pressed d Copy) result source.old source.new (kept desk.old) (kept desk.new) }
+    requires { IsOver (S.characters source.old) (kept_desktop desk.old) }
+    ensures { DoesUnread S.CharSource ⊤ (λ d. after_key d Copy) result source.old source.new (kept_desktop desk.old) (kept_desktop desk.new) }
 {
     let Some(selection) = desk.selection() else {
         return Ok(Reply::No(codes::NO_SELECTION));
@@ -88,9 +88,9 @@ fn copy<S: CharSource>(desk: &mut Desk, source: &mut S) -> StepResult
 /// The newest selection goes out of its text into the copied buffer, and the caret to where it was. Refused without
 /// a selection.
 fn cut<S: CharSource>(desk: &mut Desk, source: &mut S) -> StepResult
-    requires { IsOver (S.characters source.old) (kept desk.old) }
-    ensures { DoesUnread S.CharSource (is_none (newest (kept desk.old)) ≡ true) (λ d. pressed d Cut) result
-        source.old source.new (kept desk.old) (kept desk.new) }
+    requires { IsOver (S.characters source.old) (kept_desktop desk.old) }
+    ensures { DoesUnread S.CharSource (is_none (newest (kept_desktop desk.old)) ≡ true) (λ d. after_key d Cut) result
+        source.old source.new (kept_desktop desk.old) (kept_desktop desk.new) }
 {
     let Some(selection) = desk.selection() else {
         return Ok(Reply::No(codes::NO_SELECTION));
@@ -102,8 +102,8 @@ fn cut<S: CharSource>(desk: &mut Desk, source: &mut S) -> StepResult
 
 /// Caret, selections and marker go.
 fn escape<S: CharSource>(desk: &mut Desk, source: &mut S) -> StepResult
-    requires { IsOver (S.characters source.old) (kept desk.old) }
-    ensures { DoesUnread S.CharSource ⊤ (λ d. pressed d Escape) result source.old source.new (kept desk.old) (kept desk.new) }
+    requires { IsOver (S.characters source.old) (kept_desktop desk.old) }
+    ensures { DoesUnread S.CharSource ⊤ (λ d. after_key d Escape) result source.old source.new (kept_desktop desk.old) (kept_desktop desk.new) }
 {
     desk.caret = None;
     desk.selections.clear();

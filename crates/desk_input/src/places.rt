@@ -9,8 +9,8 @@ ghost use Rattle.desktop_definitions.specs.Gesture.{text_position, stretch_drawn
 ghost use Rattle.desktop_definitions.specs.Viewers.{rows_of};
 ghost use Rattle.desktop_definitions.specs.Call.{text_called};
 ghost use Rattle.desk_core.specs.Mouse.{position_in};
-ghost use Rattle.desk_core.specs.Words.{flat, ROWS, COLUMNS, IsOnTop, viewer_or_none, IsOver, kept, IsPosition};
-ghost use Rattle.desk_input.specs.Reads.{IsRow, Tells};
+ghost use Rattle.desk_core.specs.Words.{flat, ROWS, COLUMNS, IsOnTop, viewer_or_none, IsOver, kept_desktop, IsPosition};
+ghost use Rattle.desk_input.specs.Reads.{IsMainRow, TellsValue};
 
 use char_file::{CharSource, Fault};
 use desk_core::desk::Desk;
@@ -64,8 +64,8 @@ fn stretch(id: u16, p: u32, q: u32, len: u32) -> Selection
 pub fn region_under(desk: &Desk, x: u8, y: u8) -> Region
     requires column { x < COLUMNS }
     requires row { y < ROWS }
-    ensures region { result ≡ region_at (kept desk.now) x y }
-    ensures stands { IsRegionOf (kept desk.now) y result }
+    ensures region { result ≡ region_at (kept_desktop desk.now) x y }
+    ensures stands { IsRegionOf (kept_desktop desk.now) y result }
 {
     match desk.tracks.at(x, y) {
         None => Region::Filler,
@@ -78,8 +78,8 @@ pub fn region_under(desk: &Desk, x: u8, y: u8) -> Region
 
 /// The row of a viewer's main frame at row `y` of the display, counted from the frame's top.
 pub fn frame_row(desk: &Desk, id: u16, y: u8) -> u8
-    requires placed { IsOnTop id (kept desk.now).columns }
-    ensures { result ≡ frame_row (kept desk.now) id y }
+    requires placed { IsOnTop id (kept_desktop desk.now).columns }
+    ensures { result ≡ frame_row (kept_desktop desk.now) id y }
 {
     let place = desk.tracks.place_of(ViewerId(id));
     place.top.saturating_sub(2).saturating_sub(y)
@@ -87,8 +87,8 @@ pub fn frame_row(desk: &Desk, id: u16, y: u8) -> u8
 
 /// How many columns of text cells a viewer has.
 pub fn text_width(desk: &Desk, id: u16) -> u8
-    requires placed { IsOnTop id (kept desk.now).columns }
-    ensures width { result + 1 ≡ width (kept desk.now) id }
+    requires placed { IsOnTop id (kept_desktop desk.now).columns }
+    ensures width { result + 1 ≡ width (kept_desktop desk.now) id }
     ensures some { 0 < result }
     ensures fits { result < 50 }
 {
@@ -98,8 +98,8 @@ pub fn text_width(desk: &Desk, id: u16) -> u8
 
 /// The nearest column of a viewer's text cells to a column of the display.
 fn text_column(desk: &Desk, id: u16, x: u8) -> u8
-    requires placed { IsOnTop id (kept desk.now).columns }
-    ensures { result ≡ text_column (kept desk.now) id x }
+    requires placed { IsOnTop id (kept_desktop desk.now).columns }
+    ensures { result ≡ text_column (kept_desktop desk.now) id x }
 {
     let left = desk.tracks.place_of(ViewerId(id)).x;
     let width = text_width(desk, id);
@@ -108,8 +108,8 @@ fn text_column(desk: &Desk, id: u16, x: u8) -> u8
 
 /// The nearest column of a viewer's menu to a column of the display.
 fn menu_column(desk: &Desk, id: u16, x: u8) -> u8
-    requires placed { IsOnTop id (kept desk.now).columns }
-    ensures { result ≡ menu_column (kept desk.now) id x }
+    requires placed { IsOnTop id (kept_desktop desk.now).columns }
+    ensures { result ≡ menu_column (kept_desktop desk.now) id x }
 {
     let left = desk.tracks.place_of(ViewerId(id)).x;
     let width = text_width(desk, id);
@@ -118,10 +118,10 @@ fn menu_column(desk: &Desk, id: u16, x: u8) -> u8
 
 /// The nearest row of a viewer's main frame to a row of the display.
 fn text_row(desk: &Desk, id: u16, y: u8) -> u8
-    requires placed { IsOnTop id (kept desk.now).columns }
-    requires some { 0 < rows_of (kept desk.now) id }
-    ensures row { result ≡ text_row (kept desk.now) id y }
-    ensures within { result < rows_of (kept desk.now) id }
+    requires placed { IsOnTop id (kept_desktop desk.now).columns }
+    requires some { 0 < rows_of (kept_desktop desk.now) id }
+    ensures row { result ≡ text_row (kept_desktop desk.now) id y }
+    ensures within { result < rows_of (kept_desktop desk.now) id }
 {
     let place = desk.tracks.place_of(ViewerId(id));
     frame_row(desk, id, y.min(place.top - 2).max(place.bottom))
@@ -129,10 +129,10 @@ fn text_row(desk: &Desk, id: u16, y: u8) -> u8
 
 /// The position in a viewer's main text at column `x` and a row of its main frame.
 pub fn position_in<S: CharSource>(desk: &Desk, id: u16, x: u8, row: u8, source: &mut S) -> Read<u32>
-    requires at { IsRow (S.characters source.old) (kept desk.now) id row }
-    ensures told { Tells S.CharSource result (λ d. position_in d id x row) source.old source.new (kept desk.now) }
-    ensures from { IfOk result (λ p. (viewer_or_none (kept desk.now).viewers id).org ≤ p) }
-    ensures within { IfOk result (IsPosition (kept desk.now) id) }
+    requires at { IsMainRow (S.characters source.old) (kept_desktop desk.now) id row }
+    ensures told { TellsValue S.CharSource result (λ d. position_in d id x row) source.old source.new (kept_desktop desk.now) }
+    ensures from { IfOk result (λ p. (viewer_or_none (kept_desktop desk.now).viewers id).org ≤ p) }
+    ensures within { IfOk result (IsPosition (kept_desktop desk.now) id) }
 {
     let frame = desk.main_frame(id);
     let text = desk.main_text(id);
@@ -142,9 +142,9 @@ pub fn position_in<S: CharSource>(desk: &Desk, id: u16, x: u8, row: u8, source: 
 
 /// The position in a viewer's main text that is shown nearest to a cell.
 pub fn text_position<S: CharSource>(desk: &Desk, id: u16, x: u8, y: u8, source: &mut S) -> Read<u32>
-    requires at { IsRow (S.characters source.old) (kept desk.now) id 0 }
-    ensures told { Tells S.CharSource result (λ d. text_position d id x y) source.old source.new (kept desk.now) }
-    ensures within { IfOk result (IsPosition (kept desk.now) id) }
+    requires at { IsMainRow (S.characters source.old) (kept_desktop desk.now) id 0 }
+    ensures told { TellsValue S.CharSource result (λ d. text_position d id x y) source.old source.new (kept_desktop desk.now) }
+    ensures within { IfOk result (IsPosition (kept_desktop desk.now) id) }
 {
     let column = text_column(desk, id, x);
     let row = text_row(desk, id, y);
@@ -153,10 +153,10 @@ pub fn text_position<S: CharSource>(desk: &Desk, id: u16, x: u8, y: u8, source: 
 
 /// The position in a viewer's menu that is shown nearest to a column.
 pub fn menu_position<S: CharSource>(desk: &Desk, id: u16, x: u8, source: &mut S) -> Read<u32>
-    requires placed { IsOnTop id (kept desk.now).columns }
-    requires over { IsOver (S.characters source.old) (kept desk.now) }
-    ensures told { Tells S.CharSource result (λ d. menu_position d id x) source.old source.new (kept desk.now) }
-    ensures within { IfOk result (λ p. p ≤ length (flat (text_called (kept desk.now) id true))) }
+    requires placed { IsOnTop id (kept_desktop desk.now).columns }
+    requires over { IsOver (S.characters source.old) (kept_desktop desk.now) }
+    ensures told { TellsValue S.CharSource result (λ d. menu_position d id x) source.old source.new (kept_desktop desk.now) }
+    ensures within { IfOk result (λ p. p ≤ length (flat (text_called (kept_desktop desk.now) id true))) }
 {
     let viewer = viewer_or_none(&desk.viewers, id);
     let frame = Frame {
@@ -178,11 +178,11 @@ pub fn stretch_drawn<S: CharSource>(
     to: (u8, u8),
     source: &mut S,
 ) -> Read<Selection>
-    requires at { IsRow (S.characters source.old) (kept desk.now) id 0 }
-    ensures told { Tells S.CharSource result (λ d. stretch_drawn d id from.0 from.1 to.0 to.1) source.old source.new
-        (kept desk.now) }
+    requires at { IsMainRow (S.characters source.old) (kept_desktop desk.now) id 0 }
+    ensures told { TellsValue S.CharSource result (λ d. stretch_drawn d id from.0 from.1 to.0 to.1) source.old source.new
+        (kept_desktop desk.now) }
     ensures viewer { IfOk result (λ s. s.viewer ≡ id) }
-    ensures within { IfOk result (λ s. IsPosition (kept desk.now) s.viewer s.end) }
+    ensures within { IfOk result (λ s. IsPosition (kept_desktop desk.now) s.viewer s.end) }
 {
     let first = text_position(desk, id, from.0, from.1, source)?;
     let last = text_position(desk, id, to.0, to.1, source)?;

@@ -2,8 +2,8 @@
 ghost use Rattle.std.specs.Prelude.{◌≡◌, ◌≤◌, length, is_none, true};
 ghost use Rattle.text_core.specs.Attributes.{look_at};
 ghost use Rattle.desktop_definitions.specs.Gesture.{copied_to, looks_taken, taken_out, sent_to_caret};
-ghost use Rattle.desk_core.specs.Words.{flat, newest, kept_main, kept, Does, DoesUnread};
-ghost use Rattle.desk_input.specs.Reads.{IsPlace};
+ghost use Rattle.desk_core.specs.Words.{flat, newest, kept_main, kept_desktop, Does, DoesUnread};
+ghost use Rattle.desk_input.specs.Reads.{IsMainPlace};
 
 use char_file::CharSource;
 use desk_core::desk::Desk;
@@ -18,9 +18,9 @@ const WHOLE_LOOK: u8 = 7;
 /// A copy of the newest selection is put in at `pos` in a viewer, and the caret after it, where it is shown.
 /// Refused without a selection.
 pub fn copy_to<S: CharSource>(desk: &mut Desk, id: u16, pos: u32, source: &mut S) -> StepResult
-    requires { IsPlace (S.characters source.old) (kept desk.old) id pos }
-    ensures { DoesUnread S.CharSource (is_none (newest (kept desk.old)) ≡ true) (λ d. copied_to d id pos) result
-        source.old source.new (kept desk.old) (kept desk.new) }
+    requires { IsMainPlace (S.characters source.old) (kept_desktop desk.old) id pos }
+    ensures { DoesUnread S.CharSource (is_none (newest (kept_desktop desk.old)) ≡ true) (λ d. copied_to d id pos) result
+        source.old source.new (kept_desktop desk.old) (kept_desktop desk.new) }
 {
     let Some(selection) = desk.selection() else {
         return Ok(Reply::No(codes::NO_SELECTION));
@@ -37,9 +37,9 @@ pub fn copy_to<S: CharSource>(desk: &mut Desk, id: u16, pos: u32, source: &mut S
 /// The newest selection gets the look at `pos` in a viewer, where the caret then stands. Refused without a
 /// selection.
 pub fn take_looks<S: CharSource>(desk: &mut Desk, id: u16, pos: u32, source: &mut S) -> StepResult
-    requires { IsPlace (S.characters source.old) (kept desk.old) id pos }
-    ensures { DoesUnread S.CharSource (is_none (newest (kept desk.old)) ≡ true) (λ d. looks_taken d id pos) result
-        source.old source.new (kept desk.old) (kept desk.new) }
+    requires { IsMainPlace (S.characters source.old) (kept_desktop desk.old) id pos }
+    ensures { DoesUnread S.CharSource (is_none (newest (kept_desktop desk.old)) ≡ true) (λ d. looks_taken d id pos) result
+        source.old source.new (kept_desktop desk.old) (kept_desktop desk.new) }
 {
     let look = look_at(desk, id, pos);
     let Some(selection) = desk.selection() else {
@@ -56,8 +56,8 @@ pub fn take_looks<S: CharSource>(desk: &mut Desk, id: u16, pos: u32, source: &mu
 /// The look of the character at `pos` in a viewer's main text, of the last one at its end, and `DEFAULT_LOOK` where
 /// there is none.
 fn look_at(desk: &Desk, id: u16, pos: u32) -> Look
-    requires { pos ≤ length (flat (kept_main (kept desk.now) id)) }
-    ensures { result ≡ look_at pos (flat (kept_main (kept desk.now) id)) }
+    requires { pos ≤ length (flat (kept_main (kept_desktop desk.now) id)) }
+    ensures { result ≡ look_at pos (flat (kept_main (kept_desktop desk.now) id)) }
 {
     let number = desk.main_of(id);
     match desk.texts.get(&number) {
@@ -69,8 +69,8 @@ fn look_at(desk: &Desk, id: u16, pos: u32) -> Look
 /// A stretch goes into the deleted buffer, and the caret to where it was, which is shown. Refused where it is
 /// empty.
 pub fn take_out<S: CharSource>(desk: &mut Desk, drawn: Selection, source: &mut S) -> StepResult
-    requires { IsPlace (S.characters source.old) (kept desk.old) drawn.viewer drawn.end }
-    ensures { Does S.CharSource (λ d. taken_out d drawn) result source.old source.new (kept desk.old) (kept desk.new) }
+    requires { IsMainPlace (S.characters source.old) (kept_desktop desk.old) drawn.viewer drawn.end }
+    ensures { Does S.CharSource (λ d. taken_out d drawn) result source.old source.new (kept_desktop desk.old) (kept_desktop desk.new) }
 {
     if drawn.beg >= drawn.end {
         return Ok(Reply::No(codes::NO_SELECTION));
@@ -82,8 +82,8 @@ pub fn take_out<S: CharSource>(desk: &mut Desk, drawn: Selection, source: &mut S
 
 /// A stretch is selected, and a copy of it put in at the caret. Refused where it is empty, or without a caret.
 pub fn send_to_caret<S: CharSource>(desk: &mut Desk, drawn: Selection, source: &mut S) -> StepResult
-    requires { IsPlace (S.characters source.old) (kept desk.old) drawn.viewer drawn.end }
-    ensures { Does S.CharSource (λ d. sent_to_caret d drawn) result source.old source.new (kept desk.old) (kept desk.new) }
+    requires { IsMainPlace (S.characters source.old) (kept_desktop desk.old) drawn.viewer drawn.end }
+    ensures { Does S.CharSource (λ d. sent_to_caret d drawn) result source.old source.new (kept_desktop desk.old) (kept_desktop desk.new) }
 {
     if drawn.beg >= drawn.end {
         return Ok(Reply::No(codes::NO_SELECTION));

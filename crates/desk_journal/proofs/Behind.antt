@@ -18,7 +18,7 @@ use Rattle.store_layout.specs.Meaning.{Standing, Shows, desktop_of, and_all, cut
 use Rattle.desk_slots.proofs.Recording.{in_newest, steps_in_on}
 use Rattle.desk_slots.specs.Device.{IsSameDevice}
 use Rattle.desk_journal.specs.Posting.{IsAcknowledged}
-use Rattle.desk_journal.specs.Undoing.{IsAdded, IsAt, IsBehind, IsTakenBack}
+use Rattle.desk_journal.specs.Undoing.{IsAdded, ShowsStanding, IsBehind, IsTakenBack}
 use Rattle.desk_journal.specs.View.{StoreView, IsDurable}
 
 -- ---- lists
@@ -39,7 +39,7 @@ module _ {D : Type 0} (d : Ghosts D) (old : StoreView D) where
       → Shows (d.size old.disk) old.layout old.epoch old.events old.desktop (now (d.trail old.disk)).reads
   shows_now durable honest = durable honest (now (d.trail old.disk)).reads (read_is_an_image (now (d.trail old.disk)))
 
-  same_standing : StandingLaw → (durable : IsDurable d old) (honest : d.honest old.disk) (s : Standing) → IsAt d old s
+  same_standing : StandingLaw → (durable : IsDurable d old) (honest : d.honest old.disk) (s : Standing) → ShowsStanding d old s
       → (shows_now durable honest).standing ≡ s
   same_standing law durable honest s at = law (d.size old.disk) (now (d.trail old.disk)).reads
       (shows_now durable honest).standing s (shows_now durable honest).stands at
@@ -51,7 +51,7 @@ module _ {D : Type 0} (d : Ghosts D) (old : StoreView D) where
     count = omega arith;
     versions = λ honest s at. sym (ap (λ x. x.version) (same_standing law durable honest s at))
         ∙ (shows_now durable honest).version_is ∙ newest;
-    at = λ honest s at. subst (λ l. IsAt d old (record {
+    at = λ honest s at. subst (λ l. ShowsStanding d old (record {
       slot = s.slot;
       version = s.version;
       epoch = s.epoch;
@@ -72,7 +72,7 @@ module _ {D : Type 0} (d : Ghosts D) (old : StoreView D) where
       layout = ok.layout;
       count = omega (arith, (ok.more (room, was.layout)).1, was.count, length-append events (event ∷ []));
       versions = was.versions;
-      at = λ honest s at. subst (λ l. IsAt d new (record {
+      at = λ honest s at. subst (λ l. ShowsStanding d new (record {
         slot = s.slot;
         version = s.version;
         epoch = s.epoch;
@@ -102,7 +102,7 @@ module _ {D : Type 0} (d : Ghosts D) (old : StoreView D) where
         length-take-le (length events - length undone) events (omega arith),
       );
       versions = was.versions;
-      at = λ honest s at. subst (λ l. IsAt d new (record {
+      at = λ honest s at. subst (λ l. ShowsStanding d new (record {
         slot = s.slot;
         version = s.version;
         epoch = s.epoch;

@@ -10,8 +10,8 @@ use Rattle.desk_slots.specs.declared.error.Error.TheVariants.{NoMemory, Fault, W
 use Rattle.desk_slots.specs.Errors.{OfCheckpoint, OfLook, OfPost}
 use Rattle.desk_journal.specs.Checkpointing.{IsCheckpointed, IsRenewed, LeavesDesktop}
 use Rattle.desk_journal.specs.Migrating.{ChecksFirst}
-use Rattle.desk_journal.specs.Posting.{Behaves, HasRoom, IsAcknowledged, IsBroken, IsLast, IsPosted, IsStarved}
-use Rattle.desk_journal.specs.Posting.{LeavesEither, Needs, TurnsAway}
+use Rattle.desk_journal.specs.Posting.{Behaves, HasJournalRoom, IsAcknowledged, IsBroken, IsLast, IsPosted, IsStarved}
+use Rattle.desk_journal.specs.Posting.{LeavesEither, IsDueBefore, TurnsAway}
 use Rattle.desk_journal.specs.View.{StoreView}
 
 -- an error of a post to a store with room is one of any post
@@ -31,14 +31,14 @@ not_worn named = elim named [
 ]
 
 -- a store with room has no checkpoint due
-pub no_need : {D : Type 0} (store : StoreView D) → HasRoom store → Needs store → ⊥
+pub no_need : {D : Type 0} (store : StoreView D) → HasJournalRoom store → IsDueBefore store → ⊥
 no_need store room need = elim need [
   | inl full ↦ omega (arith, full, room.0)
   | inr other ↦ other room.1
 ]
 
 -- a new journal has room
-pub new_room : {D : Type 0} (d : Ghosts D) (old new : StoreView D) → IsRenewed d old new → HasRoom new
+pub new_room : {D : Type 0} (d : Ghosts D) (old new : StoreView D) → IsRenewed d old new → HasJournalRoom new
 new_room d old new renewed = (omega (arith, renewed.events), renewed.layout)
 
 -- what a checkpoint says clause by clause is all that it promises
@@ -56,7 +56,7 @@ checkpoints d answer old new any_moment ok fault worn behaves = record {
 
 module _ {D : Type 0} (d : Ghosts D) (event : Event) (answer : Result Reply Error) where
   -- what the rest of a post says is what a post to a store with room says
-  pub put_posts : (mid new : StoreView D) → HasRoom mid → LeavesEither d event mid new
+  pub put_posts : (mid new : StoreView D) → HasJournalRoom mid → LeavesEither d event mid new
       → IfOk answer (λ reply. IsAcknowledged d event reply mid new) → (IsErrOf answer NoMemory → IsStarved d mid new)
       → (IsErrOf answer Fault → IsBroken new) → Behaves d OfLook answer mid new → IsPosted d event answer mid new
   put_posts mid new room any_moment ok memory fault behaves = record {
@@ -86,7 +86,7 @@ module _ {D : Type 0} (d : Ghosts D) (event : Event) (answer : Result Reply Erro
 
   -- the checkpoint is done, and the rest of the post follows
   pub done_first : (old mid new : StoreView D) {outcome : Result ⊤ Error} {unit : ⊤} → outcome ≡ Ok unit
-      → IsCheckpointed d outcome old mid → (HasRoom mid → IsPosted d event answer mid new)
+      → IsCheckpointed d outcome old mid → (HasJournalRoom mid → IsPosted d event answer mid new)
       → ChecksFirst d event answer old new
   done_first old mid new {unit = unit} done before behind = record {
     between = mid;
@@ -100,7 +100,7 @@ module _ {D : Type 0} (d : Ghosts D) (event : Event) (answer : Result Reply Erro
       checked : IsCheckpointed d (Ok unit) old mid
       checked = subst (λ (r : Result ⊤ Error). IsCheckpointed d r old mid) done before
 
-      has : HasRoom mid
+      has : HasJournalRoom mid
       has = new_room d old mid checked.ok
 
   -- it isn't, and the post ends with it

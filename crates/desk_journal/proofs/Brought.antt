@@ -11,13 +11,13 @@ use Rattle.desktop_definitions.specs.Step.{Outcome, outcome_of}
 use Rattle.desk_bringing.specs.Bringing.{Documents, brought_in}
 use Rattle.desk_bringing.specs.BringingLaws.{refused_same}
 use Rattle.store_layout.specs.declared.layout.TheConstants.{LAYOUT}
-use Rattle.store_layout.specs.Kept.{IsKept}
+use Rattle.store_layout.specs.Kept.{ShowsSettled}
 use Rattle.store_layout.specs.Meaning.{Means, MeansEither}
 use Rattle.desk_slots.specs.declared.live.LiveDesktop.{LiveDesktop}
 use Rattle.desk_slots.specs.declared.place.SlotPlace.{SlotPlace}
 use Rattle.desk_slots.specs.Device.{IsSameDevice}
-use Rattle.desk_slots.specs.Live.{seen_live, IsLive, IsNamed, IsTold}
-use Rattle.desk_slots.specs.Written.{GoesOn, IsBeside, KeepsShown, ShowsAnew}
+use Rattle.desk_slots.specs.Live.{seen_live, IsLive, IsNamed, HasTrueCache}
+use Rattle.desk_slots.specs.Written.{ContinuesArea, IsBeside, KeepsShown, ShowsAnew}
 use Rattle.desk_slots.proofs.Settling.{at_start, kept_on, kept_shows, means_on, shows_means}
 use Rattle.desk_journal.proofs.Storing.{Knows, beside}
 
@@ -31,7 +31,7 @@ module _ {D : Type 0} (d : Ghosts D) (slot version epoch events : ℕ) (old mid 
   shown = seen_live (now (d.trail old)).reads live
 
   -- the disk shows what it showed
-  still_kept : d.honest old → IsKept (d.size old) (d.trail mid) slot version epoch events shown
+  still_kept : d.honest old → ShowsSettled (d.size old) (d.trail mid) slot version epoch events shown
   still_kept honest = kept_on (d.size old) (d.trail old) (d.trail mid) slot version epoch events shown
       (was.5 honest).0 (run.moments honest)
 
@@ -45,7 +45,7 @@ module _ {D : Type 0} (d : Ghosts D) (slot version epoch events : ℕ) (old mid 
   none_yet after honest = weakened (means_still honest) (λ c means. inl means)
 
   -- No: in memory is what the disk shows
-  pub refused_knows : IsLive live' → IsTold d mid live'
+  pub refused_knows : IsLive live' → HasTrueCache d mid live'
       → (d.honest old → seen_live (now (d.trail mid)).reads live' ≡ shown)
       → Knows d mid slot version epoch events live'
   refused_knows is told same = (
@@ -55,8 +55,8 @@ module _ {D : Type 0} (d : Ghosts D) (slot version epoch events : ℕ) (old mid 
     is,
     told,
     λ honest. let before = run.already honest in (
-      subst (λ (x : Desktop). IsKept (d.size mid) (d.trail mid) slot version epoch events x) (sym (same before))
-          (subst (λ n. IsKept n (d.trail mid) slot version epoch events shown) (sym run.as_large)
+      subst (λ (x : Desktop). ShowsSettled (d.size mid) (d.trail mid) slot version epoch events x) (sym (same before))
+          (subst (λ n. ShowsSettled n (d.trail mid) slot version epoch events shown) (sym run.as_large)
           (still_kept before)),
       named slot before (was.5 before).1,
     ),
@@ -64,7 +64,7 @@ module _ {D : Type 0} (d : Ghosts D) (slot version epoch events : ℕ) (old mid 
 
   -- Done: its checkpoint goes beside what the disk shows
   module _ (place : SlotPlace) (is : IsLive live') (two : slot + place.slot ≡ 1) (next : epoch + 1 ≡ place.epoch)
-      (goes : GoesOn place live') where
+      (goes : ContinuesArea place live') where
     stands_beside : d.honest old → IsBeside place (d.size mid) (d.trail mid) slot version epoch events shown
     stands_beside honest =
         subst (λ n. IsBeside place n (d.trail mid) slot version epoch events shown) (sym run.as_large)
@@ -80,11 +80,11 @@ module _ {D : Type 0} (d : Ghosts D) (slot version epoch events : ℕ) (old mid 
         (moments (run.still honest) slot version epoch events shown (stands_beside honest))))
 
     pub brought_kept : (new : D) (shown_now : Desktop) → IsSameDevice d mid new → ShowsAnew d place mid new shown_now
-        → d.honest new → IsKept (d.size new) (d.trail new) place.slot LAYOUT place.epoch 0 shown_now
+        → d.honest new → ShowsSettled (d.size new) (d.trail new) place.slot LAYOUT place.epoch 0 shown_now
     brought_kept new shown_now device renewed honest =
         let middle = device.already honest in
         let before = run.already middle in
-        subst (λ n. IsKept n (d.trail new) place.slot LAYOUT place.epoch 0 shown_now) (sym device.as_large)
+        subst (λ n. ShowsSettled n (d.trail new) place.slot LAYOUT place.epoch 0 shown_now) (sym device.as_large)
         (renewed middle slot version epoch events shown (stands_beside before))
 
 -- what the desktop in memory is, by its reply

@@ -5,7 +5,7 @@ use Rattle.std.proofs.lemmas.Bool.{lt-ltb, ltb-true, eq-eqb, eqb-true, and_from,
 use Rattle.std.proofs.lemmas.Bool.{false_from_ne_true}
 use Rattle.store_layout.specs.Bits.{clash}
 use Rattle.store_layout.specs.declared.layout.TheConstants.{JOURNAL_EVENTS, LAYOUT}
-use Rattle.desk_journal.specs.Session.{Session, HasRoomIn, IsDue, has_room, is_due}
+use Rattle.desk_journal.specs.Session.{Session, HasRoomIn, IsDue, has_journal_room, is_due}
 
 pub due_or_room : (s : Session) → IsDue s ⊎ HasRoomIn s
 due_or_room s = elim (cases_lt s.events JOURNAL_EVENTS) [
@@ -16,12 +16,12 @@ due_or_room s = elim (cases_lt s.events JOURNAL_EVENTS) [
   | inr full ↦ inl (inl full)
 ]
 
-pub has_it : (s : Session) → HasRoomIn s → has_room s ≡ true
+pub has_it : (s : Session) → HasRoomIn s → has_journal_room s ≡ true
 has_it s room = and_from (nat_lt s.events JOURNAL_EVENTS) (s.layout == LAYOUT)
     (lt-ltb s.events JOURNAL_EVENTS room.0) (eq-eqb s.layout LAYOUT room.1)
 
-pub has_none : (s : Session) → IsDue s → has_room s ≡ false
-has_none s due = false_from_ne_true (has_room s) (λ is.
+pub has_none : (s : Session) → IsDue s → has_journal_room s ≡ false
+has_none s due = false_from_ne_true (has_journal_room s) (λ is.
     let both = and_parts (nat_lt s.events JOURNAL_EVENTS) (s.layout == LAYOUT) is in
     elim due [
       | inl full ↦ omega (arith, full, ltb-true s.events JOURNAL_EVENTS both.0)

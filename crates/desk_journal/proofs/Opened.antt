@@ -4,7 +4,7 @@ use Rattle.sector_disk.specs.declared.disk.Disk.{Ghosts}
 use Rattle.sector_disk.specs.Trail.{now}
 use Rattle.desktop_definitions.specs.Desktop.{Desktop}
 use Rattle.desk_slots.specs.declared.error.Error.{Error}
-use Rattle.desk_slots.specs.Device.{outcome}
+use Rattle.desk_slots.specs.Device.{result_of}
 use Rattle.desk_slots.specs.Errors.{OfOpen}
 use Rattle.store_layout.specs.Finding.{FindsOneThing}
 use Rattle.store_layout.specs.Meaning.{Means}
@@ -34,7 +34,7 @@ module _ {D : Type 0} (d : Ghosts D) (disk : D) (one : FindsOneThing (d.size dis
       absurd (one.not_damaged desktop n means (wrong.damaged n damaged honest))
 
   pub stops_as_meant : {A : Type 0} (r : Result A (Error × D)) → IfErr r (λ e. IsNoStore d disk e.0)
-      → IfErr (outcome r) OfOpen → IfErr r (λ e. d.honest disk → (desktop : Desktop) → IsMeant desktop
+      → IfErr (result_of r) OfOpen → IfErr r (λ e. d.honest disk → (desktop : Desktop) → IsMeant desktop
       → StopsOpening e.0)
   stops_as_meant (Ok opened) wrong named = tt
   stops_as_meant (Err e) wrong named = error_stops e.0 named wrong

@@ -13,16 +13,16 @@ use Rattle.desktop_definitions.specs.Step.{step}
 use Rattle.sector_disk.specs.declared.disk.TheConstants.{SECTOR_BYTES}
 use Rattle.store_layout.specs.declared.layout.TheConstants.{FIRST_LAYOUT, JOURNAL_EVENTS, LAYOUT, SLOTS}
 use Rattle.store_layout.specs.declared.layout.TheConstants.{STORE_SECTORS}
-use Rattle.store_layout.specs.Kept.{IsKept, Spares, chosen_area}
+use Rattle.store_layout.specs.Kept.{ShowsSettled, SparesArea, chosen_area}
 use Rattle.char_pages.specs.Pages.{renewed_of, saved_sectors}
 use Rattle.store_layout.specs.Layout.{head}
 use Rattle.store_layout.specs.Meaning.{Means, MeansEither, full_sectors}
 use Rattle.desk_slots.specs.declared.live.LiveDesktop.{LiveDesktop}
 use Rattle.desk_slots.specs.declared.place.SlotPlace.{SlotPlace}
-use Rattle.desk_slots.specs.Written.{GoesOn, IsBeside, KeepsShown, ShowsAnew}
+use Rattle.desk_slots.specs.Written.{ContinuesArea, IsBeside, KeepsShown, ShowsAnew}
 use Rattle.desk_journal.specs.Checkpointing.{LeavesDesktop, IsRenewed}
 use Rattle.desk_slots.specs.Device.{IsSameDevice}
-use Rattle.desk_slots.specs.Live.{seen_live, IsLive, IsNamed, IsTold, StaysLive}
+use Rattle.desk_slots.specs.Live.{seen_live, IsLive, IsNamed, HasTrueCache, StaysLive}
 use Rattle.desk_journal.specs.Posting.{LeavesEither, IsStarved, RecordsDone}
 use Rattle.desk_journal.specs.View.{StoreView}
 use Rattle.desk_slots.proofs.Settling.{kept_on}
@@ -36,8 +36,8 @@ known V3 = (omega arith, omega arith)
 -- what a store knows of its disk: room, and where it is honest what stands there
 abbrev pub Knows : {D : Type 0} → Ghosts D → D → ℕ → ℕ → ℕ → ℕ → LiveDesktop → Type 0
 Knows d disk slot version epoch events live = (slot < SLOTS) × (events ≤ JOURNAL_EVENTS) × (STORE_SECTORS ≤ d.size disk)
-    × IsLive live × IsTold d disk live
-    × (d.honest disk → IsKept (d.size disk) (d.trail disk) slot version epoch events
+    × IsLive live × HasTrueCache d disk live
+    × (d.honest disk → ShowsSettled (d.size disk) (d.trail disk) slot version epoch events
     (seen_live (now (d.trail disk)).reads live)
     × IsNamed (now (d.trail disk)).reads slot live)
 
@@ -55,9 +55,9 @@ looked_at d slot version epoch events old new live live' run stays was = (
       let before = run.already honest in
       let touches = run.moments before in
       let desktop = seen_live (now (d.trail old)).reads live in (
-        subst (λ desktop. IsKept (d.size new) (d.trail new) slot version epoch events desktop)
+        subst (λ desktop. ShowsSettled (d.size new) (d.trail new) slot version epoch events desktop)
             (sym (stays.shown_same before))
-            (subst (λ n. IsKept n (d.trail new) slot version epoch events desktop) (sym run.as_large)
+            (subst (λ n. ShowsSettled n (d.trail new) slot version epoch events desktop) (sym run.as_large)
             (kept_on (d.size old) (d.trail old) (d.trail new) slot version epoch events desktop (was.5 before).0
             touches)),
         record {
@@ -73,7 +73,7 @@ looked_at d slot version epoch events old new live live' run stays was = (
 
 -- what a checkpoint writes isn't named by the head of the slot in use
 spared : (c : Content) (slot : ℕ) (live : LiveDesktop) (place : SlotPlace) → IsLive live → IsNamed c slot live
-    → GoesOn place live → Spares (head c slot) place.area place.saved
+    → ContinuesArea place live → SparesArea (head c slot) place.area place.saved
 spared c slot live place is named goes here = (elim (renewed_of live.pages) as
     (λ b. renewed_of live.pages ≡ b → chosen_area b live.area ≡ live.area → full_sectors (head c slot).written
     ≤ place.saved) [
@@ -83,14 +83,14 @@ spared c slot live place is named goes here = (elim (renewed_of live.pages) as
 
 -- where a checkpoint of it goes
 pub goes_by : {place : SlotPlace} {live : LiveDesktop} → place.area ≡ chosen_area (renewed_of live.pages) live.area
-    → place.saved ≡ saved_sectors live.pages → GoesOn place live
+    → place.saved ≡ saved_sectors live.pages → ContinuesArea place live
 goes_by area saved = record { area_is = area; saved_is = saved }
 
 -- What the disk shows stands beside the place where the checkpoint of a desktop goes, whatever that desktop is: its
 -- characters go on where those end that the head names.
 pub beside : {size : ℕ} {disk : Trail} {slot version epoch events : ℕ} {shown : Desktop} (place : SlotPlace)
-    (live : LiveDesktop) → IsKept size disk slot version epoch events shown → IsLive live
-    → IsNamed (now disk).reads slot live → slot + place.slot ≡ 1 → epoch + 1 ≡ place.epoch → GoesOn place live
+    (live : LiveDesktop) → ShowsSettled size disk slot version epoch events shown → IsLive live
+    → IsNamed (now disk).reads slot live → slot + place.slot ≡ 1 → epoch + 1 ≡ place.epoch → ContinuesArea place live
     → IsBeside place size disk slot version epoch events shown
 beside {disk = disk} {slot = slot} place live kept is named two next goes = record {
   two = two;
@@ -102,14 +102,14 @@ beside {disk = disk} {slot = slot} place live kept is named two next goes = reco
 -- a checkpoint that is done: the disk shows the desktop by the other slot
 pub renewed_kept : {D : Type 0} (d : Ghosts D) (slot version epoch events : ℕ) (old new : D) (live live' : LiveDesktop)
     (place : SlotPlace) → Knows d old slot version epoch events live → IsSameDevice d old new → slot + place.slot ≡ 1
-    → epoch + 1 ≡ place.epoch → GoesOn place live
+    → epoch + 1 ≡ place.epoch → ContinuesArea place live
     → ShowsAnew d place old new (seen_live (now (d.trail new)).reads live')
     → d.honest new
-    → IsKept (d.size new) (d.trail new) place.slot LAYOUT place.epoch 0 (seen_live (now (d.trail new)).reads live')
+    → ShowsSettled (d.size new) (d.trail new) place.slot LAYOUT place.epoch 0 (seen_live (now (d.trail new)).reads live')
 renewed_kept d slot version epoch events old new live live' place was device two next goes renewed honest =
     let before = device.already honest in
     let stood = was.5 before in
-    subst (λ n. IsKept n (d.trail new) place.slot LAYOUT place.epoch 0 (seen_live (now (d.trail new)).reads live'))
+    subst (λ n. ShowsSettled n (d.trail new) place.slot LAYOUT place.epoch 0 (seen_live (now (d.trail new)).reads live'))
     (sym device.as_large)
     (renewed before slot version epoch events _ (beside place live stood.0 was.3 stood.1 two next goes))
 
@@ -124,7 +124,7 @@ same_either run = weakened run (λ c either. elim either [
 -- at each moment of a checkpoint, done or not
 pub renewed_moments : {D : Type 0} (d : Ghosts D) (slot version epoch events : ℕ) (old new : D) (live : LiveDesktop)
     (place : SlotPlace) → Knows d old slot version epoch events live → slot + place.slot ≡ 1
-    → epoch + 1 ≡ place.epoch → GoesOn place live → KeepsShown d place live old new → d.honest old
+    → epoch + 1 ≡ place.epoch → ContinuesArea place live → KeepsShown d place live old new → d.honest old
     → LeavesOnly (d.trail old) (d.trail new) (Means (d.size old) (seen_live (now (d.trail old)).reads live))
 renewed_moments d slot version epoch events old new live place was two next goes moments honest =
     let stood = was.5 honest in

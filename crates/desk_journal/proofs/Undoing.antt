@@ -12,7 +12,7 @@ use Rattle.store_layout.specs.Meaning.{Standing, Stands, StandsEither, desktop_o
 use Rattle.store_layout.specs.Kept.{IsSettled}
 use Rattle.store_layout.specs.Finding.{StandingLaw}
 use Rattle.desk_slots.specs.declared.live.LiveDesktop.{LiveDesktop}
-use Rattle.desk_slots.specs.Live.{seen_live, IsLive, IsTold}
+use Rattle.desk_slots.specs.Live.{seen_live, IsLive, HasTrueCache}
 use Rattle.desk_slots.specs.Load.{IsEarlier}
 use Rattle.desk_slots.specs.Written.{HasEventAt, IsUpTo}
 use Rattle.desk_slots.proofs.Staying.{apart_nowhere, live_stays, shown_stays}
@@ -20,8 +20,8 @@ use Rattle.desk_slots.proofs.TakingBack.{apart_gate, head_kept, reads_either, st
 use Rattle.desk_slots.specs.Device.{IsSameDevice, StaysWithin}
 use Rattle.sector_disk.proofs.Confinement as confined
 use Rattle.desk_journal.specs.Checkpointing.{IsRenewed}
-use Rattle.desk_journal.specs.Posting.{Needs}
-use Rattle.desk_journal.specs.Undoing.{IsAdded, IsAt, IsWithout, left_of}
+use Rattle.desk_journal.specs.Posting.{IsDueBefore}
+use Rattle.desk_journal.specs.Undoing.{IsAdded, ShowsStanding, IsWithout, events_left}
 use Rattle.desk_journal.specs.View.{StoreView}
 use Rattle.desk_journal.proofs.Between.{no_need}
 use Rattle.desk_journal.proofs.Storing.{Knows, looked_at}
@@ -70,13 +70,13 @@ module _ {D : Type 0} (d : Ghosts D) {slot version epoch events : ℕ} {old : D}
 
 -- from this store on, up to this state of its disk, a crash leaves what the disk showed, or its first events alone
 abbrev pub Leaving : {D : Type 0} → Ghosts D → ℕ → StoreView D → D → Type 0
-Leaving d count old disk = old.must_reopen ≡ false → d.honest old.disk → (s : Standing) → IsAt d old s
-    → LeavesOnly (d.trail old.disk) (d.trail disk) (StandsEither (d.size old.disk) (left_of d count old) s)
+Leaving d count old disk = old.must_reopen ≡ false → d.honest old.disk → (s : Standing) → ShowsStanding d old s
+    → LeavesOnly (d.trail old.disk) (d.trail disk) (StandsEither (d.size old.disk) (events_left d count old) s)
 
 -- and at most one gate is touched
 abbrev pub Closing : {D : Type 0} → Ghosts D → ℕ → StoreView D → D → Type 0
-Closing d count old disk = old.must_reopen ≡ false → d.honest old.disk → (s : Standing) → IsAt d old s
-    → IsConfined d.size d.honest d.trail (Only (gate s.slot (left_of d count old))) old.disk disk
+Closing d count old disk = old.must_reopen ≡ false → d.honest old.disk → (s : Standing) → ShowsStanding d old s
+    → IsConfined d.size d.honest d.trail (Only (gate s.slot (events_left d count old))) old.disk disk
 
 -- nothing was written
 pub looked_either : {D : Type 0} (d : Ghosts D) {old new : D} {slot n : ℕ} {s : Standing} (k : ℕ)
@@ -115,7 +115,7 @@ module _ {D : Type 0} (d : Ghosts D) {slot version epoch events : ℕ} {old mid 
     {k : ℕ} {undone : List Event} (was : Knows d old slot version epoch events live) (low : k < events)
     (run : IsConfined d.size d.honest d.trail Nowhere old mid)
     (shut : IsConfined d.size d.honest d.trail (Only (gate slot k)) mid new)
-    (is_live : IsLive live') (told : IsTold d mid live')
+    (is_live : IsLive live') (told : HasTrueCache d mid live')
     (shown : d.honest old → (s : Standing) → IsUpTo (d.size old) (d.trail old) slot events s
     → IsEarlier (now (d.trail mid)).reads slot k s live' undone)
     (taken : d.honest mid → (s : Standing) → HasEventAt (d.size mid) (d.trail mid) slot k s
@@ -212,7 +212,7 @@ none_behind_it s = λ i. record {
   events = sym (append-nil s.events) i;
 }
 
-pub unchanged_back : {D : Type 0} (d : Ghosts D) (store : StoreView D) (s : Standing) → IsAt d store s
+pub unchanged_back : {D : Type 0} (d : Ghosts D) (store : StoreView D) (s : Standing) → ShowsStanding d store s
     → store.desktop ≡ desktop_of s → IsWithout d [] s (cut_to (length s.events - 0) s) store
 unchanged_back d store s at shows = subst (λ rest. IsWithout d [] s rest store) (none_taken s) (record {
   last = none_behind_it s;
@@ -236,7 +236,7 @@ read_then_within d run within = confined.joined d.size d.honest d.trail
 
 -- a checkpoint first, and then the event
 pub added_behind : {D : Type 0} (d : Ghosts D) (event : Event) (old mid new : StoreView D) → IsRenewed d old mid
-    → IsSameDevice d old.disk mid.disk → Needs old → IsAdded d event mid new → IsAdded d event old new
+    → IsSameDevice d old.disk mid.disk → IsDueBefore old → IsAdded d event mid new → IsAdded d event old new
 added_behind d event old mid new renewed device need added = record {
   behind = λ honest. let x = added.behind (device.still honest) in (x.0, x.1, x.2 ∙ renewed.desktop honest);
   more = λ honest room. absurd (no_need old room need);

@@ -26,7 +26,7 @@ module _ {D : Type 0} (d : Ghosts D) where
       (MeansEither (d.size old.disk) old.desktop (brought_in old.desktop documents).desktop)
 
   -- No: the store is as it was, and nothing was written
-  pub record IsRefused (old new : StoreView D) : Type 0 where
+  pub record AreRefused (old new : StoreView D) : Type 0 where
     pub desktop : d.honest old.disk → new.desktop ≡ old.desktop
     pub kept : new.kept ≡ old.kept
     pub layout : new.layout ≡ old.layout
@@ -35,7 +35,7 @@ module _ {D : Type 0} (d : Ghosts D) where
     pub unwritten : IsOnlyRead d old.disk new.disk
 
   -- Ok: the desktop and the reply are those of the definition
-  pub record IsBrought (documents : Documents) (reply : Reply) (old new : StoreView D) : Type 0 where
+  pub record AreBrought (documents : Documents) (reply : Reply) (old new : StoreView D) : Type 0 where
     pub brought : d.honest old.disk → outcome_of new.desktop reply ≡ brought_in old.desktop documents
     -- from now on a crash leaves that desktop
     pub durable : IsDurable d new
@@ -44,7 +44,7 @@ module _ {D : Type 0} (d : Ghosts D) where
     -- all stand in the other slot, which is in use now
     pub done : reply ≡ Done → IsInNextSlot old new
     -- or none was brought
-    pub refusal : (code : ℕ) → reply ≡ No code → IsRefused old new
+    pub refusal : (code : ℕ) → reply ≡ No code → AreRefused old new
     -- over every disk: the same over every list of as many characters as were written
     pub unread : BringsUnread old.kept new.kept documents reply
 

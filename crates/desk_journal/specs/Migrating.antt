@@ -5,7 +5,7 @@ use Rattle.event_bytes.specs.declared.event.Event.{Event}
 use Rattle.desktop_definitions.specs.declared.reply.Reply.{Reply}
 use Rattle.desk_slots.specs.declared.error.Error.{Error}
 use Rattle.desk_journal.specs.Checkpointing.{IsCheckpointed}
-use Rattle.desk_journal.specs.Posting.{HasRoom, IsPosted}
+use Rattle.desk_journal.specs.Posting.{HasJournalRoom, IsPosted}
 use Rattle.desk_journal.specs.View.{StoreView}
 
 -- The call is a checkpoint up to a store between, and from there, if that is done, a post to a store of the newest
@@ -16,6 +16,6 @@ pub record ChecksFirst {D : Type 0} (d : Ghosts D) (event : Event) (answer : Res
   pub between : StoreView D
   pub outcome : Result ⊤ Error
   pub before : IsCheckpointed d outcome old between
-  pub room : OnOk outcome (HasRoom between)
+  pub room : OnOk outcome (HasJournalRoom between)
   pub behind : OnOk outcome (IsPosted d event answer between new)
   pub refused : IfErr outcome (λ e. (answer ≡ Err e) × (new ≡ between))

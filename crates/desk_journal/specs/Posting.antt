@@ -33,27 +33,27 @@ IsLast store = (store.must_reopen ≡ false) × (store.epoch ≡ LAST_EPOCH)
 
 -- a checkpoint is due before the next event: the journal has room for no more, or the slot in use has another version
 -- than the newest
-abbrev pub Needs : {D : Type 0} → StoreView D → Type 0
-Needs store = (JOURNAL_EVENTS ≤ store.events) ⊎ ¬ (store.layout ≡ LAYOUT)
+abbrev pub IsDueBefore : {D : Type 0} → StoreView D → Type 0
+IsDueBefore store = (JOURNAL_EVENTS ≤ store.events) ⊎ ¬ (store.layout ≡ LAYOUT)
 
 -- the journal has room, and the slot in use has the newest version
-abbrev pub HasRoom : {D : Type 0} → StoreView D → Type 0
-HasRoom store = (store.events < JOURNAL_EVENTS) × (store.layout ≡ LAYOUT)
+abbrev pub HasJournalRoom : {D : Type 0} → StoreView D → Type 0
+HasJournalRoom store = (store.events < JOURNAL_EVENTS) × (store.layout ≡ LAYOUT)
 
 -- Worn: a checkpoint is due, and the epoch is the last one
-abbrev pub IsWorn : {D : Type 0} → Result Reply Error → StoreView D → StoreView D → Type 0
-IsWorn answer old new = TurnsAway (IsErrOf answer Worn) (IsLast old × Needs old) old new
+abbrev pub AnswersWorn : {D : Type 0} → Result Reply Error → StoreView D → StoreView D → Type 0
+AnswersWorn answer old new = TurnsAway (IsErrOf answer Worn) (IsLast old × IsDueBefore old) old new
 
 -- MustReopen: after NoMemory or Fault of an earlier post, or Fault of an earlier checkpoint
-abbrev pub IsUnusable : {D T : Type 0} → Result T Error → StoreView D → StoreView D → Type 0
-IsUnusable answer old new = TurnsAway (IsErrOf answer MustReopen) (old.must_reopen ≡ true) old new
+abbrev pub AnswersMustReopen : {D T : Type 0} → Result T Error → StoreView D → StoreView D → Type 0
+AnswersMustReopen answer old new = TurnsAway (IsErrOf answer MustReopen) (old.must_reopen ≡ true) old new
 
 module _ {D : Type 0} (d : Ghosts D) where
   -- A call that may write, whatever it returns: MustReopen changes nothing, Fault comes exactly where a failure was
   -- counted, each error is one of the call's, and the device stays what it was past the sectors of a store.
   pub record Behaves {T : Type 0} (OfCall : Error → Type 0) (answer : Result T Error) (old new : StoreView D)
       : Type 0 where
-    pub reopen : IsUnusable answer old new
+    pub reopen : AnswersMustReopen answer old new
     pub faults : FailsAs Fault OfCall answer (d.failures old.disk) (d.failures new.disk)
     pub device : IsSameDevice d old.disk new.disk
     pub within : StaysWithin d old.disk new.disk
@@ -71,8 +71,8 @@ module _ {D : Type 0} (d : Ghosts D) where
     -- from now on a crash leaves that desktop
     pub durable : IsDurable d new
     -- the journal has one event more, or, where a checkpoint was due, is a new one with this event
-    pub more : HasRoom old → (new.epoch ≡ old.epoch) × (new.events ≡ old.events + 1)
-    pub anew : Needs old → (new.epoch ≡ old.epoch + 1) × (new.events ≡ 1)
+    pub more : HasJournalRoom old → (new.epoch ≡ old.epoch) × (new.events ≡ old.events + 1)
+    pub anew : IsDueBefore old → (new.epoch ≡ old.epoch + 1) × (new.events ≡ 1)
     -- and is one of the newest version
     pub layout : new.layout ≡ LAYOUT
     pub usable : new.must_reopen ≡ false
@@ -100,5 +100,5 @@ module _ {D : Type 0} (d : Ghosts D) where
     pub ok : IfOk answer (λ reply. IsAcknowledged event reply old new)
     pub memory : IsErrOf answer NoMemory → IsStarved old new
     pub fault : IsErrOf answer Fault → IsBroken new
-    pub worn : IsWorn answer old new
+    pub worn : AnswersWorn answer old new
     pub behaves : Behaves OfPost answer old new

@@ -21,15 +21,15 @@ session_of store = record {
 }
 
 -- the journal has room for an event, and the slot in use has the newest version
-abbrev pub has_room : Session → Bool
-has_room s = nat_lt s.events JOURNAL_EVENTS && s.layout == LAYOUT
+abbrev pub has_journal_room : Session → Bool
+has_journal_room s = nat_lt s.events JOURNAL_EVENTS && s.layout == LAYOUT
 
 abbrev pub HasRoomIn : Session → Type 0
 HasRoomIn s = (s.events < JOURNAL_EVENTS) × (s.layout ≡ LAYOUT)
 
 -- a checkpoint is due before the next event
 abbrev pub is_due : Session → Bool
-is_due s = not (has_room s)
+is_due s = not (has_journal_room s)
 
 abbrev pub IsDue : Session → Type 0
 IsDue s = (JOURNAL_EVENTS ≤ s.events) ⊎ ¬ (s.layout ≡ LAYOUT)

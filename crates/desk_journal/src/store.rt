@@ -6,18 +6,18 @@ ghost use Rattle.std.specs.Prelude.{◌≡◌, ◌≢◌, ◌<◌, ◌≤◌, �
 ghost use Rattle.std.specs.Prelude.{IsErr, IsErrOf};
 ghost use Rattle.std.specs.Prelude.{option_map, IsTrue};
 ghost use Rattle.desktop_definitions.specs.Desktop.{empty_desktop, file_of};
-ghost use Rattle.desk_slots.specs.Device.{IsOnlyRead, StaysWithin, disk_after, outcome};
+ghost use Rattle.desk_slots.specs.Device.{IsOnlyRead, StaysWithin, disk_after, result_of};
 ghost use Rattle.desk_slots.specs.Errors.{OfFormat, OfOpen, OfPost, OfLook, OfCheckpoint};
 ghost use Rattle.desk_journal.specs.Looking.{OnlyLooks};
 ghost use Rattle.store_layout.specs.Meaning.{Shows, Standing};
 ghost use Rattle.store_layout.specs.declared.layout.TheConstants.{FIRST_LAYOUT};
 ghost use Rattle.desk_journal.specs.Checkpointing.{LeavesDesktop, IsRenewed};
 ghost use Rattle.desk_journal.specs.Opening.{IsOpened, IsNoStore};
-ghost use Rattle.desk_journal.specs.Posting.{LeavesEither, IsAcknowledged, IsStarved, IsBroken, IsLast, IsWorn};
-ghost use Rattle.desk_journal.specs.Posting.{Behaves, HasRoom, IsUnusable, Needs, RecordsDone, TurnsAway};
+ghost use Rattle.desk_journal.specs.Posting.{LeavesEither, IsAcknowledged, IsStarved, IsBroken, IsLast, AnswersWorn};
+ghost use Rattle.desk_journal.specs.Posting.{Behaves, HasJournalRoom, AnswersMustReopen, IsDueBefore, RecordsDone, TurnsAway};
 ghost use Rattle.desk_journal.specs.Migrating.{ChecksFirst};
 ghost use Rattle.command_table.specs.Versions.{version_number};
-ghost use Rattle.desk_journal.specs.Undoing.{ClosesOneGate, IsAdded, IsAt, IsLeft, IsTakenBack, LeavesUndone, OfUndo};
+ghost use Rattle.desk_journal.specs.Undoing.{ClosesOneGate, IsAdded, ShowsStanding, IsLeft, IsTakenBack, LeavesUndone, OfUndo};
 ghost use Rattle.desk_journal.specs.View.{IsDurable};
 ghost use Rattle.desk_slots.specs.Words.{Leaves, Nowhere, now, IsConfined, FailsAs, entries_of};
 ghost use Rattle.desk_slots.specs.Words.{ListsUnread, shown_screen};
@@ -71,8 +71,8 @@ impl<D: Disk> Model for Store<D> {
     ghost use Rattle.sector_disk.specs.Trail.{now};
     ghost use Rattle.command_table.specs.Versions.{version_number};
     ghost use Rattle.store_layout.specs.declared.layout.TheConstants.{JOURNAL_EVENTS, SLOTS, STORE_SECTORS};
-    ghost use Rattle.store_layout.specs.Kept.{IsKept};
-    ghost use Rattle.desk_slots.specs.Live.{seen_live, IsLive, IsNamed, IsTold};
+    ghost use Rattle.store_layout.specs.Kept.{ShowsSettled};
+    ghost use Rattle.desk_slots.specs.Live.{seen_live, IsLive, IsNamed, HasTrueCache};
     ghost use Rattle.desk_journal.specs.View.{StoreView};
 
     ghost Value = { StoreView D };
@@ -88,9 +88,9 @@ impl<D: Disk> Model for Store<D> {
     } };
 
     ghost invariant = { λ s. s.must_reopen ≡ false → (s.slot < SLOTS) × (s.events ≤ JOURNAL_EVENTS)
-        × (STORE_SECTORS ≤ D.Disk.size s.disk) × IsLive s.desktop × IsTold D.Disk s.disk s.desktop
+        × (STORE_SECTORS ≤ D.Disk.size s.disk) × IsLive s.desktop × HasTrueCache D.Disk s.disk s.desktop
         × (D.Disk.honest s.disk
-        → IsKept (D.Disk.size s.disk) (D.Disk.trail s.disk) s.slot (version_number s.version) s.epoch s.events
+        → ShowsSettled (D.Disk.size s.disk) (D.Disk.trail s.disk) s.slot (version_number s.version) s.epoch s.events
         (seen_live (now (D.Disk.trail s.disk)).reads s.desktop)
         × IsNamed (now (D.Disk.trail s.disk)).reads s.slot s.desktop) };
 }
@@ -103,10 +103,10 @@ impl<D: Disk> Store<D> {
     pub fn format(disk: D) -> Result<D, (Error, D)>
         ensures empty { IfOk result (λ new. D.honest disk
             → Leaves (now (D.trail new)) (Shows (D.size new) LAYOUT 1 0 empty_desktop)) }
-        ensures small { IsErrOf (outcome result) Error.TooSmall ↔ (D.size disk < STORE_SECTORS) }
+        ensures small { IsErrOf (result_of result) Error.TooSmall ↔ (D.size disk < STORE_SECTORS) }
         ensures untouched { IfErr result (λ e. e.0 ≡ Error.TooSmall → e.1 ≡ disk) }
         ensures within { StaysWithin D.Disk disk (disk_after (λ new. new) result) }
-        ensures faults { FailsAs Error.Fault OfFormat (outcome result) (D.failures disk) (D.failures (disk_after
+        ensures faults { FailsAs Error.Fault OfFormat (result_of result) (D.failures disk) (D.failures (disk_after
             (λ new. new) result)) }
     {
         Store::format_as(disk, NEWEST)
@@ -119,10 +119,10 @@ impl<D: Disk> Store<D> {
     pub fn format_as(disk: D, version: Version) -> Result<D, (Error, D)>
         ensures empty { IfOk result (λ new. D.honest disk
             → Leaves (now (D.trail new)) (Shows (D.size new) (version_number version) 1 0 empty_desktop)) }
-        ensures small { IsErrOf (outcome result) Error.TooSmall ↔ (D.size disk < STORE_SECTORS) }
+        ensures small { IsErrOf (result_of result) Error.TooSmall ↔ (D.size disk < STORE_SECTORS) }
         ensures untouched { IfErr result (λ e. e.0 ≡ Error.TooSmall → e.1 ≡ disk) }
         ensures within { StaysWithin D.Disk disk (disk_after (λ new. new) result) }
-        ensures faults { FailsAs Error.Fault OfFormat (outcome result) (D.failures disk) (D.failures (disk_after
+        ensures faults { FailsAs Error.Fault OfFormat (result_of result) (D.failures disk) (D.failures (disk_after
             (λ new. new) result)) }
     {
         let mut disk = disk;
@@ -150,7 +150,7 @@ impl<D: Disk> Store<D> {
         ensures no_store { IfErr result (λ e. IsNoStore D.Disk disk e.0) }
         ensures any_moment { IsOnlyRead D.Disk disk (disk_after (λ store. store.disk) result) }
         ensures untouched { IsConfined D.size D.honest D.trail Nowhere disk (disk_after (λ store. store.disk) result) }
-        ensures faults { FailsAs Error.Fault OfOpen (outcome result) (D.failures disk) (D.failures (disk_after
+        ensures faults { FailsAs Error.Fault OfOpen (result_of result) (D.failures disk) (D.failures (disk_after
             (λ store. store.disk) result)) }
     {
         let mut disk = disk;
@@ -181,9 +181,9 @@ impl<D: Disk> Store<D> {
         ensures memory { IsErrOf result Error.NoMemory → IsStarved D.Disk self.old self.new }
         ensures fault { IsErrOf result Error.Fault → IsBroken self.new }
         ensures recorded { IsErrOf result Error.Fault → RecordsDone D.Disk event.now self.old self.new }
-        ensures worn { IsWorn result self.old self.new }
+        ensures worn { AnswersWorn result self.old self.new }
         ensures behaves { Behaves D.Disk OfPost result self.old self.new }
-        ensures first { self.old.must_reopen ≡ false → Needs self.old
+        ensures first { self.old.must_reopen ≡ false → IsDueBefore self.old
             → ChecksFirst D.Disk event.now result self.old self.new }
         ensures added { OnOk result (IsAdded D.Disk event.now self.old self.new) }
     {
@@ -195,15 +195,15 @@ impl<D: Disk> Store<D> {
 
     /// Whether a checkpoint is due before the next event: the journal is full, or the slot in use has an older version.
     fn needs(&self) -> bool
-        ensures due { IsTrue result ↔ Needs self.now }
-        ensures room { result ≡ false → HasRoom self.now }
+        ensures due { IsTrue result ↔ IsDueBefore self.now }
+        ensures room { result ≡ false → HasJournalRoom self.now }
     {
         self.events >= JOURNAL_EVENTS || self.version.number() != LAYOUT
     }
 
     /// The rest of a post: the journal has room, and the slot in use has the newest version.
     fn put(&mut self, alloc: Global, event: &Event) -> Result<Reply, Error>
-        requires { self.old.must_reopen ≡ false → HasRoom self.old }
+        requires { self.old.must_reopen ≡ false → HasJournalRoom self.old }
         ensures any_moment { LeavesEither D.Disk event.now self.old self.new }
         ensures ok { IfOk result (λ reply. IsAcknowledged D.Disk event.now reply self.old self.new) }
         ensures memory { IsErrOf result Error.NoMemory → IsStarved D.Disk self.old self.new }
@@ -270,11 +270,11 @@ impl<D: Disk> Store<D> {
     ///
     /// Errors: `MustReopen`; `NoMemory`; `Fault`. Over a disk that isn't honest, `Damaged` too.
     pub fn history(&mut self, alloc: Global) -> Result<Vec<Event>, Error>
-        ensures events { IfOk result (λ events. D.honest self.old.disk → (s : Standing) → IsAt D.Disk self.old s
+        ensures events { IfOk result (λ events. D.honest self.old.disk → (s : Standing) → ShowsStanding D.Disk self.old s
             → s.events ≡ events.items) }
         ensures looks { IsLeft D.Disk self.old self.new }
         ensures usable { self.new.must_reopen ≡ self.old.must_reopen }
-        ensures reopen { IsUnusable result self.old self.new }
+        ensures reopen { AnswersMustReopen result self.old self.new }
         ensures stops { D.honest self.old.disk → IfErr result OfLook }
         ensures faults { FailsAs Error.Fault OfUndo result (D.failures self.old.disk) (D.failures self.new.disk) }
     {

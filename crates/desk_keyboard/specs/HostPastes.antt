@@ -2,7 +2,7 @@
 use Rattle.std.specs.Prelude.{ℕ, ◌+◌, ◌==◌, if◌then◌else◌, List, [], ◌∷◌, ◌++◌, map, length, Option}
 use Rattle.std.specs.Io.KnownBytes.{Consumes}
 use Rattle.terminal_presses.specs.declared.press.Heard.{Heard}
-use Rattle.terminal_presses.specs.Spelling.{bytes}
+use Rattle.terminal_presses.specs.Spelling.{bytes_heard}
 use Rattle.desk_keyboard.specs.declared.paste.Stage.{Stage}
 use Rattle.desk_keyboard.specs.declared.paste.Stage.TheVariants.{Begins, GoesOn, Ended, Broken}
 
@@ -24,22 +24,22 @@ unfoldable pub harmless : ℕ → ℕ
 harmless b = if b == 27 then 63 else b
 
 -- What is told of a text at one time, and the bytes that are read for it. `left` is how many bytes may still be read.
-pub data Tells : Stage → ℕ → Stage → ℕ → List ℕ → List Heard → Type 0 where
-  begins : {left : ℕ} → Tells Begins left GoesOn left [] (bytes paste_begins)
-  goes_on : {left : ℕ} {text : List ℕ} → Tells GoesOn (left + length text) GoesOn left text (bytes (map harmless text))
-  ends : {left : ℕ} → Tells GoesOn left Ended left [] (bytes paste_ends)
-  breaks : {left : ℕ} → Tells GoesOn left Broken left [] (bytes (paste_ends ++ file_fails))
+pub data TellsText : Stage → ℕ → Stage → ℕ → List ℕ → List Heard → Type 0 where
+  begins : {left : ℕ} → TellsText Begins left GoesOn left [] (bytes_heard paste_begins)
+  goes_on : {left : ℕ} {text : List ℕ} → TellsText GoesOn (left + length text) GoesOn left text (bytes_heard (map harmless text))
+  ends : {left : ℕ} → TellsText GoesOn left Ended left [] (bytes_heard paste_ends)
+  breaks : {left : ℕ} → TellsText GoesOn left Broken left [] (bytes_heard (paste_ends ++ file_fails))
 
 -- The same of a reader, whose bytes are known or not.
 pub record TakesText (stage stage' : Stage) (left left' : ℕ) (known known' : Option (List ℕ)) (told : List Heard)
     : Type 0 where
   pub text : List ℕ
   pub read : Consumes known known' text
-  pub tells : Tells stage left stage' left' text told
+  pub tells : TellsText stage left stage' left' text told
 
 -- All that was told so far of a text of which so many bytes are read at most.
 pub data AreTold (most : ℕ) : Stage → ℕ → List ℕ → List Heard → Type 0 where
   nothing : AreTold most Begins most [] []
   one_more : {stage stage' : Stage} {left left' : ℕ} {text piece : List ℕ} {told now : List Heard}
-      → AreTold most stage left text told → Tells stage left stage' left' piece now
+      → AreTold most stage left text told → TellsText stage left stage' left' piece now
       → AreTold most stage' left' (text ++ piece) (told ++ now)

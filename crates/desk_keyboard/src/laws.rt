@@ -3,10 +3,10 @@ ghost use Rattle.std.specs.Prelude.{◌≡◌, ℕ, ◌+◌, ◌++◌, List, len
 ghost use Rattle.terminal_presses.specs.declared.press.Heard.{Heard};
 ghost use Rattle.terminal_presses.specs.declared.hand.Hand.{Hand};
 ghost use Rattle.terminal_presses.specs.Sights.{Sight};
-ghost use Rattle.terminal_presses.specs.Presses.{at_rest, pressed};
+ghost use Rattle.terminal_presses.specs.Presses.{at_rest, presses_heard};
 ghost use Rattle.terminal_presses.specs.Hands.{idle};
-ghost use Rattle.terminal_presses.specs.Runs.{Types, pasted, pasted_text, posted};
-ghost use Rattle.terminal_presses.specs.Spelling.{bytes};
+ghost use Rattle.terminal_presses.specs.Runs.{Types, pasted, pasted_text, posted_events};
+ghost use Rattle.terminal_presses.specs.Spelling.{bytes_heard};
 ghost use Rattle.desk_keyboard.specs.HostPastes.{AreTold, file_fails, harmless};
 
 use crate::paste::Stage;
@@ -20,9 +20,9 @@ pub fn texts_are_typed()
         → told ≡ pasted (map harmless text) }
     ensures typed { (most left : ℕ) (text : List ℕ) (told : List Heard) (sight : Sight) (hand : Hand)
         → AreTold most Stage.Ended left text told
-        → Types (posted sight (idle hand) (pressed at_rest told)) (pasted_text (map harmless text)) }
+        → Types (posted_events sight (idle hand) (presses_heard at_rest told)) (pasted_text (map harmless text)) }
     ensures broken { (most left : ℕ) (text : List ℕ) (told : List Heard) → AreTold most Stage.Broken left text told
-        → told ≡ pasted (map harmless text) ++ bytes file_fails }
+        → told ≡ pasted (map harmless text) ++ bytes_heard file_fails }
     ensures few { (most left : ℕ) (text : List ℕ) (told : List Heard) → AreTold most Stage.Ended left text told
         → left + length text ≡ most }
 {

@@ -6,8 +6,8 @@ use Rattle.terminal_presses.specs.declared.press.Heard.{Heard}
 use Rattle.terminal_presses.specs.declared.press.Heard.TheVariants.{Byte, Quiet}
 use Rattle.terminal_presses.specs.declared.press.Press.{Press}
 use Rattle.desk_sitting.specs.declared.sitting.Sitting.{Sitting}
-use Rattle.desk_sitting.specs.Doing.{Does}
-use Rattle.desk_sitting.specs.Sittings.{brought}
+use Rattle.desk_sitting.specs.Doing.{DoesPresses}
+use Rattle.desk_sitting.specs.Sittings.{after_fetch}
 
 -- bytes, and then a quiet while
 abbrev pub heard_of : List ℕ → List Heard
@@ -18,5 +18,5 @@ heard_of (byte ∷ bytes) = Byte byte ∷ heard_of bytes
 pub record Hears {D : Type 0} (d : Ghosts D) (presses : List Press) (s s' : Sitting) (old new : StoreView D)
     : Type 0 where
   pub sitting : Sitting
-  pub does : Does d presses s sitting old new
-  pub unread : s' ≡ brought false sitting
+  pub does : DoesPresses d presses s sitting old new
+  pub unread : s' ≡ after_fetch false sitting

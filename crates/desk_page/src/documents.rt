@@ -1,7 +1,7 @@
 //! Documents on their way into a page's desktop and out of it.
 ghost use Rattle.std.specs.Prelude.{◌≡◌, [], ◌∷◌, Option, IfOk, IsErrOf, map, option_map};
 ghost use Rattle.desktop_definitions.specs.Desktop.{file_of};
-ghost use Rattle.desk_journal.specs.Bringing.{IsBrought, IsUnwritten, LeavesAllOrNone};
+ghost use Rattle.desk_journal.specs.Bringing.{AreBrought, IsUnwritten, LeavesAllOrNone};
 ghost use Rattle.desk_journal.specs.Device.{IsOnlyRead};
 ghost use Rattle.desk_journal.specs.Session.{session_of};
 ghost use Rattle.host_documents.specs.HostText.{exported};
@@ -21,7 +21,7 @@ use std::alloc::Global;
 /// Errors: those of `Store::bring`.
 pub fn bring<D: Disk>(alloc: Global, page: &mut Page<D>, document: Document) -> Result<Reply, Error>
     ensures any_moment { LeavesAllOrNone D.Disk (document ∷ []) page.old.store page.new.store }
-    ensures brought { IfOk result (λ reply. IsBrought D.Disk (document ∷ []) reply page.old.store page.new.store) }
+    ensures brought { IfOk result (λ reply. AreBrought D.Disk (document ∷ []) reply page.old.store page.new.store) }
     ensures memory { IsErrOf result Error.NoMemory → IsUnwritten D.Disk page.old.store page.new.store }
     ensures sitting { page.new.sitting ≡ page.old.sitting }
     ensures parser { page.new.parser ≡ page.old.parser }

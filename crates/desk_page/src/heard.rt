@@ -3,7 +3,7 @@ ghost use Rattle.std.specs.Prelude.{◌≡◌, false, OnOk, IfOk, IfErr};
 ghost use Rattle.desk_journal.specs.Device.{IsSameDevice};
 ghost use Rattle.desk_journal.specs.View.{IsDurable};
 ghost use Rattle.sector_disk.specs.Faults.{FailsAs};
-ghost use Rattle.terminal_presses.specs.Presses.{parser_after, pressed};
+ghost use Rattle.terminal_presses.specs.Presses.{parser_after, presses_heard};
 ghost use Rattle.desk_sitting.specs.Doing.{Breaks, OfPresses};
 ghost use Rattle.desk_page.specs.Hearing.{Hears, heard_of};
 
@@ -36,10 +36,10 @@ pub fn hear<D: Disk>(alloc: Global, page: &mut Page<D>, heard: &[Heard]) -> Resu
     requires { page.old.store.must_reopen ≡ false }
     ensures parser { OnOk result (page.new.parser ≡ parser_after page.old.parser heard.now) }
     ensures done { OnOk result (D.honest page.old.store.disk → IsDurable D.Disk page.old.store
-        → Hears D.Disk (pressed page.old.parser heard.now) page.old.sitting page.new.sitting
+        → Hears D.Disk (presses_heard page.old.parser heard.now) page.old.sitting page.new.sitting
         page.old.store page.new.store) }
     ensures broke { IfErr result (λ error. D.honest page.old.store.disk → IsDurable D.Disk page.old.store
-        → Breaks D.Disk error (pressed page.old.parser heard.now) page.old.sitting page.old.store page.new.store) }
+        → Breaks D.Disk error (presses_heard page.old.parser heard.now) page.old.sitting page.old.store page.new.store) }
     ensures usable { OnOk result (page.new.store.must_reopen ≡ false) }
     ensures faults { FailsAs Error.Fault OfPresses result (D.failures page.old.store.disk)
         (D.failures page.new.store.disk) }

@@ -9,7 +9,7 @@ ghost use Rattle.desk_journal.specs.Session.{session_of};
 ghost use Rattle.desk_journal.specs.View.{IsDurable};
 ghost use Rattle.desk_sitting.specs.Sittings.{looked, new_sitting};
 ghost use Rattle.first_desk.specs.FirstDesk.{furnishing};
-ghost use Rattle.screen_drawing.specs.Drawn.{drawn};
+ghost use Rattle.screen_drawing.specs.Drawn.{drawing_of};
 ghost use Rattle.terminal_presses.specs.Presses.{at_rest};
 
 use desk_journal::{Error, Store};
@@ -91,7 +91,7 @@ pub fn begin_new<D: Disk + Drop>(alloc: Global, disk: D) -> Result<Page<D>, Erro
 pub fn show<D: Disk>(alloc: Global, page: &mut Page<D>, drawing: &mut Vec<u8>) -> Result<(), Error>
     requires { page.old.store.must_reopen ≡ false }
     ensures drawn { OnOk result (D.honest page.old.store.disk
-        → drawing.new.items ≡ drawing.old.items ++ drawn (shown_screen page.old.store.desktop)) }
+        → drawing.new.items ≡ drawing.old.items ++ drawing_of (shown_screen page.old.store.desktop)) }
     ensures sitting { OnOk result (D.honest page.old.store.disk
         → page.new.sitting ≡ looked (shown_screen page.old.store.desktop) page.old.sitting) }
     ensures parser { page.new.parser ≡ page.old.parser }

@@ -5,7 +5,7 @@ use Rattle.sector_disk.specs.declared.disk.Disk.{Ghosts}
 use Rattle.desk_journal.specs.Errors.{Error}
 use Rattle.desk_sitting.specs.Travels.{Travels}
 use Rattle.desk_session.specs.declared.ending.SittingEnd.{SittingEnd}
-use Rattle.desk_session.specs.Endings.{end_of}
+use Rattle.desk_session.specs.Endings.{sitting_end_of}
 use Rattle.desk_session.specs.Serving.{TurnState}
 use Rattle.desk_session.specs.Travelling.{IsStill, TakesBetween}
 use Rattle.desk_session.proofs.Turning.{calm_presses, counts_presses, unusable}
@@ -27,7 +27,7 @@ module _ {D : Type 0} (d : Ghosts D) (old new : TurnState D) (still : IsStill d 
     device = travels.device;
   }
 
-  pub broken_off : {T U : Type 0} (result : Result T SittingEnd) (error : Error) → result ≡ Err (end_of error)
+  pub broken_off : {T U : Type 0} (result : Result T SittingEnd) (error : Error) → result ≡ Err (sitting_end_of error)
       → Travels d {T = U} (Err error) old.sitting new.sitting old.store new.store → TakesBetween d result old new
   broken_off result error is travels = subst (λ r. TakesBetween d r old new) (sym is) (record {
     goes_on = tt;

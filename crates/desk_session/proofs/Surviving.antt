@@ -21,27 +21,27 @@ use Rattle.terminal_presses.specs.declared.action.Action.TheVariants as action
 use Rattle.terminal_presses.specs.declared.press.Press.{Press}
 use Rattle.terminal_presses.specs.Hands.{handled}
 use Rattle.desk_sitting.specs.declared.sitting.Sitting.{Sitting}
-use Rattle.desk_sitting.specs.Doing.{Breaks, Does, IsDone, seat_of, none as no_press, one_more as one_press}
-use Rattle.desk_sitting.specs.Sittings.{Seat, PressesAreSteps, accepted, accepted_of, after_press, after_presses}
+use Rattle.desk_sitting.specs.Doing.{Breaks, DoesPresses, IsDone, seat_of, none as no_press, one_more as one_press}
+use Rattle.desk_sitting.specs.Sittings.{Seat, PressesAreSteps, accepted_events, accepted_of, after_press, after_presses}
 use Rattle.desk_sitting.specs.Sittings.{click_at, posts}
 use Rattle.desk_session.specs.declared.ending.SittingEnd.{SittingEnd}
 use Rattle.desk_session.specs.declared.ending.SittingEnd.TheVariants.{Left, Closed, Input, TooLong, Output, Fault, Memory}
-use Rattle.desk_session.specs.Serving.{TurnState, IsLookedAt, Turns, IsRun, Broke, Stops, Ends, seen}
+use Rattle.desk_session.specs.Serving.{TurnState, IsLookedAt, Turns, IsTurnRun, Broke, SittingStops, Ends, sitting_shown}
 use Rattle.desk_session.specs.Serving.{none as no_turn, one_more as one_more_turn}
 use Rattle.desk_session.specs.Serving.{left, closed, unheard, unseen, faulty, starved, faulty_press, starved_press}
 use Rattle.desk_session.specs.Serving.{stopped, too_long}
-use Rattle.desk_session.specs.Surviving.{Survives, GoesBy, SurvivesEnd}
+use Rattle.desk_session.specs.Surviving.{SittingSurvives, GoesBy, SurvivesEnd}
 use Rattle.desk_session.specs.Surviving.{ScenesSurvive, TurnsSurvive, EndsSurvive}
 use Rattle.desk_session.proofs.Turning.{same_device}
 
 -- ---- the events of presses
 
 accepted_more : (presses : List Press) (press : Press) (d : Seat)
-    → accepted (presses ++ press ∷ []) d ≡ accepted presses d ++ accepted_of press (after_presses presses d)
+    → accepted_events (presses ++ press ∷ []) d ≡ accepted_events presses d ++ accepted_of press (after_presses presses d)
 accepted_more [] press d = append-nil (accepted_of press d)
 accepted_more (first ∷ presses) press d =
     ap (λ es. accepted_of first d ++ es) (accepted_more presses press (after_press first d))
-    ∙ sym (append_assoc (accepted_of first d) (accepted presses (after_press first d))
+    ∙ sym (append_assoc (accepted_of first d) (accepted_events presses (after_press first d))
     (accepted_of press (after_presses presses (after_press first d))))
 
 after_more : (presses : List Press) (press : Press) (d : Seat)
@@ -83,7 +83,7 @@ module _ {D : Type 0} (d : Ghosts D) where
 
   -- what is done first, and what is left of the rest
   survives_on : (events more begun : List Event) (old mid new : StoreView D) → GoesBy d events old mid
-      → Survives d more begun mid new → Survives d (events ++ more) begun old new
+      → SittingSurvives d more begun mid new → SittingSurvives d (events ++ more) begun old new
   survives_on events more begun old mid new goes rest =
       let size : ℕ = d.size old.disk in
       let all : List Event = (events ++ more) ++ begun in
@@ -117,7 +117,7 @@ module _ {D : Type 0} (d : Ghosts D) where
   -- the desktop before some events or after them
   either_survives : (begun : List Event) (old new : StoreView D)
       → LeavesOnly (d.trail old.disk) (d.trail new.disk)
-      (MeansEither (d.size old.disk) old.desktop (steps old.desktop begun)) → Survives d [] begun old new
+      (MeansEither (d.size old.disk) old.desktop (steps old.desktop begun)) → SittingSurvives d [] begun old new
   either_survives begun old new moments =
       let size : ℕ = d.size old.disk in
       let prefix : LeavesOnly (d.trail old.disk) (d.trail new.disk) (MeansPrefix size old.desktop [] begun) =
@@ -132,7 +132,7 @@ module _ {D : Type 0} (d : Ghosts D) where
   -- the same desktop at every moment
   same_survives : (old new : StoreView D)
       → LeavesOnly (d.trail old.disk) (d.trail new.disk) (Means (d.size old.disk) old.desktop)
-      → Survives d [] [] old new
+      → SittingSurvives d [] [] old new
   same_survives old new moments = either_survives [] old new (weakened moments (λ c means. inl means))
 
   -- a durable store means its desktop
@@ -197,7 +197,7 @@ module _ {D : Type 0} (d : Ghosts D) where
 
   -- what presses leave
   record Leads (presses : List Press) (s s' : Sitting) (old new : StoreView D) : Type 0 where
-    pub goes : GoesBy d (accepted presses (seat_of s old)) old new
+    pub goes : GoesBy d (accepted_events presses (seat_of s old)) old new
     pub seat : seat_of s' new ≡ after_presses presses (seat_of s old)
 
   module _ (law : PressesAreSteps) where
@@ -219,18 +219,18 @@ module _ {D : Type 0} (d : Ghosts D) where
         → Leads (presses ++ press ∷ []) s s'' old new
     leads_more presses press s s' s'' old mid new before done honest =
         let start : Seat = seat_of s old in
-        let goes : GoesBy d (accepted presses start ++ accepted_of press (seat_of s' mid)) old new =
-        goes_on (accepted presses start) (accepted_of press (seat_of s' mid)) old mid new before.goes
+        let goes : GoesBy d (accepted_events presses start ++ accepted_of press (seat_of s' mid)) old new =
+        goes_on (accepted_events presses start) (accepted_of press (seat_of s' mid)) old mid new before.goes
         (goes_by_press press s' s'' mid new done (done.device.still honest)) in
         record {
           goes = subst (λ es. GoesBy d es old new)
-              (ap (λ e. accepted presses start ++ accepted_of press e) before.seat
+              (ap (λ e. accepted_events presses start ++ accepted_of press e) before.seat
               ∙ sym (accepted_more presses press start))
               goes;
           seat = done.seat ∙ ap (after_press press) before.seat ∙ sym (after_more presses press start);
         }
 
-    leads : {presses : List Press} {s s' : Sitting} {old new : StoreView D} → Does d presses s s' old new
+    leads : {presses : List Press} {s s' : Sitting} {old new : StoreView D} → DoesPresses d presses s s' old new
         → d.honest old.disk → IsDurable d old → Leads presses s s' old new
     leads (no_press {store = store}) honest durable = record {
       goes = goes_nowhere store honest durable;
@@ -244,14 +244,14 @@ module _ {D : Type 0} (d : Ghosts D) where
     -- presses of which the last one fails
     survives_break : (error : Error) (presses : List Press) (s : Sitting) (old new : StoreView D)
         → (breaks : Breaks d error presses s old new) → d.honest old.disk → IsDurable d old
-        → Survives d (accepted breaks.done (seat_of s old))
+        → SittingSurvives d (accepted_events breaks.done (seat_of s old))
         (accepted_of breaks.press (seat_of breaks.sitting breaks.mid)) old new
     survives_break error presses s old new breaks honest durable =
         let first : Leads breaks.done s breaks.sitting old breaks.mid = leads breaks.does honest durable in
         let at : Seat = seat_of breaks.sitting breaks.mid in
         let begun : List Event = accepted_of breaks.press at in
-        subst (λ es. Survives d es begun old new) (append-nil (accepted breaks.done (seat_of s old)))
-        (survives_on (accepted breaks.done (seat_of s old)) [] begun old breaks.mid new first.goes
+        subst (λ es. SittingSurvives d es begun old new) (append-nil (accepted_events breaks.done (seat_of s old)))
+        (survives_on (accepted_events breaks.done (seat_of s old)) [] begun old breaks.mid new first.goes
         (either_survives begun breaks.mid new
         (subst (λ e. LeavesOnly (d.trail breaks.mid.disk) (d.trail new.disk)
         (MeansEither (d.size breaks.mid.disk) breaks.mid.desktop e)) (press_steps breaks.press at)
@@ -260,11 +260,11 @@ module _ {D : Type 0} (d : Ghosts D) where
     -- for want of memory
     survives_starving : (presses : List Press) (s : Sitting) (old new : StoreView D)
         → (breaks : Breaks d NoMemory presses s old new) → d.honest old.disk → IsDurable d old
-        → Survives d (accepted breaks.done (seat_of s old)) [] old new
+        → SittingSurvives d (accepted_events breaks.done (seat_of s old)) [] old new
     survives_starving presses s old new breaks honest durable =
         let first : Leads breaks.done s breaks.sitting old breaks.mid = leads breaks.does honest durable in
-        subst (λ es. Survives d es [] old new) (append-nil (accepted breaks.done (seat_of s old)))
-        (survives_on (accepted breaks.done (seat_of s old)) [] [] old breaks.mid new first.goes
+        subst (λ es. SittingSurvives d es [] old new) (append-nil (accepted_events breaks.done (seat_of s old)))
+        (survives_on (accepted_events breaks.done (seat_of s old)) [] [] old breaks.mid new first.goes
         (same_survives breaks.mid new (breaks.undone.starved refl)))
 
     -- ---- turns
@@ -273,12 +273,12 @@ module _ {D : Type 0} (d : Ghosts D) where
         → IsDurable d old.store → GoesBy d events old.store new.store
     turn_goes events old new turn honest durable =
         let looks : IsLookedAt d old.store turn.mid = turn.scene.looked in
-        let done : Leads _ (seen old) turn.sitting turn.mid new.store =
+        let done : Leads _ (sitting_shown old) turn.sitting turn.mid new.store =
         leads turn.does (looks.disk.device.still honest) looks.durable in
         subst (λ es. GoesBy d es old.store new.store) (sym turn.are)
         (goes_on [] _ old.store turn.mid new.store (goes_by_look old.store turn.mid looks honest durable) done.goes)
 
-    run_goes : {old : TurnState D} {count : ℕ} {events : List Event} {new : TurnState D} → IsRun d old count events new
+    run_goes : {old : TurnState D} {count : ℕ} {events : List Event} {new : TurnState D} → IsTurnRun d old count events new
         → d.honest old.store.disk → IsDurable d old.store → GoesBy d events old.store new.store
     run_goes {old = old} no_turn honest durable = goes_nowhere old.store honest durable
     run_goes {old = old} {new = new} (one_more_turn {events = events} {more = more} {mid = mid} run turn stays) honest
@@ -303,7 +303,7 @@ module _ {D : Type 0} (d : Ghosts D) where
 
     -- a press that fails behind the scene
     behind_scene : (events begun : List Event) (old mid new : StoreView D) → IsLookedAt d old mid → d.honest old.disk
-        → IsDurable d old → Survives d events begun mid new → Survives d events begun old new
+        → IsDurable d old → SittingSurvives d events begun mid new → SittingSurvives d events begun old new
     behind_scene events begun old mid new looks honest durable rest =
         survives_on [] events begun old mid new (goes_by_look old mid looks honest durable) rest
 
@@ -314,9 +314,9 @@ module _ {D : Type 0} (d : Ghosts D) where
         let at : Seat = seat_of broke.breaks.sitting broke.breaks.mid in
         record {
           survives = behind_scene events begun old.store broke.mid new.store looks honest durable
-              (subst (λ es. Survives d events es broke.mid new.store) (sym broke.fails)
-              (subst (λ es. Survives d es (accepted_of broke.breaks.press at) broke.mid new.store) (sym broke.are)
-              (survives_break DiskFault _ (seen old) broke.mid new.store broke.breaks
+              (subst (λ es. SittingSurvives d events es broke.mid new.store) (sym broke.fails)
+              (subst (λ es. SittingSurvives d es (accepted_of broke.breaks.press at) broke.mid new.store) (sym broke.are)
+              (survives_break DiskFault _ (sitting_shown old) broke.mid new.store broke.breaks
               (looks.disk.device.still honest) looks.durable)));
           one = subst (λ es. length es ≤ 1) (sym broke.fails) (few_accepted broke.breaks.press at);
           none_begun = λ wrong. absurd (wrong refl);
@@ -329,8 +329,8 @@ module _ {D : Type 0} (d : Ghosts D) where
         let looks : IsLookedAt d old.store broke.mid = broke.scene.looked in
         record {
           survives = behind_scene events [] old.store broke.mid new.store looks honest durable
-              (subst (λ es. Survives d es [] broke.mid new.store) (sym broke.are)
-              (survives_starving _ (seen old) broke.mid new.store broke.breaks
+              (subst (λ es. SittingSurvives d es [] broke.mid new.store) (sym broke.are)
+              (survives_starving _ (sitting_shown old) broke.mid new.store broke.breaks
               (looks.disk.device.still honest) looks.durable));
           one = omega arith;
           none_begun = λ _. refl;
@@ -339,7 +339,7 @@ module _ {D : Type 0} (d : Ghosts D) where
 
     -- in the turn in which the sitting ends
     stop_survives : {end : SittingEnd} {events begun : List Event} {old new : TurnState D}
-        → Stops d end events begun old new
+        → SittingStops d end events begun old new
         → d.honest old.store.disk → IsDurable d old.store → SurvivesEnd d end events begun old.store new.store
     stop_survives (left {events = events} {old = old} {new = new} turn leaves) honest durable =
         well_ended Left events old.store new.store (turn_goes events old new turn honest durable)

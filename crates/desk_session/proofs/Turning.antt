@@ -13,7 +13,7 @@ use Rattle.sector_disk.specs.Faults.{FailsAs}
 use Rattle.terminal_keyboard.specs.declared.keyboard.KeyboardEnd.{KeyboardEnd}
 use Rattle.terminal_keyboard.specs.declared.keyboard.KeyboardEnd.TheVariants as keyboard
 use Rattle.terminal_presses.specs.declared.press.Heard.{Heard}
-use Rattle.terminal_presses.specs.Presses.{parser_after, pressed}
+use Rattle.terminal_presses.specs.Presses.{parser_after, presses_heard}
 use Rattle.desk_journal.specs.Device.{IsOnlyRead, IsSameDevice}
 use Rattle.desk_journal.specs.Errors.{Error, NotAStore, Damaged, TooSmall, Worn, NoMemory, MustReopen}
 use Rattle.desk_journal.specs.Errors.{Fault as DiskFault}
@@ -21,14 +21,14 @@ use Rattle.desk_journal.specs.Looking.{OnlyLooks}
 use Rattle.desk_journal.specs.Session.{Session, session_of}
 use Rattle.desk_journal.specs.View.{StoreView, IsDurable}
 use Rattle.desk_sitting.specs.declared.sitting.Sitting.{Sitting}
-use Rattle.desk_sitting.specs.Doing.{Breaks, Does, OfPresses, seat_of}
-use Rattle.desk_sitting.specs.Sittings.{accepted, accepted_of, looked}
+use Rattle.desk_sitting.specs.Doing.{Breaks, DoesPresses, OfPresses, seat_of}
+use Rattle.desk_sitting.specs.Sittings.{accepted_events, accepted_of, looked}
 use Rattle.desk_session.specs.declared.ending.SittingEnd.{SittingEnd}
 use Rattle.desk_session.specs.declared.ending.SittingEnd.TheVariants.{Left, Closed, Input, TooLong, Output, Fault, Memory}
-use Rattle.desk_session.specs.Endings.{EndsBy, IsOfNoKeyboard, end_of, end_of_keyboard}
-use Rattle.desk_session.specs.Scenes.{IsPainted, IsShown, IsUnshown, after_scene, behind_it, known_by}
-use Rattle.desk_session.specs.Serving.{TurnState, IsBrought, IsLookedAt, IsHeard, IsDeaf, Broke}
-use Rattle.desk_session.specs.Serving.{HasTurned, HasStopped, TakesTurn, CountsEnding, IsUsableAt, screen_of, seen}
+use Rattle.desk_session.specs.Endings.{EndsBy, IsOfNoKeyboard, sitting_end_of, end_of_keyboard}
+use Rattle.desk_session.specs.Scenes.{IsScenePainted, IsSceneShown, IsUnshown, after_scene, behind_it, known_by}
+use Rattle.desk_session.specs.Serving.{TurnState, IsFetched, IsLookedAt, HearsAfterScene, IsDeaf, Broke}
+use Rattle.desk_session.specs.Serving.{HasTurned, HasStopped, TakesTurn, CountsEnding, IsUsableAt, store_screen, sitting_shown}
 use Rattle.desk_session.specs.Serving.{left, closed}
 use Rattle.desk_session.specs.Serving.{unheard, unseen, faulty, starved, faulty_press, starved_press}
 
@@ -62,14 +62,14 @@ module _ {D : Type 0} (d : Ghosts D) where
 module _ (s s' : Sitting) (screen screen' : List (List Cell)) (known known' : List (List Face))
     (held between held' : Option (List ℕ)) {H : Type 0} where
   pub cut_behind : {T : Type 0} (result : Result T SittingEnd) → s' ≡ looked screen' s → (H → screen' ≡ screen)
-      → IsPainted s' screen' (known_by s.forgets known) known' held between
+      → IsScenePainted s' screen' (known_by s.forgets known) known' held between
       → OnErr result (AppendsFront between held' (after_scene s.rings s.asks))
       → IfErr result (λ end. end ≡ Output) → IfErr result (λ end. H → IsUnshown end s screen known held held')
   cut_behind (Ok value) looks shows painted front is = tt
   cut_behind (Err end) looks shows painted front is = λ h.
       subst (λ e. IsUnshown e s screen known held held') (sym is) (behind_it
-      (subst (λ x. IsPainted (looked x s) x (known_by s.forgets known) known' held between) (shows h)
-      (subst (λ t. IsPainted t screen' (known_by s.forgets known) known' held between) looks painted)) front)
+      (subst (λ x. IsScenePainted (looked x s) x (known_by s.forgets known) known' held between) (shows h)
+      (subst (λ t. IsScenePainted t screen' (known_by s.forgets known) known' held between) looks painted)) front)
 
 -- ---- failures
 
@@ -79,10 +79,10 @@ calm_keyboard keyboard.Closed failed failed' same = same
 calm_keyboard keyboard.Fault failed failed' same = same
 
 pub counts_presses : {T : Type 0} (error : Error) (first failed failed' : ℕ) → failed ≡ first
-    → FailsAs {T = T} DiskFault OfPresses (Err error) failed failed' → CountsEnding (end_of error) first failed'
+    → FailsAs {T = T} DiskFault OfPresses (Err error) failed failed' → CountsEnding (sitting_end_of error) first failed'
 counts_presses error first failed failed' same fails = elim fails.errors [
-  | inl is ↦ subst (λ e. CountsEnding (end_of e) first failed') (sym is) (fails.calm (λ wrong. cc) ∙ same)
-  | inr is ↦ subst (λ e. CountsEnding (end_of e) first failed') (sym is)
+  | inl is ↦ subst (λ e. CountsEnding (sitting_end_of e) first failed') (sym is) (fails.calm (λ wrong. cc) ∙ same)
+  | inr is ↦ subst (λ e. CountsEnding (sitting_end_of e) first failed') (sym is)
       (subst (λ n. n < failed') same (fails.rose (ap (λ e. Err e) is)))
 ]
 
@@ -91,10 +91,10 @@ pub calm_presses : {T : Type 0} (value : T) (first failed failed' : ℕ) → fai
 calm_presses value first failed failed' same fails = fails.calm (λ wrong. cc) ∙ same
 
 -- after a press that fails nothing is promised of the store
-pub unusable : {D : Type 0} (error : Error) (store : StoreView D) → OfPresses error → IsUsableAt (end_of error) store
+pub unusable : {D : Type 0} (error : Error) (store : StoreView D) → OfPresses error → IsUsableAt (sitting_end_of error) store
 unusable error store why = elim why [
-  | inl is ↦ subst (λ e. IsUsableAt (end_of e) store) (sym is) (λ _ wrong. absurd (wrong refl))
-  | inr is ↦ subst (λ e. IsUsableAt (end_of e) store) (sym is) (λ wrong _. absurd (wrong refl))
+  | inl is ↦ subst (λ e. IsUsableAt (sitting_end_of e) store) (sym is) (λ _ wrong. absurd (wrong refl))
+  | inr is ↦ subst (λ e. IsUsableAt (sitting_end_of e) store) (sym is) (λ wrong _. absurd (wrong refl))
 ]
 
 -- ---- what the keyboard is the cause of
@@ -108,7 +108,7 @@ not_of_keyboard ended Output is = tt
 not_of_keyboard ended Fault is = tt
 not_of_keyboard ended Memory is = tt
 
-pub store_no_keyboard : (error : Error) → IsOfNoKeyboard (end_of error)
+pub store_no_keyboard : (error : Error) → IsOfNoKeyboard (sitting_end_of error)
 store_no_keyboard NotAStore = tt
 store_no_keyboard (Damaged sector) = tt
 store_no_keyboard TooSmall = tt
@@ -148,7 +148,7 @@ module _ {D : Type 0} (d : Ghosts D) where
 
   -- the scene isn't shown
   unshown_stops : (end : SittingEnd) (old new : TurnState D) → IsLookedAt d old.store new.store → new.heard ≡ old.heard
-      → IsUnshown end old.sitting (screen_of old.store) old.known old.held new.held → HasStopped d end old new
+      → IsUnshown end old.sitting (store_screen old.store) old.known old.held new.held → HasStopped d end old new
   unshown_stops Left old new looks heard why = absurd why
   unshown_stops Closed old new looks heard why = absurd why
   unshown_stops Input old new looks heard why = absurd why
@@ -160,7 +160,7 @@ module _ {D : Type 0} (d : Ghosts D) where
 
   pub unshown_ends : {T : Type 0} {old new : TurnState D} (result : Result T SittingEnd) (end : SittingEnd)
       → result ≡ Err end → (d.honest old.store.disk → IsDurable d old.store → IsLookedAt d old.store new.store)
-      → (d.honest old.store.disk → IsUnshown end old.sitting (screen_of old.store) old.known old.held new.held)
+      → (d.honest old.store.disk → IsUnshown end old.sitting (store_screen old.store) old.known old.held new.held)
       → new.heard ≡ old.heard → new.store.must_reopen ≡ false
       → CountsEnding end (d.failures old.store.disk) (d.failures new.store.disk)
       → IsSameDevice d old.store.disk new.store.disk → TakesTurn d result old new
@@ -177,7 +177,7 @@ module _ {D : Type 0} (d : Ghosts D) where
       → result ≡ Err (end_of_keyboard why)
       → (d.honest old.store.disk → IsDurable d old.store → IsLookedAt d old.store new.store)
       → (d.honest old.store.disk
-      → IsShown old.sitting (screen_of old.store) old.known new.known old.held new.held)
+      → IsSceneShown old.sitting (store_screen old.store) old.known new.known old.held new.held)
       → new.heard ≡ old.heard → new.store.must_reopen ≡ false
       → d.failures new.store.disk ≡ d.failures old.store.disk
       → IsSameDevice d old.store.disk new.store.disk → TakesTurn d result old new
@@ -192,25 +192,25 @@ module _ {D : Type 0} (d : Ghosts D) where
   -- a scene is shown, after which the store and the sitting are these, and this is heard
   module _ {old new : TurnState D} (mid : StoreView D) (s : Sitting) (hearing : List Heard)
       (looks : d.honest old.store.disk → IsDurable d old.store → IsLookedAt d old.store mid)
-      (sees : d.honest old.store.disk → s ≡ seen old)
+      (sees : d.honest old.store.disk → s ≡ sitting_shown old)
       (shown : d.honest old.store.disk
-      → IsShown old.sitting (screen_of old.store) old.known new.known old.held new.held)
+      → IsSceneShown old.sitting (store_screen old.store) old.known new.known old.held new.held)
       (heard : new.heard ≡ old.heard ++ hearing) where
-    scene : d.honest old.store.disk → IsDurable d old.store → IsHeard d hearing old mid new
+    scene : d.honest old.store.disk → IsDurable d old.store → HearsAfterScene d hearing old mid new
     scene honest durable = record { looked = looks honest durable; shown = shown honest; heard = heard }
 
     pub turned : (s' : Sitting) → new.parser ≡ parser_after old.parser hearing
-        → (d.honest mid.disk → IsDurable d mid → Does d (pressed old.parser hearing) s s' mid new.store)
-        → IsBrought s' new.sitting → d.honest old.store.disk → IsDurable d old.store → HasTurned d old new
+        → (d.honest mid.disk → IsDurable d mid → DoesPresses d (presses_heard old.parser hearing) s s' mid new.store)
+        → IsFetched s' new.sitting → d.honest old.store.disk → IsDurable d old.store → HasTurned d old new
     turned s' parser does brings honest durable = (
-      accepted (pressed old.parser hearing) (seat_of (seen old) mid),
+      accepted_events (presses_heard old.parser hearing) (seat_of (sitting_shown old) mid),
       record {
         hearing = hearing;
         mid = mid;
         scene = scene honest durable;
         parser = parser;
         sitting = s';
-        does = subst (λ t. Does d (pressed old.parser hearing) t s' mid new.store) (sees honest)
+        does = subst (λ t. DoesPresses d (presses_heard old.parser hearing) t s' mid new.store) (sees honest)
             (does ((looks honest durable).disk.device.still honest) (looks honest durable).durable);
         are = refl;
         brings = brings;
@@ -219,13 +219,13 @@ module _ {D : Type 0} (d : Ghosts D) where
 
     -- a press fails
     broken : (error : Error) → OfPresses error
-        → (d.honest mid.disk → IsDurable d mid → Breaks d error (pressed old.parser hearing) s mid new.store)
-        → d.honest old.store.disk → IsDurable d old.store → HasStopped d (end_of error) old new
+        → (d.honest mid.disk → IsDurable d mid → Breaks d error (presses_heard old.parser hearing) s mid new.store)
+        → d.honest old.store.disk → IsDurable d old.store → HasStopped d (sitting_end_of error) old new
     broken error why fails honest durable =
-        let breaks : Breaks d error (pressed old.parser hearing) (seen old) mid new.store =
-        subst (λ t. Breaks d error (pressed old.parser hearing) t mid new.store) (sees honest)
+        let breaks : Breaks d error (presses_heard old.parser hearing) (sitting_shown old) mid new.store =
+        subst (λ t. Breaks d error (presses_heard old.parser hearing) t mid new.store) (sees honest)
         (fails ((looks honest durable).disk.device.still honest) (looks honest durable).durable) in
-        let events : List Event = accepted breaks.done (seat_of (seen old) mid) in
+        let events : List Event = accepted_events breaks.done (seat_of (sitting_shown old) mid) in
         let begun : List Event = accepted_of breaks.press (seat_of breaks.sitting breaks.mid) in
         let broke : Broke d error events begun old new = record {
           hearing = hearing;
@@ -236,18 +236,18 @@ module _ {D : Type 0} (d : Ghosts D) where
           fails = refl;
         } in
         elim why [
-          | inl is ↦ subst (λ e. HasStopped d (end_of e) old new) (sym is)
+          | inl is ↦ subst (λ e. HasStopped d (sitting_end_of e) old new) (sym is)
               (events, [], starved_press (subst (λ e. Broke d e events begun old new) is broke))
-          | inr is ↦ subst (λ e. HasStopped d (end_of e) old new) (sym is)
+          | inr is ↦ subst (λ e. HasStopped d (sitting_end_of e) old new) (sym is)
               (events, begun, faulty_press (subst (λ e. Broke d e events begun old new) is broke))
         ]
 
-    pub broken_ends : {T : Type 0} (result : Result T SittingEnd) (error : Error) → result ≡ Err (end_of error)
-        → (d.honest mid.disk → IsDurable d mid → Breaks d error (pressed old.parser hearing) s mid new.store)
+    pub broken_ends : {T : Type 0} (result : Result T SittingEnd) (error : Error) → result ≡ Err (sitting_end_of error)
+        → (d.honest mid.disk → IsDurable d mid → Breaks d error (presses_heard old.parser hearing) s mid new.store)
         → d.failures mid.disk ≡ d.failures old.store.disk
         → FailsAs {T = T} DiskFault OfPresses (Err error) (d.failures mid.disk) (d.failures new.store.disk)
         → IsSameDevice d old.store.disk new.store.disk → TakesTurn d result old new
-    broken_ends result error is fails calm faults = ended result (end_of error) old new is
+    broken_ends result error is fails calm faults = ended result (sitting_end_of error) old new is
         (broken error faults.errors fails) (unusable error new.store faults.errors)
         (counts_presses error (d.failures old.store.disk) (d.failures mid.disk) (d.failures new.store.disk) calm faults)
 

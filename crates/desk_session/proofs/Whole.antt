@@ -7,10 +7,10 @@ use Rattle.desk_journal.specs.View.{IsDurable}
 use Rattle.desk_session.specs.declared.ending.SittingEnd.{SittingEnd}
 use Rattle.desk_session.specs.declared.ending.SittingEnd.TheVariants.{TooLong}
 use Rattle.desk_session.specs.declared.serving.TheConstants.{MOST_TURNS}
-use Rattle.desk_session.specs.Serving.{TurnState, IsRun, Ends, TakesTurn, HasStopped, none, one_more}
+use Rattle.desk_session.specs.Serving.{TurnState, IsTurnRun, Ends, TakesTurn, HasStopped, none, one_more}
 use Rattle.desk_session.specs.Serving.{stopped, too_long}
 use Rattle.desk_session.specs.Surviving.{TurnsSurvive, EndsSurvive}
-use Rattle.desk_session.specs.Sitting.{Comes, IsStretch, Sits, Steps, here, again}
+use Rattle.desk_session.specs.Sitting.{Comes, IsStretchOfTurns, Sits, TakesEitherTurn, here, again}
 use Rattle.desk_session.specs.Travelling.{TakesBetween}
 use Rattle.desk_session.proofs.Turning.{same_device}
 
@@ -25,7 +25,7 @@ module _ {D : Type 0} (d : Ghosts D) where
     pub still : d.honest start.store.disk
     pub started : IsDurable d start.store
     pub events : List Event
-    pub run : IsRun d start within events place
+    pub run : IsTurnRun d start within events place
 
   -- after so many turns
   pub record HasCome (first : TurnState D) (count : ℕ) (place : TurnState D) : Type 0 where
@@ -55,7 +55,7 @@ module _ {D : Type 0} (d : Ghosts D) where
 
   module _ (turns : TurnsSurvive d) (ends : EndsSurvive d) {first : TurnState D} {count : ℕ} {place : TurnState D}
       (come : HasCome first count place) where
-    stretch : (run : HasRun first count place) → IsStretch d run.start run.within place
+    stretch : (run : HasRun first count place) → IsStretchOfTurns d run.start run.within place
     stretch run = record {
       durable = run.started;
       events = run.events;
@@ -109,7 +109,7 @@ module _ {D : Type 0} (d : Ghosts D) where
       device = same_device d first.store.disk place.store.disk new.store.disk come.device turn.device;
     }
 
-    pub come_more : {T : Type 0} {new : TurnState D} (value : T) → Steps d (Ok value) place new
+    pub come_more : {T : Type 0} {new : TurnState D} (value : T) → TakesEitherTurn d (Ok value) place new
         → HasCome first (count + 1) new
     come_more value (inl turn) = turn_more value turn
     come_more value (inr turn) = between_more value turn
@@ -142,7 +142,7 @@ module _ {D : Type 0} (d : Ghosts D) where
     }
 
     -- a turn in which the sitting ends
-    pub sat_to_end : {T : Type 0} {last : TurnState D} (end : SittingEnd) → Steps d {T = T} (Err end) place last
+    pub sat_to_end : {T : Type 0} {last : TurnState D} (end : SittingEnd) → TakesEitherTurn d {T = T} (Err end) place last
         → d.honest first.store.disk → Sits d end first last.store last.heard last.held
     sat_to_end {last = last} end (inl turn) honest =
         let run = come.run honest in

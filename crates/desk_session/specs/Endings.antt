@@ -7,9 +7,9 @@ use Rattle.desk_session.specs.declared.ending.SittingEnd.{SittingEnd}
 use Rattle.desk_session.specs.declared.ending.SittingEnd.TheVariants.{Left, Closed, Input, TooLong, Output, Fault, Memory}
 
 -- where a call of the store fails
-abbrev pub end_of : Error → SittingEnd
-end_of NoMemory = Memory
-end_of _ = Fault
+abbrev pub sitting_end_of : Error → SittingEnd
+sitting_end_of NoMemory = Memory
+sitting_end_of _ = Fault
 
 -- where the keyboard tells no more
 abbrev pub end_of_keyboard : KeyboardEnd → SittingEnd

@@ -7,9 +7,9 @@ use Rattle.screen_pictures.specs.declared.cell.Cell.{Cell}
 use Rattle.terminal_painting.specs.declared.face.Face.{Face}
 use Rattle.terminal_painting.specs.declared.scene.Scene.{Scene}
 use Rattle.terminal_painting.specs.declared.operation.Operation.TheVariants.{Ring}
-use Rattle.terminal_painting.specs.Scene.{scene_rows, line_height, text_of}
+use Rattle.terminal_painting.specs.Scene.{scene_rows, line_height, text_below}
 use Rattle.terminal_painting.specs.Painting.{Paints, PaintsFront}
-use Rattle.terminal_painting.specs.Spelling.{spelled}
+use Rattle.terminal_painting.specs.Spelling.{operation_bytes}
 use Rattle.desk_sitting.specs.declared.sitting.Sitting.{Sitting}
 use Rattle.desk_sitting.specs.Sayings.{line_of}
 use Rattle.desk_sitting.specs.Sittings.{looked}
@@ -22,7 +22,7 @@ pub record IsSceneOf (s : Sitting) (screen : List (List Cell)) (scene : Scene) :
   pub first : scene.first + s.sight.top + 1 ≡ ROWS
   pub rows : scene.rows ≡ s.sight.rows
   pub has_line : line_height scene.below ≡ 1
-  pub line : text_of scene.below ≡ line_of s.hand.asked s.hand.armed s.saying
+  pub line : text_below scene.below ≡ line_of s.hand.asked s.hand.armed s.saying
 
 -- what is known of the terminal before the scene is painted
 abbrev pub known_by : Bool → List (List Face) → List (List Face)
@@ -33,17 +33,17 @@ abbrev pub size_request : List ℕ
 size_request = 27 ∷ 91 ∷ 49 ∷ 56 ∷ 116 ∷ []
 
 -- what the terminal is sent after the scene, which changes nothing of what it shows
-abbrev pub bell : Bool → List ℕ
-bell rings = if rings then spelled Ring else []
+abbrev pub bell_bytes : Bool → List ℕ
+bell_bytes rings = if rings then operation_bytes Ring else []
 
 abbrev pub request : Bool → List ℕ
 request asks = if asks then size_request else []
 
 abbrev pub after_scene : Bool → Bool → List ℕ
-after_scene rings asks = bell rings ++ request asks
+after_scene rings asks = bell_bytes rings ++ request asks
 
 -- A writer took what has the terminal show the scene.
-pub record IsPainted (s : Sitting) (screen : List (List Cell)) (known known' : List (List Face))
+pub record IsScenePainted (s : Sitting) (screen : List (List Cell)) (known known' : List (List Face))
     (held held' : Option (List ℕ)) : Type 0 where
   pub scene : Scene
   pub is : IsSceneOf s screen scene
@@ -58,20 +58,20 @@ pub record IsHalfPainted (s : Sitting) (screen : List (List Cell)) (known : List
   pub front : PaintsFront held held' known scene
 
 -- A writer took the scene, and what is sent after it.
-pub record IsShown (s : Sitting) (screen : List (List Cell)) (known known' : List (List Face))
+pub record IsSceneShown (s : Sitting) (screen : List (List Cell)) (known known' : List (List Face))
     (held held' : Option (List ℕ)) : Type 0 where
   pub between : Option (List ℕ)
-  pub painted : IsPainted (looked screen s) screen (known_by s.forgets known) known' held between
+  pub painted : IsScenePainted (looked screen s) screen (known_by s.forgets known) known' held between
   pub after : Appends between held' (after_scene s.rings s.asks)
 
 -- It took a front of that.
-pub data IsCutShort (s : Sitting) (screen : List (List Cell)) (known : List (List Face))
+pub data IsSceneCutShort (s : Sitting) (screen : List (List Cell)) (known : List (List Face))
     (held held' : Option (List ℕ)) : Type 0 where
   in_scene : IsHalfPainted (looked screen s) screen (known_by s.forgets known) held held'
-      → IsCutShort s screen known held held'
+      → IsSceneCutShort s screen known held held'
   behind_it : {known' : List (List Face)} {between : Option (List ℕ)}
-      → IsPainted (looked screen s) screen (known_by s.forgets known) known' held between
-      → AppendsFront between held' (after_scene s.rings s.asks) → IsCutShort s screen known held held'
+      → IsScenePainted (looked screen s) screen (known_by s.forgets known) known' held between
+      → AppendsFront between held' (after_scene s.rings s.asks) → IsSceneCutShort s screen known held held'
 
 -- Why the scene isn't shown. Where the screen can't be worked out, nothing is sent.
 abbrev pub IsUnshown : SittingEnd → Sitting → List (List Cell) → List (List Face) → Option (List ℕ) → Option (List ℕ)
@@ -80,6 +80,6 @@ IsUnshown Left s screen known held held' = ⊥
 IsUnshown Closed s screen known held held' = ⊥
 IsUnshown Input s screen known held held' = ⊥
 IsUnshown TooLong s screen known held held' = ⊥
-IsUnshown Output s screen known held held' = IsCutShort s screen known held held'
+IsUnshown Output s screen known held held' = IsSceneCutShort s screen known held held'
 IsUnshown Fault s screen known held held' = held' ≡ held
 IsUnshown Memory s screen known held held' = held' ≡ held

@@ -13,15 +13,15 @@ use Rattle.desk_journal.specs.View.{StoreView, IsDurable}
 use Rattle.terminal_painting.specs.declared.face.Face.{Face}
 use Rattle.terminal_presses.specs.declared.parser.Parser.{Parser}
 use Rattle.terminal_presses.specs.declared.press.Heard.{Heard}
-use Rattle.terminal_presses.specs.Presses.{at_rest, parser_after, pressed}
+use Rattle.terminal_presses.specs.Presses.{at_rest, parser_after, presses_heard}
 use Rattle.desk_sitting.specs.declared.saying.Saying.{Saying}
 use Rattle.desk_sitting.specs.declared.sitting.Sitting.{Sitting}
-use Rattle.desk_sitting.specs.Doing.{Breaks, Does, seat_of}
-use Rattle.desk_sitting.specs.Sittings.{accepted, accepted_of, brought, looked, new_sitting}
+use Rattle.desk_sitting.specs.Doing.{Breaks, DoesPresses, seat_of}
+use Rattle.desk_sitting.specs.Sittings.{accepted_events, accepted_of, after_fetch, looked, new_sitting}
 use Rattle.desk_session.specs.declared.ending.SittingEnd.{SittingEnd}
 use Rattle.desk_session.specs.declared.ending.SittingEnd.TheVariants.{Left, Closed, Input, TooLong, Output, Fault, Memory}
 use Rattle.desk_session.specs.declared.serving.TheConstants.{MOST_TURNS}
-use Rattle.desk_session.specs.Scenes.{IsShown, IsCutShort}
+use Rattle.desk_session.specs.Scenes.{IsSceneShown, IsSceneCutShort}
 
 -- where a sitting stands between two turns: the parser, the sitting, the store, all that was heard so far, what is
 -- known of the terminal, and what the writer holds
@@ -34,16 +34,16 @@ pub record TurnState (D : Type 0) : Type 0 where
   pub held : Option (List ℕ)
 
 -- what a store shows
-abbrev pub screen_of : {D : Type 0} → StoreView D → List (List Cell)
-screen_of store = shown_screen store.desktop
+abbrev pub store_screen : {D : Type 0} → StoreView D → List (List Cell)
+store_screen store = shown_screen store.desktop
 
 -- the sitting after the scene was shown
-abbrev pub seen : {D : Type 0} → TurnState D → Sitting
-seen p = looked (screen_of p.store) p.sitting
+abbrev pub sitting_shown : {D : Type 0} → TurnState D → Sitting
+sitting_shown p = looked (store_screen p.store) p.sitting
 
-abbrev pub place_of : {D : Type 0} → Parser → Sitting → StoreView D → List Heard → List (List Face)
+abbrev pub turn_state_of : {D : Type 0} → Parser → Sitting → StoreView D → List Heard → List (List Face)
     → Option (List ℕ) → TurnState D
-place_of parser sitting store heard known held = record {
+turn_state_of parser sitting store heard known held = record {
   parser = parser;
   sitting = sitting;
   store = store;
@@ -54,12 +54,12 @@ place_of parser sitting store heard known held = record {
 
 -- nothing was heard yet, and nothing is known of the terminal
 abbrev pub first_place : {D : Type 0} → ℕ → Saying → StoreView D → List Heard → Option (List ℕ) → TurnState D
-first_place height greeting store heard held = place_of at_rest (new_sitting height greeting) store heard [] held
+first_place height greeting store heard held = turn_state_of at_rest (new_sitting height greeting) store heard [] held
 
 -- the keyboard was asked for the text of a host file, where one is wanted
-pub record IsBrought (old new : Sitting) : Type 0 where
+pub record IsFetched (old new : Sitting) : Type 0 where
   pub will_be_heard : Bool
-  pub brings : new ≡ brought will_be_heard old
+  pub brings : new ≡ after_fetch will_be_heard old
 
 -- where neither the disk nor the memory failed, the store needn't be opened again
 abbrev pub IsUsableAt : {D : Type 0} → SittingEnd → StoreView D → Type 0
@@ -89,9 +89,9 @@ module _ {D : Type 0} (d : Ghosts D) where
   -- ---- a turn
 
   -- The terminal shows the desktop, and then this is heard.
-  pub record IsHeard (hearing : List Heard) (old : TurnState D) (mid : StoreView D) (new : TurnState D) : Type 0 where
+  pub record HearsAfterScene (hearing : List Heard) (old : TurnState D) (mid : StoreView D) (new : TurnState D) : Type 0 where
     pub looked : IsLookedAt old.store mid
-    pub shown : IsShown old.sitting (screen_of old.store) old.known new.known old.held new.held
+    pub shown : IsSceneShown old.sitting (store_screen old.store) old.known new.known old.held new.held
     pub heard : new.heard ≡ old.heard ++ hearing
 
   -- Then what is pressed by it is done, of which these events are accepted, and the keyboard is asked for the text of a
@@ -99,29 +99,29 @@ module _ {D : Type 0} (d : Ghosts D) where
   pub record Turns (events : List Event) (old new : TurnState D) : Type 0 where
     pub hearing : List Heard
     pub mid : StoreView D
-    pub scene : IsHeard hearing old mid new
+    pub scene : HearsAfterScene hearing old mid new
     pub parser : new.parser ≡ parser_after old.parser hearing
     pub sitting : Sitting
-    pub does : Does d (pressed old.parser hearing) (seen old) sitting mid new.store
-    pub are : events ≡ accepted (pressed old.parser hearing) (seat_of (seen old) mid)
-    pub brings : IsBrought sitting new.sitting
+    pub does : DoesPresses d (presses_heard old.parser hearing) (sitting_shown old) sitting mid new.store
+    pub are : events ≡ accepted_events (presses_heard old.parser hearing) (seat_of (sitting_shown old) mid)
+    pub brings : IsFetched sitting new.sitting
 
   -- so many turns, one after another, in which these events are accepted, and after none of which the person has left
-  pub data IsRun (first : TurnState D) : ℕ → List Event → TurnState D → Type 0 where
-    none : IsRun first 0 [] first
-    one_more : {count : ℕ} {events more : List Event} {mid new : TurnState D} → IsRun first count events mid
-        → Turns more mid new → new.sitting.leaves ≡ false → IsRun first (count + 1) (events ++ more) new
+  pub data IsTurnRun (first : TurnState D) : ℕ → List Event → TurnState D → Type 0 where
+    none : IsTurnRun first 0 [] first
+    one_more : {count : ℕ} {events more : List Event} {mid new : TurnState D} → IsTurnRun first count events mid
+        → Turns more mid new → new.sitting.leaves ≡ false → IsTurnRun first (count + 1) (events ++ more) new
 
   -- ---- how it ends
 
   -- nothing is heard after the scene
   abbrev pub IsDeaf : TurnState D → TurnState D → Type 0
-  IsDeaf old new = IsHeard [] old new.store new
+  IsDeaf old new = HearsAfterScene [] old new.store new
 
   -- the output takes a front of what has the terminal show the scene
   pub record IsUnseen (old new : TurnState D) : Type 0 where
     pub looked : IsLookedAt old.store new.store
-    pub cut : IsCutShort old.sitting (screen_of old.store) old.known old.held new.held
+    pub cut : IsSceneCutShort old.sitting (store_screen old.store) old.known old.held new.held
     pub heard : new.heard ≡ old.heard
 
   -- the screen can't be worked out
@@ -135,37 +135,37 @@ module _ {D : Type 0} (d : Ghosts D) where
   pub record Broke (error : Error) (events begun : List Event) (old new : TurnState D) : Type 0 where
     pub hearing : List Heard
     pub mid : StoreView D
-    pub scene : IsHeard hearing old mid new
-    pub breaks : Breaks d error (pressed old.parser hearing) (seen old) mid new.store
-    pub are : events ≡ accepted breaks.done (seat_of (seen old) mid)
+    pub scene : HearsAfterScene hearing old mid new
+    pub breaks : Breaks d error (presses_heard old.parser hearing) (sitting_shown old) mid new.store
+    pub are : events ≡ accepted_events breaks.done (seat_of (sitting_shown old) mid)
     pub fails : begun ≡ accepted_of breaks.press (seat_of breaks.sitting breaks.mid)
 
   -- A sitting ends in a turn, in which these events are accepted. One more is begun where the disk fails in a press: it
   -- isn't acknowledged, and may be in an image or not. For want of memory it is in none.
-  pub data Stops : SittingEnd → List Event → List Event → TurnState D → TurnState D → Type 0 where
+  pub data SittingStops : SittingEnd → List Event → List Event → TurnState D → TurnState D → Type 0 where
     left : {events : List Event} {old new : TurnState D} → Turns events old new → new.sitting.leaves ≡ true
-        → Stops Left events [] old new
-    closed : {old new : TurnState D} → IsDeaf old new → Stops Closed [] [] old new
-    unheard : {old new : TurnState D} → IsDeaf old new → Stops Input [] [] old new
-    unseen : {old new : TurnState D} → IsUnseen old new → Stops Output [] [] old new
-    faulty : {old new : TurnState D} → IsBlind old new → Stops Fault [] [] old new
-    starved : {old new : TurnState D} → IsBlind old new → Stops Memory [] [] old new
+        → SittingStops Left events [] old new
+    closed : {old new : TurnState D} → IsDeaf old new → SittingStops Closed [] [] old new
+    unheard : {old new : TurnState D} → IsDeaf old new → SittingStops Input [] [] old new
+    unseen : {old new : TurnState D} → IsUnseen old new → SittingStops Output [] [] old new
+    faulty : {old new : TurnState D} → IsBlind old new → SittingStops Fault [] [] old new
+    starved : {old new : TurnState D} → IsBlind old new → SittingStops Memory [] [] old new
     faulty_press : {events begun : List Event} {old new : TurnState D} → Broke DiskFault events begun old new
-        → Stops Fault events begun old new
+        → SittingStops Fault events begun old new
     starved_press : {events begun : List Event} {old new : TurnState D} → Broke NoMemory events begun old new
-        → Stops Memory events [] old new
+        → SittingStops Memory events [] old new
 
   -- some events are accepted in a turn, and in the one in which it ends
   abbrev pub HasTurned : TurnState D → TurnState D → Type 0
   HasTurned old new = (events : List Event) × Turns events old new
 
   abbrev pub HasStopped : SittingEnd → TurnState D → TurnState D → Type 0
-  HasStopped end old new = (events : List Event) × (begun : List Event) × Stops end events begun old new
+  HasStopped end old new = (events : List Event) × (begun : List Event) × SittingStops end events begun old new
 
   -- It ends so after so many turns, or because there were as many as there may be.
   pub data Ends : SittingEnd → ℕ → List Event → List Event → TurnState D → TurnState D → Type 0 where
     stopped : {end : SittingEnd} {count : ℕ} {events begun : List Event} {old new : TurnState D}
-        → Stops end events begun old new → Ends end count events begun old new
+        → SittingStops end events begun old new → Ends end count events begun old new
     too_long : {place : TurnState D} → Ends TooLong MOST_TURNS [] [] place place
 
   -- All that a turn promises that returns this.

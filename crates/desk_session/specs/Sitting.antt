@@ -5,21 +5,21 @@ use Rattle.event_bytes.specs.declared.event.Event.{Event}
 use Rattle.desk_journal.specs.View.{StoreView, IsDurable}
 use Rattle.terminal_presses.specs.declared.press.Heard.{Heard}
 use Rattle.desk_session.specs.declared.ending.SittingEnd.{SittingEnd}
-use Rattle.desk_session.specs.Serving.{TakesTurn, TurnState, IsRun, Ends}
+use Rattle.desk_session.specs.Serving.{TakesTurn, TurnState, IsTurnRun, Ends}
 use Rattle.desk_session.specs.Surviving.{GoesBy, SurvivesEnd}
 use Rattle.desk_session.specs.Travelling.{IsBetween, IsBrokenOff, TakesBetween}
 
 module _ {D : Type 0} (d : Ghosts D) where
   -- all that a turn promises, of either kind
-  abbrev pub Steps : {T : Type 0} → Result T SittingEnd → TurnState D → TurnState D → Type 0
-  Steps result old new = TakesTurn d result old new ⊎ TakesBetween d result old new
+  abbrev pub TakesEitherTurn : {T : Type 0} → Result T SittingEnd → TurnState D → TurnState D → Type 0
+  TakesEitherTurn result old new = TakesTurn d result old new ⊎ TakesBetween d result old new
 
   -- A stretch of turns in which nothing is taken back and done again: from its first place so many turns led to this
   -- one, and the store went on by the events that were accepted in them.
-  pub record IsStretch (first : TurnState D) (count : ℕ) (place : TurnState D) : Type 0 where
+  pub record IsStretchOfTurns (first : TurnState D) (count : ℕ) (place : TurnState D) : Type 0 where
     pub durable : IsDurable d first.store
     pub events : List Event
-    pub run : IsRun d first count events place
+    pub run : IsTurnRun d first count events place
     pub goes : GoesBy d events first.store place.store
 
   -- So many turns have led to the beginning of a stretch, by stretches and by what was taken back or done again between
@@ -27,7 +27,7 @@ module _ {D : Type 0} (d : Ghosts D) where
   pub data Comes (first : TurnState D) : ℕ → TurnState D → Type 0 where
     here : Comes first 0 first
     again : {before count : ℕ} {start place next : TurnState D} → Comes first before start
-        → IsStretch start count place → IsBetween d place next → Comes first (before + count + 1) next
+        → IsStretchOfTurns start count place → IsBetween d place next → Comes first (before + count + 1) next
 
   -- From the first place of its last stretch, before which there were so many turns, a sitting came to this end, where
   -- this is the store, this was heard, and the writer holds this.
@@ -38,7 +38,7 @@ module _ {D : Type 0} (d : Ghosts D) where
     pub count : ℕ
     pub turned : List Event
     pub place : TurnState D
-    pub run : IsRun d first count turned place
+    pub run : IsTurnRun d first count turned place
     -- the last turn, the events that were accepted in it, and the one that was begun
     pub more : List Event
     pub begun : List Event
@@ -57,7 +57,7 @@ module _ {D : Type 0} (d : Ghosts D) where
       (held : Option (List ℕ)) : Type 0 where
     pub count : ℕ
     pub place : TurnState D
-    pub stretch : IsStretch first count place
+    pub stretch : IsStretchOfTurns first count place
     pub last : TurnState D
     pub broken : IsBrokenOff d end place last
     pub stands : last.store ≡ store

@@ -6,7 +6,7 @@ use Rattle.desk_journal.specs.Errors.{Error}
 use Rattle.desk_journal.specs.View.{IsDurable}
 use Rattle.desk_sitting.specs.Travels.{IsStuck, IsTravelled}
 use Rattle.desk_session.specs.declared.ending.SittingEnd.{SittingEnd}
-use Rattle.desk_session.specs.Endings.{end_of}
+use Rattle.desk_session.specs.Endings.{sitting_end_of}
 use Rattle.desk_session.specs.Serving.{CountsTurn, IsUsableAt, TurnState}
 
 module _ {D : Type 0} (d : Ghosts D) where
@@ -26,7 +26,7 @@ module _ {D : Type 0} (d : Ghosts D) where
   -- it fails, and the sitting ends so
   pub record IsBrokenOff (end : SittingEnd) (old new : TurnState D) : Type 0 where
     pub error : Error
-    pub ends : end ≡ end_of error
+    pub ends : end ≡ sitting_end_of error
     pub stuck : IsStuck d error old.sitting old.store new.store
     pub still : IsStill old new
 

@@ -2,7 +2,7 @@
 
 ghost use Rattle.std.specs.Prelude.{◌≡◌};
 ghost use Rattle.desk_session.specs.declared.ending.SittingEnd.TheVariants.{Output as TakesNoMore};
-ghost use Rattle.desk_session.specs.Endings.{end_of, end_of_keyboard};
+ghost use Rattle.desk_session.specs.Endings.{sitting_end_of, end_of_keyboard};
 
 use desk_journal::Error;
 use terminal_keyboard::KeyboardEnd;
@@ -49,7 +49,7 @@ impl From<KeyboardEnd> for SittingEnd {
 }
 
 impl From<Error> for SittingEnd {
-    ghost from_gives = { λ error end. end ≡ end_of error };
+    ghost from_gives = { λ error end. end ≡ sitting_end_of error };
 
     /// A sitting ends by `Memory` where the store is out of memory, and by `Fault` where it refuses otherwise.
     fn from(error: Error) -> SittingEnd {

@@ -7,15 +7,15 @@ ghost use Rattle.output_bytes.specs.Sent.{Sends};
 ghost use Rattle.desk_journal.specs.Device.{IsSameDevice};
 ghost use Rattle.desk_journal.specs.View.{IsDurable};
 ghost use Rattle.desk_sitting.specs.Sayings.{line_of};
-ghost use Rattle.desk_sitting.specs.Sittings.{brought, looked};
+ghost use Rattle.desk_sitting.specs.Sittings.{after_fetch, looked};
 ghost use Rattle.desk_session.specs.declared.ending.SittingEnd.TheVariants.{Output as TakesNoMore};
 ghost use Rattle.terminal_painting.specs.Scene.{IsInSight};
-ghost use Rattle.desk_session.specs.Scenes.{IsSceneOf, IsHalfPainted, IsPainted, IsShown, IsUnshown};
+ghost use Rattle.desk_session.specs.Scenes.{IsSceneOf, IsHalfPainted, IsScenePainted, IsSceneShown, IsUnshown};
 ghost use Rattle.desk_session.specs.Endings.{EndsBy, IsOfNoKeyboard};
-ghost use Rattle.desk_session.specs.Scenes.{after_scene, bell, known_by, request, size_request};
-ghost use Rattle.desk_session.specs.Serving.{CountsEnding, CountsTurn, IsBrought, IsLookedAt, IsUsableAt};
-ghost use Rattle.desk_session.specs.Serving.{TakesTurn, first_place, place_of, screen_of};
-ghost use Rattle.desk_session.specs.Sitting.{Sits, Steps};
+ghost use Rattle.desk_session.specs.Scenes.{after_scene, bell_bytes, known_by, request, size_request};
+ghost use Rattle.desk_session.specs.Serving.{CountsEnding, CountsTurn, IsFetched, IsLookedAt, IsUsableAt};
+ghost use Rattle.desk_session.specs.Serving.{TakesTurn, first_place, turn_state_of, store_screen};
+ghost use Rattle.desk_session.specs.Sitting.{Sits, TakesEitherTurn};
 ghost use Rattle.desk_session.specs.Travelling.{TakesBetween};
 
 use crate::ending::SittingEnd;
@@ -97,9 +97,9 @@ fn step<K: Keyboard, W: Write, D: Disk>(
     store: &mut Store<D>,
 ) -> Result<(), SittingEnd>
     requires { store.old.must_reopen ≡ false }
-    ensures steps { Steps D.Disk result
-        (place_of parser.old sitting.old store.old (K.heard keyboard.old) painter.old (W.contents writer.old))
-        (place_of parser.new sitting.new store.new (K.heard keyboard.new) painter.new (W.contents writer.new)) }
+    ensures steps { TakesEitherTurn D.Disk result
+        (turn_state_of parser.old sitting.old store.old (K.heard keyboard.old) painter.old (W.contents writer.old))
+        (turn_state_of parser.new sitting.new store.new (K.heard keyboard.new) painter.new (W.contents writer.new)) }
     ensures ended { IfErr result (EndsBy (K.ended keyboard.new)) }
 {
     if sitting.travels.is_none() {
@@ -115,8 +115,8 @@ fn step<K: Keyboard, W: Write, D: Disk>(
 fn go<D: Disk>(alloc: Global, sitting: &mut Sitting, store: &mut Store<D>) -> Result<(), SittingEnd>
     requires { store.old.must_reopen ≡ false }
     ensures between { (parser : AParser) (heard : List Heard) (known : List (List Face)) (held : Option (List ℕ))
-        → TakesBetween D.Disk result (place_of parser sitting.old store.old heard known held)
-        (place_of parser sitting.new store.new heard known held) }
+        → TakesBetween D.Disk result (turn_state_of parser sitting.old store.old heard known held)
+        (turn_state_of parser sitting.new store.new heard known held) }
     ensures cause { IfErr result IsOfNoKeyboard }
 {
     Ok(travel(alloc, sitting, store)?)
@@ -137,8 +137,8 @@ fn turn<K: Keyboard, W: Write, D: Disk>(
 ) -> Result<(), SittingEnd>
     requires { store.old.must_reopen ≡ false }
     ensures turns { TakesTurn D.Disk result
-        (place_of parser.old sitting.old store.old (K.heard keyboard.old) painter.old (W.contents writer.old))
-        (place_of parser.new sitting.new store.new (K.heard keyboard.new) painter.new (W.contents writer.new)) }
+        (turn_state_of parser.old sitting.old store.old (K.heard keyboard.old) painter.old (W.contents writer.old))
+        (turn_state_of parser.new sitting.new store.new (K.heard keyboard.new) painter.new (W.contents writer.new)) }
     ensures ended { IfErr result (EndsBy (K.ended keyboard.new)) }
 {
     show(alloc, store, sitting, painter, writer)?;
@@ -154,9 +154,9 @@ fn turn<K: Keyboard, W: Write, D: Disk>(
 
 /// Asks the keyboard for the text of a host file where one is wanted.
 fn bring<K: Keyboard>(sitting: &mut Sitting, keyboard: &mut K)
-    ensures brought { IsBrought sitting.old sitting.new }
+    ensures brought { IsFetched sitting.old sitting.new }
     ensures asked { IfSome sitting.old.wanted (λ name. (will_be_heard : Bool)
-        × K.answers keyboard.old keyboard.new name will_be_heard × (sitting.new ≡ brought will_be_heard sitting.old)) }
+        × K.answers keyboard.old keyboard.new name will_be_heard × (sitting.new ≡ after_fetch will_be_heard sitting.old)) }
     ensures silent { K.heard keyboard.new ≡ K.heard keyboard.old }
 {
     let will_be_heard = match &sitting.wanted {
@@ -178,10 +178,10 @@ fn show<W: Write, D: Disk>(
 ) -> Result<(), SittingEnd>
     requires { store.old.must_reopen ≡ false }
     ensures looks { D.honest store.old.disk → IsDurable D.Disk store.old → IsLookedAt D.Disk store.old store.new }
-    ensures sitting { OnOk result (D.honest store.old.disk → sitting.new ≡ looked (screen_of store.old) sitting.old) }
-    ensures shown { OnOk result (D.honest store.old.disk → IsShown sitting.old (screen_of store.old)
+    ensures sitting { OnOk result (D.honest store.old.disk → sitting.new ≡ looked (store_screen store.old) sitting.old) }
+    ensures shown { OnOk result (D.honest store.old.disk → IsSceneShown sitting.old (store_screen store.old)
         painter.old painter.new (W.contents writer.old) (W.contents writer.new)) }
-    ensures unshown { IfErr result (λ end. D.honest store.old.disk → IsUnshown end sitting.old (screen_of store.old)
+    ensures unshown { IfErr result (λ end. D.honest store.old.disk → IsUnshown end sitting.old (store_screen store.old)
         painter.old (W.contents writer.old) (W.contents writer.new)) }
     ensures cause { IfErr result IsOfNoKeyboard }
     ensures usable { store.new.must_reopen ≡ false }
@@ -206,7 +206,7 @@ fn paint<W: Write>(
     writer: &mut W,
     screen: &Screen,
 ) -> Result<(), SittingEnd>
-    ensures painted { OnOk result (IsPainted sitting.now screen.now (known_by forgets painter.old) painter.new
+    ensures painted { OnOk result (IsScenePainted sitting.now screen.now (known_by forgets painter.old) painter.new
         (W.contents writer.old) (W.contents writer.new)) }
     ensures front { OnErr result (IsHalfPainted sitting.now screen.now (known_by forgets painter.old)
         (W.contents writer.old) (W.contents writer.new)) }
@@ -247,7 +247,7 @@ fn follow<W: Write>(writer: &mut W, rings: bool, asks: bool) -> Result<(), Sitti
 
 /// Rings the bell where that is to be.
 fn ring_if<W: Write>(writer: &mut W, rings: bool) -> Result<(), OutputFault>
-    ensures { Sends result (W.contents writer.old) (W.contents writer.new) (bell rings) }
+    ensures { Sends result (W.contents writer.old) (W.contents writer.new) (bell_bytes rings) }
 {
     if rings { ring(writer) } else { Ok(()) }
 }

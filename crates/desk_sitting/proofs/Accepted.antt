@@ -18,8 +18,8 @@ use Rattle.terminal_presses.specs.declared.action.Action.TheVariants as action
 use Rattle.terminal_presses.specs.Hands.{handled}
 use Rattle.desk_sitting.specs.declared.sitting.Sitting.{Sitting}
 use Rattle.desk_sitting.specs.Aims.{aimed}
-use Rattle.desk_sitting.specs.Sittings.{Seat, acted, clicked, posted, after_press, click_at, posts, with_hand}
-use Rattle.desk_sitting.specs.Sittings.{accepted, accepted_of, PressesAreSteps}
+use Rattle.desk_sitting.specs.Sittings.{Seat, acted, after_click, after_post, after_press, click_at, posts, with_hand}
+use Rattle.desk_sitting.specs.Sittings.{accepted_events, accepted_of, PressesAreSteps}
 
 -- ---- one event
 
@@ -48,14 +48,14 @@ no_steps false d = refl
 -- ---- one press
 
 click_steps : (place : Option (ℕ × ℕ)) (d : Seat)
-    → (clicked place d).session.desktop ≡ steps d.session.desktop (if is_worn d.session then [] else click_at place)
-unfolding clicked posted
+    → (after_click place d).session.desktop ≡ steps d.session.desktop (if is_worn d.session then [] else click_at place)
+unfolding after_click after_post
 click_steps None d = no_steps (is_worn d.session) d.session.desktop
 click_steps (Some place) d = taken_steps d.session (Point Left place.0 place.1 place.0 place.1)
 
 action_steps : (a : Action) (s : Sitting) (d : Seat) → (acted a (record d { sitting = s })).session.desktop
     ≡ steps d.session.desktop (if is_worn d.session then [] else posts a d)
-unfolding acted posted
+unfolding acted after_post
 action_steps action.Nothing s d = no_steps (is_worn d.session) d.session.desktop
 action_steps (action.Post event) s d = taken_steps d.session event
 action_steps action.Ring s d = no_steps (is_worn d.session) d.session.desktop
@@ -91,7 +91,7 @@ pub presses_steps : PressesAreSteps
 presses_steps [] d = refl
 presses_steps (press ∷ presses) d =
     let first = accepted_of press d in
-    let later = accepted presses (after_press press d) in
+    let later = accepted_events presses (after_press press d) in
     presses_steps presses (after_press press d)
     ∙ ap (λ desktop. steps desktop later) (press_steps press d)
     ∙ sym (steps_both d.session.desktop first later)

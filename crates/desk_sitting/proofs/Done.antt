@@ -11,11 +11,11 @@ use Rattle.terminal_presses.specs.declared.press.Heard.{Heard}
 use Rattle.terminal_presses.specs.declared.press.Press.{Press}
 use Rattle.terminal_presses.specs.declared.press.Presses.{Presses}
 use Rattle.terminal_presses.specs.declared.parser.Parser.{Parser}
-use Rattle.terminal_presses.specs.Presses.{heard_by, in_order, parser_after, pressed}
+use Rattle.terminal_presses.specs.Presses.{heard_by, in_order, parser_after, presses_heard}
 use Rattle.terminal_presses.proofs.Pieces.{parser_of_both, pressed_of_both}
 use Rattle.desk_sitting.specs.declared.sitting.Sitting.{Sitting}
 use Rattle.desk_sitting.specs.Sittings.{after_press}
-use Rattle.desk_sitting.specs.Doing.{seat_of, OfPresses, Takes, Does, none, one_more, Breaks, TakesAll}
+use Rattle.desk_sitting.specs.Doing.{seat_of, OfPresses, ComesToSeat, DoesPresses, none, one_more, Breaks, DoesAllPresses}
 
 -- ---- one thing more is heard
 
@@ -30,33 +30,33 @@ module _ (parser now : Parser) (hearing : List Heard) (i : ℕ) (filler : Heard)
       ∙ ap (parser_after parser) (sym (take_more hearing i filler room))
 
   pressed_next : (presses : Presses) → presses ≡ (heard_by now heard).1
-      → pressed parser (take i hearing) ++ in_order presses ≡ pressed parser (take (i + 1) hearing)
+      → presses_heard parser (take i hearing) ++ in_order presses ≡ presses_heard parser (take (i + 1) hearing)
   pressed_next presses made =
-      ap (λ l. pressed parser (take i hearing) ++ l)
+      ap (λ l. presses_heard parser (take i hearing) ++ l)
       (ap in_order (made ∙ ap (λ p. (heard_by p heard).1) is) ∙ sym (append-nil _))
       ∙ sym (pressed_of_both parser (take i hearing) (heard ∷ []))
-      ∙ ap (pressed parser) (sym (take_more hearing i filler room))
+      ∙ ap (presses_heard parser) (sym (take_more hearing i filler room))
 
 module _ {D : Type 0} (d : Ghosts D) where
   -- ---- presses, one after another
 
   -- presses are done, and then others from there
   does_both : {first second : List Press} {s s' s'' : Sitting} {old mid new : StoreView D}
-      → Does d first s s' old mid → Does d second s' s'' mid new → Does d (first ++ second) s s'' old new
+      → DoesPresses d first s s' old mid → DoesPresses d second s' s'' mid new → DoesPresses d (first ++ second) s s'' old new
   does_both {first = first} {s = s} {s' = s'} {old = old} {mid = mid} one none =
-      subst (λ presses. Does d presses s s' old mid) (sym (append-nil first)) one
+      subst (λ presses. DoesPresses d presses s s' old mid) (sym (append-nil first)) one
   does_both {first = first} {s = s} {s'' = s''} {old = old} {new = new} one (one_more {presses = more} press two done) =
-      subst (λ presses. Does d presses s s'' old new) (append_assoc first more (press ∷ []))
+      subst (λ presses. DoesPresses d presses s s'' old new) (append_assoc first more (press ∷ []))
       (one_more press (does_both one two) done)
 
   -- a crash leaves what the store shows, as it did before
-  does_last : {presses : List Press} {s s' : Sitting} {old new : StoreView D} → Does d presses s s' old new
+  does_last : {presses : List Press} {s s' : Sitting} {old new : StoreView D} → DoesPresses d presses s s' old new
       → IsDurable d old → IsDurable d new
   does_last none durable = durable
   does_last (one_more press before done) durable = done.durable
 
   breaks_both : {error : Error} {first second : List Press} {s s' : Sitting} {old mid new : StoreView D}
-      → Does d first s s' old mid → Breaks d error second s' mid new → Breaks d error (first ++ second) s old new
+      → DoesPresses d first s s' old mid → Breaks d error second s' mid new → Breaks d error (first ++ second) s old new
   breaks_both {first = first} one broke = record {
     done = first ++ broke.done;
     press = broke.press;
@@ -85,7 +85,7 @@ module _ {D : Type 0} (d : Ghosts D) where
   -- ---- calls, one after another
 
   pub none_taken : (s : Sitting) (store : StoreView D) → store.must_reopen ≡ false
-      → TakesAll d {T = Unit} [] (Ok tt) s s store store
+      → DoesAllPresses d {T = Unit} [] (Ok tt) s s store store
   none_taken s store usable = record {
     done = λ honest durable. none;
     broke = tt;
@@ -95,7 +95,7 @@ module _ {D : Type 0} (d : Ghosts D) where
   }
 
   pub one_taken : {T : Type 0} (press : Press) (result : Result T Error) (s s' : Sitting) (old new : StoreView D)
-      → Takes d (after_press press (seat_of s old)) result s' old new → TakesAll d (press ∷ []) result s s' old new
+      → ComesToSeat d (after_press press (seat_of s old)) result s' old new → DoesAllPresses d (press ∷ []) result s s' old new
   one_taken press result s s' old new takes = record {
     done = on_ok_weaker result (λ done honest durable. one_more press none (done honest durable)) takes.done;
     broke = IfErr-weaker result _ _ (λ error undone honest durable. record {
@@ -115,8 +115,8 @@ module _ {D : Type 0} (d : Ghosts D) where
 
   -- a call that did its presses, and then one that may fail
   pub both_taken : {T U : Type 0} {first second : List Press} {x : U} {result : Result T Error} {s s' s'' : Sitting}
-      {old mid new : StoreView D} → TakesAll d first (Ok x) s s' old mid
-      → TakesAll d second result s' s'' mid new → TakesAll d (first ++ second) result s s'' old new
+      {old mid new : StoreView D} → DoesAllPresses d first (Ok x) s s' old mid
+      → DoesAllPresses d second result s' s'' mid new → DoesAllPresses d (first ++ second) result s s'' old new
   both_taken {result = result} {new = new} one two = record {
     done = on_ok_weaker result (λ done honest durable.
         let before = one.done honest durable in
@@ -136,8 +136,8 @@ module _ {D : Type 0} (d : Ghosts D) where
 
   -- a call that failed, where more was pressed
   pub rest_left : {T : Type 0} (more : List Press) {error : Error} {presses : List Press} {s s' : Sitting}
-      {old new : StoreView D} → TakesAll d {T = T} presses (Err error) s s' old new
-      → TakesAll d {T = T} (presses ++ more) (Err error) s s' old new
+      {old new : StoreView D} → DoesAllPresses d {T = T} presses (Err error) s s' old new
+      → DoesAllPresses d {T = T} (presses ++ more) (Err error) s s' old new
   rest_left more takes = record {
     done = tt;
     broke = λ honest durable. breaks_before more (takes.broke honest durable);
@@ -150,29 +150,29 @@ module _ {D : Type 0} (d : Ghosts D) where
 
   -- a call that failed, where more was heard
   rest_unheard : {T : Type 0} (parser : Parser) (hearing : List Heard) (n : ℕ) {error : Error} {s s' : Sitting}
-      {old new : StoreView D} → TakesAll d {T = T} (pressed parser (take n hearing)) (Err error) s s' old new
-      → TakesAll d {T = T} (pressed parser hearing) (Err error) s s' old new
+      {old new : StoreView D} → DoesAllPresses d {T = T} (presses_heard parser (take n hearing)) (Err error) s s' old new
+      → DoesAllPresses d {T = T} (presses_heard parser hearing) (Err error) s s' old new
   rest_unheard {T = T} parser hearing n {error = error} {s = s} {s' = s'} {old = old} {new = new} takes =
-      subst (λ l. TakesAll d {T = T} l (Err error) s s' old new)
+      subst (λ l. DoesAllPresses d {T = T} l (Err error) s s' old new)
       (sym (pressed_of_both parser (take n hearing) (drop n hearing))
-      ∙ ap (pressed parser) (take-append-drop n hearing))
-      (rest_left (pressed (parser_after parser (take n hearing)) (drop n hearing)) takes)
+      ∙ ap (presses_heard parser) (take-append-drop n hearing))
+      (rest_left (presses_heard (parser_after parser (take n hearing)) (drop n hearing)) takes)
 
   -- what one thing more that is heard comes to, after all that was heard before it
   module _ (parser now : Parser) (hearing : List Heard) (i : ℕ) (filler : Heard) (presses : Presses)
       {s s' s'' : Sitting} {old mid new : StoreView D} where
     pub next_taken : (result : Result Unit Error) → i < length hearing → now ≡ parser_after parser (take i hearing)
         → presses ≡ (heard_by now (get_or hearing i filler)).1
-        → TakesAll d {T = Unit} (pressed parser (take i hearing)) (Ok tt) s s' old mid
-        → TakesAll d (in_order presses) result s' s'' mid new
-        → TakesAll d (pressed parser (take (i + 1) hearing)) result s s'' old new
-    next_taken result room is made before here = subst (λ l. TakesAll d l result s s'' old new)
+        → DoesAllPresses d {T = Unit} (presses_heard parser (take i hearing)) (Ok tt) s s' old mid
+        → DoesAllPresses d (in_order presses) result s' s'' mid new
+        → DoesAllPresses d (presses_heard parser (take (i + 1) hearing)) result s s'' old new
+    next_taken result room is made before here = subst (λ l. DoesAllPresses d l result s s'' old new)
         (pressed_next parser now hearing i filler room is presses made) (both_taken before here)
 
     pub next_broken : {error : Error} → i < length hearing → now ≡ parser_after parser (take i hearing)
         → presses ≡ (heard_by now (get_or hearing i filler)).1
-        → TakesAll d {T = Unit} (pressed parser (take i hearing)) (Ok tt) s s' old mid
-        → TakesAll d {T = Unit} (in_order presses) (Err error) s' s'' mid new
-        → TakesAll d {T = Unit} (pressed parser hearing) (Err error) s s'' old new
+        → DoesAllPresses d {T = Unit} (presses_heard parser (take i hearing)) (Ok tt) s s' old mid
+        → DoesAllPresses d {T = Unit} (in_order presses) (Err error) s' s'' mid new
+        → DoesAllPresses d {T = Unit} (presses_heard parser hearing) (Err error) s s'' old new
     next_broken {error = error} room is made before here =
         rest_unheard parser hearing (i + 1) (next_taken (Err error) room is made before here)

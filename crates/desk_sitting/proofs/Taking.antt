@@ -17,7 +17,7 @@ use Rattle.store_layout.specs.Meaning.{Means, MeansEither, Shows}
 use Rattle.desk_journal.specs.Device.{IsSameDevice}
 use Rattle.desk_journal.specs.Errors.{Error, NoMemory, Fault, MustReopen, Worn, OfPost, OfLook}
 use Rattle.desk_journal.specs.Looking.{OnlyLooks}
-use Rattle.desk_journal.specs.Posting.{LeavesEither, IsAcknowledged, IsStarved, IsWorn, IsUnusable}
+use Rattle.desk_journal.specs.Posting.{LeavesEither, IsAcknowledged, IsStarved, AnswersWorn, AnswersMustReopen}
 use Rattle.desk_journal.specs.Session.{Session, session_of, is_worn, taken}
 use Rattle.desk_journal.specs.View.{StoreView, IsDurable}
 use Rattle.desk_journal.proofs.Passing.{at_start, shows_means}
@@ -29,8 +29,8 @@ use Rattle.terminal_presses.specs.Hands.{handled}
 use Rattle.desk_sitting.specs.declared.saying.Saying.TheVariants as saying
 use Rattle.desk_sitting.specs.declared.sitting.Sitting.{Sitting}
 use Rattle.desk_sitting.specs.Aims.{aimed}
-use Rattle.desk_sitting.specs.Doing.{OfPresses, Takes, seat_of}
-use Rattle.desk_sitting.specs.Sittings.{Seat, acted, after_press, clicked, posted, replied, turned_away, with_hand}
+use Rattle.desk_sitting.specs.Doing.{OfPresses, ComesToSeat, seat_of}
+use Rattle.desk_sitting.specs.Sittings.{Seat, acted, after_press, after_click, after_post, replied, turned_away, with_hand}
 use Rattle.desk_sitting.proofs.Sessions.{session_parts, is_it_worn, not_worn, taken_steps, is_taken}
 
 -- a seat by its two parts
@@ -41,24 +41,24 @@ seat_parts d e sitting session = λ k. record { sitting = sitting k; session = s
 
 -- a worn store takes no event
 worn_seat : (event : Event) (d : Seat) → is_worn d.session ≡ true
-    → record d { sitting = turned_away saying.Worn d.sitting } ≡ posted event d
-unfolding posted
-worn_seat event d worn = seat_parts (record d { sitting = turned_away saying.Worn d.sitting }) (posted event d)
+    → record d { sitting = turned_away saying.Worn d.sitting } ≡ after_post event d
+unfolding after_post
+worn_seat event d worn = seat_parts (record d { sitting = turned_away saying.Worn d.sitting }) (after_post event d)
     (sym (cond-true (is_worn d.session) _ _ worn)) (sym (cond-true (is_worn d.session) d.session _ worn))
 
 -- an event that is taken, and its reply
 replied_seat : (event : Event) (d : Seat) (reply : Reply) (session : Session) → is_worn d.session ≡ false
     → reply ≡ (step d.session.desktop event).reply → session ≡ taken d.session event
-    → record { sitting = replied event reply d.sitting; session = session } ≡ posted event d
-unfolding posted
+    → record { sitting = replied event reply d.sitting; session = session } ≡ after_post event d
+unfolding after_post
 replied_seat event d reply session room is after =
-    seat_parts (record { sitting = replied event reply d.sitting; session = session }) (posted event d)
+    seat_parts (record { sitting = replied event reply d.sitting; session = session }) (after_post event d)
     (ap (λ r. replied event r d.sitting) is ∙ sym (cond-false (is_worn d.session) _ _ room)) after
 
 -- the desktop is the one after its step
 posted_steps : (event : Event) (d : Seat) → is_worn d.session ≡ false
-    → (posted event d).session.desktop ≡ (step d.session.desktop event).desktop
-unfolding posted
+    → (after_post event d).session.desktop ≡ (step d.session.desktop event).desktop
+unfolding after_post
 posted_steps event d room = taken_steps d.session event room
 
 -- ---- what presses fail with
@@ -96,7 +96,7 @@ module _ {D : Type 0} (d : Ghosts D) where
   -- ---- nothing is posted
 
   pub takes_alone : {T : Type 0} (value : T) (next : Seat) (s : Sitting) (store : StoreView D)
-      → store.must_reopen ≡ false → seat_of s store ≡ next → Takes d next (Ok value) s store store
+      → store.must_reopen ≡ false → seat_of s store ≡ next → ComesToSeat d next (Ok value) s store store
   takes_alone value next s store usable is = record {
     done = λ honest durable. record {
       seat = is;
@@ -123,9 +123,9 @@ module _ {D : Type 0} (d : Ghosts D) where
 
     -- it is acknowledged
     pub takes_acknowledged : {T : Type 0} (value : T) (reply : Reply) → IsAcknowledged d event reply old new
-        → IsWorn (Ok reply) old new
+        → AnswersWorn (Ok reply) old new
         → FailsAs {T = Reply} Fault OfPost (Ok reply) (d.failures old.disk) (d.failures new.disk)
-        → s' ≡ replied event reply s → Takes d (posted event (seat_of s old)) (Ok value) s' old new
+        → s' ≡ replied event reply s → ComesToSeat d (after_post event (seat_of s old)) (Ok value) s' old new
     takes_acknowledged value reply acknowledged worn faults is =
         let room : is_worn (session_of old) ≡ false = not_worn (session_of old)
         (λ when. absurd (cc (worn.always ((usable, when.0), when.1)))) in
@@ -153,20 +153,20 @@ module _ {D : Type 0} (d : Ghosts D) where
         }
 
     -- the store is worn, and nothing has changed
-    takes_worn : {T : Type 0} (value : T) → IsWorn (Err Worn) old new → s' ≡ turned_away saying.Worn s
-        → Takes d (posted event (seat_of s old)) (Ok value) s' old new
+    takes_worn : {T : Type 0} (value : T) → AnswersWorn (Err Worn) old new → s' ≡ turned_away saying.Worn s
+        → ComesToSeat d (after_post event (seat_of s old)) (Ok value) s' old new
     takes_worn value worn is =
         let when = worn.only refl in
-        subst (λ store. Takes d (posted event (seat_of s old)) (Ok value) s' old store) (sym (worn.unchanged refl))
-        (takes_alone value (posted event (seat_of s old)) s' old usable
+        subst (λ store. ComesToSeat d (after_post event (seat_of s old)) (Ok value) s' old store) (sym (worn.unchanged refl))
+        (takes_alone value (after_post event (seat_of s old)) s' old usable
         (ap (λ t. seat_of t old) is
         ∙ worn_seat event (seat_of s old) (is_it_worn (session_of old) when.0.1 when.1)))
 
     module _ (error : Error) (starved : IsErrOf {T = Reply} (Err error) NoMemory → IsStarved d old new)
-        (worn : IsWorn (Err error) old new) (reopen : IsUnusable {T = Reply} (Err error) old new)
+        (worn : AnswersWorn (Err error) old new) (reopen : AnswersMustReopen {T = Reply} (Err error) old new)
         (faults : FailsAs {T = Reply} Fault OfPost (Err error) (d.failures old.disk) (d.failures new.disk)) where
       -- another error is passed on
-      takes_failed : {T : Type 0} → error ≢ Worn → Takes d {T = T} (posted event (seat_of s old)) (Err error) s' old new
+      takes_failed : {T : Type 0} → error ≢ Worn → ComesToSeat d {T = T} (after_post event (seat_of s old)) (Err error) s' old new
       takes_failed other =
           let room : is_worn (session_of old) ≡ false = not_worn (session_of old)
           (λ when. other (cc (worn.always ((usable, when.0), when.1)))) in
@@ -191,11 +191,11 @@ module _ {D : Type 0} (d : Ghosts D) where
       pub takes_turned_away : {T : Type 0} (result : Result T Error)
           → OnOk result ((error ≡ Worn) × (s' ≡ turned_away saying.Worn s))
           → IfErr result (λ passed. (error ≢ Worn) × (passed ≡ error))
-          → Takes d (posted event (seat_of s old)) result s' old new
+          → ComesToSeat d (after_post event (seat_of s old)) result s' old new
       takes_turned_away {T = T} (Ok value) is other =
-          takes_worn value (subst (λ e. IsWorn (Err e) old new) is.0 worn) is.1
+          takes_worn value (subst (λ e. AnswersWorn (Err e) old new) is.0 worn) is.1
       takes_turned_away {T = T} (Err passed) is other =
-          subst (λ e. Takes d {T = T} (posted event (seat_of s old)) (Err e) s' old new) (sym other.1)
+          subst (λ e. ComesToSeat d {T = T} (after_post event (seat_of s old)) (Err e) s' old new) (sym other.1)
           (takes_failed other.0)
 
   -- ---- a look at the screen comes first
@@ -231,7 +231,7 @@ module _ {D : Type 0} (d : Ghosts D) where
 
   -- it fails
   pub takes_unseen : {A T : Type 0} (error : Error) (next : Seat) (s : Sitting) (old new : StoreView D)
-      → old.must_reopen ≡ false → OnlyLooks {T = A} d (Err error) old new → Takes d {T = T} next (Err error) s old new
+      → old.must_reopen ≡ false → OnlyLooks {T = A} d (Err error) old new → ComesToSeat d {T = T} next (Err error) s old new
   takes_unseen error next s old new usable looks = record {
     done = tt;
     undone = λ honest durable. record {
@@ -252,7 +252,7 @@ module _ {D : Type 0} (d : Ghosts D) where
   -- it succeeds, and what comes then is what comes of the seat before it
   pub takes_seen : {A T : Type 0} (value : A) (result : Result T Error) (next next' : Seat) (s' : Sitting)
       (old mid new : StoreView D) → OnlyLooks d (Ok value) old mid → (d.honest old.disk → next' ≡ next)
-      → Takes d next' result s' mid new → Takes d next result s' old new
+      → ComesToSeat d next' result s' mid new → ComesToSeat d next result s' old new
   takes_seen value result next next' s' old mid new looks same takes = record {
     done = on_ok_weaker result (λ done honest durable.
         let later = done (looks.disk.device.still honest) (still_durable looks honest durable) in
@@ -284,11 +284,11 @@ module _ {D : Type 0} (d : Ghosts D) where
   pub seen_step : {A : Type 0} (value : A) (arrow : Arrow) (at : Option (ℕ × ℕ)) (screen : List (List Cell))
       (s : Sitting) (old mid : StoreView D) → OnlyLooks d (Ok value) old mid → at ≡ aimed arrow screen
       → (d.honest old.disk → screen ≡ shown_screen old.desktop) → d.honest old.disk
-      → clicked at (seat_of s mid) ≡ acted (action.Step arrow) (seat_of s old)
+      → after_click at (seat_of s mid) ≡ acted (action.Step arrow) (seat_of s old)
   unfolding acted
   seen_step value arrow at screen s old mid looks is shown honest =
-      ap (λ place. clicked place (seat_of s mid)) (is ∙ ap (aimed arrow) (shown honest))
-      ∙ ap (λ session. clicked (aimed arrow (shown_screen old.desktop)) (record { sitting = s; session = session }))
+      ap (λ place. after_click place (seat_of s mid)) (is ∙ ap (aimed arrow) (shown honest))
+      ∙ ap (λ session. after_click (aimed arrow (shown_screen old.desktop)) (record { sitting = s; session = session }))
       (same_session looks honest)
 
 -- ---- a press

@@ -13,18 +13,18 @@ use Rattle.event_bytes.specs.declared.event.Event.{Event}
 use Rattle.store_layout.specs.Meaning.{MeansEither, cut_to, desktop_of}
 use Rattle.desk_journal.specs.Device.{IsSameDevice}
 use Rattle.desk_journal.specs.Errors.{Error, NoMemory, Fault, MustReopen, OfLook}
-use Rattle.desk_journal.specs.Posting.{IsUnusable}
-use Rattle.desk_journal.specs.Undoing.{IsTakenBack, LeavesUndone, OfUndo, left_of}
+use Rattle.desk_journal.specs.Posting.{AnswersMustReopen}
+use Rattle.desk_journal.specs.Undoing.{IsTakenBack, LeavesUndone, OfUndo, events_left}
 use Rattle.desk_journal.specs.View.{StoreView, IsDurable}
 use Rattle.desk_journal.proofs.Passing.{at_start, shows_means}
 use Rattle.desk_sitting.specs.declared.saying.Saying.TheVariants.{NothingAgain}
 use Rattle.desk_sitting.specs.declared.sitting.Sitting.{Sitting}
 use Rattle.desk_sitting.specs.declared.sitting.Travel.TheVariants.{Back, Again}
-use Rattle.desk_sitting.specs.Again.{AgainView, next_of, rest_at}
+use Rattle.desk_sitting.specs.Again.{AgainView, next_event, rest_at}
 use Rattle.desk_sitting.specs.declared.again.Place.{Place}
-use Rattle.desk_sitting.specs.Doing.{IsUndone, OfPresses, Takes, seat_of}
-use Rattle.desk_sitting.specs.Sittings.{posted, refused}
-use Rattle.desk_sitting.specs.Travels.{Travelled, Travels, did_again, goes_again, place_of, settled, took_back}
+use Rattle.desk_sitting.specs.Doing.{IsUndone, OfPresses, ComesToSeat, seat_of}
+use Rattle.desk_sitting.specs.Sittings.{after_post, refused}
+use Rattle.desk_sitting.specs.Travels.{Travelled, Travels, did_again, goes_again, store_place, settled, took_back}
 use Rattle.desk_sitting.specs.Travels.{back, nothing, again}
 
 -- an error of an undo over an honest disk is one of these
@@ -54,10 +54,10 @@ module _ {D : Type 0} (d : Ghosts D) where
       let shows = durable honest (now (d.trail old.disk)).reads (read_is_an_image (now (d.trail old.disk))) in
       let s = shows.standing in
       let w = taken.back honest s shows.stands in
-      let here : left_of d count old ≡ length s.events - length events =
+      let here : events_left d count old ≡ length s.events - length events =
       omega (arith, shows.events, taken.as_many, taken.fewer) in
       weakened (moments usable honest s shows.stands) (λ c either. elim either [
-        | inl cut ↦ inr (cut_to (left_of d count old) s, cut, ap (λ n. desktop_of (cut_to n s)) here ∙ sym w.desktop)
+        | inl cut ↦ inr (cut_to (events_left d count old) s, cut, ap (λ n. desktop_of (cut_to n s)) here ∙ sym w.desktop)
         | inr all ↦ inl (s, all, shows.is)
       ])
 
@@ -82,7 +82,7 @@ module _ {D : Type 0} (d : Ghosts D) where
     -- the last event was taken back
     pub goes_back : {T U : Type 0} (value : T) (x : U) (events : List Event) → IsTakenBack d 1 events old new
         → FailsAs {T = U} Fault OfUndo (Ok x) (d.failures old.disk) (d.failures new.disk)
-        → s' ≡ took_back (slice_get events (length events - 1)) (place_of old) (place_of new) (settled s)
+        → s' ≡ took_back (slice_get events (length events - 1)) (store_place old) (store_place new) (settled s)
         → Travels d (Ok value) s s' old new
     goes_back value x events taken faults is = record {
       done = λ honest durable. record {
@@ -103,7 +103,7 @@ module _ {D : Type 0} (d : Ghosts D) where
     -- it wasn't
     pub goes_not : {U : Type 0} (error : Error) (result : Result Unit Error)
         → (error ≢ Fault → error ≢ MustReopen → new.must_reopen ≡ false) → (d.honest old.disk → OfLook error)
-        → IsUnusable {T = U} (Err error) old new
+        → AnswersMustReopen {T = U} (Err error) old new
         → FailsAs {T = U} Fault OfUndo (Err error) (d.failures old.disk) (d.failures new.disk)
         → OnOk result ((error ≢ NoMemory) × (error ≢ Fault))
         → IfErr result (λ e. (e ≡ error) × OfPresses error) → Travels d result s s' old new
@@ -136,34 +136,34 @@ module _ {D : Type 0} (d : Ghosts D) where
   -- nothing can be done again
   pub nothing_again : {T : Type 0} (value : T) {s s' : Sitting} (store : StoreView D) (from : Place)
       (rest : AgainView) (found : Option Event) → s.travels ≡ Some Again → store.must_reopen ≡ false
-      → from ≡ place_of store → found ≡ next_of from s.again → found ≡ None → rest ≡ rest_at from s.again
+      → from ≡ store_place store → found ≡ next_event from s.again → found ≡ None → rest ≡ rest_at from s.again
       → s' ≡ refused NothingAgain (record s { travels = None; again = rest }) → Travels d (Ok value) s s' store store
   nothing_again value {s = s} store from rest found asked usable at next none_left left is =
       stays_there value store usable (nothing asked
-      (ap (λ p. next_of p s.again) (sym at) ∙ sym next ∙ none_left)
+      (ap (λ p. next_event p s.again) (sym at) ∙ sym next ∙ none_left)
       (is ∙ ap (λ a. refused NothingAgain (record s { travels = None; again = a })) (left ∙ ap (λ p. rest_at p s.again) at))
       refl)
 
   module _ (s mid : Sitting) (old new : StoreView D) (asked : s.travels ≡ Some Again) (event : Event) (from : Place)
-      (rest : AgainView) (found : Option Event) (at : from ≡ place_of old) (next : found ≡ next_of from s.again)
+      (rest : AgainView) (found : Option Event) (at : from ≡ store_place old) (next : found ≡ next_event from s.again)
       (is_event : found ≡ Some event) (left : rest ≡ rest_at from s.again) where
-    there : next_of (place_of old) s.again ≡ Some event
-    there = ap (λ p. next_of p s.again) (sym at) ∙ sym next ∙ is_event
+    there : next_event (store_place old) s.again ≡ Some event
+    there = ap (λ p. next_event p s.again) (sym at) ∙ sym next ∙ is_event
 
     -- the sitting before it
-    same : record s { travels = None; again = rest } ≡ goes_again (place_of old) s
+    same : record s { travels = None; again = rest } ≡ goes_again (store_place old) s
     same = ap (λ a. record s { travels = None; again = a }) (left ∙ ap (λ p. rest_at p s.again) at)
 
     -- the event is done again
-    pub goes_on : {T U : Type 0} (value : T) (x : U) {s' : Sitting} (to : Place) → to ≡ place_of new
-        → Takes d {T = U} (posted event (seat_of (record s { travels = None; again = rest }) old)) (Ok x) mid old new
+    pub goes_on : {T U : Type 0} (value : T) (x : U) {s' : Sitting} (to : Place) → to ≡ store_place new
+        → ComesToSeat d {T = U} (after_post event (seat_of (record s { travels = None; again = rest }) old)) (Ok x) mid old new
         → s' ≡ did_again event from to mid → Travels d (Ok value) s s' old new
     goes_on value x to come takes is = record {
       done = λ honest durable.
           let done = takes.done honest durable in
           record {
-            what = again event mid asked there (done.seat ∙ ap (λ t. posted event (seat_of t old)) same)
-                (is ∙ ap (λ p. did_again event p to mid) at ∙ ap (λ p. did_again event (place_of old) p mid) come);
+            what = again event mid asked there (done.seat ∙ ap (λ t. after_post event (seat_of t old)) same)
+                (is ∙ ap (λ p. did_again event p to mid) at ∙ ap (λ p. did_again event (store_place old) p mid) come);
             any_moment = done.any_moment;
             durable = done.durable;
           };
@@ -179,12 +179,12 @@ module _ {D : Type 0} (d : Ghosts D) where
 
     -- it fails
     pub goes_wrong : {T U : Type 0} (result : Result T Error) (error : Error) → result ≡ Err error
-        → Takes d {T = U} (posted event (seat_of (record s { travels = None; again = rest }) old)) (Err error) mid old new
+        → ComesToSeat d {T = U} (after_post event (seat_of (record s { travels = None; again = rest }) old)) (Err error) mid old new
         → Travels d result s mid old new
     goes_wrong {T = T} result error is takes = subst (λ r. Travels d r s mid old new) (sym is) (record {
       done = tt;
       stuck = λ honest durable. again event asked there
-          (subst (λ t. IsUndone d error (posted event (seat_of t old)) old new) same (takes.undone honest durable));
+          (subst (λ t. IsUndone d error (after_post event (seat_of t old)) old new) same (takes.undone honest durable));
       usable = tt;
       faults = record {
         rose = λ fault. takes.faults.rose (cc fault);

@@ -14,12 +14,12 @@ pub record AgainView : Type 0 where
 abbrev pub no_again : AgainView
 no_again = record { events = []; place = record { epoch = 0; events = 0 } }
 
-abbrev pub is_at : Place → AgainView → Bool
-is_at place a = (a.place.epoch == place.epoch) && (a.place.events == place.events)
+abbrev pub holds_at : Place → AgainView → Bool
+holds_at place a = (a.place.epoch == place.epoch) && (a.place.events == place.events)
 
 -- those that can be done again at this place
 abbrev pub events_at : Place → AgainView → List (Option Event)
-events_at place a = if is_at place a then a.events else []
+events_at place a = if holds_at place a then a.events else []
 
 -- of as many as there may be the oldest is forgotten
 abbrev pub with_room : List (Option Event) → List (Option Event)
@@ -32,8 +32,8 @@ abbrev pub joined : Option (Option Event) → Option Event
 joined None = None
 joined (Some event) = event
 
-unfoldable pub next_of : Place → AgainView → Option Event
-next_of place a = joined (slice_get (events_at place a) (length (events_at place a) - 1))
+unfoldable pub next_event : Place → AgainView → Option Event
+next_event place a = joined (slice_get (events_at place a) (length (events_at place a) - 1))
 
 abbrev pub rest_at : Place → AgainView → AgainView
 rest_at place a = record a { events = take (length (events_at place a) - 1) (events_at place a) }

@@ -9,6 +9,7 @@ use Rattle.screen_pictures.specs.declared.cell.Mark.TheVariants.{Marker, Caret, 
 use Rattle.screen_pictures.specs.Screen.{cell_at, row_at}
 use Rattle.terminal_presses.specs.declared.press.Arrow.{Arrow as ArrowKey}
 use Rattle.terminal_presses.specs.declared.press.Arrow.TheVariants.{Up, Down, Right, Left}
+pub use Rattle.event_bytes.specs.Parts.{◌>>=◌}
 
 -- whether a cell has the mark that is looked for, a caret or the marker
 abbrev pub is_mark : Mark → Mark → Bool
@@ -26,20 +27,15 @@ is_text _ = false
 abbrev pub has_mark : Mark → List Cell → Bool
 has_mark mark row = list_any (λ cell. is_mark mark cell.mark) row
 
-infixl 10 ◌>>=◌
-abbrev pub ◌>>=◌ : {A B : Type 0} → Option A → (A → Option B) → Option B
-None >>= f = None
-(Some x) >>= f = f x
-
 -- the lowest row that has the mark, and its first column there
-unfoldable pub marked : Mark → List (List Cell) → Option (ℕ × ℕ)
-marked mark screen = do
+unfoldable pub cell_marked : Mark → List (List Cell) → Option (ℕ × ℕ)
+cell_marked mark screen = do
   y ← position (has_mark mark) screen
   x ← position (λ cell. is_mark mark cell.mark) (row_at screen y)
   Some (x, y)
 
-abbrev pub caret_of : List (List Cell) → Option (ℕ × ℕ)
-caret_of screen = marked Caret screen
+abbrev pub caret_cell : List (List Cell) → Option (ℕ × ℕ)
+caret_cell screen = cell_marked Caret screen
 
 abbrev pub or_else : {A : Type 0} → Option A → Option A → Option A
 or_else None other = other
@@ -47,7 +43,7 @@ or_else (Some a) other = Some a
 
 -- where an arrow begins: at the caret; where none is in sight the marker may stand on it, and is taken for it
 unfoldable pub start_of : List (List Cell) → Option (ℕ × ℕ)
-start_of screen = or_else (caret_of screen) (marked Marker screen)
+start_of screen = or_else (caret_cell screen) (cell_marked Marker screen)
 
 -- the place beside one, within the display
 unfoldable pub beside : ArrowKey → ℕ × ℕ → Option (ℕ × ℕ)

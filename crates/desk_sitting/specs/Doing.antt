@@ -39,7 +39,7 @@ module _ {D : Type 0} (d : Ghosts D) where
     pub device : IsSameDevice d old.disk new.disk
 
   -- All that a call promises that is to come to this seat.
-  pub record Takes {T : Type 0} (next : Seat) (result : Result T Error) (s' : Sitting) (old new : StoreView D)
+  pub record ComesToSeat {T : Type 0} (next : Seat) (result : Result T Error) (s' : Sitting) (old new : StoreView D)
       : Type 0 where
     pub done : OnOk result (d.honest old.disk → IsDurable d old → IsDone next s' old new)
     pub undone : IfErr result (λ error. d.honest old.disk → IsDurable d old → IsUndone error next old new)
@@ -48,11 +48,11 @@ module _ {D : Type 0} (d : Ghosts D) where
     pub device : IsSameDevice d old.disk new.disk
 
   -- presses are done, one after another
-  pub data Does : List Press → Sitting → Sitting → StoreView D → StoreView D → Type 0 where
-    none : {s : Sitting} {store : StoreView D} → Does [] s s store store
+  pub data DoesPresses : List Press → Sitting → Sitting → StoreView D → StoreView D → Type 0 where
+    none : {s : Sitting} {store : StoreView D} → DoesPresses [] s s store store
     one_more : {presses : List Press} {s s' s'' : Sitting} {old mid new : StoreView D} (press : Press)
-        → Does presses s s' old mid → IsDone (after_press press (seat_of s' mid)) s'' mid new
-        → Does (presses ++ press ∷ []) s s'' old new
+        → DoesPresses presses s s' old mid → IsDone (after_press press (seat_of s' mid)) s'' mid new
+        → DoesPresses (presses ++ press ∷ []) s s'' old new
 
   -- Presses are done up to one that fails. Nothing that was pressed after it is done.
   pub record Breaks (error : Error) (presses : List Press) (s : Sitting) (old new : StoreView D) : Type 0 where
@@ -62,13 +62,13 @@ module _ {D : Type 0} (d : Ghosts D) where
     pub parts : presses ≡ done ++ press ∷ rest
     pub sitting : Sitting
     pub mid : StoreView D
-    pub does : Does done s sitting old mid
+    pub does : DoesPresses done s sitting old mid
     pub undone : IsUndone error (after_press press (seat_of sitting mid)) mid new
 
   -- All that a call promises that is to do these presses.
-  pub record TakesAll {T : Type 0} (presses : List Press) (result : Result T Error) (s s' : Sitting)
+  pub record DoesAllPresses {T : Type 0} (presses : List Press) (result : Result T Error) (s s' : Sitting)
       (old new : StoreView D) : Type 0 where
-    pub done : OnOk result (d.honest old.disk → IsDurable d old → Does presses s s' old new)
+    pub done : OnOk result (d.honest old.disk → IsDurable d old → DoesPresses presses s s' old new)
     pub broke : IfErr result (λ error. d.honest old.disk → IsDurable d old → Breaks error presses s old new)
     pub usable : OnOk result (new.must_reopen ≡ false)
     pub faults : FailsAs Fault OfPresses result (d.failures old.disk) (d.failures new.disk)

@@ -64,13 +64,13 @@ click_words Mark = codes "the next click sets the marker"
 click_words (Keys keys) = keys_words keys
 
 -- of what was typed it is said how many characters these were
-abbrev pub number_of : Deed → List ℕ
-number_of (deed.Typed count) = decimal count
-number_of _ = []
+abbrev pub typed_count : Deed → List ℕ
+typed_count (deed.Typed count) = decimal count
+typed_count _ = []
 
 -- what was taken back, or done again
 unfoldable pub told : List ℕ → Deed → List ℕ
-told before what = before ++ number_of what ++ deed_words what
+told before what = before ++ typed_count what ++ deed_words what
 
 unfoldable pub words : Saying → List ℕ
 words Nothing = []

@@ -21,9 +21,9 @@ use Rattle.desk_sitting.specs.declared.saying.Saying.TheVariants.{Unfinished, To
 use Rattle.desk_sitting.specs.declared.sitting.Sitting.{Sitting}
 use Rattle.desk_sitting.specs.declared.sitting.Travel.TheVariants.{Back, Again}
 use Rattle.desk_sitting.specs.Again.{no_again}
-use Rattle.desk_sitting.specs.Aims.{aimed, caret_of}
+use Rattle.desk_sitting.specs.Aims.{aimed, caret_cell}
 use Rattle.desk_journal.specs.Session.{Session, is_worn, taken}
-use Rattle.desk_sitting.specs.Windows.{fitted, followed, height_told, is_narrow, moved}
+use Rattle.desk_sitting.specs.Windows.{fitted, following_sight, height_told, is_narrow, moved_sight}
 
 -- a sitting, and the session of the store before which it is
 pub record Seat : Type 0 where
@@ -54,13 +54,13 @@ abbrev pub refused : Saying → Sitting → Sitting
 refused saying s = record s { saying = saying; rings = true }
 
 -- how many characters an event types
-abbrev pub characters_of : Event → ℕ
-characters_of (Typed bytes) = length bytes
-characters_of event = 0
+abbrev pub length_typed : Event → ℕ
+length_typed (Typed bytes) = length bytes
+length_typed event = 0
 
 -- of a paste so many more are typed, as far as that is counted
 abbrev pub typed_more : Event → ℕ → ℕ
-typed_more event n = min (n + characters_of event) (2 ^ 32 - 1)
+typed_more event n = min (n + length_typed event) (2 ^ 32 - 1)
 
 -- why a paste is cut short of which so many characters are typed, and how far it came
 abbrev pub with_count : ℕ → Saying → Saying
@@ -91,7 +91,7 @@ replied event (No code) s = turned_away (Refused code) s
 -- after the screen was shown: the rows in sight have followed the caret, and what was to be done at once is done
 unfoldable pub looked : List (List Cell) → Sitting → Sitting
 looked screen s = record s {
-  sight = if s.follows then followed (caret_of screen) s.sight else s.sight;
+  sight = if s.follows then following_sight (caret_cell screen) s.sight else s.sight;
   follows = false;
   rings = false;
   forgets = false;
@@ -103,22 +103,22 @@ abbrev pub fetched : Bool → Sitting → Sitting
 fetched true s = record s { wanted = None; saying = Nothing }
 fetched false s = refused Unread (record s { wanted = None })
 
-unfoldable pub brought : Bool → Sitting → Sitting
-brought will_be_heard s = if is_some s.wanted then fetched will_be_heard s else s
+unfoldable pub after_fetch : Bool → Sitting → Sitting
+after_fetch will_be_heard s = if is_some s.wanted then fetched will_be_heard s else s
 
 -- ---- a press
 
-unfoldable pub posted : Event → Seat → Seat
-posted event seat = record {
+unfoldable pub after_post : Event → Seat → Seat
+after_post event seat = record {
   sitting = if is_worn seat.session then turned_away Worn seat.sitting
       else replied event (step seat.session.desktop event).reply seat.sitting;
   session = taken seat.session event;
 }
 
 -- a left click at a place, or a ring where there is none
-unfoldable pub clicked : Option (ℕ × ℕ) → Seat → Seat
-clicked None seat = record seat { sitting = refused Nothing seat.sitting }
-clicked (Some place) seat = posted (Point Left place.0 place.1 place.0 place.1) seat
+unfoldable pub after_click : Option (ℕ × ℕ) → Seat → Seat
+after_click None seat = record seat { sitting = refused Nothing seat.sitting }
+after_click (Some place) seat = after_post (Point Left place.0 place.1 place.0 place.1) seat
 
 -- what the line below says once the terminal has told its size: where it is narrower than the display, that
 abbrev pub is_too_narrow : Saying → Bool
@@ -137,7 +137,7 @@ acted_alone action.Leave s = record s { leaves = true }
 acted_alone action.Undo s = record s { travels = Some Back }
 acted_alone action.Redo s = record s { travels = Some Again }
 acted_alone (action.TypeFile name) s = record s { wanted = Some name }
-acted_alone (action.Move page) s = record s { sight = moved page s.sight; follows = false }
+acted_alone (action.Move page) s = record s { sight = moved_sight page s.sight; follows = false }
 acted_alone (action.Fit rows columns) s = record s {
   sight = fitted (height_told rows columns) s.sight;
   saying = fitted_saying (is_narrow rows columns) s.saying;
@@ -147,8 +147,8 @@ acted_alone action.FileFailed s = refused Unfinished s
 acted_alone _ s = s
 
 unfoldable pub acted : Action → Seat → Seat
-acted (action.Post event) seat = posted event seat
-acted (action.Step arrow) seat = clicked (aimed arrow (shown_screen seat.session.desktop)) seat
+acted (action.Post event) seat = after_post event seat
+acted (action.Step arrow) seat = after_click (aimed arrow (shown_screen seat.session.desktop)) seat
 acted alone seat = record seat { sitting = acted_alone alone seat.sitting }
 
 -- Once the hand has taken a press: where that is amid a text that is pasted, it is counted how many of its characters
@@ -185,11 +185,11 @@ abbrev pub accepted_of : Press → Seat → List Event
 accepted_of press seat = if seat.sitting.leaves then [] else (if is_worn seat.session then [] else
     posts (handled seat.sitting.sight press seat.sitting.hand).1 seat)
 
-abbrev pub accepted : List Press → Seat → List Event
-accepted [] seat = []
-accepted (press ∷ presses) seat = accepted_of press seat ++ accepted presses (after_press press seat)
+abbrev pub accepted_events : List Press → Seat → List Event
+accepted_events [] seat = []
+accepted_events (press ∷ presses) seat = accepted_of press seat ++ accepted_events presses (after_press press seat)
 
 -- presses lead to the desktop to which the events lead that are accepted of them
 abbrev pub PressesAreSteps : Type 0
 PressesAreSteps = (presses : List Press) (seat : Seat)
-    → (after_presses presses seat).session.desktop ≡ steps seat.session.desktop (accepted presses seat)
+    → (after_presses presses seat).session.desktop ≡ steps seat.session.desktop (accepted_events presses seat)

@@ -14,17 +14,17 @@ use Rattle.desk_sitting.specs.declared.again.Place.{Place}
 use Rattle.desk_sitting.specs.declared.saying.Saying.TheVariants.{TookBack, DidAgain, NothingBack, NothingAgain}
 use Rattle.desk_sitting.specs.declared.sitting.Sitting.{Sitting}
 use Rattle.desk_sitting.specs.declared.sitting.Travel.TheVariants.{Back, Again}
-use Rattle.desk_sitting.specs.Again.{kept_at, next_of, rest_at}
+use Rattle.desk_sitting.specs.Again.{kept_at, next_event, rest_at}
 use Rattle.desk_sitting.specs.Deeds.{deed_of}
 use Rattle.desk_sitting.specs.Doing.{IsUndone, OfPresses, seat_of}
-use Rattle.desk_sitting.specs.Sittings.{posted, refused}
+use Rattle.desk_sitting.specs.Sittings.{after_post, refused}
 
 -- where a store stands
-abbrev pub place_of : {D : Type 0} → StoreView D → Place
-place_of store = record { epoch = store.epoch; events = store.events }
+abbrev pub store_place : {D : Type 0} → StoreView D → Place
+store_place store = record { epoch = store.epoch; events = store.events }
 
-abbrev pub is_same : Place → Place → Bool
-is_same from to = (from.epoch == to.epoch) && (from.events == to.events)
+abbrev pub is_same_place : Place → Place → Bool
+is_same_place from to = (from.epoch == to.epoch) && (from.events == to.events)
 
 -- nothing is asked for any more
 abbrev pub settled : Sitting → Sitting
@@ -46,7 +46,7 @@ goes_again place s = record s { travels = None; again = rest_at place s.again }
 -- The sitting after an event was done again. Where the store took it, that is said.
 abbrev pub did_again : Event → Place → Place → Sitting → Sitting
 did_again event from to s =
-    if is_same from to then s else record s {
+    if is_same_place from to then s else record s {
       saying = DidAgain (deed_of event);
       again = record s.again { place = to };
     }
@@ -58,14 +58,14 @@ module _ {D : Type 0} (d : Ghosts D) where
     none : s.travels ≡ None → s' ≡ s → new ≡ old → Travelled s s' old new
     -- the last event was taken back, if there was one
     back : (events : List Event) → s.travels ≡ Some Back → IsTakenBack d 1 events old new
-        → s' ≡ took_back (slice_get events (length events - 1)) (place_of old) (place_of new) (settled s) → Travelled s s' old new
+        → s' ≡ took_back (slice_get events (length events - 1)) (store_place old) (store_place new) (settled s) → Travelled s s' old new
     -- there was nothing to do again
-    nothing : s.travels ≡ Some Again → next_of (place_of old) s.again ≡ None
-        → s' ≡ refused NothingAgain (goes_again (place_of old) s) → new ≡ old → Travelled s s' old new
+    nothing : s.travels ≡ Some Again → next_event (store_place old) s.again ≡ None
+        → s' ≡ refused NothingAgain (goes_again (store_place old) s) → new ≡ old → Travelled s s' old new
     -- the event that was taken back last was done again
-    again : (event : Event) (mid : Sitting) → s.travels ≡ Some Again → next_of (place_of old) s.again ≡ Some event
-        → seat_of mid new ≡ posted event (seat_of (goes_again (place_of old) s) old)
-        → s' ≡ did_again event (place_of old) (place_of new) mid → Travelled s s' old new
+    again : (event : Event) (mid : Sitting) → s.travels ≡ Some Again → next_event (store_place old) s.again ≡ Some event
+        → seat_of mid new ≡ after_post event (seat_of (goes_again (store_place old) s) old)
+        → s' ≡ did_again event (store_place old) (store_place new) mid → Travelled s s' old new
 
   -- At every moment between a crash leaves the desktop before it or the one after it, and from then on the one after it.
   pub record IsTravelled (s s' : Sitting) (old new : StoreView D) : Type 0 where
@@ -77,8 +77,8 @@ module _ {D : Type 0} (d : Ghosts D) where
   -- It fails. A crash leaves what was shown, or what was asked for.
   pub data IsStuck (error : Error) (s : Sitting) (old new : StoreView D) : Type 0 where
     back : s.travels ≡ Some Back → LeavesUndone d 1 old new → IsStuck error s old new
-    again : (event : Event) → s.travels ≡ Some Again → next_of (place_of old) s.again ≡ Some event
-        → IsUndone d error (posted event (seat_of (goes_again (place_of old) s) old)) old new
+    again : (event : Event) → s.travels ≡ Some Again → next_event (store_place old) s.again ≡ Some event
+        → IsUndone d error (after_post event (seat_of (goes_again (store_place old) s) old)) old new
         → IsStuck error s old new
 
   -- All that a call promises that is to do what was asked for.

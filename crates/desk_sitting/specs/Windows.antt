@@ -24,14 +24,14 @@ unfoldable pub fitted : ℕ → Sight → Sight
 fitted height sight = record { top = max sight.top (rows_in height - 1); rows = rows_in height }
 
 -- as many rows upward or downward as are in sight, as far as there are any
-unfoldable pub moved : PageKey → Sight → Sight
-moved Up sight = record { top = min (sight.top + sight.rows) (ROWS - 1); rows = sight.rows }
-moved Down sight = record { top = max (sight.top - sight.rows) (sight.rows - 1); rows = sight.rows }
+unfoldable pub moved_sight : PageKey → Sight → Sight
+moved_sight Up sight = record { top = min (sight.top + sight.rows) (ROWS - 1); rows = sight.rows }
+moved_sight Down sight = record { top = max (sight.top - sight.rows) (sight.rows - 1); rows = sight.rows }
 
 -- as few rows as bring a cell into sight
-unfoldable pub followed : Option (ℕ × ℕ) → Sight → Sight
-followed None sight = sight
-followed (Some place) sight = record {
+unfoldable pub following_sight : Option (ℕ × ℕ) → Sight → Sight
+following_sight None sight = sight
+following_sight (Some place) sight = record {
   top = max place.1 (min sight.top (place.1 + sight.rows - 1));
   rows = sight.rows;
 }

@@ -1,6 +1,6 @@
 //! What was taken back, as far as it can be done again.
 ghost use Rattle.std.specs.Prelude.{◌≡◌, ◌-◌, length, take, slice_get};
-ghost use Rattle.desk_sitting.specs.Again.{is_at, kept_at, next_of, no_again, rest_at};
+ghost use Rattle.desk_sitting.specs.Again.{holds_at, kept_at, next_event, no_again, rest_at};
 
 use arrayvec::ArrayVec;
 use event_bytes::Event;
@@ -48,7 +48,7 @@ impl Again {
 
     /// Whether this is the place.
     fn is_at(&self, place: Place) -> bool
-        ensures { result ≡ is_at place self.now }
+        ensures { result ≡ holds_at place self.now }
     {
         self.place.epoch == place.epoch && self.place.events == place.events
     }
@@ -69,9 +69,9 @@ impl Again {
     }
 
     /// The event that is to be done again next, at this place.
-    #[tactic(auto, unfolding(crate::specs::Again::next_of))]
+    #[tactic(auto, unfolding(crate::specs::Again::next_event))]
     pub fn next(&mut self, place: Place) -> Option<Event>
-        ensures event { result ≡ next_of place self.old }
+        ensures event { result ≡ next_event place self.old }
         ensures rest { self.new ≡ rest_at place self.old }
     {
         if !self.is_at(place) {

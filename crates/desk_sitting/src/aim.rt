@@ -1,8 +1,8 @@
 //! The cell of the caret, and the one beside it.
 ghost use Rattle.std.specs.Prelude.{◌≡◌, ◌<◌, length, position, IfSome};
 ghost use Rattle.screen_pictures.specs.declared.cell.Mark.TheVariants.{Caret};
-ghost use Rattle.desk_sitting.specs.Aims.{aimed, beside, has_mark, is_mark, is_text, marked, start_of, where_text};
-ghost use Rattle.desk_sitting.specs.Aims.{caret_of as place_of_caret};
+ghost use Rattle.desk_sitting.specs.Aims.{aimed, beside, has_mark, is_mark, is_text, cell_marked, start_of, where_text};
+ghost use Rattle.desk_sitting.specs.Aims.{caret_cell as place_of_caret};
 
 use screen_cells::Screen;
 use screen_pictures::{Cell, Mark};
@@ -45,9 +45,9 @@ fn start_of(screen: &Screen) -> Option<(u8, u8)>
 }
 
 /// The column and the row of the display at which the mark stands: of several the lowest, and there the first.
-#[tactic(auto, unfolding(crate::specs::Aims::marked))]
+#[tactic(auto, unfolding(crate::specs::Aims::cell_marked))]
 fn marked(screen: &Screen, mark: Mark) -> Option<(u8, u8)>
-    ensures value { result ≡ marked mark screen.now }
+    ensures value { result ≡ cell_marked mark screen.now }
     ensures column { IfSome result (λ at. at.0 < COLUMNS) }
     ensures row { IfSome result (λ at. at.1 < ROWS) }
 {

@@ -3,8 +3,8 @@ ghost use Rattle.std.specs.Prelude.{◌≡◌, false, [], ◌∷◌, OnOk, IfErr
 ghost use Rattle.desk_journal.specs.Device.{IsSameDevice};
 ghost use Rattle.desk_journal.specs.View.{IsDurable};
 ghost use Rattle.sector_disk.specs.Faults.{FailsAs};
-ghost use Rattle.terminal_presses.specs.Presses.{in_order, parser_after, pressed};
-ghost use Rattle.desk_sitting.specs.Doing.{Breaks, Does, OfPresses, TakesAll};
+ghost use Rattle.terminal_presses.specs.Presses.{in_order, parser_after, presses_heard};
+ghost use Rattle.desk_sitting.specs.Doing.{Breaks, DoesPresses, OfPresses, DoesAllPresses};
 
 use crate::sitting::Sitting;
 use desk_journal::{Error, Store};
@@ -27,9 +27,9 @@ pub fn do_presses<D: Disk>(
     requires { store.old.must_reopen ≡ false }
     ensures parser { OnOk result (parser.new ≡ parser_after parser.old hearing.now) }
     ensures done { OnOk result (D.honest store.old.disk → IsDurable D.Disk store.old
-        → Does D.Disk (pressed parser.old hearing.now) sitting.old sitting.new store.old store.new) }
+        → DoesPresses D.Disk (presses_heard parser.old hearing.now) sitting.old sitting.new store.old store.new) }
     ensures broke { IfErr result (λ error. D.honest store.old.disk → IsDurable D.Disk store.old
-        → Breaks D.Disk error (pressed parser.old hearing.now) sitting.old store.old store.new) }
+        → Breaks D.Disk error (presses_heard parser.old hearing.now) sitting.old store.old store.new) }
     ensures usable { OnOk result (store.new.must_reopen ≡ false) }
     ensures faults { FailsAs Error.Fault OfPresses result (D.failures store.old.disk) (D.failures store.new.disk) }
     ensures device { IsSameDevice D.Disk store.old.disk store.new.disk }
@@ -50,7 +50,7 @@ fn do_each<D: Disk>(
     store: &mut Store<D>,
 ) -> Result<(), Error>
     requires { store.old.must_reopen ≡ false }
-    ensures { TakesAll D.Disk (in_order presses) result sitting.old sitting.new store.old store.new }
+    ensures { DoesAllPresses D.Disk (in_order presses) result sitting.old sitting.new store.old store.new }
 {
     match presses {
         Presses::Nothing => Ok(()),
@@ -71,7 +71,7 @@ fn do_both<D: Disk>(
     store: &mut Store<D>,
 ) -> Result<(), Error>
     requires { store.old.must_reopen ≡ false }
-    ensures { TakesAll D.Disk (first ∷ second ∷ []) result sitting.old sitting.new store.old store.new }
+    ensures { DoesAllPresses D.Disk (first ∷ second ∷ []) result sitting.old sitting.new store.old store.new }
 {
     sitting.press(alloc, first, store)?;
     sitting.press(alloc, second, store)

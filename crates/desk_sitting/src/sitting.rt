@@ -1,10 +1,10 @@
 //! A person at a terminal, before a store.
 ghost use Rattle.std.specs.Prelude.{◌≡◌, ◌≢◌, false, OnOk, IfErr};
 ghost use Rattle.terminal_presses.specs.Hands.{handled};
-ghost use Rattle.desk_sitting.specs.Doing.{Takes, seat_of};
+ghost use Rattle.desk_sitting.specs.Doing.{ComesToSeat, seat_of};
 ghost use Rattle.desk_sitting.specs.Sayings.{line_of};
-ghost use Rattle.desk_sitting.specs.Sittings.{acted, acted_alone, after_press, brought, clicked, looked, new_sitting};
-ghost use Rattle.desk_sitting.specs.Sittings.{came_to, fitted_saying, posted, refused, replied, turned_away};
+ghost use Rattle.desk_sitting.specs.Sittings.{acted, acted_alone, after_press, after_fetch, after_click, looked, new_sitting};
+ghost use Rattle.desk_sitting.specs.Sittings.{came_to, fitted_saying, after_post, refused, replied, turned_away};
 ghost use Rattle.desk_sitting.specs.Sittings.{typed_more, with_hand};
 
 use crate::again::Again;
@@ -110,9 +110,9 @@ impl Sitting {
     }
 
     /// The keyboard was asked for the text of the host file that is wanted, and says whether it will be heard.
-    #[tactic(auto, unfolding(crate::specs::Sittings::brought))]
+    #[tactic(auto, unfolding(crate::specs::Sittings::after_fetch))]
     pub fn bring(&mut self, will_be_heard: bool)
-        ensures { self.new ≡ brought will_be_heard self.old }
+        ensures { self.new ≡ after_fetch will_be_heard self.old }
     {
         if self.wanted.is_some() {
             self.wanted = None;
@@ -166,7 +166,7 @@ impl Sitting {
         store: &mut Store<D>,
     ) -> Doing
         requires { store.old.must_reopen ≡ false }
-        ensures { Takes D.Disk (after_press press (seat_of self.old store.old)) result self.new store.old store.new }
+        ensures { ComesToSeat D.Disk (after_press press (seat_of self.old store.old)) result self.new store.old store.new }
     {
         if self.leaves {
             return Ok(());
@@ -191,7 +191,7 @@ impl Sitting {
     /// Does what a press comes to.
     fn act<D: Disk>(&mut self, alloc: Global, action: Action, store: &mut Store<D>) -> Doing
         requires { store.old.must_reopen ≡ false }
-        ensures { Takes D.Disk (acted action (seat_of self.old store.old)) result self.new store.old store.new }
+        ensures { ComesToSeat D.Disk (acted action (seat_of self.old store.old)) result self.new store.old store.new }
     {
         match action {
             Action::Post(event) => self.post(alloc, &event, store),
@@ -235,7 +235,7 @@ impl Sitting {
     /// A left click beside the caret, as the screen has it, or a ring where no text is shown there.
     fn step<D: Disk>(&mut self, alloc: Global, arrow: Arrow, store: &mut Store<D>) -> Doing
         requires { store.old.must_reopen ≡ false }
-        ensures { Takes D.Disk (acted (Action.Step arrow) (seat_of self.old store.old)) result self.new store.old
+        ensures { ComesToSeat D.Disk (acted (Action.Step arrow) (seat_of self.old store.old)) result self.new store.old
             store.new }
     {
         let mut screen = Screen::new();
@@ -251,7 +251,7 @@ impl Sitting {
         store: &mut Store<D>,
     ) -> Doing
         requires { store.old.must_reopen ≡ false }
-        ensures { Takes D.Disk (clicked place (seat_of self.old store.old)) result self.new store.old store.new }
+        ensures { ComesToSeat D.Disk (after_click place (seat_of self.old store.old)) result self.new store.old store.new }
     {
         match place {
             None => {
@@ -279,7 +279,7 @@ impl Sitting {
         store: &mut Store<D>,
     ) -> Doing
         requires { store.old.must_reopen ≡ false }
-        ensures { Takes D.Disk (posted event.now (seat_of self.old store.old)) result self.new store.old store.new }
+        ensures { ComesToSeat D.Disk (after_post event.now (seat_of self.old store.old)) result self.new store.old store.new }
     {
         match store.post(alloc, event) {
             Ok(reply) => {

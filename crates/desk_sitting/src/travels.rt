@@ -2,10 +2,10 @@
 ghost use Rattle.std.specs.Prelude.{◌≡◌, ◌≢◌, false, Some, None, OnOk, IfErr, IfOk};
 ghost use Rattle.desk_sitting.specs.declared.sitting.Travel.TheVariants.{Back, Again as Forth};
 ghost use Rattle.desk_sitting.specs.declared.saying.Saying.TheVariants.{NotBack};
-ghost use Rattle.desk_sitting.specs.Again.{next_of};
-ghost use Rattle.desk_sitting.specs.Doing.{OfPresses, Takes, seat_of};
-ghost use Rattle.desk_sitting.specs.Sittings.{posted, refused};
-ghost use Rattle.desk_sitting.specs.Travels.{Travels, did_again, goes_again, place_of, settled, took_back};
+ghost use Rattle.desk_sitting.specs.Again.{next_event};
+ghost use Rattle.desk_sitting.specs.Doing.{OfPresses, ComesToSeat, seat_of};
+ghost use Rattle.desk_sitting.specs.Sittings.{after_post, refused};
+ghost use Rattle.desk_sitting.specs.Travels.{Travels, did_again, goes_again, store_place, settled, took_back};
 
 use crate::again::Place;
 use crate::deed::Deed;
@@ -33,7 +33,7 @@ pub fn travel<D: Disk>(alloc: Global, sitting: &mut Sitting, store: &mut Store<D
 /// Where a store stands.
 fn place<D: Disk>(store: &Store<D>) -> Place
     requires { store.now.must_reopen ≡ false }
-    ensures { result ≡ place_of store.now }
+    ensures { result ≡ store_place store.now }
 {
     match store.info() {
         Ok(info) => Place {

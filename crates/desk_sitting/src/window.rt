@@ -1,6 +1,6 @@
 //! The rows of the display that are in sight in a terminal.
 ghost use Rattle.std.specs.Prelude.{◌≡◌, ◌<◌, ◌≤◌, IfSome};
-ghost use Rattle.desk_sitting.specs.Windows.{height_told, is_narrow, rows_in, fitted, moved, followed};
+ghost use Rattle.desk_sitting.specs.Windows.{height_told, is_narrow, rows_in, fitted, moved_sight, following_sight};
 
 use terminal_presses::{Page, Sight};
 use viewer_tracks::{COLUMNS, ROWS};
@@ -47,9 +47,9 @@ pub(crate) fn fitted(height: u16, sight: Sight) -> Sight
 }
 
 /// As many rows upward or downward as are in sight, as far as there are any.
-#[tactic(auto, unfolding(crate::specs::Windows::moved))]
+#[tactic(auto, unfolding(crate::specs::Windows::moved_sight))]
 pub(crate) fn moved(page: Page, sight: Sight) -> Sight
-    ensures { result ≡ moved page sight }
+    ensures { result ≡ moved_sight page sight }
 {
     let rows = sight.rows();
     match page {
@@ -59,10 +59,10 @@ pub(crate) fn moved(page: Page, sight: Sight) -> Sight
 }
 
 /// As few rows further as bring the cell at that column and row into sight.
-#[tactic(auto, unfolding(crate::specs::Windows::followed))]
+#[tactic(auto, unfolding(crate::specs::Windows::following_sight))]
 pub(crate) fn followed(place: Option<(u8, u8)>, sight: Sight) -> Sight
     requires { IfSome place (λ at. at.1 < ROWS) }
-    ensures { result ≡ followed place sight }
+    ensures { result ≡ following_sight place sight }
 {
     match place {
         None => sight,

@@ -7,8 +7,8 @@ use Rattle.store_layout.specs.Bits.{true_or_false, clash}
 use Rattle.store_layout.specs.Layout.{is_label, is_open, slot_gate, slot_head, gate, body, image_at, area_at, head}
 use Rattle.store_layout.specs.Layout.{head_of, IsGoodHead}
 use Rattle.store_layout.specs.Meaning.{IsJournal, HasImage, Standing, Stands, full_sectors}
-use Rattle.store_layout.specs.Kept.{InCheckpoint, IsSettled, OpenGate, Spares}
-use Rattle.store_layout.specs.StandingLaws.{area_apart, carried, image_stays, journal_short, journal_stays, older_stays}
+use Rattle.store_layout.specs.Kept.{InCheckpoint, IsSettled, OpenGate, SparesArea}
+use Rattle.store_layout.specs.StandingLaws.{area_apart, standing_carried, image_stays, journal_short, journal_stays, older_stays}
 use Rattle.store_layout.specs.declared.head.Head.{Head}
 use Rattle.desktop_definitions.specs.Desktop.{Desktop}
 use Rattle.desktop_definitions.specs.Step.{steps_in}
@@ -17,13 +17,13 @@ use Rattle.desk_slots.specs.declared.live.LiveDesktop.{LiveDesktop}
 use Rattle.desk_slots.specs.Live.{seen_live}
 use Rattle.desk_slots.specs.Load.{IsReadWhole}
 use Rattle.desk_slots.proofs.Loading.{named_after}
-use Rattle.desk_slots.specs.Beside.{IsOver, StandsBeside, StandsOneOf, IsLoaded, IsBesideRead}
+use Rattle.desk_slots.specs.Beside.{StandsOver, StandsBeside, StandsOneOf, IsLoadedBeside, IsBesideRead}
 use Rattle.desk_slots.specs.Written.{HasGate}
 
 module _ {size : ℕ} (c c' : Content) (s t : Standing) (was : Stands size c s) (beside : StandsBeside c s.slot t)
     (same : (n : ℕ) → n ≢ slot_gate s.slot → c' n ≡ c n) where
   stays : is_open (c' (slot_gate s.slot)) ≡ true → Stands size c' s
-  stays on = carried c c' s was (same LABEL (omega arith)) on (same (slot_head s.slot) (omega arith))
+  stays on = standing_carried c c' s was (same LABEL (omega arith)) on (same (slot_head s.slot) (omega arith))
       (λ idle two opened.
       let before = sym (ap is_open (same (slot_gate idle) (omega (arith, two)))) ∙ opened in
       older_stays c c' s.epoch idle (same (slot_head idle) (omega (arith, two))) (was.other idle two before))
@@ -64,7 +64,7 @@ module _ {size : ℕ} (c c' : Content) (s t : Standing) (was : Stands size c s) 
     | inr off ↦ inl (goes off)
   ]
 
-module _ {size : ℕ} {old new : Trail} {slot : ℕ} {s t : Standing} (at : IsOver size old slot s t)
+module _ {size : ℕ} {old new : Trail} {slot : ℕ} {s t : Standing} (at : StandsOver size old slot s t)
     (run : Touches (OpenGate (now old).reads slot) old new) where
   beside_here : StandsBeside (now old).reads s.slot t
   beside_here = subst (λ n. StandsBeside (now old).reads n t) (sym at.slot_is) at.beside
@@ -90,7 +90,7 @@ pub loaded_of : {old late last : Trail} {slot version count : ℕ} {h : Head} {s
     → IsReadWhole (now late).reads slot version count start (seen_live (now last).reads live)
     → live.area ≡ h.area → (renewed_of live.pages ≡ false → saved_sectors live.pages ≡ full_sectors h.written)
     → h.version ≡ version
-    → IsLoaded (now old).reads slot h.version count (now last).reads live
+    → IsLoadedBeside (now old).reads slot h.version count (now last).reads live
 loaded_of {old = old} {late = late} {last = last} {slot = slot} {version = version} {h = h} {start = start} live is loads
     replays image whole area counted by_head = record {
       start = start;
@@ -105,11 +105,11 @@ loaded_of {old = old} {late = late} {last = last} {slot = slot} {version = versi
 pub beside_read : {old mid : Trail} (last : Trail) {slot other number count : ℕ} {h : Head} {live : LiveDesktop}
     → slot + other ≡ 1 → (is_open ((now old).reads (slot_gate other)) ≡ true) × (head (now old).reads other ≡ h)
     → IsGoodHead h → h.epoch + 1 ≡ number → Touches Nowhere old mid
-    → (head (now mid).reads other ≡ h → IsLoaded (now mid).reads other h.version count (now last).reads live)
+    → (head (now mid).reads other ≡ h → IsLoadedBeside (now mid).reads other h.version count (now last).reads live)
     → IsBesideRead (now old).reads slot number count (now last).reads live
 beside_read {old = old} {mid = mid} last {slot = slot} {other = other} {number = number} {count = count} {h = h}
     {live = live} two opened good epoch first loads =
-    let has = subst (λ c. head c other ≡ h → IsLoaded c other h.version count (now last).reads live)
+    let has = subst (λ c. head c other ≡ h → IsLoadedBeside c other h.version count (now last).reads live)
     (still_all old mid first) loads opened.1 in
     record {
       standing = record {
@@ -138,7 +138,7 @@ beside_read {old = old} {mid = mid} last {slot = slot} {other = other} {number =
 
 -- The slot that was in use shows still, beside the one that a checkpoint has written, what it showed.
 module _ {size : ℕ} (c c' : Content) (s : Standing) (idle area from : ℕ) (two : s.slot + idle ≡ 1) (was : Stands size c s)
-    (spares : Spares (head c s.slot) area from)
+    (spares : SparesArea (head c s.slot) area from)
     (same : (n : ℕ) → ¬ ((n ≡ slot_gate idle) ⊎ InCheckpoint idle area from n) → c' n ≡ c n) where
   low : (n : ℕ) → n < AREA → n ≢ slot_gate idle → n ≢ slot_head idle → n ≢ gate idle 0
       → ¬ ((image_at idle ≤ n) × (n < image_at idle + IMAGE_SECTORS)) → c' n ≡ c n

@@ -4,10 +4,10 @@ use Rattle.desktop_definitions.specs.declared.reply.Reply.{Reply}
 use Rattle.desktop_definitions.specs.Tables.{Texts}
 use Rattle.desktop_definitions.specs.Words.{Text}
 use Rattle.desktop_definitions.specs.Desktop.{Desktop}
-use Rattle.desktop_definitions.specs.Change.{plain}
+use Rattle.desktop_definitions.specs.Change.{plain_text}
 use Rattle.desktop_definitions.specs.Viewers.{text_of, text_in}
 use Rattle.desktop_definitions.specs.Sound.{IsSound}
-use Rattle.desktop_definitions.specs.Step.{Outcome, filed, fits, settled, outcome_of}
+use Rattle.desktop_definitions.specs.Step.{Outcome, filed, fits, outcome_after, outcome_of}
 use Rattle.screen_cells.specs.declared.lines.KeptLines.{KeptLines}
 use Rattle.screen_cells.specs.Lines.{AreLinesOf}
 use Rattle.desk_bringing.specs.Bringing.{Documents, all_filed, has_few_files, all_brought, brought_in}
@@ -16,7 +16,7 @@ use Rattle.desk_bringing.specs.BringingLaws.{all_filed_shown, brought_many, brou
 texts_filed : (d : Desktop) (documents : Documents) → (all_filed d documents).texts ≡ d.texts
 unfolding all_filed filed
 texts_filed d [] = refl
-texts_filed d (x ∷ xs) = texts_filed (filed d x.0 (plain x.1)) xs
+texts_filed d (x ∷ xs) = texts_filed (filed d x.0 (plain_text x.1)) xs
 
 pub texts_left : (d : Desktop) (documents : Documents) → IsSound d → (brought_in d documents).desktop.texts ≡ d.texts
 unfolding brought_in
@@ -24,10 +24,10 @@ texts_left d documents sound =
     let new = all_filed d documents in
     let shown = all_filed_shown d documents sound.shown in
     (elim (has_few_files new) as
-    (λ b. has_few_files new ≡ b → (settled d (all_brought d documents)).desktop.texts ≡ d.texts) [
+    (λ b. has_few_files new ≡ b → (outcome_after d (all_brought d documents)).desktop.texts ≡ d.texts) [
       | false ↦ λ many. ap (λ (o : Outcome). o.desktop.texts) (sym (brought_many d documents many))
       | true ↦ λ few. (elim (fits new) as
-          (λ b. fits new ≡ b → (settled d (all_brought d documents)).desktop.texts ≡ d.texts) [
+          (λ b. fits new ≡ b → (outcome_after d (all_brought d documents)).desktop.texts ≡ d.texts) [
             | false ↦ λ unfit. ap (λ (o : Outcome). o.desktop.texts) (sym (brought_full d documents few shown unfit))
             | true ↦ λ fit. ap (λ (o : Outcome). o.desktop.texts) (sym (brought_done d documents few shown fit))
                 ∙ texts_filed d documents

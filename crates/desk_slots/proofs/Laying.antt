@@ -6,7 +6,7 @@ use Rattle.command_table.specs.Versions.{version_number}
 use Rattle.command_table.specs.declared.version.Version.{Version}
 use Rattle.command_table.specs.declared.version.Version.TheVariants.{V1, V2, V3}
 use Rattle.std.proofs.lemmas.List.{get_or-take}
-use Rattle.sector_disk.specs.Trail.{Moment, Trail, now, written, settled, Touches, Only}
+use Rattle.sector_disk.specs.Trail.{Moment, Trail, now, written, after_sync, Touches, Only}
 use Rattle.sector_disk.proofs.Touching.{still_reads}
 use Rattle.sector_disk.specs.Stored.{stored, byte_of}
 use Rattle.sector_disk.specs.StoredLaws.{stored_by_index, none_stored}
@@ -24,8 +24,8 @@ use Rattle.store_layout.specs.declared.layout.TheConstants.{FIRST_LAYOUT, LABEL,
 use Rattle.store_layout.specs.Bits.{clash}
 use Rattle.store_layout.specs.Layout.{is_label, is_open, slot_gate, slot_head, gate, image_at, area_start, area_at}
 use Rattle.store_layout.specs.Layout.{head, head_of, IsGoodHead}
-use Rattle.store_layout.specs.Meaning.{Makes, full_sectors}
-use Rattle.store_layout.specs.Kept.{IsNewSlot, IsKept}
+use Rattle.store_layout.specs.Meaning.{MakesDesktop, full_sectors}
+use Rattle.store_layout.specs.Kept.{IsNewSlot, ShowsSettled}
 use Rattle.store_layout.specs.StandingLaws.{image_stays}
 use Rattle.desk_slots.specs.Written.{HasGate, IsFilled}
 use Rattle.desk_slots.proofs.NewSlot.{filled_as}
@@ -108,12 +108,12 @@ module _ (before one two three four last : Moment) (image head_bytes shut label 
     })
     (is_shut : is_open shut ≡ false) (image_written : one ≡ written before (image_at 0) image)
     (head_written : two ≡ written one (slot_head 0) head_bytes) (gate_written : three ≡ written two (gate 0 0) shut)
-    (label_written : four ≡ written three LABEL label) (synced : last ≡ settled four) where
+    (label_written : four ≡ written three LABEL label) (synced : last ≡ after_sync four) where
   abbrev new_head : Head
   new_head = record { version = version; epoch = 1; written = 0; extent = length bytes; area = 0 }
 
   after_label : (n : ℕ) → n ≢ LABEL → last.reads n ≡ three.reads n
-  after_label n other = ap (λ m. m.reads n) (synced ∙ ap settled label_written)
+  after_label n other = ap (λ m. m.reads n) (synced ∙ ap after_sync label_written)
       ∙ reads_elsewhere three LABEL n label other
 
   after_gate : (n : ℕ) → n ≢ LABEL → n ≢ gate 0 0 → last.reads n ≡ two.reads n
@@ -142,7 +142,7 @@ module _ (before one two three four last : Moment) (image head_bytes shut label 
           ap (λ n. get_or (last.reads n) (i % SECTOR_BYTES) 0) sector
           ∙ ap (λ n. get_or (last.reads (image_at 0)) n 0) place
 
-  made : Makes new_head bytes [] empty_desktop
+  made : MakesDesktop new_head bytes [] empty_desktop
   made = record {
     kept = empty_desktop;
     tail = omega arith;
@@ -163,10 +163,10 @@ module _ (before one two three four last : Moment) (image head_bytes shut label 
         });
     version_is = ap (λ h. h.version) here;
     epoch = ap (λ h. h.epoch) here;
-    image = subst (λ h. Makes h (stored last.reads (image_at 0) h.extent)
+    image = subst (λ h. MakesDesktop h (stored last.reads (image_at 0) h.extent)
         (stored last.reads (area_start h.area) (SECTOR_BYTES * full_sectors h.written)) empty_desktop) (sym here)
-        (subst (λ l. Makes new_head l (stored last.reads (area_start 0) 0) empty_desktop) (sym image_stored)
-        (subst (λ l. Makes new_head bytes l empty_desktop) (sym (none_stored last.reads (area_start 0))) made));
+        (subst (λ l. MakesDesktop new_head l (stored last.reads (area_start 0) 0) empty_desktop) (sym image_stored)
+        (subst (λ l. MakesDesktop new_head bytes l empty_desktop) (sym (none_stored last.reads (area_start 0))) made));
     journal = ap is_open (after_label (gate 0 0) (omega arith) ∙ ap (λ m. m.reads (gate 0 0)) gate_written
         ∙ reads_here two (gate 0 0) shut) ∙ is_shut;
   }
@@ -182,7 +182,7 @@ pub laid_out : (size version : ℕ) (closed started opened : Trail) → STORE_SE
     → Touches (λ n. (n < STORE_SECTORS) × ¬ (n ≡ slot_gate 1)) closed started
     → is_label ((now started).reads LABEL) ≡ true → IsNewSlot (now started).reads 0 version 1 empty_desktop
     → Touches (Only (slot_gate 0)) started opened → HasGate (now opened) 0 true
-    → IsKept size opened 0 version 1 0 empty_desktop
+    → ShowsSettled size opened 0 version 1 0 empty_desktop
 laid_out size version closed started opened large shut starts label new opens live = record {
   standing = record { slot = 0; version = version; epoch = 1; start = empty_desktop; events = [] };
   settled = record {

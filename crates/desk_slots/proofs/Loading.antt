@@ -9,7 +9,7 @@ use Rattle.command_table.specs.Versions.{version_of}
 use Rattle.sector_disk.specs.Trail.{Content, Trail, now, Touches, Nowhere}
 use Rattle.sector_disk.proofs.Touching.{still_all, still_settled}
 use Rattle.event_bytes.specs.declared.event.Event.{Event}
-use Rattle.event_bytes.specs.Spelling.{Begins}
+use Rattle.event_bytes.specs.Spelling.{BeginsWithEvent}
 use Rattle.desktop_definitions.specs.Desktop.{Desktop}
 use Rattle.desktop_definitions.specs.Step.{step_in, steps_in}
 use Rattle.store_layout.specs.declared.head.Head.{Head}
@@ -21,16 +21,16 @@ use Rattle.store_layout.specs.Meaning.{IsJournal, HasImage, Standing, Stands, Sh
 use Rattle.store_layout.specs.StandingLaws.{one_in_use, stands_in_use, journal_leads}
 use Rattle.store_layout.specs.Footprint.{IsLedTo}
 use Rattle.store_layout.specs.Finding.{IsNoEvent, AreShut, HasBadHead, IsDamage, IsDamagedAt, StandingLaw}
-use Rattle.store_layout.specs.Kept.{IsKept}
+use Rattle.store_layout.specs.Kept.{ShowsSettled}
 use Rattle.char_pages.specs.Pages.{saved_sectors, renewed_of}
 use Rattle.desk_slots.specs.declared.live.LiveDesktop.{LiveDesktop}
 use Rattle.desk_slots.specs.Live.{IsNamed}
-use Rattle.desk_slots.specs.Load.{IsLocated, IsReadTo, IsReadUpTo, IsReadWhole}
+use Rattle.desk_slots.specs.Load.{IsLocated, IsJournalReadTo, IsReadUpTo, IsReadWhole}
 use Rattle.desk_slots.proofs.Recording.{steps_in_on}
 
 -- ---- the journal
 
-pub none_read : (c : Content) (slot version : ℕ) (from : Desktop) → IsReadTo c slot version 0 from from
+pub none_read : (c : Content) (slot version : ℕ) (from : Desktop) → IsJournalReadTo c slot version 0 from from
 none_read c slot version from = record {
   events = [];
   count = refl;
@@ -51,9 +51,9 @@ led_on c slot k led opened = λ j below. elim (cases_lt j k) [
 
 -- one event further
 pub one_read : (c : Content) (slot version k : ℕ) (from to next : Desktop) (event : Event)
-    → IsReadTo c slot version k from to
-    → k < JOURNAL_EVENTS → is_open (c (gate slot k)) ≡ true → Begins (c (body slot k)) event
-    → next ≡ (step_in version to event).desktop → IsReadTo c slot version (k + 1) from next
+    → IsJournalReadTo c slot version k from to
+    → k < JOURNAL_EVENTS → is_open (c (gate slot k)) ≡ true → BeginsWithEvent (c (body slot k)) event
+    → next ≡ (step_in version to event).desktop → IsJournalReadTo c slot version (k + 1) from next
 one_read c slot version k from to next event was room opened begins is = record {
   events = was.events ++ event ∷ [];
   count = length-append was.events (event ∷ []) ∙ omega (arith, was.count);
@@ -61,14 +61,14 @@ one_read c slot version k from to next event was room opened begins is = record 
   each = λ j below. elim (cases_lt j k) [
     | inl earlier ↦ was.each j earlier
     | inr last ↦ let here : k ≡ j = omega (arith, below, last) in subst
-        (λ i. (e : Event) × Begins (c (body slot i)) e) here (event, begins)
+        (λ i. (e : Event) × BeginsWithEvent (c (body slot i)) e) here (event, begins)
   ];
   goes_on = λ rest journal. subst (IsJournal c slot 0) (sym (append_assoc was.events (event ∷ []) rest))
       (was.goes_on (event ∷ rest) (room, opened, begins, journal));
   is = is ∙ ap (λ d. (step_in version d event).desktop) was.is ∙ sym (steps_in_on version from was.events event);
 }
 
-pub all_read : (c : Content) (slot version k : ℕ) (from to : Desktop) → IsReadTo c slot version k from to
+pub all_read : (c : Content) (slot version k : ℕ) (from to : Desktop) → IsJournalReadTo c slot version k from to
     → (k < JOURNAL_EVENTS → is_open (c (gate slot k)) ≡ false) → IsReadWhole c slot version k from to
 all_read c slot version k from to was closed = record {
   events = was.events;
@@ -77,9 +77,9 @@ all_read c slot version k from to was closed = record {
   is = was.is;
 }
 
-pub not_read : (c : Content) (slot version k : ℕ) (from to : Desktop) → IsReadTo c slot version k from to
+pub not_read : (c : Content) (slot version k : ℕ) (from to : Desktop) → IsJournalReadTo c slot version k from to
     → k < JOURNAL_EVENTS
-    → is_open (c (gate slot k)) ≡ true → ((event : Event) → Begins (c (body slot k)) event → ⊥) → IsNoEvent c slot k
+    → is_open (c (gate slot k)) ≡ true → ((event : Event) → BeginsWithEvent (c (body slot k)) event → ⊥) → IsNoEvent c slot k
 not_read c slot version k from to was room opened none = record {
   within = room;
   led = led_on c slot k was.led opened;
@@ -195,7 +195,7 @@ module _ {size slot : ℕ} {h : Head} {old mid : Trail} (found : IsLocated size 
       }
 
       pub loaded : {last : Trail} → Touches Nowhere late last → ((n : ℕ) → (now mid).pending n ≡ false)
-          → IsKept size last slot version h.epoch count desktop
+          → ShowsSettled size last slot version h.epoch count desktop
       loaded {last = last} third quiet = record {
         standing = standing;
         settled = record {

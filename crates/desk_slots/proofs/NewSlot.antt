@@ -4,7 +4,7 @@ use Rattle.std.proofs.Common.{◌∙◌, ap, subst, arith, length-append, false}
 use Rattle.std.proofs.Math.Seq.{take-append_seam, drop-append_seam}
 use Rattle.std.proofs.lemmas.List.{take-append-drop, length-drop}
 use Rattle.sector_disk.specs.declared.disk.TheConstants.{SECTOR_BYTES}
-use Rattle.sector_disk.specs.Trail.{Moment, written, settled}
+use Rattle.sector_disk.specs.Trail.{Moment, written, after_sync}
 use Rattle.sector_disk.specs.Stored.{stored}
 use Rattle.sector_disk.specs.StoredLaws.{stored_same}
 use Rattle.sector_streams.proofs.Filled.{reads_here, reads_elsewhere}
@@ -19,7 +19,7 @@ use Rattle.store_layout.specs.declared.head.Head.{Head}
 use Rattle.store_layout.specs.declared.layout.TheConstants.{AREAS, LAYOUT, SLOTS}
 use Rattle.store_layout.specs.Layout.{is_open, slot_head, gate, image_at, area_start, area_at, head, head_of}
 use Rattle.store_layout.specs.Layout.{IsGoodHead}
-use Rattle.store_layout.specs.Meaning.{Makes, full_sectors, left_over}
+use Rattle.store_layout.specs.Meaning.{MakesDesktop, full_sectors, left_over}
 use Rattle.store_layout.specs.Kept.{HasFront, IsNewSlot}
 use Rattle.store_layout.specs.StandingLaws.{has_front_stays}
 use Rattle.desk_slots.specs.Written.{IsFilled}
@@ -37,7 +37,7 @@ few_characters characters d over = subst (λ n. n ≤ most_written) (all_written
 
 -- A new slot is filled where nothing is pending, and where its head names the whole sectors of these characters.
 pub filled_as : (before last : Moment) {slot version area number : ℕ} {characters : List ℕ} {desktop : Desktop}
-    (h : Head) → last ≡ settled before → IsNewSlot last.reads slot version number desktop → head last.reads slot ≡ h
+    (h : Head) → last ≡ after_sync before → IsNewSlot last.reads slot version number desktop → head last.reads slot ≡ h
     → h.area ≡ area → full_sectors h.written ≡ full_sectors (length characters)
     → HasFront last.reads area (full_sectors (length characters)) characters
     → IsFilled last slot version area number characters desktop
@@ -67,7 +67,7 @@ module _ (first second third last : Moment) (slot number extent count at_area : 
       area = at_area;
     }) (count_is : count ≡ (seen characters d).written) (is_shut : is_open shut ≡ false)
     (head_written : second ≡ written first (slot_head slot) head_bytes)
-    (gate_written : third ≡ written second (gate slot 0) shut) (synced : last ≡ settled third) where
+    (gate_written : third ≡ written second (gate slot 0) shut) (synced : last ≡ after_sync third) where
   all_counted : count ≡ length characters
   all_counted = count_is ∙ all_written characters d over
 
@@ -86,8 +86,8 @@ module _ (first second third last : Moment) (slot number extent count at_area : 
   abbrev bytes : List ℕ
   bytes = image_bytes newest_version (image_of d)
 
-  behind : last ≡ settled (written second (gate slot 0) shut)
-  behind = synced ∙ ap settled gate_written
+  behind : last ≡ after_sync (written second (gate slot 0) shut)
+  behind = synced ∙ ap after_sync gate_written
 
   other : (n : ℕ) → n ≢ slot_head slot → n ≢ gate slot 0 → last.reads n ≡ first.reads n
   other n not_head not_gate = ap (λ m. m.reads n) behind ∙ reads_elsewhere second (gate slot 0) n shut not_gate
@@ -116,7 +116,7 @@ module _ (first second third last : Moment) (slot number extent count at_area : 
   tail_long : length tail ≡ left_over (length characters)
   tail_long = length-drop (SECTOR_BYTES * full_sectors (length characters)) characters ∙ omega arith
 
-  made : Makes new_head (tail ++ bytes) (take (SECTOR_BYTES * full_sectors (length characters)) characters)
+  made : MakesDesktop new_head (tail ++ bytes) (take (SECTOR_BYTES * full_sectors (length characters)) characters)
       (seen characters d)
   made = record {
     kept = d;
@@ -144,11 +144,11 @@ module _ (first second third last : Moment) (slot number extent count at_area : 
     });
     version_is = ap (λ h. h.version) here;
     epoch = ap (λ h. h.epoch) here;
-    image = subst (λ h. Makes h (stored last.reads (image_at slot) h.extent)
+    image = subst (λ h. MakesDesktop h (stored last.reads (image_at slot) h.extent)
         (stored last.reads (area_start h.area) (SECTOR_BYTES * full_sectors h.written)) (seen characters d)) (sym here)
-        (subst (λ l. Makes new_head l (stored last.reads (area_start at_area)
+        (subst (λ l. MakesDesktop new_head l (stored last.reads (area_start at_area)
         (SECTOR_BYTES * full_sectors (length characters))) (seen characters d)) (sym image_now)
-        (subst (λ l. Makes new_head (tail ++ bytes) l (seen characters d)) (sym area_now) made));
+        (subst (λ l. MakesDesktop new_head (tail ++ bytes) l (seen characters d)) (sym area_now) made));
     journal = ap is_open (ap (λ m. m.reads (gate slot 0)) behind ∙ reads_here second (gate slot 0) shut) ∙ is_shut;
   }
 

@@ -6,7 +6,7 @@ use Rattle.sector_disk.specs.Confined.{IsConfined}
 use Rattle.sector_disk.specs.Trail.{Content, Trail, now, LeavesOnly, Touches, Only, Nowhere}
 use Rattle.sector_disk.proofs.Touching.{spared, weakened, chained, at_last, still_reads, still_all, still_settled}
 use Rattle.event_bytes.specs.declared.event.Event.{Event}
-use Rattle.event_bytes.specs.Spelling.{Begins}
+use Rattle.event_bytes.specs.Spelling.{BeginsWithEvent}
 use Rattle.desktop_definitions.specs.Desktop.{Desktop}
 use Rattle.desktop_definitions.specs.Step.{step, step_in, steps, steps_in, Outcome}
 use Rattle.store_layout.specs.declared.layout.TheConstants.{JOURNAL_EVENTS, LABEL, LAYOUT, SLOTS}
@@ -14,7 +14,7 @@ use Rattle.store_layout.specs.Bits.{true_or_false}
 use Rattle.store_layout.specs.Layout.{is_open, slot_gate, slot_head, gate, body, image_at, area_at, head}
 use Rattle.store_layout.specs.Meaning.{IsJournal, Standing, desktop_of, Stands, Means, MeansEither}
 use Rattle.store_layout.specs.Meaning.{and_then}
-use Rattle.store_layout.specs.Kept.{IsSettled, IsKept, NextRecord, IsStaged}
+use Rattle.store_layout.specs.Kept.{IsSettled, ShowsSettled, NextRecord, IsStaged}
 use Rattle.store_layout.specs.StandingLaws.{IsApart, carried_on, footprint, older_stays}
 use Rattle.desk_slots.specs.Written.{HasRecord, InRecord, IsUpTo}
 use Rattle.desk_slots.proofs.Settling.{kept_on, means_on}
@@ -48,7 +48,7 @@ journal_shut [] c c' slot k end is gates bodies closed journal = λ room. let he
 journal_shut (event ∷ events) c c' slot k end is gates bodies closed journal = (
   journal.0,
   ap is_open (gates k (omega arith)) ∙ journal.1,
-  subst (λ bytes. Begins bytes event) (sym (bodies k (omega arith))) journal.2,
+  subst (λ bytes. BeginsWithEvent bytes event) (sym (bodies k (omega arith))) journal.2,
   journal_shut events c c' slot (k + 1) end (omega arith) gates bodies closed journal.3,
 )
 
@@ -56,7 +56,7 @@ journal_shut (event ∷ events) c c' slot k end is gates bodies closed journal =
 journal_longer : (events : List Event) (c c' : Content) (slot k end : ℕ) (new : Event) → end ≡ k + length events
     → ((i : ℕ) → i < end → c' (gate slot i) ≡ c (gate slot i))
     → ((i : ℕ) → i < end → c' (body slot i) ≡ c (body slot i))
-    → end < JOURNAL_EVENTS → is_open (c' (gate slot end)) ≡ true → Begins (c' (body slot end)) new
+    → end < JOURNAL_EVENTS → is_open (c' (gate slot end)) ≡ true → BeginsWithEvent (c' (body slot end)) new
     → (end + 1 < JOURNAL_EVENTS → is_open (c' (gate slot (end + 1))) ≡ false) → IsJournal c slot k events
     → IsJournal c' slot k (events ++ new ∷ [])
 journal_longer [] c c' slot k end new is gates bodies room opened begins closed journal =
@@ -65,7 +65,7 @@ journal_longer [] c c' slot k end new is gates bodies room opened begins closed 
 journal_longer (event ∷ events) c c' slot k end new is gates bodies room opened begins closed journal = (
   journal.0,
   ap is_open (gates k (omega arith)) ∙ journal.1,
-  subst (λ bytes. Begins bytes event) (sym (bodies k (omega arith))) journal.2,
+  subst (λ bytes. BeginsWithEvent bytes event) (sym (bodies k (omega arith))) journal.2,
   journal_longer events c c' slot (k + 1) end new (omega arith) gates bodies room opened begins closed journal.3,
 )
 
@@ -129,7 +129,7 @@ only_gate c c' s k room was same events journal = carried_on c c' s events was
     journal
 
 module _ {size : ℕ} (c c' : Content) (s : Standing) (event : Event) (k : ℕ) (long : k ≡ length s.events)
-    (room : k < JOURNAL_EVENTS) (was : Stands size c s) (begins : Begins (c (body s.slot k)) event)
+    (room : k < JOURNAL_EVENTS) (was : Stands size c s) (begins : BeginsWithEvent (c (body s.slot k)) event)
     (closed : k + 1 < JOURNAL_EVENTS → is_open (c (gate s.slot (k + 1))) ≡ false)
     (same : (n : ℕ) → n ≢ gate s.slot k → c' n ≡ c n) where
   is_kept : is_open (c' (gate s.slot k)) ≡ false → Stands size c' s
@@ -142,7 +142,7 @@ module _ {size : ℕ} (c c' : Content) (s : Standing) (event : Event) (k : ℕ) 
   is_added opened = only_gate c c' s k room was same (s.events ++ event ∷ [])
       (journal_longer s.events c c' s.slot 0 k event (omega (arith, long))
       (λ i low. same (gate s.slot i) (omega (arith, low))) (λ i low. same (body s.slot i) (omega (arith, low)))
-      room opened (subst (λ b. Begins b event) (sym (same (body s.slot k) (omega arith))) begins)
+      room opened (subst (λ b. BeginsWithEvent b event) (sym (same (body s.slot k) (omega arith))) begins)
       (λ more. ap is_open (same (gate s.slot (k + 1)) (omega arith)) ∙ closed more) was.journal)
 
   is_either : Stands size c' s ⊎ Stands size c' (and_then s event)
@@ -166,7 +166,7 @@ module _ (size : ℕ) (old new : Trail) (s : Standing) (event : Event) (k : ℕ)
       ])
 
   sealed : is_open ((now new).reads (gate s.slot k)) ≡ true → ((n : ℕ) → (now new).pending n ≡ false)
-      → IsKept size new s.slot s.version s.epoch (k + 1) (step_in s.version desktop event).desktop
+      → ShowsSettled size new s.slot s.version s.epoch (k + 1) (step_in s.version desktop event).desktop
   sealed opened quiet = record {
     standing = and_then s event;
     settled = record {
@@ -183,7 +183,7 @@ module _ (size : ℕ) (old new : Trail) (s : Standing) (event : Event) (k : ℕ)
 
 -- ---- both, one after the other
 module _ {size : ℕ} {d : Trail} {live version number count : ℕ} {desktop : Desktop}
-    (kept : IsKept size d live version number count desktop) (room : count < JOURNAL_EVENTS) where
+    (kept : ShowsSettled size d live version number count desktop) (room : count < JOURNAL_EVENTS) where
   abbrev s : Standing
   s = kept.standing
 
@@ -200,7 +200,7 @@ module _ {size : ℕ} {d : Trail} {live version number count : ℕ} {desktop : D
       staged : IsStaged size first s event count
       staged = record {
         settled = record { quiet = has.quiet; stands = at_last here (now first).reads (λ n settled. refl) };
-        begins = subst (λ n. Begins ((now first).reads (body n count)) event) (sym kept.slot) has.begins;
+        begins = subst (λ n. BeginsWithEvent ((now first).reads (body n count)) event) (sym kept.slot) has.begins;
         closed = λ more. subst (λ n. is_open ((now first).reads (gate n (count + 1))) ≡ false) (sym kept.slot)
             (has.closed more);
       }
@@ -214,11 +214,11 @@ module _ {size : ℕ} {d : Trail} {live version number count : ℕ} {desktop : D
           (sealing size first new s event count desktop (sym kept.events) room kept.is staged seals_here))
 
       pub recorded : is_open ((now new).reads (gate live count)) ≡ true → ((n : ℕ) → (now new).pending n ≡ false)
-          → IsKept size new live version number (count + 1) (step_in version desktop event).desktop
-      recorded opened silent = subst (λ n. IsKept size new n version number (count + 1)
+          → ShowsSettled size new live version number (count + 1) (step_in version desktop event).desktop
+      recorded opened silent = subst (λ n. ShowsSettled size new n version number (count + 1)
           (step_in version desktop event).desktop) kept.slot
-          (subst (λ n. IsKept size new s.slot version n (count + 1) (step_in version desktop event).desktop) kept.epoch
-          (subst (λ v. IsKept size new s.slot v s.epoch (count + 1) (step_in v desktop event).desktop) kept.version_is
+          (subst (λ n. ShowsSettled size new s.slot version n (count + 1) (step_in version desktop event).desktop) kept.epoch
+          (subst (λ v. ShowsSettled size new s.slot v s.epoch (count + 1) (step_in v desktop event).desktop) kept.version_is
           (sealed size first new s event count desktop (sym kept.events) room kept.is staged seals_here
           (subst (λ n. is_open ((now new).reads (gate n count)) ≡ true) (sym kept.slot) opened) silent)))
 
@@ -233,7 +233,7 @@ module _ {size : ℕ} {d : Trail} {live version number count : ℕ} {desktop : D
 
 -- what a disk shows is kept on it
 abbrev pub kept_of : {size slot k : ℕ} {disk : Trail} {s : Standing} → IsUpTo size disk slot k s
-    → IsKept size disk slot s.version s.epoch k (desktop_of s)
+    → ShowsSettled size disk slot s.version s.epoch k (desktop_of s)
 kept_of {s = s} at = record {
   standing = s;
   settled = at.settled;
@@ -272,9 +272,9 @@ head_stays old new slot k low index run = still_reads old new run (slot_head slo
 -- ---- reads, and then the record in a slot of the newest version
 module _ {D : Type 0} (d : Ghosts D) {old mid : D} (run : IsConfined d.size d.honest d.trail Nowhere old mid)
     (honest : d.honest old) {live number k : ℕ} {desktop : Desktop}
-    (kept : IsKept (d.size old) (d.trail old) live LAYOUT number k desktop) where
-  pub kept_then : IsKept (d.size mid) (d.trail mid) live LAYOUT number k desktop
-  kept_then = subst (λ n. IsKept n (d.trail mid) live LAYOUT number k desktop) (sym run.as_large)
+    (kept : ShowsSettled (d.size old) (d.trail old) live LAYOUT number k desktop) where
+  pub kept_then : ShowsSettled (d.size mid) (d.trail mid) live LAYOUT number k desktop
+  kept_then = subst (λ n. ShowsSettled n (d.trail mid) live LAYOUT number k desktop) (sym run.as_large)
       (kept_on (d.size old) (d.trail old) (d.trail mid) live LAYOUT number k desktop kept (run.moments honest))
 
   pub unrecorded : LeavesOnly (d.trail old) (d.trail mid) (Means (d.size old) desktop)
@@ -294,9 +294,9 @@ module _ {D : Type 0} (d : Ghosts D) {old mid : D} (run : IsConfined d.size d.ho
           (ap (λ (o : Outcome). o.desktop) (in_newest desktop event)) after))
 
       pub kept_after : {desktop' : Desktop} → desktop' ≡ (step desktop event).desktop
-          → IsKept (d.size mid) (d.trail new) live LAYOUT number (k + 1) (step_in LAYOUT desktop event).desktop
-          → IsKept (d.size old) (d.trail new) live LAYOUT number (k + 1) desktop'
-      kept_after is after = subst (λ x. IsKept (d.size old) (d.trail new) live LAYOUT number (k + 1) x)
+          → ShowsSettled (d.size mid) (d.trail new) live LAYOUT number (k + 1) (step_in LAYOUT desktop event).desktop
+          → ShowsSettled (d.size old) (d.trail new) live LAYOUT number (k + 1) desktop'
+      kept_after is after = subst (λ x. ShowsSettled (d.size old) (d.trail new) live LAYOUT number (k + 1) x)
           (ap (λ (o : Outcome). o.desktop) (in_newest desktop event) ∙ sym is)
-          (subst (λ n. IsKept n (d.trail new) live LAYOUT number (k + 1) (step_in LAYOUT desktop event).desktop)
+          (subst (λ n. ShowsSettled n (d.trail new) live LAYOUT number (k + 1) (step_in LAYOUT desktop event).desktop)
           run.as_large after)

@@ -11,13 +11,13 @@ use Rattle.store_layout.specs.declared.layout.TheConstants.{LABEL, LAYOUT, SLOTS
 use Rattle.store_layout.specs.Bits.{true_or_false, clash}
 use Rattle.store_layout.specs.Layout.{is_open, slot_gate, slot_head, gate, body, image_at, area_at, head, head_of}
 use Rattle.store_layout.specs.Meaning.{Standing, Stands, MeansEither, full_sectors}
-use Rattle.store_layout.specs.Kept.{IsSettled, IsKept, IsFront, HasFront, Spares, OpenGate, InCheckpoint, IsNewSlot}
+use Rattle.store_layout.specs.Kept.{IsSettled, ShowsSettled, IsFront, HasFront, SparesArea, OpenGate, InCheckpoint, IsNewSlot}
 use Rattle.store_layout.specs.StandingLaws.{footprint, other_gate, behind_closed, new_slot, front_stays}
-use Rattle.store_layout.specs.StandingLaws.{carried, journal_stays}
+use Rattle.store_layout.specs.StandingLaws.{standing_carried, journal_stays}
 use Rattle.desk_slots.specs.declared.live.LiveDesktop.{LiveDesktop}
 use Rattle.desk_slots.specs.declared.place.SlotPlace.{SlotPlace}
-use Rattle.desk_slots.specs.Live.{characters_of, seen_live, IsLive, IsNamed}
-use Rattle.desk_slots.specs.Written.{GoesOn, HasGate, IsFilled, IsBeside, InRenewal}
+use Rattle.desk_slots.specs.Live.{live_characters, seen_live, IsLive, IsNamed}
+use Rattle.desk_slots.specs.Written.{ContinuesArea, HasGate, IsFilled, IsBeside, InRenewal}
 use Rattle.desk_slots.proofs.Staying.{characters_stay, apart_renewal}
 
 -- a gate is in no checkpoint
@@ -32,7 +32,7 @@ gate_outside slot area saved low within = elim within [
 -- where the gate of the other slot stays closed, whatever else becomes of it
 gate_shut : {size : ℕ} (c c' : Content) (s : Standing) (idle : ℕ) → s.slot + idle ≡ 1 → Stands size c s
     → ((n : ℕ) → n ≢ slot_gate idle → c' n ≡ c n) → is_open (c' (slot_gate idle)) ≡ false → Stands size c' s
-gate_shut c c' s idle two was same shut = carried c c' s was
+gate_shut c c' s idle two was same shut = standing_carried c c' s was
     (same LABEL (omega arith))
     (ap is_open (same (slot_gate s.slot) (omega arith)) ∙ was.live)
     (same (slot_head s.slot) (omega arith))
@@ -76,9 +76,9 @@ module _ {place : SlotPlace} {size live version number count : ℕ} {desktop : D
   one_step = as_desktop closing
 
   -- the head of the slot in use names the same sectors
-  still_spared : Spares (head (now first).reads s.slot) place.area place.saved
-  still_spared = subst (λ n. Spares (head (now first).reads n) place.area place.saved) (sym was.kept.slot)
-      (subst (λ b. Spares (head_of b) place.area place.saved)
+  still_spared : SparesArea (head (now first).reads s.slot) place.area place.saved
+  still_spared = subst (λ n. SparesArea (head (now first).reads n) place.area place.saved) (sym was.kept.slot)
+      (subst (λ b. SparesArea (head_of b) place.area place.saved)
       (sym (still_reads old first closes (slot_head live) (λ within. omega (arith, within.0, was.two)))) was.spares)
 
   module _ {second : Trail} (closed : HasGate (now first) idle false)
@@ -125,7 +125,7 @@ module _ {place : SlotPlace} {size live version number count : ℕ} {desktop : D
             | inr shut ↦ inl (s, gate_shut (now second).reads c s idle sum stands_still same shut, was.kept.is)
           ]))
 
-      pub now_new : HasGate (now new) idle true → IsKept size new place.slot LAYOUT place.epoch 0 after
+      pub now_new : HasGate (now new) idle true → ShowsSettled size new place.slot LAYOUT place.epoch 0 after
       now_new opened = record {
         standing = anew;
         settled = record {
@@ -144,9 +144,9 @@ module _ {place : SlotPlace} {size live version number count : ℕ} {desktop : D
 -- closing the gate leaves what it shows
 pub filled_still : (old first : Trail) (m : Moment) (number : ℕ) (place : SlotPlace) (live : LiveDesktop) → IsLive live
     → Touches (OpenGate (now old).reads place.slot) old first
-    → IsFilled m place.slot LAYOUT place.area number (characters_of (now first).reads live)
+    → IsFilled m place.slot LAYOUT place.area number (live_characters (now first).reads live)
     (seen_live (now first).reads live)
-    → IsFilled m place.slot LAYOUT place.area number (characters_of (now old).reads live)
+    → IsFilled m place.slot LAYOUT place.area number (live_characters (now old).reads live)
     (seen_live (now old).reads live)
 filled_still old first m number place live is closes filled =
     subst (λ l. IsFilled m place.slot LAYOUT place.area number l (seen l live.desktop))
@@ -165,21 +165,21 @@ front_still second new slot area n characters low opens =
 -- The desktop that stands in the slot, and then the characters in memory that stand in the area are given up. `old` and
 -- `new` are the disk before and after, and `live` and `done` the desktop.
 module _ (old new : Trail) (place : SlotPlace) (live done : LiveDesktop) (is : IsLive live)
-    (goes : GoesOn place live) (run : Touches (InRenewal place) old new)
+    (goes : ContinuesArea place live) (run : Touches (InRenewal place) old new)
     (front : IsFront (now new).reads place.slot place.area
-    (full_sectors (length (characters_of (now old).reads live))) (characters_of (now old).reads live))
+    (full_sectors (length (live_characters (now old).reads live))) (live_characters (now old).reads live))
     (kept : done.desktop ≡ live.desktop) (settles : (c : Content)
     → HasFront c place.area (full_sectors live.desktop.written)
-    (characters_of c live) → characters_of c done ≡ characters_of c live) where
-  stay : characters_of (now new).reads live ≡ characters_of (now old).reads live
+    (live_characters c live) → live_characters c done ≡ live_characters c live) where
+  stay : live_characters (now new).reads live ≡ live_characters (now old).reads live
   stay = characters_stay old new live.pages run (apart_renewal live place is goes)
 
-  counted : length (characters_of (now old).reads live) ≡ live.desktop.written
+  counted : length (live_characters (now old).reads live) ≡ live.desktop.written
   counted = (is.over (now old).reads).counted
 
-  there : HasFront (now new).reads place.area (full_sectors live.desktop.written) (characters_of (now new).reads live)
+  there : HasFront (now new).reads place.area (full_sectors live.desktop.written) (live_characters (now new).reads live)
   there = subst (λ l. HasFront (now new).reads place.area (full_sectors live.desktop.written) l) (sym stay)
-      (subst (λ n. HasFront (now new).reads place.area (full_sectors n) (characters_of (now old).reads live)) counted
+      (subst (λ n. HasFront (now new).reads place.area (full_sectors n) (live_characters (now old).reads live)) counted
       front.same)
 
   pub shown_settled : seen_live (now new).reads done ≡ seen_live (now old).reads live

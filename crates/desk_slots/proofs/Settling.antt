@@ -3,7 +3,7 @@ use Rattle.std.proofs.Common.{◌≡◌, ℕ, refl, sym, subst, arith, false}
 use Rattle.sector_disk.specs.Trail.{Content, Moment, Trail, now, IsCrashImage, Leaves, LeavesOnly, Touches, Nowhere}
 use Rattle.sector_disk.proofs.Touching.{spared, still_all, still_settled}
 use Rattle.desktop_definitions.specs.Desktop.{Desktop}
-use Rattle.store_layout.specs.Kept.{IsKept}
+use Rattle.store_layout.specs.Kept.{ShowsSettled}
 use Rattle.store_layout.specs.Meaning.{Stands, Means, Shows}
 
 -- what holds of every image now holds at this one moment
@@ -25,7 +25,7 @@ one_image : (m : Moment) (c : Content) → ((n : ℕ) → m.pending n ≡ false)
 one_image m c quiet image = λ i n. image n (quiet n) i
 
 pub kept_shows : (size : ℕ) (disk : Trail) (live version number count : ℕ) (desktop : Desktop)
-    → IsKept size disk live version number count desktop → Leaves (now disk) (Shows size version number count desktop)
+    → ShowsSettled size disk live version number count desktop → Leaves (now disk) (Shows size version number count desktop)
 kept_shows size disk live version number count desktop kept = λ c image. record {
   standing = kept.standing;
   stands = subst (λ content. Stands size content kept.standing)
@@ -37,9 +37,9 @@ kept_shows size disk live version number count desktop kept = λ c image. record
 }
 
 module _ (size : ℕ) (old new : Trail) (live version number count : ℕ) (desktop : Desktop)
-    (kept : IsKept size old live version number count desktop) (run : Touches Nowhere old new) where
+    (kept : ShowsSettled size old live version number count desktop) (run : Touches Nowhere old new) where
   -- what is kept stays kept where nothing is touched
-  pub kept_on : IsKept size new live version number count desktop
+  pub kept_on : ShowsSettled size new live version number count desktop
   kept_on = record {
     standing = kept.standing;
     settled = record {

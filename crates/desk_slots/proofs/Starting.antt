@@ -11,9 +11,9 @@ use Rattle.desktop_definitions.specs.Desktop.{Desktop, KeptDesktop}
 use Rattle.desktop_definitions.specs.Seen.{seen}
 use Rattle.store_layout.specs.declared.head.Head.{Head}
 use Rattle.store_layout.specs.Layout.{image_at, head}
-use Rattle.store_layout.specs.Meaning.{Makes, HasImage, area_bytes, full_sectors, left_over}
+use Rattle.store_layout.specs.Meaning.{MakesDesktop, HasImage, area_bytes, full_sectors, left_over}
 use Rattle.desk_slots.specs.declared.live.LiveDesktop.{LiveDesktop}
-use Rattle.desk_slots.specs.Live.{characters_of, seen_live}
+use Rattle.desk_slots.specs.Live.{live_characters, seen_live}
 use Rattle.desk_slots.specs.Load.{IsStart}
 
 -- ---- bytes that are taken into a sector: so far i of them, and the rest is to come
@@ -64,7 +64,7 @@ start_from {version = version} {written = written} {d = d} same start = record {
 module _ (c : Content) (slot : ℕ) (h : Head) (is : head c slot ≡ h) where
   -- a desktop of this head
   abbrev MadeBy : Desktop → Head → Type 0
-  MadeBy start x = Makes x (stored c (image_at slot) x.extent) (area_bytes c x.area (full_sectors x.written)) start
+  MadeBy start x = MakesDesktop x (stored c (image_at slot) x.extent) (area_bytes c x.area (full_sectors x.written)) start
 
   module _ (characters : List ℕ) (made : characters ≡ area_bytes c h.area (full_sectors h.written)
       ++ take (left_over h.written) (stored c (image_at slot) h.extent)) where
@@ -87,13 +87,13 @@ module _ (c : Content) (slot : ℕ) (h : Head) (is : head c slot ≡ h) where
 -- a live desktop of what was read shows it, over the same content by another name
 pub shown_by : (c c' : Content) (slot : ℕ) (h : Head) → c' ≡ c → head c slot ≡ h → (tail : List ℕ) (d : KeptDesktop)
     (live : LiveDesktop) → live.desktop ≡ d
-    → characters_of c live ≡ area_bytes c h.area (full_sectors h.written) ++ take (left_over h.written) tail
+    → live_characters c live ≡ area_bytes c h.area (full_sectors h.written) ++ take (left_over h.written) tail
     → take (left_over h.written) tail ≡ take (left_over h.written) (stored c (image_at slot) h.extent)
     → left_over h.written ≤ length (stored c (image_at slot) h.extent)
     → Spells h.version h.written (drop (left_over h.written) (stored c (image_at slot) h.extent)) d
     → HasImage c slot (seen_live c' live)
 shown_by c c' slot h same is tail d live desktop characters front enough spelled =
     subst (λ (content : Content). HasImage c slot (seen_live content live)) (sym same)
-    (subst (λ k. HasImage c slot (seen (characters_of c live) k)) (sym desktop)
-    (image_loaded c slot h is (characters_of c live)
+    (subst (λ k. HasImage c slot (seen (live_characters c live) k)) (sym desktop)
+    (image_loaded c slot h is (live_characters c live)
     (characters ∙ ap (λ l. area_bytes c h.area (full_sectors h.written) ++ l) front) d enough spelled))

@@ -20,9 +20,9 @@ use Rattle.store_layout.specs.Layout.{area_start}
 use Rattle.store_layout.specs.Kept.{InCheckpoint, chosen_area}
 use Rattle.desk_slots.specs.declared.live.LiveDesktop.{LiveDesktop}
 use Rattle.desk_slots.specs.declared.place.SlotPlace.{SlotPlace}
-use Rattle.desk_slots.specs.Live.{AreTrueOver, IsTold, seen_live, IsLive, IsOverPages, LooksThrough, StaysLive}
+use Rattle.desk_slots.specs.Live.{AreTrueOver, HasTrueCache, seen_live, IsLive, IsOverPages, LooksThrough, StaysLive}
 use Rattle.desk_slots.proofs.Settled.{over_as_long}
-use Rattle.desk_slots.specs.Written.{GoesOn, InRecord, InRenewal}
+use Rattle.desk_slots.specs.Written.{ContinuesArea, InRecord, InRenewal}
 
 -- the sectors of the first characters aren't in the area
 abbrev pub IsApart : (ℕ → Type 0) → Pages → Type 0
@@ -60,7 +60,7 @@ apart_nowhere p n from to within = within
 pub lines_stay : {D : Type 0} (d : Ghosts D) {area : ℕ → Type 0} {disk disk' : D} (old new : LiveDesktop)
     → IsConfined d.size d.honest d.trail area disk disk'
     → (d.honest disk → seen_live (now (d.trail disk')).reads new ≡ seen_live (now (d.trail disk)).reads old)
-    → new.lines ≡ old.lines → IsTold d disk old → AreTrueOver d disk' new.pages → IsTold d disk' new
+    → new.lines ≡ old.lines → HasTrueCache d disk old → AreTrueOver d disk' new.pages → HasTrueCache d disk' new
 lines_stay d {disk = disk} {disk' = disk'} old new run same kept told pages = record {
   pages = pages;
   lines = λ honest. let before = run.already honest in
@@ -71,8 +71,8 @@ lines_stay d {disk = disk} {disk' = disk'} old new run same kept told pages = re
 
 -- a desktop of which nothing is written to the disk
 pub live_stays : {D : Type 0} (d : Ghosts D) {area : ℕ → Type 0} {disk disk' : D} (live : LiveDesktop)
-    → IsConfined d.size d.honest d.trail area disk disk' → IsApart area live.pages → IsTold d disk live
-    → IsTold d disk' live
+    → IsConfined d.size d.honest d.trail area disk disk' → IsApart area live.pages → HasTrueCache d disk live
+    → HasTrueCache d disk' live
 live_stays d {disk = disk} {disk' = disk'} live run apart told =
     lines_stay d live live run
     (λ honest. shown_stays (d.trail disk) (d.trail disk') live (run.moments honest) apart) refl told
@@ -83,7 +83,7 @@ pub looks_stay : {D : Type 0} (d : Ghosts D) {disk disk' : D} (old new : LiveDes
     → LooksThrough d disk disk' old.pages new.pages → new.desktop ≡ old.desktop → new.area ≡ old.area
     → (d.honest disk → AreLinesOf (text_of (seen_live (now (d.trail disk)).reads old)) old.lines
     → AreLinesOf (text_of (seen_live (now (d.trail disk)).reads old)) new.lines)
-    → IsLive old → IsTold d disk old → StaysLive d disk disk' old new
+    → IsLive old → HasTrueCache d disk old → StaysLive d disk disk' old new
 looks_stay d {disk = disk} {disk' = disk'} old new looks kept area lines live told =
     record {
       shown_same = looked;
@@ -120,7 +120,7 @@ apart_record p area slot k based low index n from to within = elim within [
 ]
 
 -- where some stand there, a checkpoint goes on in their area
-pub goes_on : (live : LiveDesktop) (place : SlotPlace) → IsLive live → GoesOn place live → 0 < saved_of live.pages
+pub goes_on : (live : LiveDesktop) (place : SlotPlace) → IsLive live → ContinuesArea place live → 0 < saved_of live.pages
     → base_of live.pages ≡ area_start place.area
 goes_on live place is goes some = is.based
     ∙ ap (λ k. area_start k) (sym (goes.area_is ∙ (elim (renewed_of live.pages) as
@@ -139,7 +139,7 @@ apart_checkpoint p slot own area saved based goes low is n from to within = elim
   | inr a ↦ (let some : 0 < saved_of p = omega (arith, from, to) in omega (arith, goes some, is, to, a.0))
 ]
 
-pub apart_renewal : (live : LiveDesktop) (place : SlotPlace) → IsLive live → GoesOn place live
+pub apart_renewal : (live : LiveDesktop) (place : SlotPlace) → IsLive live → ContinuesArea place live
     → IsApart (InRenewal place) live.pages
 apart_renewal live place is goes n from to within = elim within [
   | inl a ↦ omega (arith, is.based, from, a, place.two)

@@ -9,7 +9,7 @@ use Rattle.sector_disk.proofs.Confinement.{joined}
 use Rattle.sector_streams.specs.declared.filling.Filling.{Filling}
 use Rattle.sector_streams.specs.Filling.{first_sector, most_sectors, SectorsOf, InRange}
 use Rattle.sector_streams.specs.FillingLaws.{sectors_are}
-use Rattle.sector_disk.specs.Stored.{Holds, stored}
+use Rattle.sector_disk.specs.Stored.{HoldsBytes, stored}
 use Rattle.sector_disk.specs.StoredLaws.{stored_held}
 use Rattle.command_table.specs.Versions.{newest_version}
 use Rattle.desktop_definitions.specs.Desktop.{KeptDesktop}
@@ -42,7 +42,7 @@ put_within d f f' from_is limit_is same_from same_limit put finished =
 -- bytes that fit are stored there, where the last sector was written
 pub all_stored : (c : Content) (f : Filling) (at count : ℕ) (tail bytes : List ℕ) → first_sector f ≡ at
     → most_sectors f ≡ IMAGE_SECTORS → count ≡ length tail + length bytes → count ≤ IMAGE_BYTES
-    → (length (tail ++ bytes) ≤ SECTOR_BYTES * most_sectors f → Holds c (first_sector f) (tail ++ bytes))
+    → (length (tail ++ bytes) ≤ SECTOR_BYTES * most_sectors f → HoldsBytes c (first_sector f) (tail ++ bytes))
     → stored c at count ≡ tail ++ bytes
 all_stored c f at count tail bytes at_is limit_is count_is fits held =
     subst (λ n. stored c n count ≡ tail ++ bytes) at_is

@@ -9,7 +9,7 @@ use Rattle.sector_disk.specs.Confined.{IsConfined}
 use Rattle.sector_disk.specs.Trail.{Content, Trail, now, LeavesOnly, Touches, Only, Nowhere}
 use Rattle.sector_disk.proofs.Touching.{spared, still_reads, still_all, still_settled}
 use Rattle.event_bytes.specs.declared.event.Event.{Event}
-use Rattle.event_bytes.specs.Spelling.{Begins}
+use Rattle.event_bytes.specs.Spelling.{BeginsWithEvent}
 use Rattle.store_layout.specs.declared.layout.TheConstants.{JOURNAL_EVENTS, SLOTS}
 use Rattle.store_layout.specs.Bits.{true_or_false, clash}
 use Rattle.store_layout.specs.Layout.{is_open, gate, body, slot_head}
@@ -39,7 +39,7 @@ journal_cut (event ∷ events) c c' slot k end zero is low same off journal =
 journal_cut (event ∷ events) c c' slot k end (suc m) is low same off journal = (
   journal.0,
   ap is_open (same (gate slot k) (omega (arith, is))) ∙ journal.1,
-  subst (λ bytes. Begins bytes event) (sym (same (body slot k) (omega arith))) journal.2,
+  subst (λ bytes. BeginsWithEvent bytes event) (sym (same (body slot k) (omega arith))) journal.2,
   journal_cut events c c' slot (k + 1) end m (omega (arith, is)) (omega (arith, low)) same off journal.3,
 )
 
@@ -55,7 +55,7 @@ journal_whole (event ∷ events) c c' slot k end low same on journal = (
     | inl here ↦ subst (λ j. is_open (c' (gate slot j)) ≡ true) (sym here) on
     | inr other ↦ ap is_open (same (gate slot k) (omega (arith, other))) ∙ journal.1
   ],
-  subst (λ bytes. Begins bytes event) (sym (same (body slot k) (omega arith))) journal.2,
+  subst (λ bytes. BeginsWithEvent bytes event) (sym (same (body slot k) (omega arith))) journal.2,
   journal_whole events c c' slot (k + 1) end (omega (arith, low)) same on journal.3,
 )
 
@@ -103,14 +103,14 @@ module _ {size : ℕ} {old new : Trail} {slot k : ℕ} {s : Standing} (at : HasE
 -- One stands in the body under each of its gates, which is open, and comes behind those before it.
 journal_at : (events : List Event) (c : Content) (slot k end j : ℕ) → end ≡ k + j → j < length events
     → IsJournal c slot k events
-    → (e : Event) × (is_open (c (gate slot end)) ≡ true) × Begins (c (body slot end)) e
+    → (e : Event) × (is_open (c (gate slot end)) ≡ true) × BeginsWithEvent (c (body slot end)) e
     × (take (suc j) events ≡ take j events ++ e ∷ [])
 journal_at [] c slot k end j is low journal = absurd (omega (arith, low))
 journal_at (event ∷ events) c slot k end zero is low journal =
     let here : k ≡ end = omega (arith, is) in (
       event,
       subst (λ n. is_open (c (gate slot n)) ≡ true) here journal.1,
-      subst (λ n. Begins (c (body slot n)) event) here journal.2,
+      subst (λ n. BeginsWithEvent (c (body slot n)) event) here journal.2,
       refl,
     )
 journal_at (event ∷ events) c slot k end (suc j) is low journal =
@@ -119,7 +119,7 @@ journal_at (event ∷ events) c slot k end (suc j) is low journal =
 
 -- bytes begin with one event at most
 abbrev BeginLaw : Type 0
-BeginLaw = (bytes : List ℕ) (e f : Event) → Begins bytes e → Begins bytes f → e ≡ f
+BeginLaw = (bytes : List ℕ) (e f : Event) → BeginsWithEvent bytes e → BeginsWithEvent bytes f → e ≡ f
 
 -- no event was read yet, and all were read
 pub none_of : (k : ℕ) (events : List Event) → k ≤ length events → drop k (take k events) ≡ []
@@ -131,10 +131,10 @@ all_of k end events read long is = ap (drop k) (sym (take_all end events (omega 
 
 module _ {size : ℕ} {disk : Trail} {slot end : ℕ} {s : Standing} (at : IsUpTo size disk slot end s) (n : ℕ)
     (low : n < end) where
-  found : (e : Event) × (is_open ((now disk).reads (gate slot n)) ≡ true) × Begins ((now disk).reads (body slot n)) e
+  found : (e : Event) × (is_open ((now disk).reads (gate slot n)) ≡ true) × BeginsWithEvent ((now disk).reads (body slot n)) e
       × (take (suc n) s.events ≡ take n s.events ++ e ∷ [])
   found = subst (λ m. (e : Event) × (is_open ((now disk).reads (gate m n)) ≡ true)
-      × Begins ((now disk).reads (body m n)) e × (take (suc n) s.events ≡ take n s.events ++ e ∷ [])) at.slot_is
+      × BeginsWithEvent ((now disk).reads (body m n)) e × (take (suc n) s.events ≡ take n s.events ++ e ∷ [])) at.slot_is
       (journal_at s.events (now disk).reads s.slot 0 n n (omega arith) (omega (arith, low, at.count))
       at.settled.stands.journal)
 
@@ -143,12 +143,12 @@ module _ {size : ℕ} {disk : Trail} {slot end : ℕ} {s : Standing} (at : IsUpT
   not_closed off = clash found.1 off
 
   -- and there is an event
-  pub not_none : ((event : Event) → Begins ((now disk).reads (body slot n)) event → ⊥) → ⊥
+  pub not_none : ((event : Event) → BeginsWithEvent ((now disk).reads (body slot n)) event → ⊥) → ⊥
   not_none none = none found.0 found.2
 
   -- which comes behind those that were read
   pub one_more : BeginLaw → (k : ℕ) (read : List Event) (event : Event) → k ≤ n
-      → Begins ((now disk).reads (body slot n)) event → drop k (take n s.events) ≡ read
+      → BeginsWithEvent ((now disk).reads (body slot n)) event → drop k (take n s.events) ≡ read
       → drop k (take (n + 1) s.events) ≡ read ++ event ∷ []
   one_more law k read event behind begins is =
       let next : n + 1 ≡ suc n = omega arith in

@@ -21,7 +21,7 @@ pub record StandsBeside (c : Content) (slot : ℕ) (t : Standing) : Type 0 where
   pub journal : IsJournal c t.slot 0 t.events
 
 -- Nothing is pending, the disk shows the first standing by this slot, and the other slot the second.
-pub record IsOver (size : ℕ) (disk : Trail) (slot : ℕ) (s t : Standing) : Type 0 where
+pub record StandsOver (size : ℕ) (disk : Trail) (slot : ℕ) (s t : Standing) : Type 0 where
   pub settled : IsSettled size disk s
   pub slot_is : s.slot ≡ slot
   pub beside : StandsBeside (now disk).reads slot t
@@ -31,7 +31,7 @@ abbrev pub StandsOneOf : ℕ → Standing → Standing → Content → Type 0
 StandsOneOf size s t c = Stands size c t ⊎ Stands size c s
 
 -- From the slot of this content so many events and this desktop were read.
-pub record IsLoaded (c : Content) (slot version count : ℕ) (c' : Content) (live : LiveDesktop) : Type 0 where
+pub record IsLoadedBeside (c : Content) (slot version count : ℕ) (c' : Content) (live : LiveDesktop) : Type 0 where
   pub start : Desktop
   pub events : List Event
   pub image : HasImage c slot start

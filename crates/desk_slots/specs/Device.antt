@@ -31,6 +31,6 @@ disk_after disk_of (Ok value) = disk_of value
 disk_after disk_of (Err refused) = refused.1
 
 -- its result without the disk that stands beside an error
-abbrev pub outcome : {A D : Type 0} → Result A (Error × D) → Result A Error
-outcome (Ok value) = Ok value
-outcome (Err refused) = Err refused.0
+abbrev pub result_of : {A D : Type 0} → Result A (Error × D) → Result A Error
+result_of (Ok value) = Ok value
+result_of (Err refused) = Err refused.0

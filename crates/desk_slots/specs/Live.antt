@@ -25,12 +25,12 @@ abbrev pub AreTrueOver : {D : Type 0} → Ghosts D → D → Pages → Type 0
 AreTrueOver d disk pages = d.honest disk → AreTrue (now (d.trail disk)).reads (cached_of pages)
 
 -- its characters
-abbrev pub characters_of : Content → LiveDesktop → List ℕ
-characters_of c live = paged_characters c live.pages
+abbrev pub live_characters : Content → LiveDesktop → List ℕ
+live_characters c live = paged_characters c live.pages
 
 -- as its characters read
 abbrev pub seen_live : Content → LiveDesktop → Desktop
-seen_live c live = seen (characters_of c live) live.desktop
+seen_live c live = seen (live_characters c live) live.desktop
 
 -- it stands over its characters, of which the first stand in its area
 pub record IsLive (live : LiveDesktop) : Type 0 where
@@ -39,7 +39,7 @@ pub record IsLive (live : LiveDesktop) : Type 0 where
   pub based : base_of live.pages ≡ area_start live.area
 
 -- What it has in memory of the disk is so, and, where the disk is honest, the lines that it keeps are so of its texts.
-pub record IsTold {D : Type 0} (d : Ghosts D) (disk : D) (live : LiveDesktop) : Type 0 where
+pub record HasTrueCache {D : Type 0} (d : Ghosts D) (disk : D) (live : LiveDesktop) : Type 0 where
   pub pages : AreTrueOver d disk live.pages
   pub lines : d.honest disk → AreLinesOf (text_of (seen_live (now (d.trail disk)).reads live)) live.lines
 
@@ -57,7 +57,7 @@ pub record StaysLive {D : Type 0} (d : Ghosts D) (disk disk' : D) (old new : Liv
   pub area_same : new.area ≡ old.area
   pub renewed_before : renewed_of new.pages ≡ false → renewed_of old.pages ≡ false
   pub place_same : renewed_of new.pages ≡ false → saved_of new.pages ≡ saved_of old.pages
-  pub told : IsTold d disk' new
+  pub told : HasTrueCache d disk' new
   pub live : IsLive new
 
 -- What is read through pages stands on the disk, and what they have in memory of it is so.

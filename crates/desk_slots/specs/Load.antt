@@ -3,7 +3,7 @@ use Rattle.std.specs.Prelude.{◌≡◌, ◌<◌, ◌≤◌, ◌++◌, ℕ, List
 use Rattle.std.specs.Prelude.{nat_lt, if◌then◌else◌, Option, Some, None, true, false}
 use Rattle.sector_disk.specs.Trail.{Content}
 use Rattle.event_bytes.specs.declared.event.Event.{Event}
-use Rattle.event_bytes.specs.Spelling.{Begins}
+use Rattle.event_bytes.specs.Spelling.{BeginsWithEvent}
 use Rattle.desktop_definitions.specs.Desktop.{Desktop, KeptDesktop}
 use Rattle.desktop_definitions.specs.Sound.{IsKeptWhole}
 use Rattle.desktop_definitions.specs.Step.{steps_in}
@@ -24,17 +24,17 @@ use Rattle.store_layout.specs.Footprint.{IsLedTo, IsInUse}
 
 -- the first k events of a journal stand under open gates, and by this version they lead from the one desktop to the
 -- other
-pub record IsReadTo (c : Content) (slot version k : ℕ) (from to : Desktop) : Type 0 where
+pub record IsJournalReadTo (c : Content) (slot version k : ℕ) (from to : Desktop) : Type 0 where
   pub events : List Event
   pub count : length events ≡ k
   pub led : IsLedTo c slot k
-  pub each : (j : ℕ) → j < k → (event : Event) × Begins (c (body slot j)) event
+  pub each : (j : ℕ) → j < k → (event : Event) × BeginsWithEvent (c (body slot j)) event
   pub goes_on : (rest : List Event) → IsJournal c slot k rest → IsJournal c slot 0 (events ++ rest)
   pub is : to ≡ steps_in version from events
 
 -- so many of the first events have been read, and there are no more of them, or it was to be no more
 pub record IsReadUpTo (c : Content) (slot version most count : ℕ) (from to : Desktop) : Type 0 where
-  pub read : IsReadTo c slot version count from to
+  pub read : IsJournalReadTo c slot version count from to
   pub ended : count < most → is_open (c (gate slot count)) ≡ false
 
 -- the whole journal has been read: it has so many events, and by this version they lead from the one desktop to the

@@ -4,12 +4,12 @@ use Rattle.sector_disk.specs.declared.disk.Disk.{Ghosts}
 use Rattle.sector_disk.specs.Trail.{Moment, Trail, now, LeavesOnly}
 use Rattle.char_pages.specs.Pages.{saved_sectors, renewed_of}
 use Rattle.event_bytes.specs.declared.event.Event.{Event}
-use Rattle.event_bytes.specs.Spelling.{Begins}
+use Rattle.event_bytes.specs.Spelling.{BeginsWithEvent}
 use Rattle.desktop_definitions.specs.Desktop.{Desktop}
 use Rattle.store_layout.specs.declared.layout.TheConstants.{JOURNAL_EVENTS, LAYOUT, SLOTS, STORE_SECTORS}
 use Rattle.store_layout.specs.Layout.{is_open, slot_gate, gate, body, head}
 use Rattle.store_layout.specs.Meaning.{MeansEither, Standing, full_sectors}
-use Rattle.store_layout.specs.Kept.{NextRecord, InCheckpoint, IsNewSlot, IsKept, IsFront, IsSettled, Spares, chosen_area}
+use Rattle.store_layout.specs.Kept.{NextRecord, InCheckpoint, IsNewSlot, ShowsSettled, IsFront, IsSettled, SparesArea, chosen_area}
 use Rattle.desk_slots.specs.declared.live.LiveDesktop.{LiveDesktop}
 use Rattle.desk_slots.specs.declared.place.SlotPlace.{SlotPlace}
 use Rattle.desk_slots.specs.Live.{IsLive, seen_live}
@@ -17,7 +17,7 @@ use Rattle.desk_slots.specs.Live.{IsLive, seen_live}
 -- nothing is pending, and event k of the journal stands before a closed gate, where there is one
 pub record HasRecord (m : Moment) (slot k : ℕ) (event : Event) : Type 0 where
   pub quiet : (n : ℕ) → m.pending n ≡ false
-  pub begins : Begins (m.reads (body slot k)) event
+  pub begins : BeginsWithEvent (m.reads (body slot k)) event
   pub closed : k + 1 < JOURNAL_EVENTS → is_open (m.reads (gate slot (k + 1))) ≡ false
 
 -- there is such a gate in the journal of a slot of a store
@@ -48,12 +48,12 @@ pub record IsBeside (place : SlotPlace) (size : ℕ) (disk : Trail) (live versio
     : Type 0 where
   pub two : live + place.slot ≡ 1
   pub next : number + 1 ≡ place.epoch
-  pub kept : IsKept size disk live version number count desktop
-  pub spares : Spares (head (now disk).reads live) place.area place.saved
+  pub kept : ShowsSettled size disk live version number count desktop
+  pub spares : SparesArea (head (now disk).reads live) place.area place.saved
 
 -- its characters go on where those of this desktop on the disk end, or begin anew in the other area, where all were
 -- exchanged
-pub record GoesOn (place : SlotPlace) (live : LiveDesktop) : Type 0 where
+pub record ContinuesArea (place : SlotPlace) (live : LiveDesktop) : Type 0 where
   pub area_is : place.area ≡ chosen_area (renewed_of live.pages) live.area
   pub saved_is : place.saved ≡ saved_sectors live.pages
 
@@ -65,7 +65,7 @@ InRenewal place n = (n ≡ slot_gate place.slot) ⊎ InCheckpoint place.slot pla
 pub record CanRenew (size : ℕ) (place : SlotPlace) (desktop : LiveDesktop) : Type 0 where
   pub room : STORE_SECTORS ≤ size
   pub live : IsLive desktop
-  pub goes : GoesOn place desktop
+  pub goes : ContinuesArea place desktop
 
 -- At each moment a crash leaves the desktop that the disk shows by the slot beside the place, whatever it is, or this
 -- one, which comes to the place.
@@ -79,7 +79,7 @@ KeepsShown d place desktop old new = d.honest old → (live version number count
 abbrev pub ShowsAnew : {D : Type 0} → Ghosts D → SlotPlace → D → D → Desktop → Type 0
 ShowsAnew d place old new shown = d.honest old → (live version number count : ℕ) (before : Desktop)
     → IsBeside place (d.size old) (d.trail old) live version number count before
-    → IsKept (d.size old) (d.trail new) place.slot LAYOUT place.epoch 0 shown
+    → ShowsSettled (d.size old) (d.trail new) place.slot LAYOUT place.epoch 0 shown
 
 -- Nothing is pending, and the disk shows this standing of this slot, which has an event under gate k.
 pub record HasEventAt (size : ℕ) (disk : Trail) (slot k : ℕ) (s : Standing) : Type 0 where

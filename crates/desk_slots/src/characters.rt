@@ -3,7 +3,7 @@
 ghost use Rattle.std.specs.Prelude.{◌≡◌, ◌+◌, ◌*◌, ◌<◌, ◌≤◌, ◌++◌, ◌∷◌, [], ℕ, OnOk, IfOk, IsErrOf, length, take, drop};
 ghost use Rattle.sector_disk.specs.Trail.{Content};
 ghost use Rattle.sector_disk.specs.Stored.{stored};
-ghost use Rattle.sector_streams.specs.Draining.{IsLoaded, IsOnDisk, bytes_left};
+ghost use Rattle.sector_streams.specs.Draining.{IsSectorLoaded, IsOnDisk, bytes_left};
 ghost use Rattle.char_pages.specs.Pages.{saved_sectors, cached_of};
 ghost use Rattle.command_table.specs.Versions.{version_number};
 ghost use Rattle.desktop_definitions.specs.Desktop.{Desktop as ADesktop};
@@ -15,7 +15,7 @@ ghost use Rattle.store_layout.specs.Meaning.{HasImage, area_bytes, full_sectors,
 ghost use Rattle.piece_ring.specs.Text.{Text as AText};
 ghost use Rattle.screen_cells.specs.Lines.{AreLinesOf};
 ghost use Rattle.desk_slots.specs.Errors.{OfReplay};
-ghost use Rattle.desk_slots.specs.Live.{characters_of, seen_live, IsLive, IsTold};
+ghost use Rattle.desk_slots.specs.Live.{live_characters, seen_live, IsLive, HasTrueCache};
 ghost use Rattle.desk_slots.specs.Load.{image_error, IsStart, HasNoStart};
 ghost use Rattle.desk_slots.specs.Words.{Nowhere, now, IsConfined, FailsAs};
 
@@ -95,7 +95,7 @@ fn read_through<D: Disk>(
     tail: &mut Sector,
 ) -> Result<Desktop, ImageFault>
     requires there { IsOnDisk (D.size disk.old) draining.old }
-    requires loaded { IsLoaded (now (D.trail disk.old)).reads draining.old }
+    requires loaded { IsSectorLoaded (now (D.trail disk.old)).reads draining.old }
     ensures kept { IsConfined D.size D.honest D.trail Nowhere disk.old disk.new }
     ensures faults { FailsAs ImageFault.Fault IsImageFault result (D.failures disk.old) (D.failures disk.new) }
     ensures start { IfOk result (IsStart (D.honest disk.old)
@@ -146,7 +146,7 @@ fn with_pages(
     requires low { head.now.area < AREAS }
     ensures live { IfOk result IsLive }
     ensures desktop { IfOk result (λ live. live.desktop ≡ desktop) }
-    ensures characters { IfOk result (λ live. (c : Content) → characters_of c live
+    ensures characters { IfOk result (λ live. (c : Content) → live_characters c live
         ≡ area_bytes c head.now.area (full_sectors head.now.written) ++ take (left_over head.now.written) tail.now) }
     ensures saved { IfOk result (λ live. saved_sectors live.pages ≡ full_sectors head.now.written) }
     ensures area { IfOk result (λ live. live.area ≡ head.now.area) }
@@ -175,7 +175,7 @@ pub fn load_slot<D: Disk>(
     ensures kept { IsConfined D.size D.honest D.trail Nowhere disk.old disk.new }
     ensures faults { FailsAs Error.Fault OfReplay result (D.failures disk.old) (D.failures disk.new) }
     ensures live { IfOk result (λ live. IsLive live) }
-    ensures told { IfOk result (λ live. IsTold D.Disk disk.new live) }
+    ensures told { IfOk result (λ live. HasTrueCache D.Disk disk.new live) }
     ensures saved { IfOk result (λ live. saved_sectors live.pages ≡ full_sectors head.now.written) }
     ensures area { IfOk result (λ live. live.area ≡ head.now.area) }
     ensures image { IfOk result (λ live. D.honest disk.old → head_at (now (D.trail disk.old)).reads slot ≡ head.now

@@ -15,8 +15,8 @@ ghost use Rattle.store_layout.specs.Layout.{slot_gate, image_at, area_at};
 ghost use Rattle.store_layout.specs.Meaning.{full_sectors, left_over};
 ghost use Rattle.store_layout.specs.Kept.{OpenGate, InArea, InCheckpoint, HasFront, IsFront};
 ghost use Rattle.desk_slots.specs.Device.{IsSameDevice, StaysWithin};
-ghost use Rattle.desk_slots.specs.Live.{characters_of, seen_live, IsLive, IsNamed, IsTold};
-ghost use Rattle.desk_slots.specs.Written.{GoesOn, CanRenew, HasGate, IsFilled, InRenewal, KeepsShown, ShowsAnew};
+ghost use Rattle.desk_slots.specs.Live.{live_characters, seen_live, IsLive, IsNamed, HasTrueCache};
+ghost use Rattle.desk_slots.specs.Written.{ContinuesArea, CanRenew, HasGate, IsFilled, InRenewal, KeepsShown, ShowsAnew};
 ghost use Rattle.desk_slots.specs.Words.{Only, CountsFault, now, IsConfined};
 
 use crate::live::LiveDesktop;
@@ -143,11 +143,11 @@ fn fill_slot<D: Disk>(disk: &mut D, desktop: &LiveDesktop, place: SlotPlace) -> 
     ensures fits { IfOk result (λ n. n ≤ IMAGE_BYTES) }
     ensures spelled { OnOk result (IsSpellable newest_version desktop.now.desktop) }
     ensures front { OnOk result (D.honest disk.old → HasFront (now (D.trail disk.new)).reads place.area
-        (full_sectors (length (characters_of (now (D.trail disk.old)).reads desktop.now)))
-        (characters_of (now (D.trail disk.old)).reads desktop.now)) }
+        (full_sectors (length (live_characters (now (D.trail disk.old)).reads desktop.now)))
+        (live_characters (now (D.trail disk.old)).reads desktop.now)) }
     ensures stored { IfOk result (λ n. D.honest disk.old → stored (now (D.trail disk.new)).reads (image_at place.slot) n
-        ≡ drop (SECTOR_BYTES * full_sectors (length (characters_of (now (D.trail disk.old)).reads desktop.now)))
-        (characters_of (now (D.trail disk.old)).reads desktop.now)
+        ≡ drop (SECTOR_BYTES * full_sectors (length (live_characters (now (D.trail disk.old)).reads desktop.now)))
+        (live_characters (now (D.trail disk.old)).reads desktop.now)
         ++ image_bytes newest_version (image_of desktop.now.desktop)) }
 {
     let rest = desktop.rest();
@@ -164,7 +164,7 @@ fn write_slot<D: Disk>(disk: &mut D, desktop: &LiveDesktop, place: SlotPlace) ->
         disk.old disk.new }
     ensures cause { CountsFault result (D.failures disk.old) (D.failures disk.new) }
     ensures filled { OnOk result (D.honest disk.old → IsFilled (now (D.trail disk.new)) place.slot LAYOUT place.area
-        place.epoch (characters_of (now (D.trail disk.old)).reads desktop.now)
+        place.epoch (live_characters (now (D.trail disk.old)).reads desktop.now)
         (seen_live (now (D.trail disk.old)).reads desktop.now)) }
 {
     let extent = fill_slot(disk, desktop, place)?;
@@ -204,8 +204,8 @@ fn change_slot<D: Disk>(disk: &mut D, desktop: &LiveDesktop, place: SlotPlace) -
         (seen_live (now (D.trail disk.old)).reads desktop.now)) }
     ensures front { OnOk result (D.honest disk.old → IsFront (now (D.trail disk.new)).reads place.slot
         place.area
-        (full_sectors (length (characters_of (now (D.trail disk.old)).reads desktop.now)))
-        (characters_of (now (D.trail disk.old)).reads desktop.now)) }
+        (full_sectors (length (live_characters (now (D.trail disk.old)).reads desktop.now)))
+        (live_characters (now (D.trail disk.old)).reads desktop.now)) }
 {
     close_slot(disk, place.slot)?;
     write_slot(disk, desktop, place)?;
@@ -221,7 +221,7 @@ pub fn renew<D: Disk>(
 ) -> Result<(), Fault>
     requires room { STORE_SECTORS ≤ D.size disk.old }
     requires live { IsLive desktop.old }
-    requires goes { GoesOn place desktop.old }
+    requires goes { ContinuesArea place desktop.old }
     ensures device { IsSameDevice D.Disk disk.old disk.new }
     ensures within { StaysWithin D.Disk disk.old disk.new }
     ensures cause { CountsFault result (D.failures disk.old) (D.failures disk.new) }
@@ -233,7 +233,7 @@ pub fn renew<D: Disk>(
         ≡ seen_live (now (D.trail disk.old)).reads desktop.old) }
     ensures kept { desktop.new.desktop ≡ desktop.old.desktop }
     ensures live { OnOk result (IsLive desktop.new) }
-    ensures told { OnOk result (IsTold D.Disk disk.old desktop.old → IsTold D.Disk disk.new desktop.new) }
+    ensures told { OnOk result (HasTrueCache D.Disk disk.old desktop.old → HasTrueCache D.Disk disk.new desktop.new) }
 {
     change_slot(disk, desktop, place)?;
     desktop.settle(place.area);

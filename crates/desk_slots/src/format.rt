@@ -4,7 +4,7 @@ ghost use Rattle.command_table.specs.Versions.{version_number};
 ghost use Rattle.desktop_definitions.specs.Desktop.{empty_desktop};
 ghost use Rattle.store_layout.specs.Layout.{is_label, is_open, slot_gate};
 ghost use Rattle.desk_image.specs.Laws.{empty_bytes};
-ghost use Rattle.store_layout.specs.Kept.{IsKept};
+ghost use Rattle.store_layout.specs.Kept.{ShowsSettled};
 ghost use Rattle.desk_slots.specs.Written.{IsFilled};
 ghost use Rattle.desk_slots.specs.Words.{CountsFault, now, IsConfined};
 
@@ -72,7 +72,7 @@ pub fn lay_out<D: Disk>(disk: &mut D, version: Version) -> Result<(), Fault>
     ensures kept { IsConfined D.size D.honest D.trail (λ n. n < STORE_SECTORS) disk.old disk.new }
     ensures cause { CountsFault result (D.failures disk.old) (D.failures disk.new) }
     ensures empty { OnOk result (D.honest disk.old
-        → IsKept (D.size disk.new) (D.trail disk.new) 0 (version_number version) 1 0 empty_desktop) }
+        → ShowsSettled (D.size disk.new) (D.trail disk.new) 0 (version_number version) 1 0 empty_desktop) }
 {
     close_slots(disk)?;
     write_start(disk, version)?;

@@ -3,7 +3,7 @@ ghost use Rattle.std.specs.Prelude.{◌≡◌, ◌<◌, ◌≤◌, IfOk, IfSome,
 ghost use Rattle.store_layout.specs.Layout.{slot_gate};
 ghost use Rattle.store_layout.specs.Meaning.{Standing, desktop_of};
 ghost use Rattle.store_layout.specs.Kept.{IsSettled, OpenGate};
-ghost use Rattle.desk_slots.specs.Beside.{IsOver, StandsBeside, StandsOneOf};
+ghost use Rattle.desk_slots.specs.Beside.{StandsOver, StandsBeside, StandsOneOf};
 ghost use Rattle.desk_slots.specs.Device.{IsSameDevice, StaysWithin};
 ghost use Rattle.desk_slots.specs.Words.{CountsFault, LeavesOnly, now, IsConfined};
 
@@ -20,10 +20,10 @@ pub fn leave_slot<D: Disk>(disk: &mut D, slot: u32) -> Result<(), Fault>
     ensures device { IsSameDevice D.Disk disk.old disk.new }
     ensures within { StaysWithin D.Disk disk.old disk.new }
     ensures cause { CountsFault result (D.failures disk.old) (D.failures disk.new) }
-    ensures any_moment { D.honest disk.old → (s t : Standing) → IsOver (D.size disk.old) (D.trail disk.old) slot s t
+    ensures any_moment { D.honest disk.old → (s t : Standing) → StandsOver (D.size disk.old) (D.trail disk.old) slot s t
         → LeavesOnly (D.trail disk.old) (D.trail disk.new) (StandsOneOf (D.size disk.old) s t) }
     ensures left { OnOk result (D.honest disk.old → (s t : Standing)
-        → IsOver (D.size disk.old) (D.trail disk.old) slot s t
+        → StandsOver (D.size disk.old) (D.trail disk.old) slot s t
         → IsSettled (D.size disk.old) (D.trail disk.new) t) }
 {
     close_slot(disk, slot)?;

@@ -12,7 +12,7 @@ ghost use Rattle.store_layout.specs.Layout.{area_start};
 ghost use Rattle.store_layout.specs.Kept.{HasFront, chosen_area};
 ghost use Rattle.store_layout.specs.Meaning.{full_sectors};
 ghost use Rattle.desk_slots.specs.Errors.{OfDesktop};
-ghost use Rattle.desk_slots.specs.Live.{characters_of, seen_live, AreTrueOver, IsLive, IsNamed, IsOverPages, IsTold, StaysLive};
+ghost use Rattle.desk_slots.specs.Live.{live_characters, seen_live, AreTrueOver, IsLive, IsNamed, IsOverPages, HasTrueCache, StaysLive};
 ghost use Rattle.piece_ring.specs.Text.{Text as AText};
 ghost use Rattle.screen_cells.specs.Lines.{AreLinesOf};
 ghost use Rattle.desk_slots.specs.Words.{Nowhere, now, IsConfined, FailsAs, No, IsReply, entries_of, shown_screen};
@@ -118,7 +118,7 @@ impl LiveDesktop {
     ) -> Result<Reply, Error>
         requires live { IsLive self.old }
         requires room { STORE_SECTORS ≤ D.size disk.old }
-        requires told { IsTold D.Disk disk.old self.old }
+        requires told { HasTrueCache D.Disk disk.old self.old }
         ensures done { IfOk result
             (λ reply. D.honest disk.old → outcome_of (seen_live (now (D.trail disk.new)).reads self.new) reply
             ≡ step_in (version_number version) (seen_live (now (D.trail disk.old)).reads self.old) event.now) }
@@ -126,7 +126,7 @@ impl LiveDesktop {
         ensures replies { IfOk result IsReply }
         ensures refusal { (code : ℕ) → result ≡ Ok (No code) → self.new.desktop ≡ self.old.desktop }
         ensures live { OnOk result (IsLive self.new) }
-        ensures told { OnOk result (IsTold D.Disk disk.new self.new) }
+        ensures told { OnOk result (HasTrueCache D.Disk disk.new self.new) }
         ensures pages { AreTrueOver D.Disk disk.new self.new.pages }
         ensures area { self.new.area ≡ self.old.area }
         ensures before { renewed_of self.new.pages ≡ false → renewed_of self.old.pages ≡ false }
@@ -155,7 +155,7 @@ impl LiveDesktop {
     ) -> Result<Reply, Error>
         requires live { IsLive self.old }
         requires room { STORE_SECTORS ≤ D.size disk.old }
-        requires told { IsTold D.Disk disk.old self.old }
+        requires told { HasTrueCache D.Disk disk.old self.old }
         ensures done { IfOk result
             (λ reply. D.honest disk.old → outcome_of (seen_live (now (D.trail disk.new)).reads self.new) reply
             ≡ brought_in (seen_live (now (D.trail disk.old)).reads self.old) documents.now) }
@@ -163,7 +163,7 @@ impl LiveDesktop {
         ensures replies { IfOk result IsReply }
         ensures refusal { (code : ℕ) → result ≡ Ok (No code) → self.new.desktop ≡ self.old.desktop }
         ensures live { OnOk result (IsLive self.new) }
-        ensures told { OnOk result (IsTold D.Disk disk.new self.new) }
+        ensures told { OnOk result (HasTrueCache D.Disk disk.new self.new) }
         ensures named { (slot : ℕ) → D.honest disk.old → IsNamed (now (D.trail disk.old)).reads slot self.old
             → IsNamed (now (D.trail disk.new)).reads slot self.new }
         ensures disk { IsConfined D.size D.honest D.trail Nowhere disk.old disk.new }
@@ -181,7 +181,7 @@ impl LiveDesktop {
     ) -> Result<Option<Vec<(u8, Look)>>, Error>
         requires live { IsLive self.old }
         requires room { STORE_SECTORS ≤ D.size disk.old }
-        requires told { IsTold D.Disk disk.old self.old }
+        requires told { HasTrueCache D.Disk disk.old self.old }
         ensures found { IfOk result (λ file. D.honest disk.old → option_map (λ characters. characters.items) file
             ≡ file_of (seen_live (now (D.trail disk.old)).reads self.old) name.now) }
         ensures memory { IsErrOf result Error.NoMemory → D.honest disk.old
@@ -200,7 +200,7 @@ impl LiveDesktop {
     pub fn list<D: Disk>(&mut self, alloc: Global, disk: &mut D) -> Result<Vec<Entry>, Error>
         requires live { IsLive self.old }
         requires room { STORE_SECTORS ≤ D.size disk.old }
-        requires told { IsTold D.Disk disk.old self.old }
+        requires told { HasTrueCache D.Disk disk.old self.old }
         ensures entries { IfOk result (λ entries. D.honest disk.old
             → entries.items ≡ entries_of (seen_live (now (D.trail disk.old)).reads self.old)) }
         ensures unread { IfOk result (λ entries. ListsUnread self.old.desktop entries.items) }
@@ -220,7 +220,7 @@ impl LiveDesktop {
     ) -> Result<(), Error>
         requires live { IsLive self.old }
         requires room { STORE_SECTORS ≤ D.size disk.old }
-        requires told { IsTold D.Disk disk.old self.old }
+        requires told { HasTrueCache D.Disk disk.old self.old }
         ensures shown { OnOk result (D.honest disk.old
             → screen.new ≡ shown_screen (seen_live (now (D.trail disk.old)).reads self.old)) }
         ensures same { StaysLive D.Disk disk.old disk.new self.old self.new }
@@ -252,8 +252,8 @@ impl LiveDesktop {
         ensures cached { cached_of self.new.pages ≡ cached_of self.old.pages }
         ensures lines { self.new.lines ≡ self.old.lines }
         ensures same { (c : Content)
-            → HasFront c area (full_sectors self.old.desktop.written) (characters_of c self.old)
-            → characters_of c self.new ≡ characters_of c self.old }
+            → HasFront c area (full_sectors self.old.desktop.written) (live_characters c self.old)
+            → live_characters c self.new ≡ live_characters c self.old }
     {
         let full = self.desktop.written() / SECTOR_BYTES * SECTOR_BYTES;
         self.pages.settle(area_start(area), full);

@@ -2,16 +2,16 @@
 ghost use Rattle.std.specs.Prelude.{◌≡◌, ◌-◌, ◌<◌, ◌≤◌, ◌∷◌, [], ℕ, true, false, OnOk, IfOk, IfErr, IfSome, IfNone, IsErrOf};
 ghost use Rattle.std.specs.Prelude.{length, drop};
 ghost use Rattle.event_bytes.specs.declared.event.Event.{Event};
-ghost use Rattle.event_bytes.specs.Spelling.{Begins};
+ghost use Rattle.event_bytes.specs.Spelling.{BeginsWithEvent};
 ghost use Rattle.char_pages.specs.Pages.{saved_of, renewed_of};
 ghost use Rattle.command_table.specs.Versions.{version_number};
 ghost use Rattle.store_layout.specs.Layout.{is_open, gate, body, IsGoodHead, head as head_at};
-ghost use Rattle.desk_slots.specs.Beside.{IsBesideRead, IsLoaded};
+ghost use Rattle.desk_slots.specs.Beside.{IsBesideRead, IsLoadedBeside};
 ghost use Rattle.store_layout.specs.Finding.{IsForeign, IsDamagedAt, IsNoEvent};
 ghost use Rattle.store_layout.specs.Meaning.{Shows, Standing};
-ghost use Rattle.store_layout.specs.Kept.{IsKept};
+ghost use Rattle.store_layout.specs.Kept.{ShowsSettled};
 ghost use Rattle.desk_slots.specs.Errors.{OfDesktop, OfOpen, OfReplay};
-ghost use Rattle.desk_slots.specs.Live.{seen_live, IsLive, IsNamed, IsTold};
+ghost use Rattle.desk_slots.specs.Live.{seen_live, IsLive, IsNamed, HasTrueCache};
 ghost use Rattle.desk_slots.specs.Load.{HasSlotInUse, IsCutTo, IsEarlier, IsReadUpTo, IsReadWhole};
 ghost use Rattle.desk_slots.specs.Words.{Nowhere, now, IsConfined, FailsAs, OneOf};
 ghost use Rattle.desk_slots.specs.Written.{IsUpTo};
@@ -56,10 +56,10 @@ fn read_event<D: Disk>(disk: &mut D, slot: u32, k: u32) -> Result<Option<Event>,
         → is_open ((now (D.trail disk.old)).reads (gate slot k)) ≡ false)) }
     ensures some { IfOk result (λ found. IfSome found (λ event. D.honest disk.old
         → (is_open ((now (D.trail disk.old)).reads (gate slot k)) ≡ true)
-        × Begins ((now (D.trail disk.old)).reads (body slot k)) event)) }
+        × BeginsWithEvent ((now (D.trail disk.old)).reads (body slot k)) event)) }
     ensures damaged { (n : ℕ) → IsErrOf result (Error.Damaged n) → D.honest disk.old → (n ≡ body slot k)
         × (is_open ((now (D.trail disk.old)).reads (gate slot k)) ≡ true)
-        × ((event : Event) → Begins ((now (D.trail disk.old)).reads (body slot k)) event → ⊥) }
+        × ((event : Event) → BeginsWithEvent ((now (D.trail disk.old)).reads (body slot k)) event → ⊥) }
 {
     let mut sector = [0; SECTOR_BYTES as usize];
     disk.read(gate(slot, k), &mut sector)?;
@@ -98,7 +98,7 @@ fn replay_to<D: Disk>(
     requires room { STORE_SECTORS ≤ D.size disk.old }
     requires two { slot < SLOTS }
     requires live { IsLive desktop.old }
-    requires told { IsTold D.Disk disk.old desktop.old }
+    requires told { HasTrueCache D.Disk disk.old desktop.old }
     requires limit { most ≤ JOURNAL_EVENTS }
     ensures kept { IsConfined D.size D.honest D.trail Nowhere disk.old disk.new }
     ensures faults { FailsAs Error.Fault OfReplay result (D.failures disk.old) (D.failures disk.new) }
@@ -107,7 +107,7 @@ fn replay_to<D: Disk>(
         (version_number version) most count (seen_live (now (D.trail disk.old)).reads desktop.old)
         (seen_live (now (D.trail disk.new)).reads desktop.new)) }
     ensures live { OnOk result (IsLive desktop.new) }
-    ensures told { OnOk result (IsTold D.Disk disk.new desktop.new) }
+    ensures told { OnOk result (HasTrueCache D.Disk disk.new desktop.new) }
     ensures area { OnOk result (desktop.new.area ≡ desktop.old.area) }
     ensures counted { OnOk result (renewed_of desktop.new.pages ≡ false
         → saved_of desktop.new.pages ≡ saved_of desktop.old.pages) }
@@ -136,7 +136,7 @@ fn replay<D: Disk>(
     requires room { STORE_SECTORS ≤ D.size disk.old }
     requires two { slot < SLOTS }
     requires live { IsLive desktop.old }
-    requires told { IsTold D.Disk disk.old desktop.old }
+    requires told { HasTrueCache D.Disk disk.old desktop.old }
     ensures kept { IsConfined D.size D.honest D.trail Nowhere disk.old disk.new }
     ensures faults { FailsAs Error.Fault OfReplay result (D.failures disk.old) (D.failures disk.new) }
     ensures few { IfOk result (λ count. count ≤ JOURNAL_EVENTS) }
@@ -144,7 +144,7 @@ fn replay<D: Disk>(
         (version_number version) count (seen_live (now (D.trail disk.old)).reads desktop.old)
         (seen_live (now (D.trail disk.new)).reads desktop.new)) }
     ensures live { OnOk result (IsLive desktop.new) }
-    ensures told { OnOk result (IsTold D.Disk disk.new desktop.new) }
+    ensures told { OnOk result (HasTrueCache D.Disk disk.new desktop.new) }
     ensures area { OnOk result (desktop.new.area ≡ desktop.old.area) }
     ensures counted { OnOk result (renewed_of desktop.new.pages ≡ false
         → saved_of desktop.new.pages ≡ saved_of desktop.old.pages) }
@@ -162,12 +162,12 @@ pub fn load<D: Disk>(alloc: Global, disk: &mut D) -> Result<Loaded, Error>
     ensures two { IfOk result (λ x. x.slot < SLOTS) }
     ensures few { IfOk result (λ x. x.events ≤ JOURNAL_EVENTS) }
     ensures live { IfOk result (λ x. IsLive x.desktop) }
-    ensures told { IfOk result (λ x. IsTold D.Disk disk.new x.desktop) }
+    ensures told { IfOk result (λ x. HasTrueCache D.Disk disk.new x.desktop) }
     ensures found { IfOk result
         (λ x. D.honest disk.old → Shows (D.size disk.old) (version_number x.version) x.epoch x.events
         (seen_live (now (D.trail disk.new)).reads x.desktop) (now (D.trail disk.old)).reads) }
     ensures shown { IfOk result (λ x. D.honest disk.old
-        → IsKept (D.size disk.old) (D.trail disk.new) x.slot (version_number x.version) x.epoch x.events
+        → ShowsSettled (D.size disk.old) (D.trail disk.new) x.slot (version_number x.version) x.epoch x.events
         (seen_live (now (D.trail disk.new)).reads x.desktop)
         × IsNamed (now (D.trail disk.new)).reads x.slot x.desktop) }
     ensures foreign { IsErrOf result Error.NotAStore → D.honest disk.old
@@ -197,7 +197,7 @@ pub fn load_front<D: Disk>(alloc: Global, disk: &mut D, most: u32) -> Result<Liv
     ensures kept { IsConfined D.size D.honest D.trail Nowhere disk.old disk.new }
     ensures faults { FailsAs Error.Fault OfOpen result (D.failures disk.old) (D.failures disk.new) }
     ensures live { IfOk result IsLive }
-    ensures told { IfOk result (IsTold D.Disk disk.new) }
+    ensures told { IfOk result (HasTrueCache D.Disk disk.new) }
     ensures shown { IfOk result (λ x. D.honest disk.old → IsCutTo (D.size disk.old) (now (D.trail disk.old)).reads most
         (now (D.trail disk.new)).reads x) }
     ensures foreign { IsErrOf result Error.NotAStore → D.honest disk.old
@@ -268,7 +268,7 @@ pub fn load_earlier<D: Disk>(
     ensures kept { IsConfined D.size D.honest D.trail Nowhere disk.old disk.new }
     ensures faults { FailsAs Error.Fault OfOpen result (D.failures disk.old) (D.failures disk.new) }
     ensures live { IfOk result (λ x. IsLive x.desktop) }
-    ensures told { IfOk result (λ x. IsTold D.Disk disk.new x.desktop) }
+    ensures told { IfOk result (λ x. HasTrueCache D.Disk disk.new x.desktop) }
     ensures count { IfOk result (λ x. length x.events.items ≡ end - k) }
     ensures shown { IfOk result (λ x. D.honest disk.old → (s : Standing)
         → IsUpTo (D.size disk.old) (D.trail disk.old) slot end s
@@ -291,9 +291,9 @@ fn load_of<D: Disk>(alloc: Global, disk: &mut D, slot: u32, head: &Head) -> Resu
     ensures faults { FailsAs Error.Fault OfReplay result (D.failures disk.old) (D.failures disk.new) }
     ensures few { IfOk result (λ x. x.events ≤ JOURNAL_EVENTS) }
     ensures live { IfOk result (λ x. IsLive x.desktop) }
-    ensures told { IfOk result (λ x. IsTold D.Disk disk.new x.desktop) }
+    ensures told { IfOk result (λ x. HasTrueCache D.Disk disk.new x.desktop) }
     ensures shown { IfOk result (λ x. D.honest disk.old → head_at (now (D.trail disk.old)).reads slot ≡ head.now
-        → IsLoaded (now (D.trail disk.old)).reads slot head.now.version x.events (now (D.trail disk.new)).reads
+        → IsLoadedBeside (now (D.trail disk.old)).reads slot head.now.version x.events (now (D.trail disk.new)).reads
         x.desktop) }
 {
     let version = version_of(head);
@@ -321,7 +321,7 @@ pub fn load_beside<D: Disk>(
     ensures kept { IsConfined D.size D.honest D.trail Nowhere disk.old disk.new }
     ensures few { IfOk result (λ found. IfSome found (λ x. x.events ≤ JOURNAL_EVENTS)) }
     ensures live { IfOk result (λ found. IfSome found (λ x. IsLive x.desktop)) }
-    ensures told { IfOk result (λ found. IfSome found (λ x. IsTold D.Disk disk.new x.desktop)) }
+    ensures told { IfOk result (λ found. IfSome found (λ x. HasTrueCache D.Disk disk.new x.desktop)) }
     ensures shown { IfOk result (λ found. IfSome found (λ x. D.honest disk.old
         → IsBesideRead (now (D.trail disk.old)).reads slot epoch x.events (now (D.trail disk.new)).reads x.desktop)) }
 {

@@ -4,10 +4,10 @@ ghost use Rattle.desktop_definitions.specs.Desktop.{Desktop};
 ghost use Rattle.desktop_definitions.specs.Step.{outcome_of};
 ghost use Rattle.store_layout.specs.Layout.{is_open, gate, body};
 ghost use Rattle.store_layout.specs.Meaning.{Means, MeansEither, Standing, StandsEither, and_then, cut_to};
-ghost use Rattle.store_layout.specs.Kept.{NextRecord, IsKept, IsSettled};
+ghost use Rattle.store_layout.specs.Kept.{NextRecord, ShowsSettled, IsSettled};
 ghost use Rattle.desk_slots.specs.Device.{IsSameDevice, StaysWithin};
 ghost use Rattle.desk_slots.specs.Errors.{OfDesktop};
-ghost use Rattle.desk_slots.specs.Live.{seen_live, IsLive, IsNamed, IsTold};
+ghost use Rattle.desk_slots.specs.Live.{seen_live, IsLive, IsNamed, HasTrueCache};
 ghost use Rattle.desk_slots.specs.Words.{LeavesOnly, Only, CountsFault, now, IsConfined, FailsAs, No, IsReply, step};
 ghost use Rattle.desk_slots.specs.Words.{step_in, StepsUnread};
 ghost use Rattle.desk_slots.specs.Written.{HasRecord, InRecord, IsInJournal, HasEventAt, IsUpTo};
@@ -69,12 +69,12 @@ fn add_record<D: Disk>(disk: &mut D, slot: u32, k: u32, event: &Event) -> Result
     ensures kept { IsConfined D.size D.honest D.trail (InRecord slot k) disk.old disk.new }
     ensures cause { CountsFault result (D.failures disk.old) (D.failures disk.new) }
     ensures any_moment { D.honest disk.old → (version number : ℕ) (desktop : Desktop)
-        → IsKept (D.size disk.old) (D.trail disk.old) slot version number k desktop
+        → ShowsSettled (D.size disk.old) (D.trail disk.old) slot version number k desktop
         → LeavesOnly (D.trail disk.old) (D.trail disk.new)
         (MeansEither (D.size disk.old) desktop (step_in version desktop event.now).desktop) }
     ensures added { OnOk result (D.honest disk.old → (version number : ℕ) (desktop : Desktop)
-        → IsKept (D.size disk.old) (D.trail disk.old) slot version number k desktop
-        → IsKept (D.size disk.old) (D.trail disk.new) slot version number (k + 1)
+        → ShowsSettled (D.size disk.old) (D.trail disk.old) slot version number k desktop
+        → ShowsSettled (D.size disk.old) (D.trail disk.new) slot version number (k + 1)
         (step_in version desktop event.now).desktop) }
     ensures behind { OnOk result (D.honest disk.old → (s : Standing)
         → IsUpTo (D.size disk.old) (D.trail disk.old) slot k s
@@ -97,30 +97,30 @@ pub fn record<D: Disk>(
 ) -> Result<Reply, Error>
     requires at { IsInJournal (D.size disk.old) slot k }
     requires live { IsLive desktop.old }
-    requires told { IsTold D.Disk disk.old desktop.old }
+    requires told { HasTrueCache D.Disk disk.old desktop.old }
     ensures any_moment { D.honest disk.old → (number : ℕ)
-        → IsKept (D.size disk.old) (D.trail disk.old) slot LAYOUT number k
+        → ShowsSettled (D.size disk.old) (D.trail disk.old) slot LAYOUT number k
         (seen_live (now (D.trail disk.old)).reads desktop.old)
         → LeavesOnly (D.trail disk.old) (D.trail disk.new) (MeansEither (D.size disk.old)
         (seen_live (now (D.trail disk.old)).reads desktop.old)
         (step (seen_live (now (D.trail disk.old)).reads desktop.old) event.now).desktop) }
     ensures unrecorded { IsErrOf result Error.NoMemory → D.honest disk.old → (number : ℕ)
-        → IsKept (D.size disk.old) (D.trail disk.old) slot LAYOUT number k
+        → ShowsSettled (D.size disk.old) (D.trail disk.old) slot LAYOUT number k
         (seen_live (now (D.trail disk.old)).reads desktop.old)
         → LeavesOnly (D.trail disk.old) (D.trail disk.new)
         (Means (D.size disk.old) (seen_live (now (D.trail disk.old)).reads desktop.old)) }
     // At a fault the event is in no image, or the desktop has done it.
     ensures broken { IsErrOf result Error.Fault → D.honest disk.old → (number : ℕ)
-        → IsKept (D.size disk.old) (D.trail disk.old) slot LAYOUT number k
+        → ShowsSettled (D.size disk.old) (D.trail disk.old) slot LAYOUT number k
         (seen_live (now (D.trail disk.old)).reads desktop.old)
         → LeavesOnly (D.trail disk.old) (D.trail disk.new)
         (Means (D.size disk.old) (seen_live (now (D.trail disk.old)).reads desktop.old))
         ⊎ (seen_live (now (D.trail disk.new)).reads desktop.new
         ≡ (step (seen_live (now (D.trail disk.old)).reads desktop.old) event.now).desktop) }
     ensures added { OnOk result (D.honest disk.old → (number : ℕ)
-        → IsKept (D.size disk.old) (D.trail disk.old) slot LAYOUT number k
+        → ShowsSettled (D.size disk.old) (D.trail disk.old) slot LAYOUT number k
         (seen_live (now (D.trail disk.old)).reads desktop.old)
-        → IsKept (D.size disk.old) (D.trail disk.new) slot LAYOUT number (k + 1)
+        → ShowsSettled (D.size disk.old) (D.trail disk.new) slot LAYOUT number (k + 1)
         (seen_live (now (D.trail disk.new)).reads desktop.new)) }
     ensures behind { OnOk result (D.honest disk.old → (s : Standing)
         → IsUpTo (D.size disk.old) (D.trail disk.old) slot k s
@@ -132,7 +132,7 @@ pub fn record<D: Disk>(
     ensures replies { IfOk result IsReply }
     ensures refusal { (code : ℕ) → result ≡ Ok (No code) → desktop.new.desktop ≡ desktop.old.desktop }
     ensures live { OnOk result (IsLive desktop.new) }
-    ensures told { OnOk result (IsTold D.Disk disk.new desktop.new) }
+    ensures told { OnOk result (HasTrueCache D.Disk disk.new desktop.new) }
     // the head of the slot names still what stands in the area
     ensures named { OnOk result (D.honest disk.old → IsNamed (now (D.trail disk.old)).reads slot desktop.old
         → IsNamed (now (D.trail disk.new)).reads slot desktop.new) }

@@ -11,7 +11,7 @@ use Rattle.desktop_definitions.specs.declared.reply.Reply.TheVariants.{Done, No}
 use Rattle.desktop_definitions.specs.Limits.{no_caret, no_selection, no_command, no_file, full, most_written}
 use Rattle.desktop_definitions.specs.Limits.{wrong_symbol, no_viewer, bad_value, too_low}
 use Rattle.desktop_definitions.specs.Desktop.{Desktop}
-use Rattle.desktop_definitions.specs.Change.{in_look, plain}
+use Rattle.desktop_definitions.specs.Change.{in_look, plain_text}
 use Rattle.desktop_definitions.specs.Opening.{menu_line}
 use Rattle.desktop_definitions.specs.Step.{Outcome, outcome_of}
 use Rattle.desk_tests.proofs.StepWords.{Case, done, refused, click, look, chars, entry, viewer, caret, selection, closed}
@@ -162,8 +162,8 @@ joined (one ∷ next ∷ rest) = codes one.0 ++ codes "\r" ++ joined (next ∷ r
 -- A text of calls, a document in which stand caret, newest selection and marker, the log, and a closed viewer.
 abbrev pub with_all : Desktop
 with_all = record {
-  texts = (0, chars "log\r") ∷ (1, plain (joined lines)) ∷ (2, chars "Tool") ∷ (3, chars "A.T B.T \rA.T x") ∷
-      (4, plain (menu_line (codes "A.T"))) ∷ (5, chars "Log") ∷ (6, chars "Kept") ∷ [];
+  texts = (0, chars "log\r") ∷ (1, plain_text (joined lines)) ∷ (2, chars "Tool") ∷ (3, chars "A.T B.T \rA.T x") ∷
+      (4, plain_text (menu_line (codes "A.T"))) ∷ (5, chars "Log") ∷ (6, chars "Kept") ∷ [];
   viewers = (0, viewer 2 1 0) ∷ (1, viewer 4 3 0) ∷ (2, viewer 5 0 0) ∷ (3, viewer 6 3 8) ∷ [];
   columns = columns (entry 2 3 ∷ entry 1 4 ∷ []) (entry 0 32 ∷ []);
   caret = caret 1 1;
@@ -191,7 +191,7 @@ bare = record (without with_all (6 ∷ []) (3 ∷ [])) {
 
 -- with other calls
 abbrev pub calling : List ℕ → Desktop → Desktop
-calling tool d = record d { texts = texts_with d 1 (plain tool) }
+calling tool d = record d { texts = texts_with d 1 (plain_text tool) }
 
 -- the document has one row, under the log
 abbrev pub one_row : Desktop

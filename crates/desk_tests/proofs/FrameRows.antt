@@ -5,7 +5,7 @@ use Rattle.std.specs.Prelude.{Some, None, unwrap_or, refl}
 use Rattle.std.specs.Fmt.{digits}
 use Rattle.text_frames.specs.declared.frame.Frame.{Frame}
 use Rattle.text_frames.specs.Lines.{line_start}
-use Rattle.text_frames.specs.Rules.{by_change_rule, by_show_rule, cleared}
+use Rattle.text_frames.specs.Rules.{by_change_rule, by_show_rule, frame_cleared}
 use Rattle.text_frames.specs.Cells.{position_at, cell_of}
 use Rattle.text_frames.specs.Row.{row_cells}
 use Rattle.viewer_tracks.specs.declared.display.Track.TheVariants.{User, System}
@@ -14,7 +14,7 @@ use Rattle.viewer_tracks.specs.Edits.{opened, replaced, changed, closed}
 use Rattle.viewer_tracks.specs.Columns.{Columns, no_viewers, after_open, allocated, seen_at, track_of}
 use Rattle.viewer_tracks.specs.Room.{free_row}
 use Rattle.writer_core.specs.Number.{number_text}
-use Rattle.desktop_definitions.specs.Change.{plain}
+use Rattle.desktop_definitions.specs.Change.{plain_text}
 use Prim.Native.String.{String}
 
 -- ---- frames
@@ -83,7 +83,7 @@ abbrev pub frame_changed : Followed → Frame
 frame_changed r = by_change_rule (codes r.0) r.2 r.3 r.4 (frame r.1)
 
 abbrev pub frame_followed : Followed → Frame
-frame_followed r = cleared (frame r.5)
+frame_followed r = frame_cleared (frame r.5)
 
 pub changes_followed : map frame_changed followed ≡ map frame_followed followed
 changes_followed = refl
@@ -131,7 +131,7 @@ rows_of_cells =
 
 abbrev pub row_found : RowCells → List ℕ × List ℕ
 row_found r =
-    let cells = row_cells 49 (plain (codes r.0)) r.1 r.2 in
+    let cells = row_cells 49 (plain_text (codes r.0)) r.1 r.2 in
     (map (λ c. c.0) cells, map (λ c. c.2) cells)
 
 abbrev pub row_of_cells : RowCells → List ℕ × List ℕ
@@ -141,7 +141,7 @@ pub cells_of_rows : map row_found rows_of_cells ≡ map row_of_cells rows_of_cel
 cells_of_rows = refl
 
 -- a row is cut off within a tabulator
-pub a_row_cut_off : map (λ c. c.0) (row_cells 49 (plain (replicate 48 120 ++ codes "\ty")) 0 0)
+pub a_row_cut_off : map (λ c. c.0) (row_cells 49 (plain_text (replicate 48 120 ++ codes "\ty")) 0 0)
     ≡ replicate 48 120 ++ 9 ∷ []
 a_row_cut_off = refl
 

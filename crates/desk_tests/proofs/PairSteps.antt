@@ -11,7 +11,7 @@ use Rattle.desktop_definitions.specs.declared.entry.Entry.TheVariants.{File as F
 use Rattle.desktop_definitions.specs.declared.entry.Entry.TheVariants.{Written}
 use Rattle.desktop_definitions.specs.Limits.{no_selection, no_command, full, outside, most_written}
 use Rattle.desktop_definitions.specs.Desktop.{Desktop}
-use Rattle.desktop_definitions.specs.Change.{plain}
+use Rattle.desktop_definitions.specs.Change.{plain_text}
 use Rattle.desktop_definitions.specs.Opening.{menu_line}
 use Rattle.desk_tests.proofs.StepWords.{Case, done, refused, unchanged, click, idle, clicks_in_bar, clicks_for_caret}
 use Rattle.desk_tests.proofs.StepWords.{empty, chars, entry, columns, viewer, caret, selection, edited, with_document}
@@ -32,8 +32,8 @@ heights low high = columns [] (entry 0 low ∷ entry 1 high ∷ [])
 -- Two viewers, each on a text of its own, the upper one on the file that it shows.
 abbrev pub pair : Desktop
 pair = record empty {
-  texts = (0, []) ∷ (1, chars "one\r\ttwo\rthree") ∷ (2, plain (menu_line tool_name)) ∷ (3, tool_text) ∷
-      (4, plain (menu_line tool_name)) ∷ [];
+  texts = (0, []) ∷ (1, chars "one\r\ttwo\rthree") ∷ (2, plain_text (menu_line tool_name)) ∷ (3, tool_text) ∷
+      (4, plain_text (menu_line tool_name)) ∷ [];
   viewers = (0, viewer 2 1 0) ∷ (1, viewer 4 3 0) ∷ [];
   columns = heights 16 16;
   caret = caret 0 5;

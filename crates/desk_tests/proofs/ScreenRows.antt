@@ -6,7 +6,7 @@ use Rattle.screen_pictures.specs.Picture.{picture}
 use Rattle.screen_pictures.specs.Screen.{values}
 use Rattle.screen_pictures.specs.Bytes.{shown_byte}
 use Rattle.desktop_definitions.specs.Desktop.{Desktop, empty_desktop}
-use Rattle.desktop_definitions.specs.Change.{plain}
+use Rattle.desktop_definitions.specs.Change.{plain_text}
 use Rattle.desktop_definitions.specs.Shown.{shown_screen}
 use Rattle.desk_tests.proofs.StepWords.{empty, entry, columns, viewer, caret, selection, Row, rows_of, shown}
 use Rattle.desk_tests.proofs.StepWords.{row_wanted, filler, bar, menu, hyphens, body, blanks, selected, at_caret}
@@ -15,7 +15,7 @@ use Rattle.desk_tests.proofs.StepWords.{at_marker}
 -- viewer 1 with its menu and its text from a character on, in the user's column
 abbrev pub in_user : List ℕ → List ℕ → ℕ → Desktop
 in_user line written org = record empty {
-  texts = (0, []) ∷ (1, plain written) ∷ (2, plain line) ∷ [];
+  texts = (0, []) ∷ (1, plain_text written) ∷ (2, plain_text line) ∷ [];
   viewers = (1, viewer 2 1 org) ∷ [];
   columns = columns (entry 1 32 ∷ []) [];
 }

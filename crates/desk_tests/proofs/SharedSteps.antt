@@ -15,7 +15,7 @@ use Rattle.desktop_definitions.specs.declared.entry.Entry.TheVariants.{Written}
 use Rattle.desktop_definitions.specs.declared.viewer.Selection.{Selection}
 use Rattle.desktop_definitions.specs.Limits.{no_selection}
 use Rattle.desktop_definitions.specs.Desktop.{Desktop}
-use Rattle.desktop_definitions.specs.Change.{in_look, plain}
+use Rattle.desktop_definitions.specs.Change.{in_look, plain_text}
 use Rattle.desk_tests.proofs.StepWords.{Case, done, refused, unchanged, click, clicks_in_bar, clicks_for_caret, look}
 use Rattle.desk_tests.proofs.StepWords.{chars, entry, columns, viewer, caret, selection, closed, edited, scrolled}
 use Rattle.desk_tests.proofs.StepWords.{without, texts_with, with_document, Listing, Row, rows_of, cells, filler, bar}
@@ -47,7 +47,7 @@ abbrev pub last : Text ℕ
 last = chars "f\r\tgh\rij"
 
 abbrev pub unsigned : Text ℕ
-unsigned = plain (0 ∷ 127 ∷ 200 ∷ [])
+unsigned = plain_text (0 ∷ 127 ∷ 200 ∷ [])
 
 abbrev pub marked : Text ℕ
 marked = chars "x\ty" ++ high_chars "z" ++ unsigned

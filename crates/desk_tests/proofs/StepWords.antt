@@ -28,7 +28,7 @@ use Rattle.desktop_definitions.specs.declared.viewer.Selection.{Selection}
 use Rattle.desktop_definitions.specs.declared.viewer.ClosedViewer.{ClosedViewer}
 use Rattle.desktop_definitions.specs.Tables.{Texts}
 use Rattle.desktop_definitions.specs.Desktop.{Desktop, empty_desktop}
-use Rattle.desktop_definitions.specs.Change.{plain}
+use Rattle.desktop_definitions.specs.Change.{plain_text}
 use Rattle.desktop_definitions.specs.Opening.{menu_line}
 use Rattle.desktop_definitions.specs.Listing.{entries_of}
 use Rattle.desktop_definitions.specs.Limits.{no_command}
@@ -43,7 +43,7 @@ look font colour voff = record { font = font; colour = colour; voff = voff }
 
 -- characters in the default look
 abbrev pub chars : String → Text ℕ
-chars written = plain (codes written)
+chars written = plain_text (codes written)
 
 abbrev pub entry : ℕ → ℕ → Entry
 entry viewer height = record { viewer = viewer; height = height }
@@ -85,7 +85,7 @@ scrolled d v org = record d {
 -- a viewer more, on a text; the line of its menu has the number n
 abbrev pub with_viewer : Desktop → ℕ → ℕ → List ℕ → ℕ → Desktop
 with_viewer d v n name main = record d {
-  texts = d.texts ++ (n, plain (menu_line name)) ∷ [];
+  texts = d.texts ++ (n, plain_text (menu_line name)) ∷ [];
   viewers = d.viewers ++ (v, viewer n main 0) ∷ [];
 }
 

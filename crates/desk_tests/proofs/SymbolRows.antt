@@ -5,9 +5,9 @@ use Rattle.std.specs.Prelude.{Option, Some, None, Result, Ok, Err, refl}
 use Rattle.event_bytes.specs.Bytes.{is_letter, is_digit, is_name_byte}
 use Rattle.readers_scanners.specs.declared.symbol.Symbol.{Symbol}
 use Rattle.readers_scanners.specs.declared.symbol.Symbol.TheVariants.{Name, Str, Int, Special, Invalid, End}
-use Rattle.readers_scanners.specs.Bytes.{is_blank, is_inside, numeral}
+use Rattle.readers_scanners.specs.Bytes.{is_blank, is_string_byte, numeral}
 use Rattle.readers_scanners.specs.Form.{form, symbol}
-use Rattle.readers_scanners.specs.Symbol.{kept}
+use Rattle.readers_scanners.specs.Symbol.{symbol_bytes}
 use Rattle.command_table.specs.declared.command.Command.{Command}
 use Rattle.command_table.specs.declared.command.Command.TheVariants.{EditOpen, SystemOpen, SystemOpenLog}
 use Rattle.command_table.specs.declared.command.Command.TheVariants.{SystemClose, SystemRecall, SystemCopy}
@@ -19,7 +19,7 @@ use Rattle.command_table.specs.declared.command.Command.TheVariants.{EditChangeO
 use Rattle.command_table.specs.declared.command.Command.TheVariants.{EditRecall, SystemCollect}
 use Rattle.command_table.specs.Call.{word_begin, called_at}
 use Rattle.command_table.specs.Commands.{commands, command_named}
-use Rattle.command_table.specs.Parameters.{names_on, value, names as names_list}
+use Rattle.command_table.specs.Parameters.{names_on, value_parameter, names as names_list}
 use Prim.Native.String.{String}
 
 -- ---- symbols
@@ -36,10 +36,10 @@ symbols_on bs (suc n) found = up_to_end found.0 (symbols_on bs n (symbol bs foun
 
 -- short names for lists of symbols
 abbrev pub name : String → List Symbol
-name written = Name (kept (codes written)) ∷ []
+name written = Name (symbol_bytes (codes written)) ∷ []
 
 abbrev pub str : String → List Symbol
-str inside = Str (kept (codes inside)) ∷ []
+str inside = Str (symbol_bytes (codes inside)) ∷ []
 
 abbrev pub special : String → List Symbol
 special written = map Special (codes written)
@@ -176,16 +176,16 @@ abbrev pub symbol_rows : List SymbolRow
 symbol_rows = kinds ++ names ++ numbers ++ ends_of_the_range ++ bad_numbers ++ strings ++ from_a_position
 
 pub symbols_are_found : map symbols_found symbol_rows ≡ map symbols_wanted symbol_rows
-unfolding form symbol is_blank is_inside numeral is_letter is_digit is_name_byte
+unfolding form symbol is_blank is_string_byte numeral is_letter is_digit is_name_byte
 symbols_are_found = refl
 
 -- of a long name, and of a long string, 31 bytes are kept
 abbrev pub long_text : List ℕ
 long_text = replicate 200 97
 
-pub long_names_and_strings : ((symbol long_text 0).0 ≡ Name (kept (replicate 31 97)))
-    × ((symbol (34 ∷ long_text ++ 34 ∷ []) 0).0 ≡ Str (kept (replicate 31 97)))
-unfolding form symbol is_blank is_inside is_letter is_digit is_name_byte
+pub long_names_and_strings : ((symbol long_text 0).0 ≡ Name (symbol_bytes (replicate 31 97)))
+    × ((symbol (34 ∷ long_text ++ 34 ∷ []) 0).0 ≡ Str (symbol_bytes (replicate 31 97)))
+unfolding form symbol is_blank is_string_byte is_letter is_digit is_name_byte
 long_names_and_strings = (refl, refl)
 
 -- ---- calls
@@ -292,31 +292,31 @@ value_row p text selection menu wanted =
 
 abbrev pub values : List ValueRow
 values =
-    value_row 9 "Edit.Open A.Text" None None (Ok (Name (kept (codes "A.Text")))) ∷
+    value_row 9 "Edit.Open A.Text" None None (Ok (Name (symbol_bytes (codes "A.Text")))) ∷
     value_row 15 "System.SetColor 16" None None (Ok (Int (pos 16))) ∷
     value_row 16 "System.SetOffset -64" None None (Ok (Int (neg_ℤ (pos 64)))) ∷
-    value_row 9 "Edit.Open \"A\"" None None (Ok (Str (kept (codes "A")))) ∷
+    value_row 9 "Edit.Open \"A\"" None None (Ok (Str (symbol_bytes (codes "A")))) ∷
     value_row 9 "Edit.Open 1A" None None (Ok Invalid) ∷
     value_row 9 "Edit.Open" None None (Ok End) ∷
     value_row 9 "Edit.Open ~" (Some ("Edit.Open ~", 0)) (Some "Edit.Open ~") (Ok (Special 126)) ∷
-    value_row 9 "Edit.Open ^ B.Text" (Some ("Edit.Open ^ B.Text", 11)) None (Ok (Name (kept (codes "B.Text")))) ∷
-    value_row 9 "Edit.Open ^ B.Text" (Some ("Edit.Open ^ B.Text", 14)) None (Ok (Name (kept (codes "Text")))) ∷
+    value_row 9 "Edit.Open ^ B.Text" (Some ("Edit.Open ^ B.Text", 11)) None (Ok (Name (symbol_bytes (codes "B.Text")))) ∷
+    value_row 9 "Edit.Open ^ B.Text" (Some ("Edit.Open ^ B.Text", 14)) None (Ok (Name (symbol_bytes (codes "Text")))) ∷
     value_row 9 "Edit.Open ^ B.Text" None (Some "Edit.Open ^ B.Text") (Err 2) ∷
     value_row 9 "Edit.Open ^ ^ A" (Some ("Edit.Open ^ ^ A", 11)) (Some "Edit.Open ^ ^ A") (Ok (Special 94)) ∷
     value_row 9 "Edit.Open ^ *" (Some ("Edit.Open ^ *", 11)) (Some "Edit.Open ^ *") (Ok (Special 42)) ∷
-    value_row 18 "A.Text | Edit.Open *" None (Some "A.Text | Edit.Open *") (Ok (Name (kept (codes "A.Text")))) ∷
+    value_row 18 "A.Text | Edit.Open *" None (Some "A.Text | Edit.Open *") (Ok (Name (symbol_bytes (codes "A.Text")))) ∷
     value_row 18 "A.Text | Edit.Open *" (Some ("A.Text | Edit.Open *", 0)) None (Err 7) ∷
     value_row 13 "* | Edit.Open *" (Some ("* | Edit.Open *", 0)) (Some "* | Edit.Open *") (Ok (Special 42)) ∷
     value_row 13 "^ | Edit.Open *" (Some ("^ | Edit.Open *", 4)) (Some "^ | Edit.Open *") (Ok (Special 94)) ∷ []
 
 abbrev pub value_found : ValueRow → Result Symbol ℕ
-value_found r = value codes r.text r.position r.selection r.menu
+value_found r = value_parameter codes r.text r.position r.selection r.menu
 
 abbrev pub value_wanted : ValueRow → Result Symbol ℕ
 value_wanted r = r.wanted
 
 pub values_are_found : map value_found values ≡ map value_wanted values
-unfolding value form symbol is_blank is_inside numeral is_letter is_digit is_name_byte
+unfolding value_parameter form symbol is_blank is_string_byte numeral is_letter is_digit is_name_byte
 values_are_found = refl
 
 -- a position, a text, where the selection begins, and the list of names
@@ -354,5 +354,5 @@ abbrev pub list_wanted : ListRow → Result (List (List ℕ)) ℕ
 list_wanted r = r.wanted
 
 pub lists_are_found : map list_found lists ≡ map list_wanted lists
-unfolding names_list names_on form symbol is_blank is_inside numeral is_letter is_digit is_name_byte
+unfolding names_list names_on form symbol is_blank is_string_byte numeral is_letter is_digit is_name_byte
 lists_are_found = refl

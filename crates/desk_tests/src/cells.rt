@@ -3,7 +3,7 @@
 ghost use Rattle.std.specs.Prelude.{◌<◌, ◌≤◌, ◌+◌, ◌^◌, length, IfOk};
 ghost use Rattle.piece_ring.specs.Flat.{flat};
 ghost use Rattle.piece_ring.specs.Text.{AreWithin};
-ghost use Rattle.screen_cells.specs.Lines.{AreReady};
+ghost use Rattle.screen_cells.specs.Lines.{HavePlaces};
 
 use char_file::{CharFile, CharSource, NoMemory};
 use char_pages::{Paged, Pages};
@@ -152,7 +152,7 @@ fn paint_one<S: CharSource>(
     lines: &mut KeptLines,
     source: &mut S,
 ) -> Result<Screen, Fault>
-    requires ready { AreReady lines.old }
+    requires ready { HavePlaces lines.old }
     requires menu { AreWithin (length (S.characters source.old)) (flat menu.now) }
     requires main { AreWithin (length (S.characters source.old)) (flat main.now) }
 {

@@ -6,7 +6,7 @@ use Rattle.screen_cells.specs.declared.shown.Shown.{Shown}
 use Rattle.desktop_definitions.specs.declared.viewer.Viewer.{Viewer}
 use Rattle.desktop_definitions.specs.declared.viewer.Caret.{Caret}
 use Rattle.desktop_definitions.specs.declared.viewer.Selection.{Selection}
-use Rattle.desktop_definitions.specs.Tables.{Texts, numbered}
+use Rattle.desktop_definitions.specs.Tables.{Texts, text_numbered}
 use Rattle.desktop_definitions.specs.Viewers.{text_in}
 use Rattle.desktop_definitions.specs.Shown.{caret_position, selection_in}
 use Rattle.desk_views.specs.declared.views.View.{View}
@@ -54,4 +54,4 @@ shown_view s = record {
 
 -- both texts of a view are there
 abbrev pub AreThere : Texts (List Piece) → View → Type 0
-AreThere texts v = IsSome (numbered texts v.menu) × IsSome (numbered texts v.frame.text)
+AreThere texts v = IsSome (text_numbered texts v.menu) × IsSome (text_numbered texts v.frame.text)

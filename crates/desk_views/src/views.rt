@@ -11,7 +11,7 @@ ghost use Rattle.desktop_definitions.specs.Unread.{without_name};
 ghost use Rattle.desktop_definitions.specs.Viewers.{text_of};
 ghost use Rattle.screen_cells.specs.Lines.{AreLinesOf};
 ghost use Rattle.desk_core.specs.Words.{FailsAs, OnlyReads, flat, AreWithin, DEPTH, IsPlaced, stack_of, seen, IsOver};
-ghost use Rattle.desk_core.specs.Words.{kept, IsStop};
+ghost use Rattle.desk_core.specs.Words.{kept_desktop, IsStop};
 ghost use Rattle.desk_views.specs.Views.{view_in, kept_view, shown_view, AreThere};
 
 use char_file::CharSource;
@@ -47,13 +47,13 @@ pub fn paint<S: CharSource>(
     source: &mut S,
     screen: &mut Screen,
 ) -> Result<(), Stop>
-    requires { IsOver (S.characters source.old) (kept desk.now) }
+    requires { IsOver (S.characters source.old) (kept_desktop desk.now) }
     ensures shown { OnOk result (S.honest source.old
-        → AreLinesOf (text_of (seen (S.characters source.old) (kept desk.now))) lines.old
-        → screen.new ≡ shown_screen (seen (S.characters source.old) (kept desk.now))) }
+        → AreLinesOf (text_of (seen (S.characters source.old) (kept_desktop desk.now))) lines.old
+        → screen.new ≡ shown_screen (seen (S.characters source.old) (kept_desktop desk.now))) }
     ensures lines { S.honest source.old
-        → AreLinesOf (text_of (seen (S.characters source.old) (kept desk.now))) lines.old
-        → AreLinesOf (text_of (seen (S.characters source.old) (kept desk.now))) lines.new }
+        → AreLinesOf (text_of (seen (S.characters source.old) (kept_desktop desk.now))) lines.old
+        → AreLinesOf (text_of (seen (S.characters source.old) (kept_desktop desk.now))) lines.new }
     ensures reads { OnlyReads S.characters S.failures S.honest S.same_ground source.old source.new }
     ensures faults { FailsAs Stop.Fault IsStop result (S.failures source.old) (S.failures source.new) }
 {
@@ -73,12 +73,12 @@ pub fn list_column<S: CharSource>(
     entries: &mut Vec<Entry>,
     source: &mut S,
 ) -> Result<(), Stop>
-    requires { IsOver (S.characters source.old) (kept desk.now) }
+    requires { IsOver (S.characters source.old) (kept_desktop desk.now) }
     ensures entries { OnOk result (S.honest source.old → entries.new.items
-        ≡ entries.old.items ++ column_entries (seen (S.characters source.old) (kept desk.now)) track) }
-    ensures unread { OnOk result ((all : List ℕ) → length all ≡ (kept desk.now).written
+        ≡ entries.old.items ++ column_entries (seen (S.characters source.old) (kept_desktop desk.now)) track) }
+    ensures unread { OnOk result ((all : List ℕ) → length all ≡ (kept_desktop desk.now).written
         → map without_name entries.new.items
-        ≡ map without_name entries.old.items ++ map without_name (column_entries (seen all (kept desk.now)) track)) }
+        ≡ map without_name entries.old.items ++ map without_name (column_entries (seen all (kept_desktop desk.now)) track)) }
     ensures reads { OnlyReads S.characters S.failures S.honest S.same_ground source.old source.new }
     ensures faults { FailsAs Stop.Fault IsStop result (S.failures source.old) (S.failures source.new) }
 {
@@ -115,16 +115,16 @@ fn list_level<S: CharSource>(
     entries: &mut Vec<Entry>,
     source: &mut S,
 ) -> Result<(), Stop>
-    requires over { IsOver (S.characters source.old) (kept desk.now) }
+    requires over { IsOver (S.characters source.old) (kept_desktop desk.now) }
     requires some { 0 < level }
-    requires within { level ≤ length (stack_of (kept desk.now).columns track) }
+    requires within { level ≤ length (stack_of (kept_desktop desk.now).columns track) }
     ensures entries { OnOk result (S.honest source.old → entries.new.items
-        ≡ entries.old.items ++ track_entries (seen (S.characters source.old) (kept desk.now)) track
-        (track_on (stack_of (kept desk.now).columns track) level)) }
-    ensures unread { OnOk result ((all : List ℕ) → length all ≡ (kept desk.now).written
+        ≡ entries.old.items ++ track_entries (seen (S.characters source.old) (kept_desktop desk.now)) track
+        (track_on (stack_of (kept_desktop desk.now).columns track) level)) }
+    ensures unread { OnOk result ((all : List ℕ) → length all ≡ (kept_desktop desk.now).written
         → map without_name entries.new.items
-        ≡ map without_name entries.old.items ++ map without_name (track_entries (seen all (kept desk.now)) track
-        (track_on (stack_of (kept desk.now).columns track) level))) }
+        ≡ map without_name entries.old.items ++ map without_name (track_entries (seen all (kept_desktop desk.now)) track
+        (track_on (stack_of (kept_desktop desk.now).columns track) level))) }
     ensures reads { OnlyReads S.characters S.failures S.honest S.same_ground source.old source.new }
     ensures faults { FailsAs Stop.Fault IsStop result (S.failures source.old) (S.failures source.new) }
 {
@@ -144,12 +144,12 @@ fn entry_of<S: CharSource>(
     id: ViewerId,
     source: &mut S,
 ) -> Result<Entry, Stop>
-    requires over { IsOver (S.characters source.old) (kept desk.now) }
-    requires placed { IsPlaced id.0 (kept desk.now).columns }
+    requires over { IsOver (S.characters source.old) (kept_desktop desk.now) }
+    requires placed { IsPlaced id.0 (kept_desktop desk.now).columns }
     ensures entry { IfOk result (λ entry. S.honest source.old
-        → entry ≡ viewer_entry (seen (S.characters source.old) (kept desk.now)) track id.0) }
-    ensures unread { IfOk result (λ entry. (all : List ℕ) → length all ≡ (kept desk.now).written
-        → without_name entry ≡ without_name (viewer_entry (seen all (kept desk.now)) track id.0)) }
+        → entry ≡ viewer_entry (seen (S.characters source.old) (kept_desktop desk.now)) track id.0) }
+    ensures unread { IfOk result (λ entry. (all : List ℕ) → length all ≡ (kept_desktop desk.now).written
+        → without_name entry ≡ without_name (viewer_entry (seen all (kept_desktop desk.now)) track id.0)) }
     ensures reads { OnlyReads S.characters S.failures S.honest S.same_ground source.old source.new }
     ensures faults { FailsAs Stop.Fault IsStop result (S.failures source.old) (S.failures source.new) }
 {

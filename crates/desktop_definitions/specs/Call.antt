@@ -4,7 +4,7 @@ use Rattle.readers_scanners.specs.declared.symbol.Symbol.{Symbol}
 use Rattle.readers_scanners.specs.declared.symbol.Symbol.TheVariants.{Int}
 use Rattle.piece_ring.specs.Text.{Text}
 use Rattle.viewer_tracks.specs.Columns.{seen_at}
-use Rattle.command_table.specs.Parameters.{value, names, name_in}
+use Rattle.command_table.specs.Parameters.{value_parameter, names, name_in}
 use Rattle.desktop_definitions.specs.declared.call.Call.{Call}
 use Rattle.desktop_definitions.specs.Limits.{wrong_symbol}
 use Rattle.desktop_definitions.specs.Needs.{needs, given}
@@ -23,8 +23,8 @@ abbrev pub seen_at_marker : {T : Type 0} → DesktopOf T → Option ℕ
 seen_at_marker d = elim d.marker [ None ↦ None | Some m ↦ seen_at d.columns m.0 m.1 ]
 
 -- the one in whose menu the word stands, or else the one at the marker
-abbrev pub meant : {T : Type 0} → DesktopOf T → Call → Option ℕ
-meant d call = if call.in_menu then Some call.viewer else seen_at_marker d
+abbrev pub target_viewer : {T : Type 0} → DesktopOf T → Call → Option ℕ
+target_viewer d call = if call.in_menu then Some call.viewer else seen_at_marker d
 
 -- ---- the symbols after the word
 
@@ -42,7 +42,7 @@ menu_at_marker d = option_map (menu_of d) (seen_at_marker d)
 
 unfoldable pub value_of : Desktop → Call → Result Symbol ℕ
 value_of d call =
-    value bytes_of (text_called d call.viewer call.in_menu) call.after (selection_place d) (menu_at_marker d)
+    value_parameter bytes_of (text_called d call.viewer call.in_menu) call.after (selection_place d) (menu_at_marker d)
 
 -- a value, where it is a name, and where it is a number
 abbrev pub as_name : Result Symbol ℕ → Result (List ℕ) ℕ

@@ -13,8 +13,8 @@ use Rattle.desktop_definitions.specs.Viewers.{text_of, main_of}
 abbrev pub in_look : Look → List ℕ → Text ℕ
 in_look look bytes = map (λ b. (b, look)) bytes
 
-abbrev pub plain : List ℕ → Text ℕ
-plain bytes = in_look default_look bytes
+abbrev pub plain_text : List ℕ → Text ℕ
+plain_text bytes = in_look default_look bytes
 
 abbrev pub bytes_of : Text ℕ → List ℕ
 bytes_of text = map (λ c. c.0) text
@@ -30,15 +30,15 @@ module _ {T : Type 0} where
 
 -- a viewer after a change of the text of a number, which now has these bytes: so many were put in at p, or so many from
 -- p on taken out
-abbrev pub followed : ℕ → List ℕ → ℕ → ℕ → ℕ → Viewer → Viewer
-followed n bytes p more fewer viewer =
+abbrev pub following_viewer : ℕ → List ℕ → ℕ → ℕ → ℕ → Viewer → Viewer
+following_viewer n bytes p more fewer viewer =
     if viewer.main == n then record viewer { org = changed_org bytes p more fewer viewer.org } else viewer
 
 -- The text of that number became this one, as so many characters were put in at p or so many from p on taken out: each
 -- frame that shows it loses caret and selection, and follows its first character.
 unfoldable pub after_change : Desktop → ℕ → Text ℕ → ℕ → ℕ → ℕ → Desktop
 after_change d n text p more fewer =
-    edited d n text (with_values (followed n (bytes_of text) p more fewer) d.viewers)
+    edited d n text (with_values (following_viewer n (bytes_of text) p more fewer) d.viewers)
 
 -- characters are put into a text at p; nothing changes where there are none
 unfoldable pub insertion : Desktop → ℕ → ℕ → Text ℕ → Desktop

@@ -1,7 +1,7 @@
 -- What a part of an event promises that changes texts, frames or marks, and opens or closes no viewer.
 use Rattle.std.specs.Prelude.{◌≡◌, ℕ, ◌+◌, List, length, map}
 use Rattle.desktop_definitions.specs.Words.{keys_of, Viewer}
-use Rattle.desktop_definitions.specs.Desktop.{Desktop, KeptDesktop, held}
+use Rattle.desktop_definitions.specs.Desktop.{Desktop, KeptDesktop, characters_held}
 use Rattle.desktop_definitions.specs.Seen.{seen}
 use Rattle.desktop_definitions.specs.Sound.{IsBuilt}
 
@@ -10,7 +10,7 @@ abbrev pub texts_shown : List (ℕ × Viewer) → List (ℕ × ℕ × ℕ)
 texts_shown viewers = map (λ e. (e.0, e.1.menu, e.1.main)) viewers
 
 -- The same viewers show the same texts, and nothing was written.
-pub record IsRest (old new : KeptDesktop) : Type 0 where
+pub record ShowsSameTexts (old new : KeptDesktop) : Type 0 where
   pub numbers : keys_of new.texts ≡ keys_of old.texts
   pub viewers : texts_shown new.viewers ≡ texts_shown old.viewers
   pub written : new.written ≡ old.written
@@ -23,8 +23,8 @@ pub record IsChanged (honest : Type 0) (characters : List ℕ) (old new : KeptDe
   pub exact : honest → seen characters new ≡ outcome
   -- whatever was read:
   pub built : IsBuilt (length characters) new
-  pub counted : (all : List ℕ) → held (seen all new) + fewer ≡ held (seen all old) + more
-  pub rest : IsRest old new
+  pub counted : (all : List ℕ) → characters_held (seen all new) + fewer ≡ characters_held (seen all old) + more
+  pub rest : ShowsSameTexts old new
 
 -- A desktop that is kept, inside an event: its characters are those that were written.
 pub record IsStanding (characters : List ℕ) (d : KeptDesktop) : Type 0 where
@@ -38,15 +38,15 @@ pub record IsExtended (honest : Type 0) (old new : List ℕ) (before after : Kep
   pub exact : honest → seen new after ≡ part (seen old before)
   -- whatever was read:
   pub stands : IsStanding new after
-  pub counted : (all : List ℕ) → held (seen all after) ≡ held (seen all before) + more
+  pub counted : (all : List ℕ) → characters_held (seen all after) ≡ characters_held (seen all before) + more
   pub numbers : keys_of after.texts ≡ keys_of before.texts
   pub viewers : texts_shown after.viewers ≡ texts_shown before.viewers
   pub written : after.written ≡ before.written + more
 
 -- A part of an event, as the definitions have it: the same viewers show the same texts, nothing was written, and so
 -- many characters more and so many fewer are held.
-pub record Counts (old new : Desktop) (more fewer : ℕ) : Type 0 where
-  pub counted : held new + fewer ≡ held old + more
+pub record CountsHeld (old new : Desktop) (more fewer : ℕ) : Type 0 where
+  pub counted : characters_held new + fewer ≡ characters_held old + more
   pub numbers : keys_of new.texts ≡ keys_of old.texts
   pub viewers : texts_shown new.viewers ≡ texts_shown old.viewers
   pub written : new.written ≡ old.written

@@ -3,7 +3,7 @@
 use Rattle.std.specs.Prelude.{ℕ, ◌+◌, List, [], ◌∷◌, length, Option, None}
 use Rattle.viewer_tracks.specs.Columns.{Columns, no_viewers}
 use Rattle.desktop_definitions.specs.Words.{Look, Piece, default_look, Text, Viewer, Caret, Selection, ClosedViewer}
-use Rattle.desktop_definitions.specs.Tables.{Texts, Files, named, with_values, lengths}
+use Rattle.desktop_definitions.specs.Tables.{Texts, Files, file_named, with_values, lengths}
 
 pub record DesktopOf (T : Type 0) : Type 0 where
   -- by rising numbers
@@ -75,8 +75,8 @@ with_texts f d = record {
 
 -- the text of the file of a name
 unfoldable pub file_of : {T : Type 0} → DesktopOf T → List ℕ → Option T
-file_of d name = named d.files name
+file_of d name = file_named d.files name
 
 -- how many characters stand in all texts, files and both buffers
-unfoldable pub held : Desktop → ℕ
-held d = lengths d.texts + lengths d.files + length d.copied + length d.deleted
+unfoldable pub characters_held : Desktop → ℕ
+characters_held d = lengths d.texts + lengths d.files + length d.copied + length d.deleted

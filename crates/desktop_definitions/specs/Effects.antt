@@ -19,12 +19,12 @@ use Rattle.desktop_definitions.specs.Words.{unwrap_or, is_at, keys_of, LookChang
 use Rattle.desktop_definitions.specs.Limits.{no_selection, no_file, too_many_files, wrong_symbol}
 use Rattle.desktop_definitions.specs.Limits.{not_found, too_deep, too_low, most_pattern}
 use Rattle.desktop_definitions.specs.Needs.{needs, unless}
-use Rattle.desktop_definitions.specs.Tables.{Files, name_cmp, put, has_room}
-use Rattle.desktop_definitions.specs.Desktop.{DesktopOf, Desktop, file_of, held}
+use Rattle.desktop_definitions.specs.Tables.{Files, name_cmp, file_put, has_file_room}
+use Rattle.desktop_definitions.specs.Desktop.{DesktopOf, Desktop, file_of, characters_held}
 use Rattle.desktop_definitions.specs.Viewers.{viewer_of, text_in, newest, unmarked, without_viewer, opened_at}
 use Rattle.desktop_definitions.specs.Viewers.{text_of, main_of, menu_of, selected}
-use Rattle.desktop_definitions.specs.Change.{plain, bytes_of, looks_set, deletion, caret_shown, more_written}
-use Rattle.desktop_definitions.specs.Opening.{menu_line, opening, opening_on, opening_over}
+use Rattle.desktop_definitions.specs.Change.{plain_text, bytes_of, looks_set, deletion, caret_shown, more_written}
+use Rattle.desktop_definitions.specs.Opening.{menu_line, after_opening, opening_on, opening_over}
 use Rattle.desktop_definitions.specs.Shown.{caret_position}
 use Rattle.desktop_definitions.specs.Log.{line, logged, all_logged}
 
@@ -33,7 +33,7 @@ use Rattle.desktop_definitions.specs.Log.{line, logged, all_logged}
 -- a viewer of that name opens at a cell, on a text of its own
 abbrev pub opened_on_copy : Desktop → List ℕ → Text ℕ → ℕ × ℕ → Desktop
 opened_on_copy d name text cell =
-    more_written (opening d (plain (menu_line name)) text cell) (length (menu_line name))
+    more_written (after_opening d (plain_text (menu_line name)) text cell) (length (menu_line name))
 
 -- a copy of a file opens in the system track
 unfoldable pub file_opened : Desktop → List ℕ → Result Desktop ℕ
@@ -48,7 +48,7 @@ document_opened d name = opened_on_copy d name (unwrap_or (file_of d name) []) (
 unfoldable pub log_opened : Desktop → Desktop
 log_opened d =
     let menu = menu_line (codes "System.Log") in
-    more_written (opening_on d (plain menu) 0 0 (allocated d.columns System d.marker)) (length menu)
+    more_written (opening_on d (plain_text menu) 0 0 (allocated d.columns System d.marker)) (length menu)
 
 module _ {T : Type 0} where
   -- The viewer goes from the display with what is marked in it, and is the closed one with its place. What was closed
@@ -65,8 +65,8 @@ module _ {T : Type 0} where
   brought_back d k = opened_at (record d { closed = None }) k.viewer (left_of k.track, k.top)
 
 -- a second viewer of a viewer's text takes the lower half of its place, with a copy of its menu and the same first line
-abbrev pub parted : {X : Type 0} → DesktopOf (List X) → ℕ → ℕ → DesktopOf (List X)
-parted d v rows =
+abbrev pub after_copy : {X : Type 0} → DesktopOf (List X) → ℕ → ℕ → DesktopOf (List X)
+after_copy d v rows =
     opening_on d (text_in d.texts (viewer_of d v).menu) (viewer_of d v).main (viewer_of d v).org
     (left_of (track_of d.columns v), placed_bottom d.columns v + rows / 2)
 
@@ -74,19 +74,19 @@ parted d v rows =
 unfoldable pub viewer_copied : {X : Type 0} → DesktopOf (List X) → ℕ → Result (DesktopOf (List X)) ℕ
 viewer_copied d v =
     let rows = placed_top d.columns v - placed_bottom d.columns v in
-    if rows == 1 then Err too_low else Ok (parted d v rows)
+    if rows == 1 then Err too_low else Ok (after_copy d v rows)
 
 -- a second viewer of a viewer's text has the column of that whole, over the track in which it stands, with a copy of
 -- its menu and the same first line
-abbrev pub grown : {X : Type 0} → DesktopOf (List X) → ℕ → DesktopOf (List X)
-grown d v =
+abbrev pub after_grow : {X : Type 0} → DesktopOf (List X) → ℕ → DesktopOf (List X)
+after_grow d v =
     opening_over d (text_in d.texts (viewer_of d v).menu) (viewer_of d v).main (viewer_of d v).org
     (track_of d.columns v)
 
 -- there has to be room for a track more
 unfoldable pub viewer_grown : {X : Type 0} → DesktopOf (List X) → ℕ → Result (DesktopOf (List X)) ℕ
 viewer_grown d v =
-    unless (nat_lt (length (stack_of d.columns (track_of d.columns v))) DEPTH) too_deep (Ok (grown d v))
+    unless (nat_lt (length (stack_of d.columns (track_of d.columns v))) DEPTH) too_deep (Ok (after_grow d v))
 
 -- ---- files and the log
 
@@ -119,24 +119,24 @@ files_deleted d list =
 -- the main text of a viewer becomes the file of a name
 abbrev pub stored_as : Desktop → List ℕ → Text ℕ → Desktop
 stored_as d name text =
-    logged (record d { files = put d.files name text }) (storing_line name (length text))
+    logged (record d { files = file_put d.files name text }) (storing_line name (length text))
 
 -- the first symbol of a viewer's menu, where it is a name
 abbrev pub menu_name : Desktop → ℕ → Option (List ℕ)
 menu_name d v = name_in (symbol (bytes_of (menu_of d v)) 0).0
 
 -- the file has that name
-unfoldable pub stored : Desktop → ℕ → Result Desktop ℕ
-stored d v =
+unfoldable pub after_store : Desktop → ℕ → Result Desktop ℕ
+after_store d v =
     needs (menu_name d v) wrong_symbol λ name.
-    unless (has_room d.files name) too_many_files (Ok (stored_as d name (main_of d v)))
+    unless (has_file_room d.files name) too_many_files (Ok (stored_as d name (main_of d v)))
 
 -- ---- characters
 
 -- The characters are given up that no text has: only as many count as written as the desktop holds. It is never
 -- refused.
-unfoldable pub collected : Desktop → Desktop
-collected d = record d { written = held d }
+unfoldable pub after_collect : Desktop → Desktop
+after_collect d = record d { written = characters_held d }
 
 -- ---- looks
 
@@ -161,8 +161,8 @@ pattern_after d =
     unwrap_or (option_map (λ s. take most_pattern (bytes_of (selected d s))) (newest d)) d.pattern
 
 -- the caret goes after the first place with the pattern, from where it stands in that viewer or else from 0 on
-unfoldable pub searched : Desktop → ℕ → Result Desktop ℕ
-searched d v =
+unfoldable pub after_search : Desktop → ℕ → Result Desktop ℕ
+after_search d v =
     let pattern = pattern_after d in
     unless (nat_lt 0 (length pattern)) no_selection
     (needs (found_at (bytes_of (main_of d v)) pattern (unwrap_or (caret_position v d.caret) 0)) not_found λ p.

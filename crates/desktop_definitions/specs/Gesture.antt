@@ -10,7 +10,7 @@ use Rattle.text_core.specs.Attributes.{look_at}
 use Rattle.viewer_tracks.specs.declared.display.TheConstants.{ROWS, COLUMNS}
 use Rattle.viewer_tracks.specs.Display.{left_of}
 use Rattle.viewer_tracks.specs.Columns.{IsOnTop, track_of, placed_bottom, placed_top, seen_at, after_close}
-use Rattle.viewer_tracks.specs.Columns.{after_change as columns_changed}
+use Rattle.viewer_tracks.specs.Columns.{columns_changed as columns_changed}
 use Rattle.text_frames.specs.Lines.{line_start}
 use Rattle.text_frames.specs.Cells.{position_at, row_of}
 use Rattle.screen_pictures.specs.Picture.{width_of}
@@ -25,7 +25,7 @@ use Rattle.desktop_definitions.specs.Viewers.{with_selection}
 use Rattle.desktop_definitions.specs.Viewers.{opened_at, main_of, menu_of, selected}
 use Rattle.desktop_definitions.specs.Looks.{whole_look}
 use Rattle.desktop_definitions.specs.Change.{bytes_of, looks_set, put_in, put_at_caret, cut_out}
-use Rattle.desktop_definitions.specs.Commands.{called}
+use Rattle.desktop_definitions.specs.Commands.{after_call}
 use Rattle.desktop_definitions.specs.Effects.{opened_on_copy}
 
 abbrev pub is_on_display : ℕ → ℕ → Bool
@@ -75,8 +75,8 @@ module _ {T : Type 0} where
   resized d v y = record d { columns = columns_changed d.columns v (y + 1) }
 
   -- the viewer is closed and opened at a cell, with what is marked in it
-  unfoldable pub carried : DesktopOf T → ℕ → ℕ → ℕ → DesktopOf T
-  carried d v x y = opened_at (record d { columns = after_close d.columns v }) v (x, y + 1)
+  unfoldable pub after_move : DesktopOf T → ℕ → ℕ → ℕ → DesktopOf T
+  after_move d v x y = opened_at (record d { columns = after_close d.columns v }) v (x, y + 1)
 
 -- the position in a viewer's main text that is shown nearest to a cell
 unfoldable pub text_position : Desktop → ℕ → ℕ → ℕ → ℕ
@@ -102,8 +102,8 @@ scrolled_to_share d v row =
 -- ---- in a text
 
 -- the stretch that the mouse drew between two positions of a viewer's text, with the characters at both
-abbrev pub drawn : Desktop → ℕ → ℕ → ℕ → Selection
-drawn d v p q = record { viewer = v; beg = min p q; end = min (max p q + 1) (length (main_of d v)) }
+abbrev pub selection_drawn : Desktop → ℕ → ℕ → ℕ → Selection
+selection_drawn d v p q = record { viewer = v; beg = min p q; end = min (max p q + 1) (length (main_of d v)) }
 
 abbrev pub is_some_stretch : Selection → Bool
 is_some_stretch s = nat_lt s.beg s.end
@@ -143,7 +143,7 @@ tool_opened d x y =
 
 -- the positions at both cells
 abbrev pub stretch_drawn : Desktop → ℕ → ℕ → ℕ → ℕ → ℕ → Selection
-stretch_drawn d v x0 y0 x1 y1 = drawn d v (text_position d v x0 y0) (text_position d v x1 y1)
+stretch_drawn d v x0 y0 x1 y1 = selection_drawn d v (text_position d v x0 y0) (text_position d v x1 y1)
 
 -- what the keys do in each region, in a version of the table of commands where a word may be called; what isn't named
 -- here changes nothing
@@ -154,8 +154,8 @@ done_in_filler d keys x y = Ok d
 
 unfoldable pub done_in_menu : ℕ → Desktop → Keys → ℕ → ℕ → ℕ → Result Desktop ℕ
 done_in_menu version d Left v x y = Ok (resized d v y)
-done_in_menu version d LeftMiddle v x y = Ok (carried d v x y)
-done_in_menu version d Middle v x y = called version d v true (menu_position d v x)
+done_in_menu version d LeftMiddle v x y = Ok (after_move d v x y)
+done_in_menu version d Middle v x y = after_call version d v true (menu_position d v x)
 done_in_menu version d keys v x y = Ok d
 
 unfoldable pub done_in_bar : Desktop → Keys → ℕ → ℕ → Result Desktop ℕ
@@ -169,7 +169,7 @@ unfoldable pub done_at : ℕ → Desktop → Keys → ℕ → ℕ → Result Des
 done_at version d Left v p = Ok (with_caret d v p)
 done_at version d LeftMiddle v p = copied_to d v p
 done_at version d LeftRight v p = looks_taken d v p
-done_at version d Middle v p = called version d v false p
+done_at version d Middle v p = after_call version d v false p
 done_at version d keys v p = Ok d
 
 -- with a stretch of it that was drawn

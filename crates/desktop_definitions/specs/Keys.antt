@@ -10,8 +10,8 @@ use Rattle.desktop_definitions.specs.Change.{in_look, deletion, caret_shown, put
 use Rattle.desktop_definitions.specs.Needs.{needs}
 
 -- the bytes go to the caret in the current look, and the caret after them
-unfoldable pub typed : Desktop → List ℕ → Result Desktop ℕ
-typed d bytes = needs d.caret no_caret λ c. Ok (more_written (put_at_caret d (in_look d.look bytes) c) (length bytes))
+unfoldable pub after_typing : Desktop → List ℕ → Result Desktop ℕ
+after_typing d bytes = needs d.caret no_caret λ c. Ok (more_written (put_at_caret d (in_look d.look bytes) c) (length bytes))
 
 -- the character before the caret is taken out; there is none at the beginning
 abbrev pub without_character_before : Desktop → Caret → Desktop
@@ -24,12 +24,12 @@ abbrev pub with_copied : Desktop → Selection → Desktop
 with_copied d s = record d { copied = selected d s }
 
 -- caret, selections and marker go
-unfoldable pub escaped : {T : Type 0} → DesktopOf T → DesktopOf T
-escaped d = record d { caret = None; selections = []; marker = None }
+unfoldable pub without_marks : {T : Type 0} → DesktopOf T → DesktopOf T
+without_marks d = record d { caret = None; selections = []; marker = None }
 
-unfoldable pub pressed : Desktop → Key → Result Desktop ℕ
-pressed d Back = needs d.caret no_caret λ c. Ok (without_character_before d c)
-pressed d Copy = needs (newest d) no_selection λ s. Ok (with_copied d s)
-pressed d Paste = needs d.caret no_caret λ c. Ok (put_at_caret d d.copied c)
-pressed d Cut = needs (newest d) no_selection λ s. Ok (cut_out (with_copied d s) s)
-pressed d Escape = Ok (escaped d)
+unfoldable pub after_key : Desktop → Key → Result Desktop ℕ
+after_key d Back = needs d.caret no_caret λ c. Ok (without_character_before d c)
+after_key d Copy = needs (newest d) no_selection λ s. Ok (with_copied d s)
+after_key d Paste = needs d.caret no_caret λ c. Ok (put_at_caret d d.copied c)
+after_key d Cut = needs (newest d) no_selection λ s. Ok (cut_out (with_copied d s) s)
+after_key d Escape = Ok (without_marks d)

@@ -5,7 +5,7 @@ use Rattle.event_bytes.specs.Bytes.{carriage_return}
 use Rattle.viewer_tracks.specs.Columns.{times_placed}
 use Rattle.desktop_definitions.specs.Desktop.{Desktop}
 use Rattle.desktop_definitions.specs.Viewers.{shows, text_of}
-use Rattle.desktop_definitions.specs.Change.{plain, insertion, showing, more_written}
+use Rattle.desktop_definitions.specs.Change.{plain_text, insertion, showing, more_written}
 
 -- the line of these bytes
 abbrev pub line : List ℕ → List ℕ
@@ -22,7 +22,7 @@ log_end_shown d = fold log_shown d (keys_of d.viewers)
 -- a line is put in at the end of the log, in the default look, and the end is shown
 unfoldable pub logged : Desktop → List ℕ → Desktop
 logged d line =
-    log_end_shown (more_written (insertion d 0 (length (text_of d 0)) (plain line)) (length line))
+    log_end_shown (more_written (insertion d 0 (length (text_of d 0)) (plain_text line)) (length line))
 
 -- lines, one by one: each is shown before the next one comes
 unfoldable pub all_logged : Desktop → List (List ℕ) → Desktop

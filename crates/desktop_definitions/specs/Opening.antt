@@ -53,10 +53,10 @@ module _ {T : Type 0} where
   opening_over d menu main org k = covered_by (with_viewer d menu main org) (new_id d) k
 
   -- A new viewer at a cell shows a new text from its beginning, under a new menu. The main text takes its number first.
-  unfoldable pub opening : DesktopOf T → T → T → ℕ × ℕ → DesktopOf T
-  opening d menu main cell =
+  unfoldable pub after_opening : DesktopOf T → T → T → ℕ × ℕ → DesktopOf T
+  after_opening d menu main cell =
       opening_on (record d { texts = with_new d.texts main }) menu (new_number d) 0 cell
 
   -- without the texts that nobody shows
-  unfoldable pub dropped : DesktopOf T → DesktopOf T
-  dropped d = record d { texts = filter (λ e. is_shown d.viewers e.0) d.texts }
+  unfoldable pub without_unshown : DesktopOf T → DesktopOf T
+  without_unshown d = record d { texts = filter (λ e. is_shown d.viewers e.0) d.texts }

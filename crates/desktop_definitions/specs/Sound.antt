@@ -11,8 +11,8 @@ use Rattle.viewer_tracks.specs.Columns.{Columns, IsColumns, IsOnTop, times_place
 use Rattle.desktop_definitions.specs.Words.{nat_cmp, keys_of, Piece, flat, Viewer, Caret, Selection, ClosedViewer}
 use Rattle.desktop_definitions.specs.Limits.{most_files, most_written, most_held, most_pattern}
 use Rattle.desktop_definitions.specs.Looks.{IsLook, AreLooks}
-use Rattle.desktop_definitions.specs.Tables.{Texts, Files, name_cmp, numbered}
-use Rattle.desktop_definitions.specs.Desktop.{Desktop, KeptDesktop, held}
+use Rattle.desktop_definitions.specs.Tables.{Texts, Files, name_cmp, text_numbered}
+use Rattle.desktop_definitions.specs.Desktop.{Desktop, KeptDesktop, characters_held}
 use Rattle.desktop_definitions.specs.Viewers.{viewer_in, text_in, main_length}
 use Rattle.desktop_definitions.specs.Opening.{is_shown}
 use Rattle.desktop_definitions.specs.Seen.{seen}
@@ -24,8 +24,8 @@ use Rattle.desktop_definitions.specs.Seen.{seen}
 pub record IsViewer {X : Type 0} (texts : Texts (List X)) (viewers : List (ℕ × Viewer)) (v : ℕ)
     (viewer : Viewer) : Type 0
   where
-    pub menu : IsSome (numbered texts viewer.menu)
-    pub main : IsSome (numbered texts viewer.main)
+    pub menu : IsSome (text_numbered texts viewer.menu)
+    pub main : IsSome (text_numbered texts viewer.main)
     pub org : viewer.org ≤ length (text_in texts viewer.main)
     pub not_log : ¬ (viewer.menu ≡ 0)
     pub no_main : (w : ℕ) (other : Viewer) → viewer_in viewers w ≡ Some other → ¬ (other.main ≡ viewer.menu)
@@ -33,7 +33,7 @@ pub record IsViewer {X : Type 0} (texts : Texts (List X)) (viewers : List (ℕ �
 
 pub record AreViewers {X : Type 0} (texts : Texts (List X)) (viewers : List (ℕ × Viewer)) : Type 0 where
   -- there is a log, and no two texts have one number
-  pub log : IsSome (numbered texts 0)
+  pub log : IsSome (text_numbered texts 0)
   pub numbers : IsStrictlySortedBy nat_cmp (keys_of texts)
   -- no two viewers have one id
   pub ids : IsStrictlySortedBy nat_cmp (keys_of viewers)
@@ -58,7 +58,7 @@ pub record ArePlaces (viewers : List (ℕ × Viewer)) (columns : Columns) (close
 -- ---- what is marked; the main text of a viewer v has `long v` characters
 
 -- the caret stands in a viewer on the display, in a track that is shown, within its text
-pub record IsCaret (columns : Columns) (long : ℕ → ℕ) (c : Caret) : Type 0 where
+pub record IsCaretPlaced (columns : Columns) (long : ℕ → ℕ) (c : Caret) : Type 0 where
   pub placed : IsOnTop c.viewer columns
   pub within : c.position ≤ long c.viewer
 
@@ -70,7 +70,7 @@ pub record IsSelection (columns : Columns) (long : ℕ → ℕ) (s : Selection) 
 
 pub record AreMarks (columns : Columns) (long : ℕ → ℕ) (caret : Option Caret) (selections : List Selection) : Type 0
   where
-    pub caret_stands : ForSome caret (IsCaret columns long)
+    pub caret_stands : ForSome caret (IsCaretPlaced columns long)
     pub all_stand : All (IsSelection columns long) selections
     -- one in each viewer at most
     pub one_each : (v : ℕ) → count_by (λ s. s.viewer == v) selections ≤ 1
@@ -110,7 +110,7 @@ pub record IsSound (d : Desktop) : Type 0 where
   -- each text is the log, or shown by a viewer
   pub shown : All (λ n. IsTrue (is_shown d.viewers n)) (keys_of d.texts)
   pub written_within : d.written ≤ most_written
-  pub held_within : held d ≤ most_held
+  pub held_within : characters_held d ≤ most_held
 
 -- ---- together with the characters
 
@@ -141,7 +141,3 @@ pub record IsKeptWhole (d : KeptDesktop) : Type 0 where
 pub record IsOver (characters : List ℕ) (d : KeptDesktop) : Type 0 where
   pub counted : length characters ≡ d.written
   pub whole : IsKeptWhole d
-
--- characters were added at most
-abbrev pub Grows : List ℕ → List ℕ → Type 0
-Grows old new = (more : List ℕ) × (new ≡ old ++ more)

@@ -19,20 +19,20 @@ name_cmp = slice_cmp nat_cmp
 
 module _ {T : Type 0} where
   -- the text of a number
-  abbrev pub numbered : Texts T → ℕ → Option T
-  numbered texts n = lookup (is_at (nat_cmp n)) texts
+  abbrev pub text_numbered : Texts T → ℕ → Option T
+  text_numbered texts n = lookup (is_at (nat_cmp n)) texts
 
   -- the text of the file of a name
-  abbrev pub named : Files T → List ℕ → Option T
-  named files name = lookup (is_at (name_cmp name)) files
+  abbrev pub file_named : Files T → List ℕ → Option T
+  file_named files name = lookup (is_at (name_cmp name)) files
 
   -- the file of that name has this text, and each other file its own
-  abbrev pub put : Files T → List ℕ → T → Files T
-  put files name text = insert_entry name_cmp files name text
+  abbrev pub file_put : Files T → List ℕ → T → Files T
+  file_put files name text = insert_entry name_cmp files name text
 
   -- there is a file of that name, or room for one more
-  abbrev pub has_room : Files T → List ℕ → Bool
-  has_room files name = is_some (named files name) || nat_lt (length files) most_files
+  abbrev pub has_file_room : Files T → List ℕ → Bool
+  has_file_room files name = is_some (file_named files name) || nat_lt (length files) most_files
 
 -- a table with f of each text
 abbrev pub with_values : {K T U : Type 0} → (T → U) → List (K × T) → List (K × U)

@@ -62,22 +62,22 @@ gesture_brings Filler Middle = menu_line (codes "System.Tool")
 gesture_brings region keys = []
 
 -- the characters that such an event adds
-unfoldable pub brought : {T : Type 0} → DesktopOf T → Event → List ℕ
-brought d (Point keys x0 y0 x1 y1) = gesture_brings (region_at d x0 y0) keys
-brought d (File name bytes) = bytes
-brought d event = []
+unfoldable pub characters_brought : {T : Type 0} → DesktopOf T → Event → List ℕ
+characters_brought d (Point keys x0 y0 x1 y1) = gesture_brings (region_at d x0 y0) keys
+characters_brought d (File name bytes) = bytes
+characters_brought d event = []
 
 -- the characters after a reply: these are added where the event is done
-abbrev pub grown : List ℕ → List ℕ → Reply → List ℕ
-grown all bytes Done = all ++ bytes
-grown all bytes (No code) = all
+abbrev pub characters_after : List ℕ → List ℕ → Reply → List ℕ
+characters_after all bytes Done = all ++ bytes
+characters_after all bytes (No code) = all
 
 -- Where no character is read, reply and desktop are those of the step in a version of the table of commands, over every
 -- list of as many characters, whatever the source tells.
 unfoldable pub StepsUnread : ℕ → KeptDesktop → KeptDesktop → Event → Reply → Type 0
 StepsUnread version before after event reply =
     needs_no_byte before event ≡ true → (all : List ℕ) → length all ≡ before.written
-    → outcome_of (seen (grown all (brought before event) reply) after) reply ≡ step_in version (seen all before) event
+    → outcome_of (seen (characters_after all (characters_brought before event) reply) after) reply ≡ step_in version (seen all before) event
 
 -- ---- the list
 

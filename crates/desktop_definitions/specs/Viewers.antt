@@ -7,9 +7,9 @@ use Rattle.piece_ring.specs.Text.{stretch}
 use Rattle.viewer_tracks.specs.declared.display.Track.{Track}
 use Rattle.viewer_tracks.specs.Display.{left_of}
 use Rattle.viewer_tracks.specs.Viewers.{times_in}
-use Rattle.viewer_tracks.specs.Columns.{shown, placed_bottom, placed_top, after_open, after_open_track, replaced_at}
+use Rattle.viewer_tracks.specs.Columns.{shown_track, placed_bottom, placed_top, after_open, after_open_track, replaced_at}
 use Rattle.desktop_definitions.specs.Words.{unwrap_or, nat_cmp, is_at, Piece, Text, Viewer, Caret, Selection}
-use Rattle.desktop_definitions.specs.Tables.{Texts, numbered}
+use Rattle.desktop_definitions.specs.Tables.{Texts, text_numbered}
 use Rattle.desktop_definitions.specs.Desktop.{DesktopOf, Desktop, KeptDesktop}
 
 -- where there is no viewer of an id
@@ -26,7 +26,7 @@ viewer_or_none viewers v = unwrap_or (viewer_in viewers v) bare_viewer
 
 -- the text of a number in a table, empty where there is none
 abbrev pub text_in : {X : Type 0} → Texts (List X) → ℕ → List X
-text_in texts n = unwrap_or (numbered texts n) []
+text_in texts n = unwrap_or (text_numbered texts n) []
 
 -- how many characters the main text of a viewer has
 abbrev pub main_length : {X : Type 0} → Texts (List X) → List (ℕ × Viewer) → ℕ → ℕ
@@ -93,7 +93,7 @@ module _ {T : Type 0} where
 
   -- the viewer stands in the track that the column shows
   abbrev pub is_shown_in : DesktopOf T → Track → ℕ → Bool
-  is_shown_in d k v = nat_lt 0 (times_in v (shown d.columns k))
+  is_shown_in d k v = nat_lt 0 (times_in v (shown_track d.columns k))
 
   -- a viewer has a new track whole, over the one that a column showed, in which nothing is marked any more
   unfoldable pub covered_by : DesktopOf T → ℕ → Track → DesktopOf T

@@ -14,8 +14,8 @@ use Rattle.desktop_definitions.specs.Words.{unwrap_or, nat_cmp, is_at, keys_of, 
 use Rattle.desktop_definitions.specs.declared.viewer.Viewer.{Viewer}
 use Rattle.desktop_definitions.specs.Limits.{most_written}
 use Rattle.desktop_definitions.specs.Looks.{IsLook, AreLooks}
-use Rattle.desktop_definitions.specs.Tables.{Texts, Files, name_cmp, numbered, with_values, lengths}
-use Rattle.desktop_definitions.specs.Desktop.{Desktop, held}
+use Rattle.desktop_definitions.specs.Tables.{Texts, Files, name_cmp, text_numbered, with_values, lengths}
+use Rattle.desktop_definitions.specs.Desktop.{Desktop, characters_held}
 use Rattle.desktop_definitions.specs.Opening.{is_shown}
 use Rattle.desktop_definitions.specs.Viewers.{text_in, viewer_or_none, main_length}
 use Rattle.desktop_definitions.specs.Sound.{IsViewer, AreViewers, AreMarks, AreFiles, HasLooks, IsShaped, IsSound}
@@ -100,17 +100,17 @@ module _ (d : Desktop) (texts : Texts (Text ℕ)) (files : Files (Text ℕ)) (co
   abbrev pub alike : Desktop
   alike = record d { texts = texts; files = files; copied = copied; deleted = deleted; written = count }
 
-  found : (n : ℕ) → option_map looks_of (numbered texts n) ≡ option_map looks_of (numbered d.texts n)
+  found : (n : ℕ) → option_map looks_of (text_numbered texts n) ≡ option_map looks_of (text_numbered d.texts n)
   found n = sym (lookup_seen looks_of (is_at (nat_cmp n)) texts) ∙ ap (lookup (is_at (nat_cmp n))) same_texts
       ∙ lookup_seen looks_of (is_at (nat_cmp n)) d.texts
 
-  there : (n : ℕ) → is_some (numbered texts n) ≡ is_some (numbered d.texts n)
-  there n = sym (is_some_map looks_of (numbered texts n)) ∙ ap is_some (found n)
-      ∙ is_some_map looks_of (numbered d.texts n)
+  there : (n : ℕ) → is_some (text_numbered texts n) ≡ is_some (text_numbered d.texts n)
+  there n = sym (is_some_map looks_of (text_numbered texts n)) ∙ ap is_some (found n)
+      ∙ is_some_map looks_of (text_numbered d.texts n)
 
   long : (n : ℕ) → length (text_in texts n) ≡ length (text_in d.texts n)
-  long n = size_of (numbered texts n) ∙ ap (λ (o : Option (List Look)). length (unwrap_or o [])) (found n)
-      ∙ sym (size_of (numbered d.texts n))
+  long n = size_of (text_numbered texts n) ∙ ap (λ (o : Option (List Look)). length (unwrap_or o [])) (found n)
+      ∙ sym (size_of (text_numbered d.texts n))
 
   viewer_alike : (v : ℕ) (viewer : Viewer) → IsViewer d.texts d.viewers v viewer → IsViewer texts d.viewers v viewer
   viewer_alike v viewer was = record {
@@ -161,8 +161,8 @@ module _ (d : Desktop) (texts : Texts (Text ℕ)) (files : Files (Text ℕ)) (co
     looks = looks_alike was.looks;
   }
 
-  pub held_alike : held alike ≡ held d
-  unfolding held
+  pub held_alike : characters_held alike ≡ characters_held d
+  unfolding characters_held
   held_alike = omega (
     arith,
     same_lengths texts d.texts same_texts,

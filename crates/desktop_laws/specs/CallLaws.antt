@@ -4,10 +4,10 @@ use Rattle.std.specs.Prelude.{Option, Some, None, option_map, IfSome}
 use Rattle.std.proofs.Common.{refl, sym, ap, ◌∙◌, arith}
 use Rattle.piece_ring.specs.Flat.{flat}
 use Rattle.piece_ring.specs.Text.{Text}
-use Rattle.readers_scanners.specs.Reading.{contents, bytes}
+use Rattle.readers_scanners.specs.Reading.{contents, bytes_of_text}
 use Rattle.text_frames.specs.Cells.{position_at}
 use Rattle.command_table.specs.Call.{called_at}
-use Rattle.command_table.specs.Parameters.{IsPlace, value, names}
+use Rattle.command_table.specs.Parameters.{IsTextPlace, value_parameter, names}
 use Rattle.desktop_definitions.specs.declared.call.Call.{Call}
 use Rattle.desktop_definitions.specs.declared.viewer.Selection.{Selection}
 use Rattle.desktop_definitions.specs.Desktop.{KeptDesktop}
@@ -29,7 +29,7 @@ use Rattle.desktop_laws.specs.DeskWords.{kept_place, kept_menu}
 -- a position in the text that is called
 pub called_place : (characters : List ℕ) (d : KeptDesktop) (v : ℕ) (in_menu : Bool) (p : ℕ) → IsOver characters d
     → p ≤ length (flat (text_called d v in_menu))
-    → IsPlace (length characters) (flat (text_called d v in_menu), p)
+    → IsTextPlace (length characters) (flat (text_called d v in_menu), p)
 called_place characters d v in_menu p over low = record {
   within = low;
   offsets = text_within (length characters) d
@@ -38,7 +38,7 @@ called_place characters d v in_menu p over low = record {
 }
 
 places_stand : (n : ℕ) (d : KeptDesktop) (o : Option Selection) → IsBuilt n d → newest d ≡ o
-    → IfSome (option_map {U = Text ℕ × ℕ} (λ s. (flat (kept_main d s.viewer), s.beg)) o) (IsPlace n)
+    → IfSome (option_map {U = Text ℕ × ℕ} (λ s. (flat (kept_main d s.viewer), s.beg)) o) (IsTextPlace n)
 places_stand n d None built is = tt
 places_stand n d (Some s) built is =
     let stands = kept_newest n d s built is in
@@ -48,12 +48,12 @@ places_stand n d (Some s) built is =
     }
 
 pub place_stands : (characters : List ℕ) (d : KeptDesktop) → IsOver characters d
-    → IfSome (kept_place d) (IsPlace (length characters))
+    → IfSome (kept_place d) (IsTextPlace (length characters))
 place_stands characters d over =
     places_stand (length characters) d (newest d) (over_built characters d over) refl
 
 menus_stand : (n : ℕ) (d : KeptDesktop) (o : Option ℕ) → IsWithin n d
-    → IfSome (option_map (λ v. flat (text_called d v true)) o) (λ (m : Text ℕ). IsPlace n (m, 0))
+    → IfSome (option_map (λ v. flat (text_called d v true)) o) (λ (m : Text ℕ). IsTextPlace n (m, 0))
 menus_stand n d None within = tt
 menus_stand n d (Some v) within = record {
   within = omega arith;
@@ -61,7 +61,7 @@ menus_stand n d (Some v) within = record {
 }
 
 pub menu_stands : (characters : List ℕ) (d : KeptDesktop) → IsOver characters d
-    → IfSome (kept_menu d) (λ (m : Text ℕ). IsPlace (length characters) (m, 0))
+    → IfSome (kept_menu d) (λ (m : Text ℕ). IsTextPlace (length characters) (m, 0))
 menu_stands characters d over =
     menus_stand (length characters) d (seen_at_marker d) (within_counted characters d over)
 
@@ -101,7 +101,7 @@ menu_seen characters d = menus_seen characters d (seen_at_marker d)
 
 -- the position that a menu shows nearest to a column
 pub menu_read : (characters : List ℕ) (d : KeptDesktop) (v x : ℕ)
-    → position_at (bytes characters (flat (text_called d v true))) 0 (menu_column d v x) 0
+    → position_at (bytes_of_text characters (flat (text_called d v true))) 0 (menu_column d v x) 0
     ≡ menu_position (seen characters d) v x
 unfolding menu_position seen
 menu_read characters d v x =
@@ -110,10 +110,10 @@ menu_read characters d v x =
 -- ---- what is read
 
 value_contents : (characters : List ℕ) (text : Text ℕ) (p : ℕ) (place : Option (Text ℕ × ℕ)) (menu : Option (Text ℕ))
-    → value (bytes characters) text p place menu
-    ≡ value bytes_of (contents characters text) p (option_map {U = Text ℕ × ℕ} (read_place characters) place)
+    → value_parameter (bytes_of_text characters) text p place menu
+    ≡ value_parameter bytes_of (contents characters text) p (option_map {U = Text ℕ × ℕ} (read_place characters) place)
     (option_map (contents characters) menu)
-unfolding value
+unfolding value_parameter
 value_contents characters text p None None = refl
 value_contents characters text p None (Some m) = refl
 value_contents characters text p (Some s) None = refl
@@ -121,16 +121,16 @@ value_contents characters text p (Some s) (Some m) = refl
 
 -- the value after the word
 pub value_read : (characters : List ℕ) (d : KeptDesktop) (call : Call)
-    → value (bytes characters) (flat (text_called d call.viewer call.in_menu)) call.after (kept_place d) (kept_menu d)
+    → value_parameter (bytes_of_text characters) (flat (text_called d call.viewer call.in_menu)) call.after (kept_place d) (kept_menu d)
     ≡ value_of (seen characters d) call
 unfolding value_of
 value_read characters d call =
     value_contents characters (flat (text_called d call.viewer call.in_menu)) call.after (kept_place d) (kept_menu d)
-    ∙ (λ k. value bytes_of (sym (called_text_seen characters d call.viewer call.in_menu) k) call.after
+    ∙ (λ k. value_parameter bytes_of (sym (called_text_seen characters d call.viewer call.in_menu) k) call.after
     (place_seen characters d k) (menu_seen characters d k))
 
 names_contents : (characters : List ℕ) (text : Text ℕ) (p : ℕ) (place : Option (Text ℕ × ℕ))
-    → names (bytes characters) text p place
+    → names (bytes_of_text characters) text p place
     ≡ names bytes_of (contents characters text) p (option_map {U = Text ℕ × ℕ} (read_place characters) place)
 unfolding names
 names_contents characters text p None = refl
@@ -138,7 +138,7 @@ names_contents characters text p (Some s) = refl
 
 -- the names of the list after it
 pub names_read : (characters : List ℕ) (d : KeptDesktop) (call : Call)
-    → names (bytes characters) (flat (text_called d call.viewer call.in_menu)) call.after (kept_place d)
+    → names (bytes_of_text characters) (flat (text_called d call.viewer call.in_menu)) call.after (kept_place d)
     ≡ names_of (seen characters d) call
 unfolding names_of
 names_read characters d call =
@@ -148,7 +148,7 @@ names_read characters d call =
 
 -- the command whose word is called
 pub called_read : (version : ℕ) (characters : List ℕ) (d : KeptDesktop) (v : ℕ) (in_menu : Bool) (p : ℕ)
-    → called_at version (bytes characters (flat (text_called d v in_menu))) p
+    → called_at version (bytes_of_text characters (flat (text_called d v in_menu))) p
     ≡ command_at version (bytes_of (text_called (seen characters d) v in_menu)) p
 called_read version characters d v in_menu p =
     ap (λ (t : Text ℕ). called_at version (bytes_of t) p) (sym (called_text_seen characters d v in_menu))

@@ -14,13 +14,13 @@ use Rattle.desktop_definitions.specs.declared.viewer.ClosedViewer.{ClosedViewer}
 use Rattle.desktop_definitions.specs.declared.reply.Reply.TheVariants.{Done, No}
 use Rattle.desktop_definitions.specs.Limits.{most_written, most_held, no_viewer}
 use Rattle.desktop_definitions.specs.Needs.{needs}
-use Rattle.desktop_definitions.specs.Desktop.{DesktopOf, Desktop, KeptDesktop, held}
+use Rattle.desktop_definitions.specs.Desktop.{DesktopOf, Desktop, KeptDesktop, characters_held}
 use Rattle.desktop_definitions.specs.Viewers.{main_length, caret_outside, selections_outside, without_viewer, unmarked}
 use Rattle.desktop_definitions.specs.Viewers.{opened_at}
-use Rattle.desktop_definitions.specs.Opening.{dropped}
+use Rattle.desktop_definitions.specs.Opening.{without_unshown}
 use Rattle.desktop_definitions.specs.Effects.{put_away, brought_back}
 use Rattle.desktop_definitions.specs.Seen.{seen}
-use Rattle.desktop_definitions.specs.Step.{settled, outcome_of}
+use Rattle.desktop_definitions.specs.Step.{outcome_after, outcome_of}
 use Rattle.desktop_definitions.specs.Sound.{IsClosedPlace, IsShaped, IsSound, IsWithin, IsOver}
 use Rattle.desktop_definitions.specs.Outcome.{IsAnswered}
 use Rattle.desktop_laws.specs.OutcomeLaws.{acted}
@@ -48,37 +48,37 @@ module _ (H : Type 0) (old : List ℕ) (d : KeptDesktop) (over : IsOver old d) (
   between = restood d stood caret selections closed
 
   abbrev after : KeptDesktop
-  after = dropped (placed_anew between columns taken)
+  after = without_unshown (placed_anew between columns taken)
 
   abbrev part : List ℕ → Desktop
   part characters = placed_anew (restood (seen characters d) stood caret selections closed) columns taken
 
-  seen_after : (characters : List ℕ) → seen characters after ≡ dropped (part characters)
+  seen_after : (characters : List ℕ) → seen characters after ≡ without_unshown (part characters)
   unfolding seen
   seen_after characters = seen_dropped characters (placed_anew between columns taken)
-      ∙ ap dropped (seen_anew characters between columns taken)
+      ∙ ap without_unshown (seen_anew characters between columns taken)
 
   written_after : after.written ≡ d.written
   written_after = dropped_written (placed_anew between columns taken) ∙ anew_written between columns taken
 
   module _ (characters : List ℕ) where
-    written_now : (dropped (part characters)).written ≤ most_written
+    written_now : (without_unshown (part characters)).written ≤ most_written
     unfolding seen
     written_now =
-        let same : (dropped (part characters)).written ≡ d.written = dropped_written (part characters)
+        let same : (without_unshown (part characters)).written ≡ d.written = dropped_written (part characters)
         ∙ anew_written (restood (seen characters d) stood caret selections closed) columns taken in
         let low = (over.whole.sound characters).written_within in
         omega (arith, same, low)
 
-    held_now : held (dropped (part characters)) ≤ most_held
-    unfolding held
+    held_now : characters_held (without_unshown (part characters)) ≤ most_held
+    unfolding characters_held
     held_now =
         let fewer = dropped_held (part characters) in
         let same = anew_held (restood (seen characters d) stood caret selections closed) columns taken in
         let low = (over.whole.sound characters).held_within in
         omega (arith, fewer, same, low)
 
-    sound_now : IsSound (dropped (part characters))
+    sound_now : IsSound (without_unshown (part characters))
     sound_now = record {
       shaped = dropped_shaped _ (anew_shaped (restood (seen characters d) stood caret selections closed) columns taken
           (anew characters));
@@ -96,14 +96,14 @@ module _ (H : Type 0) (old : List ℕ) (d : KeptDesktop) (over : IsOver old d) (
   }
 
   restood_over : IsOver old after
-  restood_over = over_after old d after (λ characters. dropped (part characters)) over written_after
+  restood_over = over_after old d after (λ characters. without_unshown (part characters)) over written_after
       (dropped_within d.written (placed_anew between columns taken)
       (anew_within d.written between columns taken between_within)) seen_after sound_now
 
-  pub restood_answered : IsAnswered H old old d after (settled (seen old d) (Ok (part old))) Done
+  pub restood_answered : IsAnswered H old old d after (outcome_after (seen old d) (Ok (part old))) Done
   restood_answered = acted H old old d after _ restood_over
       (λ h. (λ k. outcome_of (seen_after old k) Done)
-      ∙ done (seen old d) (part old) (fits_within (dropped (part old)) (written_now old) (held_now old)))
+      ∙ done (seen old d) (part old) (fits_within (without_unshown (part old)) (written_now old) (held_now old)))
 
 -- ---- a viewer closes
 
@@ -163,15 +163,15 @@ module _ (H : Type 0) (old : List ℕ) (d : KeptDesktop) (over : IsOver old d) (
     (places : (w : ℕ) → times_placed w (after_close d.columns v) + times_meant w (Some v) ≡ times_placed w d.columns)
     (place : IsClosedPlace (place_closed d.columns v)) where
   pub closed_answered : (now : KeptDesktop)
-      → now ≡ dropped (without_viewer (closed_desktop d v) (closed_before d v))
-      → IsAnswered H old old d now (settled (seen old d) (Ok (put_away (seen old d) v))) Done
+      → now ≡ without_unshown (without_viewer (closed_desktop d v) (closed_before d v))
+      → IsAnswered H old old d now (outcome_after (seen old d) (Ok (put_away (seen old d) v))) Done
   unfolding seen
   closed_answered now is =
-      subst (λ (x : KeptDesktop). IsAnswered H old old d x (settled (seen old d) (Ok (put_away (seen old d) v))) Done)
-      (sym (is ∙ ap dropped (at_columns (closed_desktop d v) (closed_columns d v) (closed_before d v))))
+      subst (λ (x : KeptDesktop). IsAnswered H old old d x (outcome_after (seen old d) (Ok (put_away (seen old d) v))) Done)
+      (sym (is ∙ ap without_unshown (at_columns (closed_desktop d v) (closed_columns d v) (closed_before d v))))
       (subst (λ (row : Desktop). IsAnswered H old old d
-      (dropped (placed_anew (closed_desktop d v) (closed_columns d v) (closed_before d v)))
-      (settled (seen old d) (Ok row)) Done) (put_away_is (seen old d) v)
+      (without_unshown (placed_anew (closed_desktop d v) (closed_columns d v) (closed_before d v)))
+      (outcome_after (seen old d) (Ok row)) Done) (put_away_is (seen old d) v)
       (restood_answered H old d over (closed_columns d v) (caret_outside (λ w. w == v) d.caret)
       (selections_outside (λ w. w == v) d.selections) (Some (place_closed d.columns v)) (closed_columns d v)
       (closed_before d v)
@@ -234,7 +234,7 @@ module _ (d : Desktop) (k : ClosedViewer) (shaped : IsShaped d) (is : d.closed �
 module _ (H : Type 0) (old : List ℕ) (d : KeptDesktop) (over : IsOver old d) where
   -- a refusal where there is none
   pub none_closed_answered : d.closed ≡ None
-      → IsAnswered H old old d d (settled (seen old d) (needs (seen old d).closed no_viewer
+      → IsAnswered H old old d d (outcome_after (seen old d) (needs (seen old d).closed no_viewer
       (λ k. Ok (brought_back (seen old d) k)))) (No no_viewer)
   unfolding seen
   none_closed_answered is = refusal_answered H old d _ no_viewer over known_no_viewer (rw is refl)
@@ -242,14 +242,14 @@ module _ (H : Type 0) (old : List ℕ) (d : KeptDesktop) (over : IsOver old d) w
   pub recalled_answered : (k : ClosedViewer) → d.closed ≡ Some k → IsColumns (recalled_columns d k)
       → ((w : ℕ) → times_placed w (recalled_columns d k) + times_meant w (replaced_by_closed d k)
       ≡ times_placed w d.columns + times_meant w (Some k.viewer))
-      → (now : KeptDesktop) → now ≡ dropped (brought_back d k)
-      → IsAnswered H old old d now (settled (seen old d) (needs (seen old d).closed no_viewer
+      → (now : KeptDesktop) → now ≡ without_unshown (brought_back d k)
+      → IsAnswered H old old d now (outcome_after (seen old d) (needs (seen old d).closed no_viewer
       (λ k. Ok (brought_back (seen old d) k)))) Done
   unfolding seen
   recalled_answered k is hold places now now_is =
       row_as (seen old d) _
-      (subst (λ (both : KeptDesktop × Desktop). IsAnswered H old old d both.0 (settled (seen old d) (Ok both.1)) Done)
-      (λ i. ((ap dropped (brought_back_is d k) ∙ sym now_is) i, brought_back_is (seen old d) k i))
+      (subst (λ (both : KeptDesktop × Desktop). IsAnswered H old old d both.0 (outcome_after (seen old d) (Ok both.1)) Done)
+      (λ i. ((ap without_unshown (brought_back_is d k) ∙ sym now_is) i, brought_back_is (seen old d) k i))
       (restood_answered H old d over d.columns d.caret d.selections None (recalled_columns d k) (replaced_by_closed d k)
       (λ all. recalled_anew (seen all d) k (over.whole.sound all).shaped is hold places)))
       (rw is refl)

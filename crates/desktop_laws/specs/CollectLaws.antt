@@ -5,16 +5,16 @@ use Rattle.std.proofs.Common.{refl, sym, ap, subst, ◌∙◌, arith, append_ass
 use Rattle.std.specs.List.Sorted.{IsStrictlySortedBy}
 use Rattle.std.proofs.lemmas.Bool.{le-leb}
 use Rattle.std.proofs.lemmas.Map.Made.{keys_of-map_values}
-use Rattle.readers_scanners.specs.Reading.{bytes}
+use Rattle.readers_scanners.specs.Reading.{bytes_of_text}
 use Rattle.readers_scanners.proofs.Running.{length-bytes}
 use Rattle.desktop_definitions.specs.declared.reply.Reply.TheVariants.{Done}
 use Rattle.desktop_definitions.specs.Words.{nat_cmp, keys_of, Piece, flat}
 use Rattle.desktop_definitions.specs.Limits.{most_written, most_held}
 use Rattle.desktop_definitions.specs.Tables.{Texts, Files, name_cmp}
-use Rattle.desktop_definitions.specs.Desktop.{Desktop, KeptDesktop, held}
-use Rattle.desktop_definitions.specs.Effects.{collected}
+use Rattle.desktop_definitions.specs.Desktop.{Desktop, KeptDesktop, characters_held}
+use Rattle.desktop_definitions.specs.Effects.{after_collect}
 use Rattle.desktop_definitions.specs.Seen.{seen, seen_text, seen_table}
-use Rattle.desktop_definitions.specs.Step.{settled, outcome_of}
+use Rattle.desktop_definitions.specs.Step.{outcome_after, outcome_of}
 use Rattle.desktop_definitions.specs.Sound.{IsSound, IsWithin, IsOver}
 use Rattle.desktop_definitions.specs.Outcome.{IsAnswered}
 use Rattle.desktop_laws.specs.TableLaws.{lengths_seen, length_seen_text}
@@ -27,18 +27,18 @@ use Rattle.desktop_laws.specs.RewritingLaws.{length-bytes_in}
 use Rattle.desktop_laws.specs.AlikeLaws.{sound_alike}
 
 -- it is never refused: what a desktop holds is within both limits
-pub collected_done : (d : Desktop) → IsSound d → outcome_of (collected d) Done ≡ settled d (Ok (collected d))
-unfolding collected held
+pub collected_done : (d : Desktop) → IsSound d → outcome_of (after_collect d) Done ≡ outcome_after d (Ok (after_collect d))
+unfolding after_collect characters_held
 collected_done d sound =
     let low = sound.held_within in
-    sym (settled_done d (collected d) sound.shown
-    (rw (le-leb (held d) most_written (omega (arith, low)), le-leb (held d) most_held low) refl))
+    sym (settled_done d (after_collect d) sound.shown
+    (rw (le-leb (characters_held d) most_written (omega (arith, low)), le-leb (characters_held d) most_held low) refl))
 
 -- ---- what is asked before
 
 -- all is what the desktop holds
-pub held_in_all : (characters : List ℕ) (d : KeptDesktop) → held (seen characters d) ≡ in_all d
-unfolding held seen
+pub held_in_all : (characters : List ℕ) (d : KeptDesktop) → characters_held (seen characters d) ≡ in_all d
+unfolding characters_held seen
 held_in_all characters d = omega (
   arith,
   lengths_seen characters d.texts,
@@ -102,10 +102,10 @@ module _ (H : Type 0) (old made : List ℕ) (d : KeptDesktop) (texts : Texts (Li
   of_files = bytes_in old (flats d.files)
 
   abbrev of_copied : List ℕ
-  of_copied = bytes old (flat d.copied)
+  of_copied = bytes_of_text old (flat d.copied)
 
   abbrev of_deleted : List ℕ
-  of_deleted = bytes old (flat d.deleted)
+  of_deleted = bytes_of_text old (flat d.deleted)
 
   module _ (honest : H) where
     behind_files : made ≡ (of_texts ++ of_files) ++ (of_copied ++ of_deleted)
@@ -139,8 +139,8 @@ module _ (H : Type 0) (old made : List ℕ) (d : KeptDesktop) (texts : Texts (Li
         as_long_copied new.deleted_laid
         (new.read honest ∙ ap (λ (l : List ℕ). of_texts ++ of_files ++ of_copied ++ l) (sym (append-nil of_deleted)))
 
-    anew_seen : seen made anew ≡ collected (seen old d)
-    unfolding seen collected
+    anew_seen : seen made anew ≡ after_collect (seen old d)
+    unfolding seen after_collect
     anew_seen = λ k. record (seen old d) {
       texts = texts_seen k;
       files = files_seen k;
@@ -149,6 +149,6 @@ module _ (H : Type 0) (old made : List ℕ) (d : KeptDesktop) (texts : Texts (Li
       written = (new.as_many ∙ sym (held_in_all old d)) k;
     }
 
-  pub collected_answered : IsAnswered H old made d anew (settled (seen old d) (Ok (collected (seen old d)))) Done
-  collected_answered = acted H old made d anew (settled (seen old d) (Ok (collected (seen old d)))) anew_over
+  pub collected_answered : IsAnswered H old made d anew (outcome_after (seen old d) (Ok (after_collect (seen old d)))) Done
+  collected_answered = acted H old made d anew (outcome_after (seen old d) (Ok (after_collect (seen old d)))) anew_over
       (λ honest. (λ k. outcome_of (anew_seen honest k) Done) ∙ collected_done (seen old d) (over.whole.sound old))

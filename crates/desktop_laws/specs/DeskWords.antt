@@ -16,8 +16,8 @@ use Rattle.desktop_definitions.specs.declared.viewer.Viewer.{Viewer}
 use Rattle.desktop_definitions.specs.declared.viewer.Caret.{Caret}
 use Rattle.desktop_definitions.specs.declared.viewer.ClosedViewer.{ClosedViewer}
 use Rattle.desktop_definitions.specs.Limits.{most_written, most_held}
-use Rattle.desktop_definitions.specs.Tables.{Texts, Files, named}
-use Rattle.desktop_definitions.specs.Desktop.{Desktop, KeptDesktop, held}
+use Rattle.desktop_definitions.specs.Tables.{Texts, Files, file_named}
+use Rattle.desktop_definitions.specs.Desktop.{Desktop, KeptDesktop, characters_held}
 use Rattle.desktop_definitions.specs.Viewers.{kept_main, newest, text_in}
 use Rattle.desktop_definitions.specs.Call.{text_called, seen_at_marker}
 use Rattle.desktop_definitions.specs.Opening.{new_id}
@@ -29,7 +29,7 @@ use Rattle.desktop_laws.specs.Rewriting.{kept_length}
 
 -- Whether the limits on characters hold once so many are made, and so many more and so many fewer are held.
 unfoldable pub has_space : Desktop → ℕ → ℕ → ℕ → Bool
-has_space d made more fewer = nat_le (d.written + made) most_written && nat_le (held d + more) (most_held + fewer)
+has_space d made more fewer = nat_le (d.written + made) most_written && nat_le (characters_held d + more) (most_held + fewer)
 
 -- A text more and a viewer more have numbers of 16 bits, and that viewer stands nowhere yet.
 pub record CanOpen (d : KeptDesktop) : Type 0 where
@@ -110,4 +110,4 @@ can_go files name others = is_among files name && not (is_among others name)
 
 -- how many characters the file of a name has, and 0 where there is none
 abbrev pub kept_size : Files (List Piece) → List ℕ → ℕ
-kept_size files name = unwrap_or (option_map kept_length (named files name)) 0
+kept_size files name = unwrap_or (option_map kept_length (file_named files name)) 0

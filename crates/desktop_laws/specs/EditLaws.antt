@@ -19,22 +19,22 @@ use Rattle.piece_ring.specs.declared.piece.Piece.{Piece}
 use Rattle.piece_ring.specs.Flat.{flat}
 use Rattle.piece_ring.specs.Renaming.{renamed-inserted, renamed-deleted, renamed-looks_changed}
 use Rattle.piece_ring.specs.Text.{Text, inserted, deleted, looks_changed, AreWithin}
-use Rattle.readers_scanners.specs.Reading.{contents, bytes}
+use Rattle.readers_scanners.specs.Reading.{contents, bytes_of_text}
 use Rattle.viewer_tracks.specs.Columns.{IsOnTop}
 use Rattle.text_frames.specs.Rules.{shown_org}
 use Rattle.desktop_definitions.specs.declared.viewer.Viewer.{Viewer}
 use Rattle.desktop_definitions.specs.declared.viewer.Caret.{Caret}
 use Rattle.desktop_definitions.specs.declared.viewer.Selection.{Selection}
-use Rattle.desktop_definitions.specs.Tables.{Texts, numbered, with_values}
+use Rattle.desktop_definitions.specs.Tables.{Texts, text_numbered, with_values}
 use Rattle.desktop_laws.specs.TableLaws.{length_seen_text}
-use Rattle.desktop_definitions.specs.Desktop.{Desktop, KeptDesktop, held}
+use Rattle.desktop_definitions.specs.Desktop.{Desktop, KeptDesktop, characters_held}
 use Rattle.desktop_definitions.specs.Viewers.{viewer_or_none, text_in, main_length, shows, with_org}
 use Rattle.desktop_definitions.specs.Viewers.{rows_of, with_caret, unselected, with_selection, selections_outside}
 use Rattle.desktop_definitions.specs.Viewers.{text_of, unmarked}
-use Rattle.desktop_definitions.specs.Change.{bytes_of, edited, followed, after_change, insertion, deletion, looks_set}
+use Rattle.desktop_definitions.specs.Change.{bytes_of, edited, following_viewer, after_change, insertion, deletion, looks_set}
 use Rattle.desktop_definitions.specs.Change.{showing, caret_shown}
 use Rattle.desktop_definitions.specs.Seen.{seen, seen_text, seen_table}
-use Rattle.desktop_definitions.specs.Sound.{IsCaret, IsSelection, IsShaped, IsBuilt}
+use Rattle.desktop_definitions.specs.Sound.{IsCaretPlaced, IsSelection, IsShaped, IsBuilt}
 use Rattle.desktop_definitions.specs.Changed.{texts_shown, IsChanged}
 use Rattle.desktop_laws.specs.ShapeLaws.{AreReorged, OrgsWithin, set_other, set_same}
 use Rattle.desktop_laws.specs.DeskWords.{CanFollow, AreMoved, IsSet}
@@ -46,7 +46,7 @@ use Rattle.desktop_laws.specs.TextLaws.{text_in_seen, long_seen, there_seen}
 use Rattle.desktop_definitions.specs.Looks.{AreLooks}
 use Rattle.desktop_laws.specs.LookedLaws.{seen_looks, looks_stay, edited_looks, within_stays}
 
-pub is_set : (old new : Texts (List Piece)) (n : ℕ) (text : Text ℕ) (w : List Piece) → IsSome (numbered old n)
+pub is_set : (old new : Texts (List Piece)) (n : ℕ) (text : Text ℕ) (w : List Piece) → IsSome (text_numbered old n)
     → new ≡ set_value (is_at (nat_cmp n)) old w → flat w ≡ text → IsSet old new n text
 is_set old new n text w there set is =
     let now : text_in new n ≡ w =
@@ -82,7 +82,7 @@ edited_seen characters d n pieces viewers = λ k. record (seen characters (edite
 differ : (m n : ℕ) → (m == n) ≡ false → ¬ (m ≡ n)
 differ m n test is = eqb-false m n test is
 
-module _ (d : Desktop) (n : ℕ) (text : Text ℕ) (viewers : List (ℕ × Viewer)) (there : IsSome (numbered d.texts n))
+module _ (d : Desktop) (n : ℕ) (text : Text ℕ) (viewers : List (ℕ × Viewer)) (there : IsSome (text_numbered d.texts n))
     (moved : AreMoved n (length text) d.viewers viewers) where
   abbrev long : ℕ → ℕ
   long m = length (text_in d.texts m)
@@ -160,9 +160,9 @@ module _ (d : Desktop) (shaped : IsShaped d) where
     marks = record {
       caret_stands = λ c is.
           let caret : Caret = record { viewer = v; position = p } in
-          let now : IsCaret d.columns (main_length d.texts d.viewers) caret =
+          let now : IsCaretPlaced d.columns (main_length d.texts d.viewers) caret =
           record { placed = placed; within = low } in
-          let it : caret ≡ c = cc is in subst (IsCaret d.columns (main_length d.texts d.viewers)) it now;
+          let it : caret ≡ c = cc is in subst (IsCaretPlaced d.columns (main_length d.texts d.viewers)) it now;
       all_stand = shaped.marks.all_stand;
       one_each = shaped.marks.one_each;
     };
@@ -245,7 +245,7 @@ with_selection_shaped d s shaped is =
 -- ---- a text of a desktop that is kept
 
 module _ (characters : List ℕ) (d : KeptDesktop) (n : ℕ) (pieces : List Piece) (viewers : List (ℕ × Viewer))
-    (more fewer : ℕ) (built : IsBuilt (length characters) d) (there : IsSome (numbered d.texts n))
+    (more fewer : ℕ) (built : IsBuilt (length characters) d) (there : IsSome (text_numbered d.texts n))
     (moved : AreMoved n (length (flat pieces)) d.viewers viewers) (within : AreWithin (length characters) (flat pieces))
     (looks : AreLooks (flat pieces))
     (long : length (flat pieces) + fewer ≡ length (flat (text_in d.texts n)) + more) where
@@ -262,8 +262,8 @@ module _ (characters : List ℕ) (d : KeptDesktop) (n : ℕ) (pieces : List Piec
   all_shown = edited_shown (seen [] d) n (seen_text [] pieces) viewers (there_seen [] d.texts n there) (moved_as [])
       (built.shaped [])
 
-  all_held : (all : List ℕ) → held (edited (seen all d) n (seen_text all pieces) viewers) + fewer
-      ≡ held (seen all d) + more
+  all_held : (all : List ℕ) → characters_held (edited (seen all d) n (seen_text all pieces) viewers) + fewer
+      ≡ characters_held (seen all d) + more
   unfolding seen
   all_held all = held_edited (seen all d) n (seen_text all pieces) viewers more fewer (there_seen all d.texts n there)
       (let size = length_seen_text all pieces in let old = long_seen all d.texts n in omega (arith, size, old, long))
@@ -285,7 +285,7 @@ module _ (characters : List ℕ) (d : KeptDesktop) (n : ℕ) (pieces : List Piec
   edited_changed H outcome exact = record {
     exact = exact;
     built = edited_built;
-    counted = λ all. ap (λ e. held e + fewer) (edited_seen all d n pieces viewers) ∙ all_held all;
+    counted = λ all. ap (λ e. characters_held e + fewer) (edited_seen all d n pieces viewers) ∙ all_held all;
     rest = record {
       numbers = keys-set_value (is_at (nat_cmp n)) d.texts pieces;
       viewers = all_shown;
@@ -367,19 +367,19 @@ deletion_some d n p q some = ap
 
 module _ (characters : List ℕ) (d : KeptDesktop) (n p more fewer : ℕ) (pieces : List Piece)
     (viewers : List (ℕ × Viewer)) (text : Text ℕ) (text_is : seen_text characters pieces ≡ text)
-    (follow : viewers ≡ with_values (followed n (bytes characters (flat pieces)) p more fewer) d.viewers) where
+    (follow : viewers ≡ with_values (following_viewer n (bytes_of_text characters (flat pieces)) p more fewer) d.viewers) where
   change_seen : seen characters (edited d n pieces viewers)
       ≡ after_change (seen characters d) n text p more fewer
   unfolding seen after_change
   change_seen = edited_seen characters d n pieces viewers
       ∙ ap (λ l. edited (seen characters d) n (seen_text characters pieces) l) follow
       ∙ ap (λ (t : Text ℕ). edited (seen characters d) n t
-      (with_values (followed n (bytes_of t) p more fewer) d.viewers)) text_is
+      (with_values (following_viewer n (bytes_of t) p more fewer) d.viewers)) text_is
 
 pub insertion_seen : (characters : List ℕ) (d : KeptDesktop) (n p : ℕ) (buffer pieces : List Piece)
     (viewers : List (ℕ × Viewer)) → 0 < length (flat buffer)
     → flat pieces ≡ inserted p (flat buffer) (flat (text_in d.texts n))
-    → viewers ≡ with_values (followed n (bytes characters (flat pieces)) p (length (flat buffer)) 0) d.viewers
+    → viewers ≡ with_values (following_viewer n (bytes_of_text characters (flat pieces)) p (length (flat buffer)) 0) d.viewers
     → seen characters (edited d n pieces viewers) ≡ insertion (seen characters d) n p (seen_text characters buffer)
 unfolding seen
 insertion_seen characters d n p buffer pieces viewers some is follow =
@@ -397,7 +397,7 @@ insertion_seen characters d n p buffer pieces viewers some is follow =
 
 pub deletion_seen : (characters : List ℕ) (d : KeptDesktop) (n p q : ℕ) (pieces : List Piece)
     (viewers : List (ℕ × Viewer)) → p < q → flat pieces ≡ deleted p q (flat (text_in d.texts n))
-    → viewers ≡ with_values (followed n (bytes characters (flat pieces)) p 0 (q - p)) d.viewers
+    → viewers ≡ with_values (following_viewer n (bytes_of_text characters (flat pieces)) p 0 (q - p)) d.viewers
     → seen characters (edited d n pieces viewers) ≡ deletion (seen characters d) n p q
 unfolding seen
 deletion_seen characters d n p q pieces viewers some is follow =
@@ -432,7 +432,7 @@ looks_seen characters d s selector look pieces is =
 
 module _ (characters : List ℕ) (d : KeptDesktop) (s : Selection) (pieces : List Piece)
     (built : IsBuilt (length characters) d) (placed : IsOnTop s.viewer d.columns)
-    (there : IsSome (numbered d.texts (viewer_or_none d.viewers s.viewer).main)) (some : s.beg < s.end)
+    (there : IsSome (text_numbered d.texts (viewer_or_none d.viewers s.viewer).main)) (some : s.beg < s.end)
     (low : s.end ≤ length (flat (text_in d.texts (viewer_or_none d.viewers s.viewer).main)))
     (long : length (flat pieces) ≡ length (flat (text_in d.texts (viewer_or_none d.viewers s.viewer).main)))
     (within : AreWithin (length characters) (flat pieces)) (looks : AreLooks (flat pieces)) where
@@ -471,7 +471,7 @@ module _ (characters : List ℕ) (d : KeptDesktop) (s : Selection) (pieces : Lis
 
   pub looks_changed_so : (outcome : Desktop) → seen characters (with_selection with_looks s) ≡ outcome
       → IsChanged ⊤ characters d (with_selection with_looks s) outcome 0 0
-  unfolding seen held
+  unfolding seen characters_held
   looks_changed_so outcome exact = record {
     exact = λ h. exact;
     built = looks_built;
@@ -483,7 +483,7 @@ module _ (H : Type 0) (characters : List ℕ) (d : KeptDesktop) (v p org : ℕ) 
     (placed : IsOnTop v d.columns)
     (low : p ≤ length (flat (text_in d.texts (viewer_or_none d.viewers v).main)))
     (org_low : org ≤ length (flat (text_in d.texts (viewer_or_none d.viewers v).main)))
-    (exact : H → org ≡ shown_org (bytes characters (flat (text_in d.texts (viewer_or_none d.viewers v).main)))
+    (exact : H → org ≡ shown_org (bytes_of_text characters (flat (text_in d.texts (viewer_or_none d.viewers v).main)))
     (rows_of d v) p (viewer_or_none d.viewers v).org) where
   abbrev caret_there : KeptDesktop
   caret_there = with_org (with_caret d v p) v org
@@ -506,7 +506,7 @@ module _ (H : Type 0) (characters : List ℕ) (d : KeptDesktop) (v p org : ℕ) 
   }
 
   pub caret_shown_changed : IsChanged H characters d caret_there (caret_shown (seen characters d) v p) 0 0
-  unfolding seen held
+  unfolding seen characters_held
   caret_shown_changed = record {
     exact = shown_seen;
     built = shown_built;
@@ -517,11 +517,11 @@ module _ (H : Type 0) (characters : List ℕ) (d : KeptDesktop) (v p org : ℕ) 
 -- ---- a text that was set
 
 module _ (characters : List ℕ) (d : KeptDesktop) (texts : Texts (List Piece)) (n : ℕ) (text : Text ℕ) (more fewer : ℕ)
-    (built : IsBuilt (length characters) d) (there : IsSome (numbered d.texts n)) (set : IsSet d.texts texts n text)
+    (built : IsBuilt (length characters) d) (there : IsSome (text_numbered d.texts n)) (set : IsSet d.texts texts n text)
     (long : length text + fewer ≡ length (flat (text_in d.texts n)) + more)
     (within : AreWithin (length characters) text) where
-  pub set_there : IsSome (numbered texts n)
-  set_there = ap (λ (es : Texts (List Piece)). is_some (numbered es n)) set.set
+  pub set_there : IsSome (text_numbered texts n)
+  set_there = ap (λ (es : Texts (List Piece)). is_some (text_numbered es n)) set.set
       ∙ ap (λ (o : Option (List Piece)). is_some o) (set_same d.texts n (text_in texts n) there)
 
   pub set_long : length (flat (text_in texts n)) + fewer ≡ length (flat (text_in d.texts n)) + more

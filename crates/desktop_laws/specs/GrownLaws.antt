@@ -21,12 +21,12 @@ use Rattle.desktop_definitions.specs.declared.viewer.Viewer.{Viewer}
 use Rattle.desktop_definitions.specs.declared.reply.Reply.TheVariants.{Done, No}
 use Rattle.desktop_definitions.specs.Limits.{full, too_deep, most_written, most_held}
 use Rattle.desktop_definitions.specs.Needs.{unless}
-use Rattle.desktop_definitions.specs.Desktop.{Desktop, DesktopOf, KeptDesktop, held}
+use Rattle.desktop_definitions.specs.Desktop.{Desktop, DesktopOf, KeptDesktop, characters_held}
 use Rattle.desktop_definitions.specs.Viewers.{viewer_or_none, text_in, text_of, covered_by}
-use Rattle.desktop_definitions.specs.Opening.{new_number, new_id, new_viewer, opening_over, is_shown, dropped}
+use Rattle.desktop_definitions.specs.Opening.{new_number, new_id, new_viewer, opening_over, is_shown, without_unshown}
 use Rattle.desktop_definitions.specs.Effects.{viewer_grown}
 use Rattle.desktop_definitions.specs.Seen.{seen, seen_text}
-use Rattle.desktop_definitions.specs.Step.{fits, settled}
+use Rattle.desktop_definitions.specs.Step.{fits, outcome_after}
 use Rattle.desktop_definitions.specs.Sound.{IsOver}
 use Rattle.desktop_definitions.specs.Outcome.{IsAnswered}
 use Rattle.desktop_laws.specs.TableLaws.{length_seen_text}
@@ -44,15 +44,15 @@ use Rattle.desktop_laws.specs.RowPartLaws.{kept_text_seen}
 
 module _ (d : Desktop) (menu : Text ℕ) (main org : ℕ) (k : Track) where
   -- nobody's place is taken, so no text goes
-  pub held_over : AllShown d → held (dropped (opening_over d menu main org k)) ≡ held d + length menu
+  pub held_over : AllShown d → characters_held (without_unshown (opening_over d menu main org k)) ≡ characters_held d + length menu
   held_over all =
       held_opening_over d menu main org k (λ n there. stays_anyway d all main n None (inr refl) there)
-      ∙ ap (λ (x : Desktop). held x + length menu) (all_stay d all)
+      ∙ ap (λ (x : Desktop). characters_held x + length menu) (all_stay d all)
 
-  pub fits_over : (written all : ℕ) → written ≡ d.written → all ≡ held (dropped (opening_over d menu main org k))
-      → (nat_le written most_written && nat_le all most_held) ≡ fits (dropped (opening_over d menu main org k))
+  pub fits_over : (written all : ℕ) → written ≡ d.written → all ≡ characters_held (without_unshown (opening_over d menu main org k))
+      → (nat_le written most_written && nat_le all most_held) ≡ fits (without_unshown (opening_over d menu main org k))
   fits_over written all w h =
-      fits_by (dropped (opening_over d menu main org k)) written all (w ∙ sym (written_over d menu main org k)) h
+      fits_by (without_unshown (opening_over d menu main org k)) written all (w ∙ sym (written_over d menu main org k)) h
 
 -- ---- each text is shown afterwards
 
@@ -80,7 +80,7 @@ module _ {X : Type 0} (d : DesktopOf (List X)) (menu : List X) (main org : ℕ) 
 
   -- so none goes
   pub none_goes : All (λ n. IsTrue (is_shown d.viewers n)) (keys_of d.texts)
-      → dropped (opening_over d menu main org k) ≡ opening_over d menu main org k
+      → without_unshown (opening_over d menu main org k) ≡ opening_over d menu main org k
   none_goes all = all_shown (opening_over d menu main org k) (all_shown_over all)
 
 -- ---- a viewer that grows
@@ -113,22 +113,22 @@ module _ (H : Type 0) (old : List ℕ) (d : KeptDesktop) (v : ℕ) (k : Track) (
       (viewer_can (seen characters d) v (over.whole.sound characters).shaped (on_top_placed d.columns v placed))
 
   pub grown_answered : ((characters : List ℕ) (text : Text ℕ) → length text ≡ length (flat menu)
-      → fits (dropped (opening_over (seen characters d) text viewer.main viewer.org k)) ≡ true)
+      → fits (without_unshown (opening_over (seen characters d) text viewer.main viewer.org k)) ≡ true)
       → IsAnswered H old old d (opening_over d menu viewer.main viewer.org k)
-      (settled (seen old d) (viewer_grown (seen old d) v)) Done
+      (outcome_after (seen old d) (viewer_grown (seen old d) v)) Done
   grown_answered fit =
       let none : d.written + 0 ≡ d.written = omega arith in
-      let after : KeptDesktop = dropped (opening_over d menu viewer.main viewer.org k) in
+      let after : KeptDesktop = without_unshown (opening_over d menu viewer.main viewer.org k) in
       let same : d.written + 0 ≡ after.written = none ∙ sym (written_over d menu viewer.main viewer.org k) in
       let answered = on_answered H old [] old d menu viewer.main viewer.org (over_track k)
       (copy_opens old d menu viewer (over_track k) over copy can
       (cover_keeps d.columns (new_id d) (left_of k) (whole_columns d over.whole) (new_fresh d over.whole)
       (subst (λ (j : Track). length (stack_of d.columns j) < DEPTH) (sym (left_at k)) room))
       (λ characters text long.
-      ap (λ (x : Desktop). fits (dropped x))
+      ap (λ (x : Desktop). fits (without_unshown x))
       (none_more (opening_over (seen characters d) text viewer.main viewer.org k)) ∙ fit characters text long))
       d (seen old d) (text_of (seen old d) viewer.menu) outcome copy_read refl in
-      subst (λ (p : KeptDesktop × Result Desktop ℕ). IsAnswered H old old d p.0 (settled (seen old d) p.1) Done)
+      subst (λ (p : KeptDesktop × Result Desktop ℕ). IsAnswered H old old d p.0 (outcome_after (seen old d) p.1) Done)
       (λ i. (
         ((λ j. record after { written = same j })
             ∙ none_goes d menu viewer.main viewer.org k (over_shown old d over)) i,
@@ -136,8 +136,8 @@ module _ (H : Type 0) (old : List ℕ) (d : KeptDesktop) (v : ℕ) (k : Track) (
       )) answered
 
   pub grown_full : ((characters : List ℕ) (text : Text ℕ) → length text ≡ length (flat menu)
-      → fits (dropped (opening_over (seen characters d) text viewer.main viewer.org k)) ≡ false)
-      → IsAnswered H old old d d (settled (seen old d) (viewer_grown (seen old d) v)) (No full)
+      → fits (without_unshown (opening_over (seen characters d) text viewer.main viewer.org k)) ≡ false)
+      → IsAnswered H old old d d (outcome_after (seen old d) (viewer_grown (seen old d) v)) (No full)
   grown_full unfit =
       unfit_answered H old d (viewer_grown (seen old d) v) outcome over grown_seen
       (unfit old (text_of (seen old d) viewer.menu) (ap length (sym copy_read) ∙ length_seen_text old menu))

@@ -26,19 +26,19 @@ use Rattle.desktop_definitions.specs.declared.viewer.Selection.{Selection}
 use Rattle.desktop_definitions.specs.declared.reply.Reply.{Reply}
 use Rattle.desktop_definitions.specs.declared.reply.Reply.TheVariants.{Done, No}
 use Rattle.desktop_definitions.specs.Limits.{most_held, no_caret, no_selection, full}
-use Rattle.desktop_definitions.specs.Tables.{Texts, numbered}
+use Rattle.desktop_definitions.specs.Tables.{Texts, text_numbered}
 use Rattle.desktop_laws.specs.TableLaws.{length_seen_text}
-use Rattle.desktop_definitions.specs.Desktop.{Desktop, KeptDesktop, held}
+use Rattle.desktop_definitions.specs.Desktop.{Desktop, KeptDesktop, characters_held}
 use Rattle.desktop_definitions.specs.Viewers.{viewer_of, viewer_or_none, text_in, text_of, main_of, newest, selected}
 use Rattle.desktop_definitions.specs.Viewers.{with_caret, with_selection, kept_main}
 use Rattle.desktop_definitions.specs.Change.{in_look, looks_set, put_in, put_at_caret, cut_out, more_written}
-use Rattle.desktop_definitions.specs.Keys.{typed, pressed, with_copied, escaped}
+use Rattle.desktop_definitions.specs.Keys.{after_typing, after_key, with_copied, without_marks}
 use Rattle.desktop_definitions.specs.Gesture.{copied_to, looks_taken, taken_out, sent_to_caret, drawn_in}
 use Rattle.desktop_definitions.specs.Seen.{seen, seen_text}
 use Rattle.desktop_laws.specs.SeenLaws.{new_read}
-use Rattle.desktop_definitions.specs.Step.{settled}
+use Rattle.desktop_definitions.specs.Step.{outcome_after}
 use Rattle.desktop_definitions.specs.Sound.{IsOver}
-use Rattle.desktop_definitions.specs.Changed.{texts_shown, IsChanged, Counts}
+use Rattle.desktop_definitions.specs.Changed.{texts_shown, IsChanged, CountsHeld}
 use Rattle.desktop_definitions.specs.Outcome.{reply_codes, IsAnswered}
 use Rattle.desktop_laws.specs.PlaceLaws.{on_top_placed}
 use Rattle.desktop_laws.specs.OutcomeLaws.{refused, seen_grown, length_in_look}
@@ -57,57 +57,57 @@ use Rattle.desktop_definitions.specs.Looks.{AreLooks}
 
 -- a row that is this refusal
 pub refusal_answered : (H : Type 0) (old : List ℕ) (d : KeptDesktop) (row : Result Desktop ℕ) (code : ℕ) → IsOver old d
-    → OneOf reply_codes code → row ≡ Err code → IsAnswered H old old d d (settled (seen old d) row) (No code)
-unfolding settled
+    → OneOf reply_codes code → row ≡ Err code → IsAnswered H old old d d (outcome_after (seen old d) row) (No code)
+unfolding outcome_after
 refusal_answered H old d row code over known is =
-    refused H old d (settled (seen old d) row) code over known (λ h. ap (settled (seen old d)) (sym is))
+    refused H old d (outcome_after (seen old d) row) code over known (λ h. ap (outcome_after (seen old d)) (sym is))
 
 -- a row by another name
 pub row_as : {H : Type 0} {old new : List ℕ} {before after : KeptDesktop} {row : Result Desktop ℕ} {reply : Reply}
-    (d : Desktop) (by : Result Desktop ℕ) → IsAnswered H old new before after (settled d row) reply → by ≡ row
-    → IsAnswered H old new before after (settled d by) reply
+    (d : Desktop) (by : Result Desktop ℕ) → IsAnswered H old new before after (outcome_after d row) reply → by ≡ row
+    → IsAnswered H old new before after (outcome_after d by) reply
 row_as {H} {old} {new} {before} {after} {row} {reply} d by answered is =
-    subst (λ (r : Result Desktop ℕ). IsAnswered H old new before after (settled d r) reply) (sym is) answered
+    subst (λ (r : Result Desktop ℕ). IsAnswered H old new before after (outcome_after d r) reply) (sym is) answered
 
 -- ---- each row by its cases
 
 module _ (d : Desktop) where
   module _ (none : d.caret ≡ None) where
-    pub typed_none : (bytes : List ℕ) → typed d bytes ≡ Err no_caret
-    unfolding typed
+    pub typed_none : (bytes : List ℕ) → after_typing d bytes ≡ Err no_caret
+    unfolding after_typing
     typed_none bytes = rw none refl
 
-    pub back_none : pressed d Back ≡ Err no_caret
-    unfolding pressed
+    pub back_none : after_key d Back ≡ Err no_caret
+    unfolding after_key
     back_none = rw none refl
 
   module _ (c : Caret) (some : d.caret ≡ Some c) where
     pub typed_some : (bytes : List ℕ)
-        → typed d bytes ≡ Ok (more_written (put_at_caret d (in_look d.look bytes) c) (length bytes))
-    unfolding typed
+        → after_typing d bytes ≡ Ok (more_written (put_at_caret d (in_look d.look bytes) c) (length bytes))
+    unfolding after_typing
     typed_some bytes = rw some refl
 
-    pub back_first : c.position ≡ 0 → pressed d Back ≡ Ok d
-    unfolding pressed
+    pub back_first : c.position ≡ 0 → after_key d Back ≡ Ok d
+    unfolding after_key
     back_first first = rw (some, first) refl
 
     -- the stretch before the caret
     abbrev pub before : Selection
     before = record { viewer = c.viewer; beg = c.position - 1; end = c.position }
 
-    pub back_some : 0 < c.position → pressed d Back ≡ Ok (cut_out d before)
-    unfolding pressed
+    pub back_some : 0 < c.position → after_key d Back ≡ Ok (cut_out d before)
+    unfolding after_key
     back_some low =
         let test : (c.position == 0) ≡ false = grind (arith, low) in
         rw (some, test) refl
 
   module _ (none : newest d ≡ None) where
-    pub copy_none : pressed d Copy ≡ Err no_selection
-    unfolding pressed
+    pub copy_none : after_key d Copy ≡ Err no_selection
+    unfolding after_key
     copy_none = rw none refl
 
-    pub cut_none : pressed d Cut ≡ Err no_selection
-    unfolding pressed
+    pub cut_none : after_key d Cut ≡ Err no_selection
+    unfolding after_key
     cut_none = rw none refl
 
     pub copied_to_none : (v p : ℕ) → copied_to d v p ≡ Err no_selection
@@ -119,12 +119,12 @@ module _ (d : Desktop) where
     looks_taken_none v p = rw none refl
 
   module _ (s : Selection) (some : newest d ≡ Some s) where
-    pub copy_some : pressed d Copy ≡ Ok (with_copied d s)
-    unfolding pressed
+    pub copy_some : after_key d Copy ≡ Ok (with_copied d s)
+    unfolding after_key
     copy_some = rw some refl
 
-    pub cut_some : pressed d Cut ≡ Ok (cut_out (with_copied d s) s)
-    unfolding pressed
+    pub cut_some : after_key d Cut ≡ Ok (cut_out (with_copied d s) s)
+    unfolding after_key
     cut_some = rw some refl
 
     pub copied_to_some : (v p : ℕ) → copied_to d v p ≡ Ok (put_in d v p (selected d s))
@@ -168,18 +168,18 @@ main_small old d v over =
 
 -- what is held is no more than a desktop may hold
 held_small : (old : List ℕ) (d : KeptDesktop) (buffer : List Piece) → IsOver old d
-    → length (seen_text [] buffer) ≤ held (seen [] d) → length (flat buffer) ≤ most_held
+    → length (seen_text [] buffer) ≤ characters_held (seen [] d) → length (flat buffer) ≤ most_held
 held_small old d buffer over part =
     let all = (over.whole.sound []).held_within in
     let long = length_seen_text [] buffer in
     omega (arith, all, long, part)
 
 pub copied_small : (old : List ℕ) (d : KeptDesktop) → IsOver old d → length (flat d.copied) ≤ most_held
-unfolding seen held
+unfolding seen characters_held
 copied_small old d over = held_small old d d.copied over (omega arith)
 
 pub deleted_small : (old : List ℕ) (d : KeptDesktop) → IsOver old d → length (flat d.deleted) ≤ most_held
-unfolding seen held
+unfolding seen characters_held
 deleted_small old d over = held_small old d d.deleted over (omega arith)
 
 -- after characters were put in the caret has room after them
@@ -209,7 +209,7 @@ room_left a b v beg end n number same some low shorter =
 
 -- the texts of a desktop that is kept are seen where they are kept
 pub main_there_seen : (old : List ℕ) (d : KeptDesktop) (v : ℕ) → IsOver old d → IsOnTop v d.columns
-    → IsSome (numbered (seen old d).texts (viewer_of (seen old d) v).main)
+    → IsSome (text_numbered (seen old d).texts (viewer_of (seen old d) v).main)
 unfolding seen
 main_there_seen old d v over placed =
     let sound = over.whole.sound old in
@@ -223,9 +223,9 @@ module _ (H : Type 0) (old new : List ℕ) (before after : KeptDesktop) (over : 
       → IsChanged H old before after
       (cut_out (seen old before) (record { viewer = c.viewer; beg = c.position - 1; end = c.position }))
       0 (c.position - (c.position - 1))
-      → IsAnswered H old new before after (settled (seen old before) (pressed (seen old before) Back)) Done
+      → IsAnswered H old new before after (outcome_after (seen old before) (after_key (seen old before) Back)) Done
   unfolding seen
-  back_answered c is low changed = row_as (seen old before) (pressed (seen old before) Back)
+  back_answered c is low changed = row_as (seen old before) (after_key (seen old before) Back)
       (less_answered H old new before after
       (cut_out (seen old before) (record { viewer = c.viewer; beg = c.position - 1; end = c.position }))
       0 (c.position - (c.position - 1)) (omega arith) over long same changed)
@@ -236,7 +236,7 @@ module _ (H : Type 0) (old new : List ℕ) (before after : KeptDesktop) (over : 
       → flat copy ≡ stretch s.beg s.end (flat (kept_main before s.viewer))
       → IsChanged H old before after (put_in (seen old before) v p (seen_text old copy)) (length (flat copy)) 0
       → ((all : List ℕ) → has_space (seen all before) 0 (s.end - s.beg) 0 ≡ true)
-      → IsAnswered H old new before after (settled (seen old before) (copied_to (seen old before) v p)) Done
+      → IsAnswered H old new before after (outcome_after (seen old before) (copied_to (seen old before) v p)) Done
   unfolding seen
   copied_to_answered v p s copy is order within copy_is changed space =
       row_as (seen old before) (copied_to (seen old before) v p)
@@ -269,9 +269,9 @@ module _ (H : Type 0) (old new : List ℕ) (before after : KeptDesktop) (over : 
     pub cut_answered : newest before ≡ Some s
         → IsChanged H old (record before { copied = buffer }) after
         (cut_out (seen old (record before { copied = buffer })) s) 0 (s.end - s.beg)
-        → IsAnswered H old new before after (settled (seen old before) (pressed (seen old before) Cut)) Done
+        → IsAnswered H old new before after (outcome_after (seen old before) (after_key (seen old before) Cut)) Done
     unfolding seen
-    cut_answered is changed = row_as (seen old before) (pressed (seen old before) Cut)
+    cut_answered is changed = row_as (seen old before) (after_key (seen old before) Cut)
         (less_answered H old new before after (cut_out (with_copied (seen old before) s) s)
         (length (flat buffer)) (length (flat before.copied) + (s.end - s.beg))
         (let size = copy_long before s buffer buffer_is (omega (arith, some)) within in omega (arith, size))
@@ -286,7 +286,7 @@ module _ (H : Type 0) (old new : List ℕ) (before after : KeptDesktop) (over : 
     -- a stretch was taken out, and went into the deleted buffer
     pub taken_out_answered : IsChanged H old before middle (cut_out (seen old before) s) 0 (s.end - s.beg)
         → after ≡ record middle { deleted = buffer }
-        → IsAnswered H old new before after (settled (seen old before) (taken_out (seen old before) s)) Done
+        → IsAnswered H old new before after (outcome_after (seen old before) (taken_out (seen old before) s)) Done
     taken_out_answered changed after_is = row_as (seen old before) (taken_out (seen old before) s)
         (less_answered H old new before after
         (record (cut_out (seen old before) s) { deleted = selected (seen old before) s })
@@ -310,7 +310,7 @@ module _ (H : Type 0) (old new : List ℕ) (before after : KeptDesktop) (over : 
         → IsChanged H old (with_selection before s) after
         (put_at_caret (seen old (with_selection before s)) (seen_text old buffer) c) (length (flat buffer)) 0
         → ((all : List ℕ) → has_space (seen all before) 0 (s.end - s.beg) 0 ≡ true)
-        → IsAnswered H old new before after (settled (seen old before) (sent_to_caret (seen old before) s)) Done
+        → IsAnswered H old new before after (outcome_after (seen old before) (sent_to_caret (seen old before) s)) Done
     unfolding seen
     sent_answered c is placed changed space = row_as (seen old before) (sent_to_caret (seen old before) s)
         (rest_answered H old new before after
@@ -336,10 +336,10 @@ pub copy_answered : (H : Type 0) (old : List ℕ) (before : KeptDesktop) (s : Se
     → flat buffer ≡ stretch s.beg s.end (flat (kept_main before s.viewer))
     → ((all : List ℕ) → has_space (seen all before) 0 (s.end - s.beg) (length (flat before.copied)) ≡ true)
     → IsAnswered H old old before (record before { copied = buffer })
-    (settled (seen old before) (pressed (seen old before) Copy)) Done
+    (outcome_after (seen old before) (after_key (seen old before) Copy)) Done
 unfolding seen
 copy_answered H old before s buffer over is some within buffer_is space =
-    row_as (seen old before) (pressed (seen old before) Copy)
+    row_as (seen old before) (after_key (seen old before) Copy)
     (rest_answered H old old before (record before { copied = buffer }) (with_copied (seen old before) s)
     (s.end - s.beg) (length (flat before.copied)) over refl (λ h. refl)
     (subst (λ n. IsChanged H old before (record before { copied = buffer }) (with_copied (seen old before) s) n
@@ -349,16 +349,16 @@ copy_answered H old before s buffer over is some within buffer_is space =
 
 -- what was marked is gone
 pub escape_answered : (H : Type 0) (old : List ℕ) (before : KeptDesktop) → IsOver old before
-    → IsAnswered H old old before (escaped before) (settled (seen old before) (pressed (seen old before) Escape)) Done
-unfolding pressed
+    → IsAnswered H old old before (without_marks before) (outcome_after (seen old before) (after_key (seen old before) Escape)) Done
+unfolding after_key
 escape_answered H old before over =
-    less_answered H old old before (escaped before) (escaped (seen old before)) 0 0 (omega arith) over refl (λ h. refl)
+    less_answered H old old before (without_marks before) (without_marks (seen old before)) 0 0 (omega arith) over refl (λ h. refl)
     (escaped_changed H old before (over_built old before over))
 
 -- nothing was done
 pub stay_answered : (H : Type 0) (old : List ℕ) (before : KeptDesktop) (row : Result Desktop ℕ) → IsOver old before
     → row ≡ Ok (seen old before)
-    → IsAnswered H old old before before (settled (seen old before) row) Done
+    → IsAnswered H old old before before (outcome_after (seen old before) row) Done
 stay_answered H old before row over is =
     row_as (seen old before) row (row_answered H old old before before (seen old before) over (λ h. refl)) is
 
@@ -378,9 +378,9 @@ module _ (H : Type 0) (old bytes now new : List ℕ) (before after : KeptDesktop
       (length (flat buffer)) 0
       → ((all : List ℕ) → has_space (seen all before) (length bytes) (length bytes) 0 ≡ true)
       → IsAnswered H old new before (more_written after (length bytes))
-      (settled (seen old before) (typed (seen old before) bytes)) Done
+      (outcome_after (seen old before) (after_typing (seen old before) bytes)) Done
   unfolding seen
-  typed_answered changed space = row_as (seen old before) (typed (seen old before) bytes)
+  typed_answered changed space = row_as (seen old before) (after_typing (seen old before) bytes)
       (changed_answered H old bytes now new before after
       (put_at_caret (seen old before) (in_look before.look bytes) c) (length bytes) 0 over grown long same
       (subst (λ n. IsChanged H now before after (put_at_caret (seen old before) (in_look before.look bytes) c) n 0)
@@ -394,23 +394,23 @@ module _ (H : Type 0) (old bytes now new : List ℕ) (before after : KeptDesktop
 module _ (H : Type 0) (old : List ℕ) (d : KeptDesktop) (over : IsOver old d) where
   module _ (c : Caret) (is : d.caret ≡ Some c) (placed : IsOnTop c.viewer d.columns) where
     pub typed_full : (bytes : List ℕ) → has_space (seen old d) (length bytes) (length bytes) 0 ≡ false
-        → IsAnswered H old old d d (settled (seen old d) (typed (seen old d) bytes)) (No full)
+        → IsAnswered H old old d d (outcome_after (seen old d) (after_typing (seen old d) bytes)) (No full)
     unfolding seen
-    typed_full bytes none = row_as (seen old d) (typed (seen old d) bytes)
+    typed_full bytes none = row_as (seen old d) (after_typing (seen old d) bytes)
         (full_answered H old d (put_at_caret (seen old d) (in_look d.look bytes) c) (length bytes) (length bytes) 0 over
-        (subst (λ n. Counts (seen old d) (put_at_caret (seen old d) (in_look d.look bytes) c) n 0)
+        (subst (λ n. CountsHeld (seen old d) (put_at_caret (seen old d) (in_look d.look bytes) c) n 0)
         (length_in_look d.look bytes)
         (put_at_caret_counts (seen old d) (in_look d.look bytes) c (main_there_seen old d c.viewer over placed))) none)
         (typed_some (seen old d) c is bytes)
 
     pub sent_full : (s : Selection) → s.beg < s.end → s.end ≤ length (flat (kept_main d s.viewer))
         → has_space (seen old d) 0 (s.end - s.beg) 0 ≡ false
-        → IsAnswered H old old d d (settled (seen old d) (sent_to_caret (seen old d) s)) (No full)
+        → IsAnswered H old old d d (outcome_after (seen old d) (sent_to_caret (seen old d) s)) (No full)
     unfolding seen
     sent_full s some within none = row_as (seen old d) (sent_to_caret (seen old d) s)
         (full_rest_answered H old d (put_at_caret (with_selection (seen old d) s) (selected (seen old d) s) c)
         (s.end - s.beg) 0 over
-        (subst (λ n. Counts (seen old d) (put_at_caret (with_selection (seen old d) s) (selected (seen old d) s) c) n 0)
+        (subst (λ n. CountsHeld (seen old d) (put_at_caret (with_selection (seen old d) s) (selected (seen old d) s) c) n 0)
         (selected_long old d s (omega (arith, some)) within)
         (sent_counts (seen old d) s (selected (seen old d) s) c (main_there_seen old d c.viewer over placed))) none)
         (sent_some (seen old d) s some c is)
@@ -418,22 +418,22 @@ module _ (H : Type 0) (old : List ℕ) (d : KeptDesktop) (over : IsOver old d) w
   module _ (s : Selection) (is : newest d ≡ Some s) (some : s.beg < s.end)
       (within : s.end ≤ length (flat (kept_main d s.viewer))) where
     pub copy_full : has_space (seen old d) 0 (s.end - s.beg) (length (flat d.copied)) ≡ false
-        → IsAnswered H old old d d (settled (seen old d) (pressed (seen old d) Copy)) (No full)
+        → IsAnswered H old old d d (outcome_after (seen old d) (after_key (seen old d) Copy)) (No full)
     unfolding seen
-    copy_full none = row_as (seen old d) (pressed (seen old d) Copy)
+    copy_full none = row_as (seen old d) (after_key (seen old d) Copy)
         (full_rest_answered H old d (with_copied (seen old d) s) (s.end - s.beg) (length (flat d.copied)) over
-        (subst (λ n. Counts (seen old d) (with_copied (seen old d) s) n (length (flat d.copied)))
+        (subst (λ n. CountsHeld (seen old d) (with_copied (seen old d) s) n (length (flat d.copied)))
         (selected_long old d s (omega (arith, some)) within)
-        (subst (λ n. Counts (seen old d) (with_copied (seen old d) s) (length (selected (seen old d) s)) n)
+        (subst (λ n. CountsHeld (seen old d) (with_copied (seen old d) s) (length (selected (seen old d) s)) n)
         (length_seen_text old d.copied) (copied_counts (seen old d) (selected (seen old d) s)))) none)
         (copy_some (seen old d) s is)
 
     pub copied_to_full : (v p : ℕ) → IsOnTop v d.columns → has_space (seen old d) 0 (s.end - s.beg) 0 ≡ false
-        → IsAnswered H old old d d (settled (seen old d) (copied_to (seen old d) v p)) (No full)
+        → IsAnswered H old old d d (outcome_after (seen old d) (copied_to (seen old d) v p)) (No full)
     unfolding seen
     copied_to_full v p placed none = row_as (seen old d) (copied_to (seen old d) v p)
         (full_rest_answered H old d (put_in (seen old d) v p (selected (seen old d) s)) (s.end - s.beg) 0 over
-        (subst (λ n. Counts (seen old d) (put_in (seen old d) v p (selected (seen old d) s)) n 0)
+        (subst (λ n. CountsHeld (seen old d) (put_in (seen old d) v p (selected (seen old d) s)) n 0)
         (selected_long old d s (omega (arith, some)) within)
         (put_in_counts (seen old d) v p (selected (seen old d) s) (main_there_seen old d v over placed))) none)
         (copied_to_some (seen old d) s is v p)
@@ -501,7 +501,7 @@ module _ (H : Type 0) (old : List ℕ) (before middle : KeptDesktop) (over : IsO
   -- the newest selection got the look at a position, where the caret then stands
   pub looks_taken_answered : newest before ≡ Some s
       → IsAnswered H old old before (with_caret middle v p)
-      (settled (seen old before) (looks_taken (seen old before) v p)) Done
+      (outcome_after (seen old before) (looks_taken (seen old before) v p)) Done
   unfolding seen
   looks_taken_answered is = row_as (seen old before) (looks_taken (seen old before) v p)
       (less_answered H old old before (with_caret middle v p)

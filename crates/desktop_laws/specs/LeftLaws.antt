@@ -18,9 +18,9 @@ use Rattle.piece_ring.specs.Text.{Text}
 use Rattle.desktop_definitions.specs.declared.viewer.Viewer.{Viewer}
 use Rattle.desktop_definitions.specs.Tables.{Texts, lengths}
 use Rattle.desktop_laws.specs.TableLaws.{length_seen_text, kept_lengths}
-use Rattle.desktop_definitions.specs.Desktop.{Desktop, DesktopOf, KeptDesktop, held}
+use Rattle.desktop_definitions.specs.Desktop.{Desktop, DesktopOf, KeptDesktop, characters_held}
 use Rattle.desktop_definitions.specs.Viewers.{without_viewer}
-use Rattle.desktop_definitions.specs.Opening.{is_shown, dropped}
+use Rattle.desktop_definitions.specs.Opening.{is_shown, without_unshown}
 use Rattle.desktop_definitions.specs.Seen.{seen, seen_text, seen_table}
 use Rattle.desktop_laws.specs.PlaceLaws.{at_is}
 use Rattle.desktop_laws.specs.DeskWords.{still_shown, kept_left}
@@ -106,15 +106,15 @@ without_texts d (Some g) = refl
 
 held_dropped : (d : Desktop) (taken : Option ℕ) (texts : Texts (Text ℕ))
     → filter (λ e. is_shown (without_viewer d taken).viewers e.0) d.texts ≡ texts
-    → held (dropped (without_viewer d taken))
+    → characters_held (without_unshown (without_viewer d taken))
     ≡ lengths texts + lengths d.files + length d.copied + length d.deleted
-unfolding held dropped
+unfolding characters_held without_unshown
 held_dropped d None texts is = λ k. lengths (is k) + lengths d.files + length d.copied + length d.deleted
 held_dropped d (Some g) texts is = λ k. lengths (is k) + lengths d.files + length d.copied + length d.deleted
 
 pub held_left : (d : KeptDesktop) (taken : Option ℕ) (characters : List ℕ)
     → IsStrictlySortedBy nat_cmp (keys_of d.viewers)
-    → held (dropped (without_viewer (seen characters d) taken))
+    → characters_held (without_unshown (without_viewer (seen characters d) taken))
     ≡ kept_left (λ n. (n == 0) || still_shown taken d.viewers n) d.texts
     + lengths (seen_table characters d.files) + length (flat d.copied) + length (flat d.deleted)
 unfolding seen

@@ -16,27 +16,27 @@ use Rattle.piece_ring.specs.Look.{default_look}
 use Rattle.piece_ring.specs.Flat.{flat, run}
 use Rattle.piece_ring.specs.Lengths.{length-run}
 use Rattle.piece_ring.specs.Text.{Text}
-use Rattle.readers_scanners.specs.Reading.{contents, bytes}
+use Rattle.readers_scanners.specs.Reading.{contents, bytes_of_text}
 use Rattle.text_frames.specs.Rules.{shown_org}
 use Rattle.viewer_tracks.specs.Columns.{IsPlaced, times_placed}
 use Rattle.desktop_definitions.specs.declared.viewer.Viewer.{Viewer}
 use Rattle.desktop_definitions.specs.declared.reply.Reply.TheVariants.{Done, No}
 use Rattle.desktop_definitions.specs.Limits.{most_written, most_held, most_files, full}
-use Rattle.desktop_definitions.specs.Tables.{numbered}
+use Rattle.desktop_definitions.specs.Tables.{text_numbered}
 use Rattle.desktop_laws.specs.TableLaws.{length_seen_text, lookup_seen, is_some_map}
-use Rattle.desktop_definitions.specs.Desktop.{Desktop, KeptDesktop, held}
+use Rattle.desktop_definitions.specs.Desktop.{Desktop, KeptDesktop, characters_held}
 use Rattle.desktop_definitions.specs.Viewers.{viewer_of, viewer_or_none, shows, with_org, rows_of, text_in, text_of}
-use Rattle.desktop_definitions.specs.Change.{plain, bytes_of, insertion, deletion, showing, more_written}
+use Rattle.desktop_definitions.specs.Change.{plain_text, bytes_of, insertion, deletion, showing, more_written}
 use Rattle.desktop_laws.specs.ChangeLaws.{counts_none, counts_further, insertion_counts, showing_counts}
 use Rattle.desktop_definitions.specs.Log.{log_shown, log_end_shown, logged, all_logged}
 use Rattle.desktop_definitions.specs.Effects.{size_line, log_cleared, directory_logged}
 use Rattle.desktop_definitions.specs.Seen.{seen, seen_text, seen_table}
 use Rattle.desktop_laws.specs.SeenLaws.{seen_longer, new_read}
 use Rattle.desktop_laws.specs.ShapeLaws.{found_by_keys}
-use Rattle.desktop_definitions.specs.Step.{fits, settled}
+use Rattle.desktop_definitions.specs.Step.{fits, outcome_after}
 use Rattle.desktop_laws.specs.StepLaws.{AllShown, settled_full}
 use Rattle.desktop_definitions.specs.Sound.{IsWithin, IsBuilt, IsOver}
-use Rattle.desktop_definitions.specs.Changed.{texts_shown, IsChanged, IsStanding, IsExtended, Counts}
+use Rattle.desktop_definitions.specs.Changed.{texts_shown, IsChanged, IsStanding, IsExtended, CountsHeld}
 use Rattle.desktop_definitions.specs.Outcome.{IsAnswered}
 use Rattle.desktop_laws.specs.OutcomeLaws.{refused, length_in_look}
 use Rattle.desktop_laws.specs.RowLaws.{known_full, shown_rest, space_written, space_held, space_made}
@@ -51,33 +51,33 @@ use Rattle.desktop_laws.specs.LookedLaws.{written_shaped, within_stays}
 -- A part of an event that writes, as the definitions have it: the same viewers show the same texts, so many characters
 -- are made, and so many more and so many fewer are held.
 pub record CountsMade (old new : Desktop) (made more fewer : ℕ) : Type 0 where
-  pub counted : held new + fewer ≡ held old + more
+  pub counted : characters_held new + fewer ≡ characters_held old + more
   pub numbers : keys_of new.texts ≡ keys_of old.texts
   pub viewers : texts_shown new.viewers ≡ texts_shown old.viewers
   pub written : new.written ≡ old.written + made
 
 -- ---- what the definitions hold and write
 
-log_shown_counts : (d : Desktop) (v : ℕ) → Counts d (log_shown d v) 0 0
+log_shown_counts : (d : Desktop) (v : ℕ) → CountsHeld d (log_shown d v) 0 0
 log_shown_counts d v = elim (shows d 0 v && nat_lt 0 (times_placed v d.columns)) as
-    (λ b. Counts d (if b then showing d v (length (text_of d 0)) else d) 0 0) [
+    (λ b. CountsHeld d (if b then showing d v (length (text_of d 0)) else d) 0 0) [
       | true ↦ showing_counts d v (length (text_of d 0))
       | false ↦ counts_none d
     ]
 
-all_shown_counts : (d : Desktop) (ids : List ℕ) → Counts d (fold log_shown d ids) 0 0
+all_shown_counts : (d : Desktop) (ids : List ℕ) → CountsHeld d (fold log_shown d ids) 0 0
 all_shown_counts d [] = counts_none d
 all_shown_counts d (v ∷ ids) =
     counts_further d (log_shown d v) (fold log_shown (log_shown d v) ids) 0 0 0 0 (log_shown_counts d v)
     (all_shown_counts (log_shown d v) ids)
 
-log_there : (d new : Desktop) → keys_of new.texts ≡ keys_of d.texts → IsSome (numbered d.texts 0)
-    → IsSome (numbered new.texts 0)
+log_there : (d new : Desktop) → keys_of new.texts ≡ keys_of d.texts → IsSome (text_numbered d.texts 0)
+    → IsSome (text_numbered new.texts 0)
 log_there d new same there = found_by_keys (is_at (nat_cmp 0)) d.texts new.texts same ∙ there
 
-written_counts : (d new : Desktop) (made more fewer : ℕ) → Counts d new more fewer
+written_counts : (d new : Desktop) (made more fewer : ℕ) → CountsHeld d new more fewer
     → CountsMade d (more_written new made) made more fewer
-unfolding held
+unfolding characters_held
 written_counts d new made more fewer counts = record {
   counted = counts.counted;
   numbers = counts.numbers;
@@ -86,7 +86,7 @@ written_counts d new made more fewer counts = record {
 }
 
 -- a part that writes, after one that doesn't
-pub made_after : (d mid new : Desktop) (more fewer made again : ℕ) → Counts d mid more fewer
+pub made_after : (d mid new : Desktop) (more fewer made again : ℕ) → CountsHeld d mid more fewer
     → CountsMade mid new made again 0 → CountsMade d new made (more + again) fewer
 made_after d mid new more fewer made again first next = record {
   counted = omega (arith, first.counted, next.counted);
@@ -104,16 +104,16 @@ made_then d mid new made again first next = record {
   written = omega (arith, first.written, next.written);
 }
 
-pub logged_counts : (d : Desktop) (line : List ℕ) → IsSome (numbered d.texts 0)
+pub logged_counts : (d : Desktop) (line : List ℕ) → IsSome (text_numbered d.texts 0)
     → CountsMade d (logged d line) (length line) (length line) 0
 unfolding logged
 logged_counts d line there =
-    let put = insertion d 0 (length (text_of d 0)) (plain line) in
+    let put = insertion d 0 (length (text_of d 0)) (plain_text line) in
     let mid = more_written put (length line) in
     let counts : CountsMade d mid (length line) (length line) 0
     = written_counts d put (length line) (length line) 0
-    (subst (λ n. Counts d put n 0) (length_in_look default_look line)
-    (insertion_counts d 0 (length (text_of d 0)) (plain line) there)) in
+    (subst (λ n. CountsHeld d put n 0) (length_in_look default_look line)
+    (insertion_counts d 0 (length (text_of d 0)) (plain_text line) there)) in
     let end = all_shown_counts mid (keys_of mid.viewers) in
     record {
       counted = omega (arith, counts.counted, end.counted);
@@ -126,7 +126,7 @@ logged_counts d line there =
 abbrev pub line_bytes : List (List ℕ) → ℕ
 line_bytes lines = sum_by (λ line. length line) lines
 
-pub all_logged_counts : (d : Desktop) (lines : List (List ℕ)) → IsSome (numbered d.texts 0)
+pub all_logged_counts : (d : Desktop) (lines : List (List ℕ)) → IsSome (text_numbered d.texts 0)
     → CountsMade d (all_logged d lines) (line_bytes lines) (line_bytes lines) 0
 unfolding all_logged
 all_logged_counts d [] there = record {
@@ -154,7 +154,7 @@ line_bytes_map {A} f (e ∷ es) =
 
 unfit : (d new : Desktop) (made more fewer : ℕ) → CountsMade d new made more fewer
     → has_space d made more fewer ≡ fits new
-unfolding held
+unfolding characters_held
 unfit d new made more fewer counts =
     space_made d (record new { written = d.written }) made more fewer (record {
       counted = counts.counted;
@@ -162,27 +162,27 @@ unfit d new made more fewer counts =
       viewers = counts.viewers;
       written = refl;
     })
-    ∙ (λ k. nat_le (sym counts.written k) most_written && nat_le (held new) most_held)
+    ∙ (λ k. nat_le (sym counts.written k) most_written && nat_le (characters_held new) most_held)
 
 -- where there is no space for what a row makes it is refused
 pub made_full : (H : Type 0) (old : List ℕ) (d : KeptDesktop) (new : Desktop) (made more fewer : ℕ) → IsOver old d
     → CountsMade (seen old d) new made more fewer → has_space (seen old d) made more fewer ≡ false
-    → IsAnswered H old old d d (settled (seen old d) (Ok new)) (No full)
+    → IsAnswered H old old d d (outcome_after (seen old d) (Ok new)) (No full)
 made_full H old d new made more fewer over counts none =
-    refused H old d (settled (seen old d) (Ok new)) full over known_full (λ h.
+    refused H old d (outcome_after (seen old d) (Ok new)) full over known_full (λ h.
     sym (settled_full (seen old d) new
     (shown_rest (seen old d) new counts.numbers counts.viewers (over.whole.sound old).shown)
     (sym (unfit (seen old d) new made more fewer counts) ∙ none)))
 
 module _ (H : Type 0) (old : List ℕ) (d : KeptDesktop) (mid : Desktop) (more fewer : ℕ) (over : IsOver old d)
-    (counts : Counts (seen old d) mid more fewer) where
-  mid_there : IsSome (numbered mid.texts 0)
+    (counts : CountsHeld (seen old d) mid more fewer) where
+  mid_there : IsSome (text_numbered mid.texts 0)
   mid_there = log_there (seen old d) mid counts.numbers (over.whole.sound old).shaped.viewers.log
 
   -- a row that ends with a line of the log is refused where there is no space for it
   pub logged_full : (line : List ℕ) (all : ℕ) → all ≡ more + length line
       → has_space (seen old d) (length line) all fewer ≡ false
-      → IsAnswered H old old d d (settled (seen old d) (Ok (logged mid line))) (No full)
+      → IsAnswered H old old d d (outcome_after (seen old d) (Ok (logged mid line))) (No full)
   logged_full line all sum none =
       made_full H old d (logged mid line) (length line) all fewer over
       (subst (λ n. CountsMade (seen old d) (logged mid line) (length line) n fewer) (sym sum)
@@ -192,7 +192,7 @@ module _ (H : Type 0) (old : List ℕ) (d : KeptDesktop) (mid : Desktop) (more f
   -- and one that ends with lines of so many bytes
   pub all_logged_full : (lines : List (List ℕ)) (made all : ℕ) → made ≡ line_bytes lines → all ≡ more + made
       → has_space (seen old d) made all fewer ≡ false
-      → IsAnswered H old old d d (settled (seen old d) (Ok (all_logged mid lines))) (No full)
+      → IsAnswered H old old d d (outcome_after (seen old d) (Ok (all_logged mid lines))) (No full)
   all_logged_full lines made all is sum none =
       made_full H old d (all_logged mid lines) made all fewer over
       (subst (λ n. CountsMade (seen old d) (all_logged mid lines) made n fewer) (sym sum)
@@ -231,7 +231,7 @@ module _ {H : Type 0} (old new : List ℕ) (before mid after : KeptDesktop) (out
       let low = space_written (seen all before) made sum fewer (space all) in
       omega (arith, low, extended.written, changed.rest.written)
 
-  held_within : (all : List ℕ) → held (seen all after) ≤ most_held
+  held_within : (all : List ℕ) → characters_held (seen all after) ≤ most_held
   held_within all =
       let low = space_held (seen all before) made sum fewer (space all) in
       omega (arith, low, sum_is, extended.counted all, changed.counted all)
@@ -252,7 +252,7 @@ module _ {H : Type 0} (old new : List ℕ) (before mid after : KeptDesktop) (out
   }
 
   -- and is done
-  pub extended_answered : IsAnswered H old new before after (settled (seen old before) (Ok (part outcome))) Done
+  pub extended_answered : IsAnswered H old new before after (outcome_after (seen old before) (Ok (part outcome))) Done
   extended_answered = row_answered H old new before after (part outcome) extended_over
       (λ h. extended.exact h ∙ ap part (changed.exact h))
 
@@ -271,7 +271,7 @@ log_long characters d =
 module _ (H : Type 0) (old : List ℕ) (d : KeptDesktop) (over : IsOver old d) where
   -- it was empty
   pub empty_cleared : length (flat (text_in d.texts 0)) ≡ 0
-      → IsAnswered H old old d d (settled (seen old d) (Ok (log_cleared (seen old d)))) Done
+      → IsAnswered H old old d d (outcome_after (seen old d) (Ok (log_cleared (seen old d)))) Done
   empty_cleared none =
       row_answered H old old d d (log_cleared (seen old d)) over
       (λ h. sym (cleared_none (seen old d) (log_long old d ∙ none)))
@@ -280,7 +280,7 @@ module _ (H : Type 0) (old : List ℕ) (d : KeptDesktop) (over : IsOver old d) w
   pub log_was_cleared : (new : List ℕ) (after : KeptDesktop) (len fewer : ℕ) → len ≡ length (flat (text_in d.texts 0))
       → length new ≡ length old → (H → new ≡ old)
       → IsChanged H old d after (deletion (seen old d) 0 0 len) 0 fewer
-      → IsAnswered H old new d after (settled (seen old d) (Ok (log_cleared (seen old d)))) Done
+      → IsAnswered H old new d after (outcome_after (seen old d) (Ok (log_cleared (seen old d)))) Done
   unfolding log_cleared
   log_was_cleared new after len fewer is long same changed =
       fewer_answered H old new d after (log_cleared (seen old d)) fewer over long same
@@ -297,18 +297,18 @@ module _ (H : Type 0) (old : List ℕ) (d : KeptDesktop) (over : IsOver old d) (
   directory_is = ap (all_logged (seen old d)) lines_is
 
   pub directory_full : has_space (seen old d) made made 0 ≡ false
-      → IsAnswered H old old d d (settled (seen old d) (Ok (directory_logged (seen old d)))) (No full)
+      → IsAnswered H old old d d (outcome_after (seen old d) (Ok (directory_logged (seen old d)))) (No full)
   directory_full none =
-      subst (λ (x : Desktop). IsAnswered H old old d d (settled (seen old d) (Ok x)) (No full)) directory_is
+      subst (λ (x : Desktop). IsAnswered H old old d d (outcome_after (seen old d) (Ok x)) (No full)) directory_is
       (all_logged_full H old d (seen old d) 0 0 over (counts_none (seen old d)) lines made made made_is (omega arith)
       none)
 
   pub directory_answered : (new : List ℕ) (after : KeptDesktop)
       → IsExtended H old new d after (λ x. all_logged x lines) made
       → ((all : List ℕ) → has_space (seen all d) made made 0 ≡ true)
-      → IsAnswered H old new d after (settled (seen old d) (Ok (directory_logged (seen old d)))) Done
+      → IsAnswered H old new d after (outcome_after (seen old d) (Ok (directory_logged (seen old d)))) Done
   directory_answered new after extended space =
-      subst (λ (x : Desktop). IsAnswered H old new d after (settled (seen old d) (Ok x)) Done) directory_is
+      subst (λ (x : Desktop). IsAnswered H old new d after (outcome_after (seen old d) (Ok x)) Done) directory_is
       (extended_answered old new d d after (seen old d) (λ x. all_logged x lines) 0 0 made made over
       (unchanged H old d (over_built old d over)) extended (omega arith) space)
 
@@ -345,7 +345,7 @@ module _ {H G : Type 0} (old line now new : List ℕ) (before after : KeptDeskto
     (end_is : end ≡ length (flat (text_in before.texts 0)))
     (changed : IsChanged G now before after (insertion (seen now before) 0 end (seen_text now buffer))
     (length (flat buffer)) 0) where
-  line_read : seen_text now buffer ≡ plain line
+  line_read : seen_text now buffer ≡ plain_text line
   line_read =
       ap (contents now) buffer_is
       ∙ ap (λ (l : List ℕ). contents l (run before.written (length line) default_look)) grown
@@ -363,7 +363,7 @@ module _ {H G : Type 0} (old line now new : List ℕ) (before after : KeptDeskto
       omega (arith, long, sum, stands.counted, changed.rest.written)
 
   put_seen : H → seen new (more_written after (length line))
-      ≡ more_written (insertion (seen old before) 0 (length (text_of (seen old before) 0)) (plain line)) (length line)
+      ≡ more_written (insertion (seen old before) 0 (length (text_of (seen old before) 0)) (plain_text line)) (length line)
   unfolding seen
   put_seen h =
       ap (λ (l : List ℕ). seen l (more_written after (length line))) (same h)
@@ -376,8 +376,8 @@ module _ {H G : Type 0} (old line now new : List ℕ) (before after : KeptDeskto
 
   -- a line was put in at the end of the log, and counts as written
   pub line_put : IsExtended H old new before (more_written after (length line)) (λ d.
-      more_written (insertion d 0 (length (text_of d 0)) (plain line)) (length line)) (length line)
-  unfolding seen held
+      more_written (insertion d 0 (length (text_of d 0)) (plain_text line)) (length line)) (length line)
+  unfolding seen characters_held
   line_put = record {
     exact = put_seen;
     stands = record {
@@ -402,7 +402,7 @@ module _ {H G : Type 0} (old line now new : List ℕ) (before after : KeptDeskto
     unfolding logged
     line_logged =
         extended_further old new last before (more_written after (length line)) shown
-        (λ d. more_written (insertion d 0 (length (text_of d 0)) (plain line)) (length line)) log_end_shown
+        (λ d. more_written (insertion d 0 (length (text_of d 0)) (plain_text line)) (length line)) log_end_shown
         (length line) again as_long still line_put next
 
 -- ---- lines, one by one
@@ -412,7 +412,7 @@ pub record IsLogging (honest : Type 0) (old new : List ℕ) (before after : Kept
     : Type 0 where
   pub exact : honest → all_logged (seen new after) rest ≡ all_logged (seen old before) lines
   pub stands : IsStanding new after
-  pub counted : (all : List ℕ) → held (seen all after) + line_bytes rest ≡ held (seen all before) + line_bytes lines
+  pub counted : (all : List ℕ) → characters_held (seen all after) + line_bytes rest ≡ characters_held (seen all before) + line_bytes lines
   pub numbers : keys_of after.texts ≡ keys_of before.texts
   pub viewers : texts_shown after.viewers ≡ texts_shown before.viewers
   pub written : after.written + line_bytes rest ≡ before.written + line_bytes lines
@@ -557,17 +557,17 @@ module _ {H : Type 0} (cs : List ℕ) (a : KeptDesktop) (v : ℕ) where
         changed_as (log_shown (seen cs a) v) (unchanged H cs a built) (λ h. not_there (seen cs a) v none)
 
 -- a desktop that is kept has a log
-pub log_kept : (n : ℕ) (d : KeptDesktop) → IsBuilt n d → IsSome (numbered d.texts 0)
+pub log_kept : (n : ℕ) (d : KeptDesktop) → IsBuilt n d → IsSome (text_numbered d.texts 0)
 unfolding seen
 log_kept n d built =
     sym (ap is_some (lookup_seen (seen_text []) (is_at (nat_cmp 0)) d.texts)
-    ∙ is_some_map (seen_text []) (numbered d.texts 0)) ∙ (built.shaped []).viewers.log
+    ∙ is_some_map (seen_text []) (text_numbered d.texts 0)) ∙ (built.shaped []).viewers.log
 
 -- a viewer shows a position once it has the org that shows it
 pub showing_put : (H : Type 0) (characters : List ℕ) (d : KeptDesktop) (v p org rows : ℕ) (viewers : List (ℕ × Viewer))
     → IsBuilt (length characters) d
     → org ≤ length (flat (text_in d.texts (viewer_or_none d.viewers v).main)) → rows ≡ rows_of d v
-    → (H → org ≡ shown_org (bytes characters (flat (text_in d.texts (viewer_or_none d.viewers v).main))) rows p
+    → (H → org ≡ shown_org (bytes_of_text characters (flat (text_in d.texts (viewer_or_none d.viewers v).main))) rows p
     (viewer_or_none d.viewers v).org)
     → viewers ≡ set_value (is_at (nat_cmp v)) d.viewers (record (viewer_or_none d.viewers v) { org = org })
     → IsChanged H characters d (record d { viewers = viewers }) (showing (seen characters d) v p) 0 0
@@ -580,5 +580,5 @@ showing_put H characters d v p org rows viewers built low rows_is exact set =
     (changed_as (showing (seen characters d) v p) (with_org_changed H characters d built v org low)
     (λ h. ap (λ (o : ℕ). with_org (seen characters d) v o)
     (exact h
-    ∙ ap (λ (r : ℕ). shown_org (bytes characters (flat (text_in d.texts m))) r p old) rows_is
+    ∙ ap (λ (r : ℕ). shown_org (bytes_of_text characters (flat (text_in d.texts m))) r p old) rows_is
     ∙ ap (λ (t : Text ℕ). shown_org (bytes_of t) (rows_of d v) p old) (sym (text_in_seen characters d.texts m)))))

@@ -10,13 +10,13 @@ use Rattle.desktop_definitions.specs.declared.viewer.Selection.{Selection}
 use Rattle.desktop_definitions.specs.declared.reply.Reply.TheVariants.{Done, No}
 use Rattle.desktop_definitions.specs.Limits.{no_selection, bad_value}
 use Rattle.desktop_definitions.specs.Needs.{needs}
-use Rattle.desktop_definitions.specs.Desktop.{DesktopOf, Desktop, KeptDesktop, held}
+use Rattle.desktop_definitions.specs.Desktop.{DesktopOf, Desktop, KeptDesktop, characters_held}
 use Rattle.desktop_definitions.specs.Viewers.{newest}
 use Rattle.desktop_definitions.specs.Change.{looks_set}
 use Rattle.desktop_definitions.specs.Looks.{fonts, font_set}
 use Rattle.desktop_definitions.specs.Effects.{look_set, selection_set}
 use Rattle.desktop_definitions.specs.Seen.{seen}
-use Rattle.desktop_definitions.specs.Step.{settled}
+use Rattle.desktop_definitions.specs.Step.{outcome_after}
 use Rattle.desktop_definitions.specs.Sound.{IsSound, IsOver}
 use Rattle.desktop_definitions.specs.Changed.{IsChanged}
 use Rattle.desktop_definitions.specs.Outcome.{IsAnswered}
@@ -34,7 +34,7 @@ abbrev pub in_typed : {T : Type 0} → DesktopOf T → Look → DesktopOf T
 in_typed d look = record d { look = look }
 
 typed_sound : (d : Desktop) (look : Look) → IsLook look → IsSound d → IsSound (in_typed d look)
-unfolding held
+unfolding characters_held
 typed_sound d look is sound = record {
   shaped = shape_stays sound.shaped refl sound.shaped.pattern (typed_looks d sound.shaped.looks look is);
   shown = sound.shown;
@@ -56,14 +56,14 @@ typed_over old d look is over = record {
 module _ (H : Type 0) (old : List ℕ) (d : KeptDesktop) (over : IsOver old d) where
   -- a refusal where no field is set
   pub none_set_answered : (new : Option LookChange) (row : LookChange → Result Desktop ℕ) → new ≡ None
-      → IsAnswered H old old d d (settled (seen old d) (needs new bad_value row)) (No bad_value)
+      → IsAnswered H old old d d (outcome_after (seen old d) (needs new bad_value row)) (No bad_value)
   none_set_answered new row is = refusal_answered H old d _ bad_value over known_bad_value
       (ap (λ (o : Option LookChange). needs o bad_value row) is)
 
   pub look_set_answered : (new : Option LookChange) (set : LookChange) (look : Look) → SetsLook new → new ≡ Some set
       → look ≡ relooked set.selector set.look d.look
       → IsAnswered H old old d (in_typed d look)
-      (settled (seen old d) (needs new bad_value (λ set. Ok (look_set (seen old d) set)))) Done
+      (outcome_after (seen old d) (needs new bad_value (λ set. Ok (look_set (seen old d) set)))) Done
   unfolding seen look_set
   look_set_answered new set look sets is look_is =
       row_as (seen old d) _
@@ -77,7 +77,7 @@ module _ (H : Type 0) (old : List ℕ) (d : KeptDesktop) (over : IsOver old d) w
 
   -- a refusal without a selection
   pub none_selected_answered : (new : Option LookChange) (set : LookChange) → new ≡ Some set → newest d ≡ None
-      → IsAnswered H old old d d (settled (seen old d) (needs new bad_value (selection_set (seen old d))))
+      → IsAnswered H old old d d (outcome_after (seen old d) (needs new bad_value (selection_set (seen old d))))
       (No no_selection)
   unfolding seen selection_set
   none_selected_answered new set is none = refusal_answered H old d _ no_selection over known_no_selection
@@ -86,7 +86,7 @@ module _ (H : Type 0) (old : List ℕ) (d : KeptDesktop) (over : IsOver old d) w
 
   pub selection_set_answered : (new : Option LookChange) (set : LookChange) (s : Selection) (after : KeptDesktop)
       → new ≡ Some set → newest d ≡ Some s → IsChanged ⊤ old d after (looks_set (seen old d) s set.selector set.look) 0 0
-      → IsAnswered H old old d after (settled (seen old d) (needs new bad_value (selection_set (seen old d)))) Done
+      → IsAnswered H old old d after (outcome_after (seen old d) (needs new bad_value (selection_set (seen old d)))) Done
   unfolding seen selection_set
   selection_set_answered new set s after is some changed =
       row_as (seen old d) _

@@ -27,11 +27,11 @@ use Rattle.desktop_definitions.specs.Limits.{number_of_fonts, number_of_colours,
 use Rattle.desktop_definitions.specs.Limits.{most_pattern}
 use Rattle.desktop_definitions.specs.Looks.{fonts, font_set, colour_set, offset_set, IsLook, SetsLook, AreLooks}
 use Rattle.desktop_definitions.specs.declared.viewer.Viewer.{Viewer}
-use Rattle.desktop_definitions.specs.Tables.{Texts, Files, name_cmp, put}
+use Rattle.desktop_definitions.specs.Tables.{Texts, Files, name_cmp, file_put}
 use Rattle.desktop_definitions.specs.Desktop.{Desktop, KeptDesktop}
 use Rattle.desktop_definitions.specs.Viewers.{text_in, main_length}
 use Rattle.desktop_definitions.specs.Change.{edited}
-use Rattle.desktop_definitions.specs.Opening.{least_unused, with_new, is_shown, dropped}
+use Rattle.desktop_definitions.specs.Opening.{least_unused, with_new, is_shown, without_unshown}
 use Rattle.desktop_definitions.specs.Seen.{seen, seen_text, seen_table}
 use Rattle.desktop_definitions.specs.Sound.{AreViewers, ArePlaces, AreMarks, AreFiles, HasLooks, IsShaped, AllWithin}
 use Rattle.desktop_definitions.specs.Sound.{IsWithin, IsBuilt}
@@ -303,8 +303,8 @@ module _ (d : Desktop) (has : HasLooks d) where
       (All-values-insert_entry nat_cmp (least_unused (keys_of d.texts)) text AreLooks d.texts has.texts looks)
 
   -- texts that no viewer shows are removed
-  pub dropped_looks : HasLooks (dropped d)
-  unfolding dropped
+  pub dropped_looks : HasLooks (without_unshown d)
+  unfolding without_unshown
   dropped_looks =
       texts_looks (filter (λ e. is_shown d.viewers e.0) d.texts) (left_looks (is_shown d.viewers) d.texts has.texts)
 
@@ -315,9 +315,9 @@ module _ (d : Desktop) (has : HasLooks d) where
 
   -- the file of a name became this text
   pub put_looks : (name : List ℕ) (text : Text ℕ) → AreLooks text
-      → HasLooks (record d { files = put d.files name text })
+      → HasLooks (record d { files = file_put d.files name text })
   put_looks name text looks =
-      files_looks (put d.files name text)
+      files_looks (file_put d.files name text)
       (All-values-insert_entry name_cmp name text AreLooks d.files has.files looks)
 
   -- something else was copied last

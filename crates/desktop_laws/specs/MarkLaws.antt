@@ -20,14 +20,14 @@ use Rattle.desktop_definitions.specs.declared.viewer.Viewer.{Viewer}
 use Rattle.desktop_definitions.specs.declared.viewer.Caret.{Caret}
 use Rattle.desktop_definitions.specs.declared.viewer.Selection.{Selection}
 use Rattle.desktop_laws.specs.TableLaws.{is_some_map}
-use Rattle.desktop_definitions.specs.Desktop.{Desktop, KeptDesktop, held}
+use Rattle.desktop_definitions.specs.Desktop.{Desktop, KeptDesktop, characters_held}
 use Rattle.desktop_definitions.specs.Viewers.{bare_viewer, viewer_in, viewer_or_none, text_in, main_length}
 use Rattle.desktop_definitions.specs.Viewers.{selections_outside, with_org, with_caret, unselected, with_selection}
-use Rattle.desktop_definitions.specs.Keys.{escaped}
+use Rattle.desktop_definitions.specs.Keys.{without_marks}
 use Rattle.desktop_definitions.specs.Gesture.{is_some_stretch, drawn_in}
 use Rattle.desktop_definitions.specs.Seen.{seen_table, seen}
 use Rattle.desktop_definitions.specs.Step.{marked}
-use Rattle.desktop_definitions.specs.Sound.{IsViewer, IsCaret, IsSelection, AreMarks, IsShaped, IsBuilt}
+use Rattle.desktop_definitions.specs.Sound.{IsViewer, IsCaretPlaced, IsSelection, AreMarks, IsShaped, IsBuilt}
 use Rattle.desktop_definitions.specs.Changed.{texts_shown, IsChanged}
 use Rattle.desktop_laws.specs.TextLaws.{long_seen}
 use Rattle.desktop_laws.specs.LookedLaws.{looks_stay, within_stays}
@@ -88,10 +88,10 @@ only_one P x here (suc i) d low = absurd (omega (arith, low))
 
 module _ (columns : Columns) (long : ℕ → ℕ) where
   pub caret_stands : (v p : ℕ) → IsOnTop v columns → p ≤ long v
-      → ForSome (Some (record { viewer = v; position = p })) (IsCaret columns long)
+      → ForSome (Some (record { viewer = v; position = p })) (IsCaretPlaced columns long)
   caret_stands v p placed within = λ c here.
       let this : record { viewer = v; position = p } ≡ c = cc here in
-      subst (IsCaret columns long) this (record { placed = placed; within = within })
+      subst (IsCaretPlaced columns long) this (record { placed = placed; within = within })
 
   pub selection_stands : (s : Selection) → IsOnTop s.viewer columns → s.beg < s.end → s.end ≤ long s.viewer
       → All (IsSelection columns long) (s ∷ [])
@@ -125,7 +125,7 @@ module _ (n : ℕ) (d : KeptDesktop) (built : IsBuilt n d) (caret : Option Caret
 
     pub marks_changed : (H : Type 0) (characters : List ℕ) → n ≡ length characters
         → IsChanged H characters d remarked (seen characters remarked) 0 0
-    unfolding seen held
+    unfolding seen characters_held
     marks_changed H characters long = record {
       exact = λ h. refl;
       built = subst (λ n. IsBuilt n remarked) long marks_built;
@@ -208,8 +208,8 @@ module _ (H : Type 0) (characters : List ℕ) (d : KeptDesktop) (built : IsBuilt
         | false ↦ λ none. unselected_changed s.viewer
       ]) refl
 
-  pub escaped_changed : IsChanged H characters d (escaped d) (escaped (seen characters d)) 0 0
-  unfolding seen escaped
+  pub escaped_changed : IsChanged H characters d (without_marks d) (without_marks (seen characters d)) 0 0
+  unfolding seen without_marks
   escaped_changed =
       marks_changed (length characters) d built None [] None
       (λ all. record {
@@ -394,7 +394,7 @@ module _ (H : Type 0) (characters : List ℕ) (d : KeptDesktop) (built : IsBuilt
   ]
 
   pub with_org_changed : IsChanged H characters d (with_org d v org) (with_org (seen characters d) v org) 0 0
-  unfolding seen held
+  unfolding seen characters_held
   with_org_changed = record {
     exact = λ h. refl;
     built = record {

@@ -23,7 +23,7 @@ use Rattle.desktop_definitions.specs.declared.viewer.Caret.{Caret}
 use Rattle.desktop_definitions.specs.declared.viewer.Selection.{Selection}
 use Rattle.desktop_definitions.specs.declared.viewer.ClosedViewer.{ClosedViewer}
 use Rattle.viewer_tracks.specs.Columns.{Columns, IsPlaced, IsOnTop}
-use Rattle.desktop_definitions.specs.Tables.{Texts, numbered}
+use Rattle.desktop_definitions.specs.Tables.{Texts, text_numbered}
 use Rattle.desktop_definitions.specs.Viewers.{viewer_in, text_in, main_length, viewer_or_none, bare_viewer}
 use Rattle.desktop_definitions.specs.Opening.{least_unused}
 use Rattle.desktop_definitions.specs.Sound.{IsViewer, AreViewers, ArePlaces, AreMarks, times_there}
@@ -164,21 +164,21 @@ same_marks columns long other caret selections same marks = record {
 
 -- Texts, and the same with one of a number that none of them has.
 pub record IsTextMore {X : Type 0} (texts new : Texts (List X)) (n : ℕ) : Type 0 where
-  pub none : numbered texts n ≡ None
-  pub others : (k : ℕ) → ¬ (k ≡ n) → numbered new k ≡ numbered texts k
+  pub none : text_numbered texts n ≡ None
+  pub others : (k : ℕ) → ¬ (k ≡ n) → text_numbered new k ≡ text_numbered texts k
   pub numbers : IsStrictlySortedBy nat_cmp (keys_of new)
 
 module _ {X : Type 0} (texts new : Texts (List X)) (n : ℕ) (more : IsTextMore texts new n) where
-  pub not_new : (k : ℕ) → IsSome (numbered texts k) → ¬ (k ≡ n)
-  not_new k some = let found = is_there (numbered texts k) some in apart_from texts n k found.0 more.none found.1
+  pub not_new : (k : ℕ) → IsSome (text_numbered texts k) → ¬ (k ≡ n)
+  not_new k some = let found = is_there (text_numbered texts k) some in apart_from texts n k found.0 more.none found.1
 
-  pub text_stays : (k : ℕ) → IsSome (numbered texts k) → numbered new k ≡ numbered texts k
+  pub text_stays : (k : ℕ) → IsSome (text_numbered texts k) → text_numbered new k ≡ text_numbered texts k
   text_stays k some = more.others k (not_new k some)
 
-  pub some_stays : (k : ℕ) → IsSome (numbered texts k) → IsSome (numbered new k)
+  pub some_stays : (k : ℕ) → IsSome (text_numbered texts k) → IsSome (text_numbered new k)
   some_stays k some = subst (λ (o : Option (List X)). IsSome o) (sym (text_stays k some)) some
 
-  pub length_stays : (k : ℕ) → IsSome (numbered texts k) → length (text_in new k) ≡ length (text_in texts k)
+  pub length_stays : (k : ℕ) → IsSome (text_numbered texts k) → length (text_in new k) ≡ length (text_in texts k)
   length_stays k some = ap (λ (o : Option (List X)). length (unwrap_or o [])) (text_stays k some)
 
   module _ (viewers : List (ℕ × Viewer)) (are : AreViewers texts viewers) where
@@ -203,7 +203,7 @@ module _ {X : Type 0} (texts new : Texts (List X)) (n : ℕ) (more : IsTextMore 
     text_long w some =
         let found = is_there (viewer_in viewers w) some in
         length_stays (viewer_or_none viewers w).main
-        (subst (λ (o : Option Viewer). IsSome (numbered texts (unwrap_or o bare_viewer).main)) (sym found.1)
+        (subst (λ (o : Option Viewer). IsSome (text_numbered texts (unwrap_or o bare_viewer).main)) (sym found.1)
         (are.each w found.0 found.1).main)
 
 -- ---- a viewer more
@@ -216,8 +216,8 @@ pub record IsViewerMore {X : Type 0} (texts : Texts (List X)) (viewers new : Lis
   pub there : viewer_in new v ≡ Some viewer
   pub others : (w : ℕ) → ¬ (w ≡ v) → viewer_in new w ≡ viewer_in viewers w
   pub ids : IsStrictlySortedBy nat_cmp (keys_of new)
-  pub menu : IsSome (numbered texts viewer.menu)
-  pub main : IsSome (numbered texts viewer.main)
+  pub menu : IsSome (text_numbered texts viewer.menu)
+  pub main : IsSome (text_numbered texts viewer.main)
   pub org : viewer.org ≤ length (text_in texts viewer.main)
   pub not_log : ¬ (viewer.menu ≡ 0)
   pub apart : ¬ (viewer.main ≡ viewer.menu)

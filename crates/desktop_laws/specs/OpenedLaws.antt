@@ -17,19 +17,19 @@ use Rattle.viewer_tracks.specs.declared.display.Track.{Track}
 use Rattle.viewer_tracks.specs.declared.display.Track.TheVariants.{User, System}
 use Rattle.viewer_tracks.specs.Display.{track_at, left_of}
 use Rattle.viewer_tracks.specs.Viewers.{times_in}
-use Rattle.viewer_tracks.specs.Columns.{Columns, IsColumns, IsOnTop, times_placed, times_meant, shown}
+use Rattle.viewer_tracks.specs.Columns.{Columns, IsColumns, IsOnTop, times_placed, times_meant, shown_track}
 use Rattle.viewer_tracks.specs.Columns.{after_open, after_open_track, replaced_at}
 use Rattle.viewer_tracks.proofs.PlacedLemmas.{cover_places, cover_shows}
 use Rattle.desktop_definitions.specs.declared.viewer.Caret.{Caret}
 use Rattle.desktop_definitions.specs.declared.viewer.Selection.{Selection}
 use Rattle.desktop_definitions.specs.declared.viewer.Viewer.{Viewer}
-use Rattle.desktop_definitions.specs.Tables.{Texts, numbered, lengths, with_values}
+use Rattle.desktop_definitions.specs.Tables.{Texts, text_numbered, lengths, with_values}
 use Rattle.desktop_laws.specs.TableLaws.{insert_seen, rising_put}
-use Rattle.desktop_definitions.specs.Desktop.{Desktop, DesktopOf, KeptDesktop, held}
+use Rattle.desktop_definitions.specs.Desktop.{Desktop, DesktopOf, KeptDesktop, characters_held}
 use Rattle.desktop_definitions.specs.Viewers.{viewer_in, main_length, without_viewer, opened_at, text_of, unmarked}
 use Rattle.desktop_definitions.specs.Viewers.{is_shown_in, covered_by, caret_outside, selections_outside}
 use Rattle.desktop_definitions.specs.Opening.{least_unused, with_new, new_number, new_id, new_viewer, with_viewer}
-use Rattle.desktop_definitions.specs.Opening.{opening_on, opening_over, opening, dropped}
+use Rattle.desktop_definitions.specs.Opening.{opening_on, opening_over, after_opening, without_unshown}
 use Rattle.desktop_definitions.specs.Seen.{seen, seen_text}
 use Rattle.desktop_definitions.specs.Sound.{AreViewers, AreMarks, times_there, IsShaped, IsBuilt}
 use Rattle.desktop_laws.specs.PlaceLaws.{any_at, by_number, StandStill, marks_outside, IsPlacedAnew}
@@ -65,9 +65,9 @@ module _ {T : Type 0} (d : DesktopOf T) where
   unfolding opening_on opened_at
   opening_on_is menu main org cell = refl
 
-  pub opening_is : (menu main : T) (cell : ℕ × ℕ) → opening d menu main cell
+  pub opening_is : (menu main : T) (cell : ℕ × ℕ) → after_opening d menu main cell
       ≡ opening_on (text_more main) menu (new_number d) 0 cell
-  unfolding opening
+  unfolding after_opening
   opening_is menu main cell = refl
 
   -- the columns with the new viewer's track over the one that a column showed
@@ -96,7 +96,7 @@ some_of {A} o a is = subst (λ (x : Option A). IsSome x) (sym is) refl
 
 -- A new viewer can show a text from a position on: it is there and nobody's menu, and the position is within it.
 pub record CanShow (d : Desktop) (main org : ℕ) : Type 0 where
-  pub there : IsSome (numbered d.texts main)
+  pub there : IsSome (text_numbered d.texts main)
   pub within : org ≤ length (text_of d main)
   pub no_menu : (w : ℕ) (other : Viewer) → viewer_in d.viewers w ≡ Some other → ¬ (main ≡ other.menu)
 
@@ -139,7 +139,7 @@ module _ (d : Desktop) (menu : Text ℕ) (main org : ℕ) (shaped : IsShaped d) 
   abbrev more : IsTextMore d.texts texts (new_number d)
   more = is_text_more d menu shaped
 
-  abbrev text_apart : (k : ℕ) → IsSome (numbered d.texts k) → ¬ (k ≡ new_number d)
+  abbrev text_apart : (k : ℕ) → IsSome (text_numbered d.texts k) → ¬ (k ≡ new_number d)
   text_apart k some = not_new d.texts texts (new_number d) more k some
 
   is_viewer_more : IsViewerMore texts d.viewers (new_viewers d main org) (new_id d) (new_viewer d main org)
@@ -236,9 +236,9 @@ module _ (d : Desktop) (menu : Text ℕ) (main org : ℕ) (shaped : IsShaped d) 
     -- who isn't in the covered track is shown still
     still_on_top : (w : ℕ) → is_shown_in d k w ≡ false → IsOnTop w d.columns → IsOnTop w (columns_over d k)
     still_on_top w out top =
-        let none = ltb-false 0 (times_in w (shown d.columns k)) out in
+        let none = ltb-false 0 (times_in w (shown_track d.columns k)) out in
         let sum = cover_shows d.columns (new_id d) (left_of k) w in
-        let there = ap (λ (j : Track). times_in w (shown d.columns j)) (left_at k) in
+        let there = ap (λ (j : Track). times_in w (shown_track d.columns j)) (left_at k) in
         omega (arith, none, sum, there, top)
 
     pub covering_anew : AreLooks menu → IsPlacedAnew (covered_desktop d menu main org k) (columns_over d k) None
@@ -302,7 +302,7 @@ module _ (characters : List ℕ) (d : KeptDesktop) where
   -- an opening of what is seen, where its main text comes first
   pub opening_seen : (menu : Text ℕ) (main : List Piece) (cell : ℕ × ℕ)
       → opening_on (seen characters (text_more d main)) menu (new_number d) 0 cell
-      ≡ opening (seen characters d) menu (seen_text characters main) cell
+      ≡ after_opening (seen characters d) menu (seen_text characters main) cell
   opening_seen menu main cell =
       (λ k. opening_on (seen_text_more main k) menu (sym number_seen k) 0 cell)
       ∙ sym (opening_is (seen characters d) menu (seen_text characters main) cell)
@@ -346,17 +346,17 @@ left_viewers (Some g) viewers = remove_entry (is_at (nat_cmp g)) viewers
 abbrev pub by_others : Option ℕ → List (ℕ × Viewer) → ℕ → Bool
 by_others taken viewers n = list_any (λ e. shows_text n e.1) (left_viewers taken viewers)
 
-held_without : (d : Desktop) (taken : Option ℕ) → held (dropped (without_viewer d taken))
+held_without : (d : Desktop) (taken : Option ℕ) → characters_held (without_unshown (without_viewer d taken))
     ≡ lengths (filter (λ e. (e.0 == 0) || by_others taken d.viewers e.0) d.texts) + lengths d.files
     + length d.copied + length d.deleted
-unfolding held dropped
+unfolding characters_held without_unshown
 held_without d None = refl
 held_without d (Some g) = refl
 
-held_anew : (d : Desktop) (columns : Columns) (taken : Option ℕ) → held (dropped (placed_anew d columns taken))
+held_anew : (d : Desktop) (columns : Columns) (taken : Option ℕ) → characters_held (without_unshown (placed_anew d columns taken))
     ≡ lengths (filter (λ e. (e.0 == 0) || by_others taken d.viewers e.0) d.texts) + lengths d.files
     + length d.copied + length d.deleted
-unfolding held dropped
+unfolding characters_held without_unshown
 held_anew d columns None = refl
 held_anew d columns (Some g) = refl
 
@@ -377,7 +377,7 @@ there_is (Some a) some = (a, refl)
 new_apart : {T : Type 0} (texts : Texts T) (k : ℕ) → list_any (λ j. j == k) (keys_of texts) ≡ true
     → (least_unused (keys_of texts) == k) ≡ false
 new_apart texts k there =
-    let found = there_is (numbered texts k)
+    let found = there_is (text_numbered texts k)
     (is_some-lookup (is_at (nat_cmp k)) texts ∙ any_at k (keys_of texts) ∙ there) in
     ne_eqb _ k (λ same. apart_from texts (least_unused (keys_of texts)) k found.0 (unused_none texts) found.1
     (sym same))
@@ -416,7 +416,7 @@ module _ (d : Desktop) (menu : Text ℕ) (main org : ℕ) (taken : Option ℕ)
   lengths_left = lengths_new d.texts menu test (staying main taken d.viewers) menu_stays
       (λ k other. test_is k ∙ (λ i. (k == 0) || ((other i || (main == k)) || by_others taken d.viewers k)))
 
-  held_one_more : (columns : Columns) → held (dropped (placed_anew (with_viewer d menu main org) columns taken))
+  held_one_more : (columns : Columns) → characters_held (without_unshown (placed_anew (with_viewer d menu main org) columns taken))
       ≡ lengths (filter (λ e. staying main taken d.viewers e.0) d.texts) + lengths d.files + length d.copied
       + length d.deleted + length menu
   held_one_more columns =
@@ -436,9 +436,9 @@ module _ (d : Desktop) (menu : Text ℕ) (cell : ℕ × ℕ) (apart : IsApart d 
   pub held_opening_on : (main org : ℕ)
       → ((k : ℕ) → list_any (λ j. j == k) (keys_of d.texts) ≡ true
       → staying main gone d.viewers k ≡ (k == 0) || by_others gone d.viewers k)
-      → held (dropped (opening_on d menu main org cell)) ≡ held (dropped (without_viewer d gone)) + length menu
+      → characters_held (without_unshown (opening_on d menu main org cell)) ≡ characters_held (without_unshown (without_viewer d gone)) + length menu
   held_opening_on main org stays =
-      let is = ap (λ (x : Desktop). held (dropped x)) (opening_on_is d menu main org cell) in
+      let is = ap (λ (x : Desktop). characters_held (without_unshown x)) (opening_on_is d menu main org cell) in
       let all = held_one_more d menu main org gone apart (after_open d.columns (new_id d) cell.0 cell.1) in
       let before = held_without d gone in
       let same = ap lengths (filter_alike (staying main gone d.viewers) (λ k. (k == 0) || by_others gone d.viewers k)
@@ -446,12 +446,12 @@ module _ (d : Desktop) (menu : Text ℕ) (cell : ℕ × ℕ) (apart : IsApart d 
       omega (arith, is, all, before, same)
 
   -- on a new text
-  pub held_opening : (main : Text ℕ) → held (dropped (opening d menu main cell))
-      ≡ held (dropped (without_viewer d gone)) + length main + length menu
+  pub held_opening : (main : Text ℕ) → characters_held (without_unshown (after_opening d menu main cell))
+      ≡ characters_held (without_unshown (without_viewer d gone)) + length main + length menu
   held_opening main =
       let n = new_number d in
       let x = text_more d main in
-      let is = ap (λ (y : Desktop). held (dropped y))
+      let is = ap (λ (y : Desktop). characters_held (without_unshown y))
       (opening_is d menu main cell ∙ opening_on_is x menu n 0 cell) in
       let all = held_one_more x menu n 0 gone apart (after_open d.columns (new_id d) cell.0 cell.1) in
       let first = lengths_new d.texts main (staying n gone d.viewers) (λ k. (k == 0) || by_others gone d.viewers k)
@@ -461,15 +461,15 @@ module _ (d : Desktop) (menu : Text ℕ) (cell : ℕ × ℕ) (apart : IsApart d 
       omega (arith, is, all, first, before)
 
 module _ (d : Desktop) (menu : Text ℕ) (main org : ℕ) (k : Track) where
-  held_covered : held (dropped (opening_over d menu main org k))
-      ≡ held (dropped (placed_anew (with_viewer d menu main org) (columns_over d k) None))
-  unfolding held dropped opening_over covered_by
+  held_covered : characters_held (without_unshown (opening_over d menu main org k))
+      ≡ characters_held (without_unshown (placed_anew (with_viewer d menu main org) (columns_over d k) None))
+  unfolding characters_held without_unshown opening_over covered_by
   held_covered = refl
 
   -- in a new track nobody's place is taken
   pub held_opening_over : ((n : ℕ) → list_any (λ j. j == n) (keys_of d.texts) ≡ true
       → staying main None d.viewers n ≡ (n == 0) || by_others None d.viewers n)
-      → held (dropped (opening_over d menu main org k)) ≡ held (dropped d) + length menu
+      → characters_held (without_unshown (opening_over d menu main org k)) ≡ characters_held (without_unshown d) + length menu
   held_opening_over stays =
       let all = held_one_more d menu main org None refl (columns_over d k) in
       let before = held_without d None in

@@ -23,13 +23,13 @@ use Rattle.desktop_definitions.specs.declared.reply.Reply.TheVariants.{Done}
 use Rattle.desktop_definitions.specs.Limits.{most_written, most_held}
 use Rattle.desktop_definitions.specs.Tables.{Texts}
 use Rattle.desktop_laws.specs.TableLaws.{length_seen_text, length_seen}
-use Rattle.desktop_definitions.specs.Desktop.{DesktopOf, Desktop, KeptDesktop, held}
-use Rattle.desktop_definitions.specs.Change.{plain, more_written}
+use Rattle.desktop_definitions.specs.Desktop.{DesktopOf, Desktop, KeptDesktop, characters_held}
+use Rattle.desktop_definitions.specs.Change.{plain_text, more_written}
 use Rattle.desktop_definitions.specs.Opening.{new_number, new_id, with_new, with_viewer, opening_on, opening_over}
-use Rattle.desktop_definitions.specs.Opening.{opening, dropped}
+use Rattle.desktop_definitions.specs.Opening.{after_opening, without_unshown}
 use Rattle.desktop_definitions.specs.Seen.{seen, seen_text}
 use Rattle.desktop_laws.specs.SeenLaws.{seen_longer, new_read}
-use Rattle.desktop_definitions.specs.Step.{fits, settled, outcome_of}
+use Rattle.desktop_definitions.specs.Step.{fits, outcome_after, outcome_of}
 use Rattle.desktop_laws.specs.StepLaws.{fit_written, fit_held, fits_by}
 use Rattle.desktop_definitions.specs.Sound.{IsWithin, IsShaped, IsBuilt, IsSound, IsOver}
 use Rattle.desktop_definitions.specs.Sound.{IsKeptWhole, times_there}
@@ -109,66 +109,66 @@ can_open_more d texts text whole is = record {
 -- ---- what was written, and the limits
 
 pub written_on : {T : Type 0} (d : DesktopOf T) (menu : T) (main org : ℕ) (cell : ℕ × ℕ)
-    → (dropped (opening_on d menu main org cell)).written ≡ d.written
+    → (without_unshown (opening_on d menu main org cell)).written ≡ d.written
 written_on {T} d menu main org cell =
-    ap (λ (x : DesktopOf T). (dropped x).written) (opening_on_is d menu main org cell)
+    ap (λ (x : DesktopOf T). (without_unshown x).written) (opening_on_is d menu main org cell)
     ∙ dropped_written (placed_anew (with_viewer d menu main org) (after_open d.columns (new_id d) cell.0 cell.1)
     (replaced_at d.columns cell.0 cell.1))
     ∙ anew_written (with_viewer d menu main org) (after_open d.columns (new_id d) cell.0 cell.1)
     (replaced_at d.columns cell.0 cell.1)
 
 pub written_over : {T : Type 0} (d : DesktopOf T) (menu : T) (main org : ℕ) (k : Track)
-    → (dropped (opening_over d menu main org k)).written ≡ d.written
+    → (without_unshown (opening_over d menu main org k)).written ≡ d.written
 written_over {T} d menu main org k =
-    ap (λ (x : DesktopOf T). (dropped x).written) (opening_over_is d menu main org k)
+    ap (λ (x : DesktopOf T). (without_unshown x).written) (opening_over_is d menu main org k)
     ∙ dropped_written (placed_anew (covered_desktop d menu main org k) (columns_over d k) None)
 
 written_to : {T : Type 0} (d : DesktopOf T) (menu : T) (main org : ℕ) (place : NewPlace)
-    → (dropped (opening_to d menu main org place)).written ≡ d.written
+    → (without_unshown (opening_to d menu main org place)).written ≡ d.written
 written_to d menu main org (at_cell cell) = written_on d menu main org cell
 written_to d menu main org (over k) = written_over d menu main org k
 
 -- texts that go have nothing to do with what was written
-dropped_more : {T : Type 0} (d : DesktopOf T) (n : ℕ) → more_written (dropped d) n ≡ dropped (more_written d n)
-unfolding dropped
+dropped_more : {T : Type 0} (d : DesktopOf T) (n : ℕ) → more_written (without_unshown d) n ≡ without_unshown (more_written d n)
+unfolding without_unshown
 dropped_more d n = refl
 
-held_more : (d : Desktop) (n : ℕ) → held (dropped (more_written d n)) ≡ held (dropped d)
-unfolding held dropped
+held_more : (d : Desktop) (n : ℕ) → characters_held (without_unshown (more_written d n)) ≡ characters_held (without_unshown d)
+unfolding characters_held without_unshown
 held_more d n = refl
 
 pub fits_on : (d : Desktop) (menu : Text ℕ) (main org : ℕ) (cell : ℕ × ℕ) (written all n : ℕ)
-    → written ≡ d.written + n → all ≡ held (dropped (opening_on d menu main org cell))
+    → written ≡ d.written + n → all ≡ characters_held (without_unshown (opening_on d menu main org cell))
     → (nat_le written most_written && nat_le all most_held)
-    ≡ fits (dropped (more_written (opening_on d menu main org cell) n))
+    ≡ fits (without_unshown (more_written (opening_on d menu main org cell) n))
 fits_on d menu main org cell written all n w h =
-    fits_by (dropped (more_written (opening_on d menu main org cell) n)) written all
+    fits_by (without_unshown (more_written (opening_on d menu main org cell) n)) written all
     (w ∙ ap (λ m. m + n) (sym (written_on d menu main org cell))
     ∙ ap (λ (x : Desktop). x.written) (dropped_more (opening_on d menu main org cell) n))
     (h ∙ sym (held_more (opening_on d menu main org cell) n))
 
 pub fits_opening : (d : Desktop) (menu main : Text ℕ) (cell : ℕ × ℕ) (written all n : ℕ)
-    → written ≡ d.written + n → all ≡ held (dropped (opening d menu main cell))
-    → (nat_le written most_written && nat_le all most_held) ≡ fits (dropped (more_written (opening d menu main cell) n))
+    → written ≡ d.written + n → all ≡ characters_held (without_unshown (after_opening d menu main cell))
+    → (nat_le written most_written && nat_le all most_held) ≡ fits (without_unshown (more_written (after_opening d menu main cell) n))
 fits_opening d menu main cell written all n w h =
     fits_on (text_more d main) menu (new_number d) 0 cell written all n w
-    (h ∙ ap (λ (x : Desktop). held (dropped x)) (opening_is d menu main cell))
-    ∙ ap (λ (x : Desktop). fits (dropped (more_written x n))) (sym (opening_is d menu main cell))
+    (h ∙ ap (λ (x : Desktop). characters_held (without_unshown x)) (opening_is d menu main cell))
+    ∙ ap (λ (x : Desktop). fits (without_unshown (more_written x n))) (sym (opening_is d menu main cell))
 
 -- ---- the desktop
 
 pub opened_desk : (d after : KeptDesktop) (texts : Texts (List Piece)) (number : ℕ) (menu main : List Piece)
     (cell : ℕ × ℕ) → texts ≡ with_new d.texts main → number ≡ new_number d
-    → after ≡ dropped (opening_on (record d { texts = texts }) menu number 0 cell)
-    → after ≡ dropped (opening d menu main cell)
+    → after ≡ without_unshown (opening_on (record d { texts = texts }) menu number 0 cell)
+    → after ≡ without_unshown (after_opening d menu main cell)
 opened_desk d after texts number menu main cell texts_is number_is is =
-    is ∙ (λ k. dropped (opening_on (record d { texts = texts_is k }) menu (number_is k) 0 cell))
-    ∙ ap (λ (x : KeptDesktop). dropped x) (sym (opening_is d menu main cell))
+    is ∙ (λ k. without_unshown (opening_on (record d { texts = texts_is k }) menu (number_is k) 0 cell))
+    ∙ ap (λ (x : KeptDesktop). without_unshown x) (sym (opening_is d menu main cell))
 
 pub written_opened : (d : KeptDesktop) (menu main : List Piece) (cell : ℕ × ℕ)
-    → (dropped (opening d menu main cell)).written ≡ d.written
+    → (without_unshown (after_opening d menu main cell)).written ≡ d.written
 written_opened d menu main cell =
-    ap (λ (x : KeptDesktop). (dropped x).written) (opening_is d menu main cell)
+    ap (λ (x : KeptDesktop). (without_unshown x).written) (opening_is d menu main cell)
     ∙ written_on (text_more d main) menu (new_number d) 0 cell
 
 pub whole_columns : (d : KeptDesktop) → IsKeptWhole d → IsColumns d.columns
@@ -202,8 +202,8 @@ module _ (d : Desktop) (menu : Text ℕ) (main org : ℕ) (shaped : IsShaped d) 
       (covering_anew d menu main org shaped can k hold looks))
 
   opened_sound : (place : NewPlace) (n : ℕ) → CanStand d.columns (new_id d) place
-      → fits (more_written (dropped (opening_to d menu main org place)) n) ≡ true
-      → IsSound (more_written (dropped (opening_to d menu main org place)) n)
+      → fits (more_written (without_unshown (opening_to d menu main org place)) n) ≡ true
+      → IsSound (more_written (without_unshown (opening_to d menu main org place)) n)
   opened_sound place n stands fit = record {
     shaped = written_shaped _ (dropped_shaped _ (opened_shaped place stands));
     shown = dropped_shown (opening_to d menu main org place);
@@ -225,7 +225,7 @@ pub record IsOpeningOn (old bytes new : List ℕ) (d : KeptDesktop) (menu : List
   pub can : (characters : List ℕ) → CanShow (seen characters d) main org
   pub stands : CanStand d.columns (new_id d) place
   pub fit : (characters : List ℕ) (text : Text ℕ) → length text ≡ length (flat menu)
-      → fits (dropped (more_written (opening_to (seen characters d) text main org place) (length bytes))) ≡ true
+      → fits (without_unshown (more_written (opening_to (seen characters d) text main org place) (length bytes))) ≡ true
 
 module _ (H : Type 0) (old bytes new : List ℕ) (d : KeptDesktop) (menu : List Piece) (main org : ℕ) (place : NewPlace)
     (on : IsOpeningOn old bytes new d menu main org place) where
@@ -233,16 +233,16 @@ module _ (H : Type 0) (old bytes new : List ℕ) (d : KeptDesktop) (menu : List 
   n = length bytes
 
   abbrev pub after_on : KeptDesktop
-  after_on = record (dropped (opening_to d menu main org place)) { written = d.written + n }
+  after_on = record (without_unshown (opening_to d menu main org place)) { written = d.written + n }
 
   abbrev now : List ℕ → Desktop
-  now characters = dropped (opening_to (seen characters d) (seen_text characters menu) main org place)
+  now characters = without_unshown (opening_to (seen characters d) (seen_text characters menu) main org place)
 
   seen_after : (characters : List ℕ) → seen characters after_on ≡ more_written (now characters) n
   unfolding seen
   seen_after characters =
       let same = seen_dropped characters (opening_to d menu main org place)
-      ∙ ap dropped (seen_opening_to characters d menu main org place) in
+      ∙ ap without_unshown (seen_opening_to characters d menu main org place) in
       let written = ap (λ (w : ℕ). w + n)
       (sym (written_to (seen characters d) (seen_text characters menu) main org place)) in
       λ k. record (same k) { written = written k }
@@ -266,7 +266,7 @@ module _ (H : Type 0) (old bytes new : List ℕ) (d : KeptDesktop) (menu : List 
         deleted = more.deleted;
       }
 
-  on_within : IsWithin (d.written + n) (dropped (opening_to d menu main org place))
+  on_within : IsWithin (d.written + n) (without_unshown (opening_to d menu main org place))
   on_within = dropped_within (d.written + n) (opening_to d menu main org place) (by_place place) where
     by_place : (place : NewPlace) → IsWithin (d.written + n) (opening_to d menu main org place)
     by_place (at_cell cell) = subst (IsWithin (d.written + n)) (sym (opening_on_is d menu main org cell))
@@ -290,13 +290,13 @@ module _ (H : Type 0) (old bytes new : List ℕ) (d : KeptDesktop) (menu : List 
   -- whatever the desktop was before the event
   pub on_answered : (before : KeptDesktop) (was : Desktop) (text : Text ℕ) (outcome : Desktop)
       → seen_text new menu ≡ text → opening_to (seen old d) text main org place ≡ outcome
-      → IsAnswered H old new before after_on (settled was (Ok (more_written outcome n))) Done
+      → IsAnswered H old new before after_on (outcome_after was (Ok (more_written outcome n))) Done
   on_answered before was text outcome read is = acted H old new before after_on _ over_after (λ h.
       (λ k. outcome_of (seen_after new k) Done)
-      ∙ (λ k. outcome_of (more_written (dropped (opening_to (before_read k) (read k) main org place)) n) Done)
+      ∙ (λ k. outcome_of (more_written (without_unshown (opening_to (before_read k) (read k) main org place)) n) Done)
       ∙ (λ k. outcome_of (dropped_more (is k) n k) Done)
       ∙ done was (more_written outcome n)
-      (ap (λ (x : Desktop). fits (dropped (more_written x n))) (sym is)
+      (ap (λ (x : Desktop). fits (without_unshown (more_written x n))) (sym is)
       ∙ on.fit old text (ap length (sym read) ∙ length_seen_text new menu)))
 
 -- ---- a menu that was written anew
@@ -312,7 +312,7 @@ module _ (H : Type 0) (old bytes new : List ℕ) (d : KeptDesktop) (menu : List 
     menu_looks : AreLooks (flat menu)
     menu_looks = subst AreLooks (sym is) (run_looks d.written (length bytes) default_look default_is_look)
 
-    menu_read : seen_text new menu ≡ plain bytes
+    menu_read : seen_text new menu ≡ plain_text bytes
     menu_read = ap (λ (l : List ℕ). seen_text l menu) grown ∙ ap (contents (old ++ bytes)) is
         ∙ new_read old bytes d.written default_look over.counted
 
@@ -329,12 +329,12 @@ module _ (H : Type 0) (old bytes new : List ℕ) (d : KeptDesktop) (menu : List 
     pub opening_answered : (main : List Piece) → AreWithin d.written (flat main) → AreLooks (flat main)
         → ((characters : List ℕ) (menu_text main_text : Text ℕ) → length menu_text ≡ length bytes
         → length main_text ≡ length (flat main)
-        → fits (dropped (more_written (opening (seen characters d) menu_text main_text cell) (length bytes))) ≡ true)
+        → fits (without_unshown (more_written (after_opening (seen characters d) menu_text main_text cell) (length bytes))) ≡ true)
         → IsAnswered H old new d
-        (record (dropped (opening d menu main cell)) { written = d.written + length bytes })
-        (settled (seen old d)
-        (Ok (more_written (opening (seen old d) (plain bytes) (seen_text old main) cell) (length bytes)))) Done
-    unfolding opening
+        (record (without_unshown (after_opening d menu main cell)) { written = d.written + length bytes })
+        (outcome_after (seen old d)
+        (Ok (more_written (after_opening (seen old d) (plain_text bytes) (seen_text old main) cell) (length bytes)))) Done
+    unfolding after_opening
     opening_answered main within looks fit =
         on_answered H old bytes new (text_more d main) menu (new_number d) 0 (at_cell cell) (record {
           counted = over.counted;
@@ -345,20 +345,20 @@ module _ (H : Type 0) (old bytes new : List ℕ) (d : KeptDesktop) (menu : List 
           can = new_kept d main shaped;
           stands = record { hold = places.hold; places = places.places };
           fit = λ characters text long.
-              ap (λ (x : Desktop). fits (dropped (more_written x (length bytes))))
+              ap (λ (x : Desktop). fits (without_unshown (more_written x (length bytes))))
               (opening_seen characters d text main cell)
               ∙ fit characters text (seen_text characters main) (long ∙ menu_long) (length_seen_text characters main);
-        }) d (seen old d) (plain bytes) (opening (seen old d) (plain bytes) (seen_text old main) cell)
-        menu_read (opening_seen old d (plain bytes) main cell)
+        }) d (seen old d) (plain_text bytes) (after_opening (seen old d) (plain_text bytes) (seen_text old main) cell)
+        menu_read (opening_seen old d (plain_text bytes) main cell)
 
     -- the main text is there and stays
     pub written_answered : (main org : ℕ) → ((characters : List ℕ) → CanShow (seen characters d) main org)
         → ((characters : List ℕ) (text : Text ℕ) → length text ≡ length bytes
-        → fits (dropped (more_written (opening_on (seen characters d) text main org cell) (length bytes))) ≡ true)
+        → fits (without_unshown (more_written (opening_on (seen characters d) text main org cell) (length bytes))) ≡ true)
         → IsAnswered H old new d
-        (record (dropped (opening_on d menu main org cell)) { written = d.written + length bytes })
-        (settled (seen old d)
-        (Ok (more_written (opening_on (seen old d) (plain bytes) main org cell) (length bytes)))) Done
+        (record (without_unshown (opening_on d menu main org cell)) { written = d.written + length bytes })
+        (outcome_after (seen old d)
+        (Ok (more_written (opening_on (seen old d) (plain_text bytes) main org cell) (length bytes)))) Done
     written_answered main org can fit =
         on_answered H old bytes new d menu main org (at_cell cell) (record {
           counted = over.counted;
@@ -369,4 +369,4 @@ module _ (H : Type 0) (old bytes new : List ℕ) (d : KeptDesktop) (menu : List 
           can = can;
           stands = record { hold = places.hold; places = places.places };
           fit = λ characters text long. fit characters text (long ∙ menu_long);
-        }) d (seen old d) (plain bytes) (opening_on (seen old d) (plain bytes) main org cell) menu_read refl
+        }) d (seen old d) (plain_text bytes) (opening_on (seen old d) (plain_text bytes) main org cell) menu_read refl

@@ -26,24 +26,24 @@ use Rattle.viewer_tracks.specs.declared.display.Track.TheVariants.{User, System}
 use Rattle.viewer_tracks.specs.Display.{track_at}
 use Rattle.viewer_tracks.specs.Viewers.{Entry, bottom_of, top_of, tops, lowest_reaching, entry_of}
 use Rattle.viewer_tracks.specs.Edits.{open_entry, open_top, takes_place, replaced}
-use Rattle.viewer_tracks.specs.Columns.{Columns, IsColumns, IsPlaced, IsOnTop, shown, track_of, placed_bottom}
+use Rattle.viewer_tracks.specs.Columns.{Columns, IsColumns, IsPlaced, IsOnTop, shown_track, track_of, placed_bottom}
 use Rattle.viewer_tracks.specs.Columns.{placed_top, replaced_at, allocated}
 use Rattle.viewer_tracks.proofs.PlacedLemmas.{shown_stands}
 use Rattle.desktop_definitions.specs.declared.viewer.Viewer.{Viewer}
 use Rattle.desktop_definitions.specs.declared.reply.Reply.TheVariants.{Done, No}
 use Rattle.desktop_definitions.specs.Limits.{no_file, full, too_low}
 use Rattle.desktop_definitions.specs.Needs.{needs}
-use Rattle.desktop_definitions.specs.Tables.{name_cmp, named}
+use Rattle.desktop_definitions.specs.Tables.{name_cmp, file_named}
 use Rattle.desktop_laws.specs.TableLaws.{lookup_seen, is_some_map, length_seen_text}
-use Rattle.desktop_definitions.specs.Desktop.{Desktop, KeptDesktop, file_of, held}
+use Rattle.desktop_definitions.specs.Desktop.{Desktop, KeptDesktop, file_of, characters_held}
 use Rattle.desktop_definitions.specs.Viewers.{viewer_in, viewer_or_none, bare_viewer, text_in, text_of, without_viewer}
-use Rattle.desktop_definitions.specs.Change.{plain, more_written}
-use Rattle.desktop_definitions.specs.Opening.{menu_line, new_id, opening_on, opening, is_shown, dropped}
+use Rattle.desktop_definitions.specs.Change.{plain_text, more_written}
+use Rattle.desktop_definitions.specs.Opening.{menu_line, new_id, opening_on, after_opening, is_shown, without_unshown}
 use Rattle.desktop_definitions.specs.Effects.{opened_on_copy, document_opened, file_opened, log_opened}
 use Rattle.desktop_definitions.specs.Effects.{viewer_copied}
 use Rattle.desktop_definitions.specs.Gesture.{tool_opened}
 use Rattle.desktop_definitions.specs.Seen.{seen, seen_text}
-use Rattle.desktop_definitions.specs.Step.{fits, settled, outcome_of}
+use Rattle.desktop_definitions.specs.Step.{fits, outcome_after, outcome_of}
 use Rattle.desktop_laws.specs.StepLaws.{AllShown}
 use Rattle.desktop_definitions.specs.Sound.{IsShaped, IsBuilt, IsKeptWhole, IsOver}
 use Rattle.desktop_definitions.specs.Outcome.{IsAnswered}
@@ -65,17 +65,17 @@ whole_built d whole = record { within = whole.within; shaped = λ characters. (w
 
 -- ---- refusals
 
-full_is : (d new : Desktop) → fits (dropped new) ≡ false → outcome_of d (No full) ≡ settled d (Ok new)
-unfolding settled
+full_is : (d new : Desktop) → fits (without_unshown new) ≡ false → outcome_of d (No full) ≡ outcome_after d (Ok new)
+unfolding outcome_after
 full_is d new unfit = rw unfit refl
 
 -- where the limits don't hold once a viewer opened
 pub unfit_answered : (H : Type 0) (old : List ℕ) (d : KeptDesktop) (row : Result Desktop ℕ) (new : Desktop)
-    → IsOver old d → row ≡ Ok new → fits (dropped new) ≡ false
-    → IsAnswered H old old d d (settled (seen old d) row) (No full)
+    → IsOver old d → row ≡ Ok new → fits (without_unshown new) ≡ false
+    → IsAnswered H old old d d (outcome_after (seen old d) row) (No full)
 unfit_answered H old d row new over is unfit =
-    refused H old d (settled (seen old d) row) full over (inr (inr (inr (inr (inl refl)))))
-    (λ h. full_is (seen old d) new unfit ∙ ap (settled (seen old d)) (sym is))
+    refused H old d (outcome_after (seen old d) row) full over (inr (inr (inr (inr (inl refl)))))
+    (λ h. full_is (seen old d) new unfit ∙ ap (outcome_after (seen old d)) (sym is))
 
 -- ---- which texts can be shown
 
@@ -136,8 +136,8 @@ module _ (d : Desktop) (all : AllShown d) where
   -- the main text is the log, or nobody goes
   pub held_anyway : (menu : Text ℕ) (main org : ℕ) (cell : ℕ × ℕ) → IsApart d cell
       → (main ≡ 0) ⊎ (replaced_at d.columns cell.0 cell.1 ≡ None)
-      → held (dropped (opening_on d menu main org cell))
-      ≡ held (dropped (without_viewer d (replaced_at d.columns cell.0 cell.1))) + length menu
+      → characters_held (without_unshown (opening_on d menu main org cell))
+      ≡ characters_held (without_unshown (without_viewer d (replaced_at d.columns cell.0 cell.1))) + length menu
   held_anyway menu main org cell apart stays =
       held_opening_on d menu cell apart main org (λ k there. stays_anyway main k _ stays there)
 
@@ -200,7 +200,7 @@ module _ (t : List Entry) where
 pub half_free : (c : Columns) (v x bottom top : ℕ) → IsColumns c → IsOnTop v c → IsPlaceOf c v x bottom top
     → ¬ (top - bottom ≡ 1) → replaced_at c x (bottom + (top - bottom) / 2) ≡ None
 half_free c v x bottom top hold placed place more =
-    let t = shown c (track_of c v) in
+    let t = shown_track c (track_of c v) in
     let own = shown_stands c v hold placed in
     let some = place.some in
     let rows : 2 ≤ top - bottom =
@@ -208,7 +208,7 @@ half_free c v x bottom top hold placed place more =
     let begins = place.begins ∙ ap (λ (t : List Entry). bottom_of t (entry_of t v)) own in
     let ends = place.ends ∙ ap (λ (t : List Entry). top_of t (entry_of t v)) own in
     let within = place.within in
-    ap (λ (k : Track). replaced (shown c k) (bottom + (top - bottom) / 2))
+    ap (λ (k : Track). replaced (shown_track c k) (bottom + (top - bottom) / 2))
     (ap track_at place.left ∙ left_at (track_of c v))
     ∙ nobody t (entry_of t v) (bottom + (top - bottom) / 2) (prefix_len-le-length _ t) (omega (arith, begins, rows))
     (omega (arith, begins, ends, rows)) (omega (arith, rows, within))
@@ -240,7 +240,7 @@ pub copy_opens : (old : List ℕ) (d : KeptDesktop) (menu : List Piece) (viewer 
     → ((characters : List ℕ) → CanShow (seen characters d) viewer.main viewer.org)
     → CanStand d.columns (new_id d) place
     → ((characters : List ℕ) (text : Text ℕ) → length text ≡ length (flat menu)
-    → fits (dropped (more_written (opening_to (seen characters d) text viewer.main viewer.org place) 0)) ≡ true)
+    → fits (without_unshown (more_written (opening_to (seen characters d) text viewer.main viewer.org place) 0)) ≡ true)
     → IsOpeningOn old [] old d menu viewer.main viewer.org place
 copy_opens old d menu viewer place over copy can stands fit =
     let none : d.written + 0 ≡ d.written = omega arith in
@@ -290,55 +290,55 @@ module _ (H : Type 0) (old : List ℕ) (d : KeptDesktop) (v x bottom top : ℕ) 
 
   pub copied_answered : PlacesOpened d.columns (new_id d) cell
       → ((characters : List ℕ) (text : Text ℕ) → length text ≡ length (flat menu)
-      → fits (dropped (more_written (opening_on (seen characters d) text viewer.main viewer.org cell) 0)) ≡ true)
-      → IsAnswered H old old d (dropped (opening_on d menu viewer.main viewer.org cell))
-      (settled (seen old d) (viewer_copied (seen old d) v)) Done
+      → fits (without_unshown (more_written (opening_on (seen characters d) text viewer.main viewer.org cell) 0)) ≡ true)
+      → IsAnswered H old old d (without_unshown (opening_on d menu viewer.main viewer.org cell))
+      (outcome_after (seen old d) (viewer_copied (seen old d) v)) Done
   copied_answered places fit =
       let none : d.written + 0 ≡ d.written = omega arith in
-      let after : KeptDesktop = dropped (opening_on d menu viewer.main viewer.org cell) in
+      let after : KeptDesktop = without_unshown (opening_on d menu viewer.main viewer.org cell) in
       let same : d.written + 0 ≡ after.written = none ∙ sym (written_on d menu viewer.main viewer.org cell) in
       let answered = on_answered H old [] old d menu viewer.main viewer.org (at_cell cell)
       (copy_opens old d menu viewer (at_cell cell) over copy can
       (record { hold = places.hold; places = places.places }) fit)
       d (seen old d) (text_of (seen old d) viewer.menu) outcome copy_read refl in
-      subst (λ (p : KeptDesktop × Result Desktop ℕ). IsAnswered H old old d p.0 (settled (seen old d) p.1) Done)
+      subst (λ (p : KeptDesktop × Result Desktop ℕ). IsAnswered H old old d p.0 (outcome_after (seen old d) p.1) Done)
       (λ k. (
         record after { written = same k },
         (ap (λ (y : Desktop). (let r : Result Desktop ℕ = Ok y in r)) (none_more outcome) ∙ sym copied_seen) k,
       )) answered
 
   pub copied_full : ((characters : List ℕ) (text : Text ℕ) → length text ≡ length (flat menu)
-      → fits (dropped (more_written (opening_on (seen characters d) text viewer.main viewer.org cell) 0)) ≡ false)
-      → IsAnswered H old old d d (settled (seen old d) (viewer_copied (seen old d) v)) (No full)
+      → fits (without_unshown (more_written (opening_on (seen characters d) text viewer.main viewer.org cell) 0)) ≡ false)
+      → IsAnswered H old old d d (outcome_after (seen old d) (viewer_copied (seen old d) v)) (No full)
   copied_full unfit =
       unfit_answered H old d (viewer_copied (seen old d) v) outcome over copied_seen
-      (ap (λ (y : Desktop). fits (dropped y)) (sym (none_more outcome))
+      (ap (λ (y : Desktop). fits (without_unshown y)) (sym (none_more outcome))
       ∙ unfit old (text_of (seen old d) viewer.menu) (ap length (sym copy_read) ∙ length_seen_text old menu))
 
 -- ---- the log
 
 module _ (H : Type 0) (old : List ℕ) (d : KeptDesktop) (menu : List ℕ) (cell : ℕ × ℕ) (over : IsOver old d)
     (line : menu ≡ menu_line (bytes "System.Log")) (is : cell ≡ allocated d.columns System d.marker) where
-  log_row : log_opened (seen old d) ≡ more_written (opening_on (seen old d) (plain menu) 0 0 cell) (length menu)
+  log_row : log_opened (seen old d) ≡ more_written (opening_on (seen old d) (plain_text menu) 0 0 cell) (length menu)
   unfolding log_opened seen
-  log_row = λ k. more_written (opening_on (seen old d) (plain (sym line k)) 0 0 (sym is k)) (length (sym line k))
+  log_row = λ k. more_written (opening_on (seen old d) (plain_text (sym line k)) 0 0 (sym is k)) (length (sym line k))
 
-  pub log_full : fits (dropped (more_written (opening_on (seen old d) (plain menu) 0 0 cell) (length menu))) ≡ false
-      → IsAnswered H old old d d (settled (seen old d) (Ok (log_opened (seen old d)))) (No full)
+  pub log_full : fits (without_unshown (more_written (opening_on (seen old d) (plain_text menu) 0 0 cell) (length menu))) ≡ false
+      → IsAnswered H old old d d (outcome_after (seen old d) (Ok (log_opened (seen old d)))) (No full)
   log_full unfit =
       unfit_answered H old d (Ok (log_opened (seen old d))) _ over (λ k. Ok (log_row k)) unfit
 
   pub log_answered : (new : List ℕ) (pieces : List Piece) → new ≡ old ++ menu
       → flat pieces ≡ run d.written (length menu) default_look → PlacesOpened d.columns (new_id d) cell
       → ((characters : List ℕ) (text : Text ℕ) → length text ≡ length menu
-      → fits (dropped (more_written (opening_on (seen characters d) text 0 0 cell) (length menu))) ≡ true)
+      → fits (without_unshown (more_written (opening_on (seen characters d) text 0 0 cell) (length menu))) ≡ true)
       → IsAnswered H old new d
-      (record (dropped (opening_on d pieces 0 0 cell)) { written = d.written + length menu })
-      (settled (seen old d) (Ok (log_opened (seen old d)))) Done
+      (record (without_unshown (opening_on d pieces 0 0 cell)) { written = d.written + length menu })
+      (outcome_after (seen old d) (Ok (log_opened (seen old d)))) Done
   log_answered new pieces grown made places fit =
       subst (λ (row : Desktop). IsAnswered H old new d
-      (record (dropped (opening_on d pieces 0 0 cell)) { written = d.written + length menu })
-      (settled (seen old d) (Ok row)) Done) (sym log_row)
+      (record (without_unshown (opening_on d pieces 0 0 cell)) { written = d.written + length menu })
+      (outcome_after (seen old d) (Ok row)) Done) (sym log_row)
       (written_answered H old menu new d pieces cell over grown made places 0 0
       (λ characters. log_can (seen characters d) (over.whole.sound characters).shaped) fit)
 
@@ -366,10 +366,10 @@ or_none_within n (Some text) holds = holds
 
 -- a file that is there, or an empty text
 abbrev pub kept_file : KeptDesktop → List ℕ → List Piece
-kept_file d name = unwrap_or (named d.files name) []
+kept_file d name = unwrap_or (file_named d.files name) []
 
 pub file_within : (d : KeptDesktop) (name : List ℕ) → IsKeptWhole d → AreWithin d.written (flat (kept_file d name))
-file_within d name whole = or_none_within d.written (named d.files name)
+file_within d name whole = or_none_within d.written (file_named d.files name)
     (IfSome-lookup_from_All (λ pieces. AreWithin d.written (flat pieces)) (is_at (name_cmp name)) d.files
     whole.within.files)
 
@@ -385,18 +385,18 @@ module _ (old : List ℕ) (d : KeptDesktop) (name : List ℕ) where
   file_read : file ≡ seen_text old (kept_file d name)
   unfolding file_of seen
   file_read = ap (λ (o : Option (Text ℕ)). unwrap_or o []) (lookup_seen (seen_text old) (is_at (name_cmp name)) d.files)
-      ∙ or_empty old (named d.files name)
+      ∙ or_empty old (file_named d.files name)
 
-  file_there : is_some (file_of (seen old d) name) ≡ is_some (named d.files name)
+  file_there : is_some (file_of (seen old d) name) ≡ is_some (file_named d.files name)
   unfolding file_of seen
   file_there = ap is_some (lookup_seen (seen_text old) (is_at (name_cmp name)) d.files)
-      ∙ is_some_map (seen_text old) (named d.files name)
+      ∙ is_some_map (seen_text old) (file_named d.files name)
 
-  pub file_missing : is_some (named d.files name) ≡ false → file_opened (seen old d) name ≡ Err no_file
+  pub file_missing : is_some (file_named d.files name) ≡ false → file_opened (seen old d) name ≡ Err no_file
   unfolding file_opened
   file_missing none = needs_none (file_of (seen old d) name) _ (file_there ∙ none)
 
-  pub file_row : (at : ℕ × ℕ) → is_some (named d.files name) ≡ true → at ≡ allocated d.columns System d.marker
+  pub file_row : (at : ℕ × ℕ) → is_some (file_named d.files name) ≡ true → at ≡ allocated d.columns System d.marker
       → file_opened (seen old d) name ≡ Ok (opened_on_copy (seen old d) name file at)
   unfolding file_opened seen
   file_row at some is = needs_some (file_of (seen old d) name) _ (file_there ∙ some)
@@ -408,14 +408,14 @@ module _ (old : List ℕ) (d : KeptDesktop) (name : List ℕ) where
   document_row at is = λ k. opened_on_copy (seen old d) name file (sym is k)
 
   module _ (x y : ℕ) (tool : name ≡ bytes "System.Tool") where
-    pub tool_missing : is_some (named d.files name) ≡ false → tool_opened (seen old d) x y ≡ Err no_file
+    pub tool_missing : is_some (file_named d.files name) ≡ false → tool_opened (seen old d) x y ≡ Err no_file
     unfolding tool_opened
     tool_missing none =
         (λ k. needs (file_of (seen old d) (sym tool k)) no_file (λ text. Ok (opened_on_copy
         (seen old d) (sym tool k) text (x, y + 1))))
         ∙ needs_none (file_of (seen old d) name) _ (file_there ∙ none)
 
-    pub tool_row : is_some (named d.files name) ≡ true
+    pub tool_row : is_some (file_named d.files name) ≡ true
         → tool_opened (seen old d) x y ≡ Ok (opened_on_copy (seen old d) name file (x, y + 1))
     unfolding tool_opened
     tool_row some =
@@ -426,18 +426,18 @@ module _ (old : List ℕ) (d : KeptDesktop) (name : List ℕ) where
   module _ (menu : List ℕ) (line : menu ≡ menu_line name) (cell : ℕ × ℕ) where
     pub copy_row : (main : List Piece) → flat main ≡ flat (kept_file d name)
         → opened_on_copy (seen old d) name file cell
-        ≡ more_written (opening (seen old d) (plain menu) (seen_text old main) cell) (length menu)
+        ≡ more_written (after_opening (seen old d) (plain_text menu) (seen_text old main) cell) (length menu)
     copy_row main is =
-        (λ k. more_written (opening (seen old d) (plain (sym line k)) (file_read k) cell) (length (sym line k)))
-        ∙ (λ k. more_written (opening (seen old d) (plain menu) (contents old (sym is k)) cell) (length menu))
+        (λ k. more_written (after_opening (seen old d) (plain_text (sym line k)) (file_read k) cell) (length (sym line k)))
+        ∙ (λ k. more_written (after_opening (seen old d) (plain_text menu) (contents old (sym is k)) cell) (length menu))
 
     pub copy_full : (H : Type 0) → IsOver old d
         → ((characters : List ℕ) (menu_text main_text : Text ℕ) → length menu_text ≡ length menu
         → length main_text ≡ length (flat (kept_file d name))
-        → fits (dropped (more_written (opening (seen characters d) menu_text main_text cell) (length menu))) ≡ false)
-        → IsAnswered H old old d d (settled (seen old d) (Ok (opened_on_copy (seen old d) name file cell))) (No full)
+        → fits (without_unshown (more_written (after_opening (seen characters d) menu_text main_text cell) (length menu))) ≡ false)
+        → IsAnswered H old old d d (outcome_after (seen old d) (Ok (opened_on_copy (seen old d) name file cell))) (No full)
     copy_full H over unfit =
         unfit_answered H old d (Ok (opened_on_copy (seen old d) name file cell)) _ over
         (λ k. Ok (copy_row (kept_file d name) refl k))
-        (unfit old (plain menu) (seen_text old (kept_file d name)) (length_in_look default_look menu)
+        (unfit old (plain_text menu) (seen_text old (kept_file d name)) (length_in_look default_look menu)
         (length_seen_text old (kept_file d name)))

@@ -14,12 +14,12 @@ use Rattle.readers_scanners.specs.Reading.{contents}
 use Rattle.event_bytes.specs.Bytes.{is_name}
 use Rattle.event_bytes.specs.declared.event.Event.TheVariants.{File}
 use Rattle.desktop_definitions.specs.declared.reply.Reply.TheVariants.{Done, No}
-use Rattle.desktop_definitions.specs.Tables.{Files, name_cmp, put, has_room}
+use Rattle.desktop_definitions.specs.Tables.{Files, name_cmp, file_put, has_file_room}
 use Rattle.desktop_laws.specs.TableLaws.{insert_seen, length_seen_text, longer, put_within}
 use Rattle.desktop_definitions.specs.Desktop.{KeptDesktop}
 use Rattle.desktop_definitions.specs.Seen.{seen, seen_text, seen_table}
 use Rattle.desktop_laws.specs.SeenLaws.{seen_longer, within_counted, new_read}
-use Rattle.desktop_definitions.specs.Change.{in_look, plain}
+use Rattle.desktop_definitions.specs.Change.{in_look, plain_text}
 use Rattle.desktop_definitions.specs.Step.{filed, fits, step, Outcome, outcome_of}
 use Rattle.desktop_laws.specs.StepLaws.{file_done, filed_sound}
 use Rattle.desktop_definitions.specs.Sound.{IsSound, AllWithin, IsWithin, IsOver}
@@ -68,7 +68,7 @@ seen_grown old bytes new d over grown =
 
 module _ (H : Type 0) (old bytes new : List ℕ) (d : KeptDesktop) (name : List ℕ) (text : List Piece)
     (files : Files (List Piece)) (over : IsOver old d) (valid : IsTrue (is_name name)) (grown : new ≡ old ++ bytes)
-    (is : flat text ≡ run d.written (length bytes) default_look) (put_is : files ≡ put d.files name text) where
+    (is : flat text ≡ run d.written (length bytes) default_look) (put_is : files ≡ file_put d.files name text) where
   -- the desktop that is kept, with that file
   abbrev with_file : KeptDesktop
   with_file = record d { files = files; written = d.written + length bytes }
@@ -86,8 +86,8 @@ module _ (H : Type 0) (old bytes new : List ℕ) (d : KeptDesktop) (name : List 
 
   module _ (fit : (characters : List ℕ) (text : Text ℕ) → length text ≡ length bytes
       → fits (filed (seen characters d) name text) ≡ true)
-      (room : (characters : List ℕ) → has_room (seen_table characters d.files) name ≡ true) where
-    room_seen : (characters : List ℕ) → has_room (seen characters d).files name ≡ true
+      (room : (characters : List ℕ) → has_file_room (seen_table characters d.files) name ≡ true) where
+    room_seen : (characters : List ℕ) → has_file_room (seen characters d).files name ≡ true
     unfolding seen
     room_seen = room
 
@@ -126,7 +126,7 @@ module _ (H : Type 0) (old bytes new : List ℕ) (d : KeptDesktop) (name : List 
         ∙ new_read old bytes d.written default_look over.counted) k))
         Done)
         ∙ file_done (seen old d) name bytes (over.whole.sound old).shown (room_seen old)
-        (fit old (plain bytes) (length_in_look default_look bytes))
+        (fit old (plain_text bytes) (length_in_look default_look bytes))
 
     pub file_answered : IsAnswered H old new d with_file (step (seen old d) (File name bytes)) Done
     file_answered = acted H old new d with_file (step (seen old d) (File name bytes)) file_over (λ h. file_exact)

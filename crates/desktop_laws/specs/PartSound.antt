@@ -17,21 +17,21 @@ use Rattle.piece_ring.specs.Lengths.{length-inserted, length-deleted, length-loo
 use Rattle.piece_ring.specs.Text.{Text, inserted, deleted, looks_changed}
 use Rattle.viewer_tracks.specs.Columns.{Columns, IsPlaced, IsOnTop, times_placed}
 use Rattle.text_frames.specs.Lines.{line_start, line_above, begins_line}
-use Rattle.text_frames.specs.Rules.{moved, changed_org, is_in_rows as line_shown, shown_org}
+use Rattle.text_frames.specs.Rules.{moved_position, changed_org, is_in_rows as line_shown, shown_org}
 use Rattle.text_frames.proofs.Greatest.{greatest_within}
 use Rattle.desktop_definitions.specs.declared.viewer.Viewer.{Viewer}
 use Rattle.desktop_definitions.specs.declared.viewer.Caret.{Caret}
 use Rattle.desktop_definitions.specs.declared.viewer.Selection.{Selection}
-use Rattle.desktop_definitions.specs.Tables.{numbered, with_values}
+use Rattle.desktop_definitions.specs.Tables.{text_numbered, with_values}
 use Rattle.desktop_definitions.specs.Desktop.{Desktop}
 use Rattle.desktop_definitions.specs.Viewers.{viewer_of, viewer_or_none, text_in, text_of, main_of, main_length, shows}
 use Rattle.desktop_definitions.specs.Viewers.{rows_of, with_caret, selected, newest}
-use Rattle.desktop_definitions.specs.Change.{bytes_of, plain, in_look, edited, followed, after_change, insertion}
+use Rattle.desktop_definitions.specs.Change.{bytes_of, plain_text, in_look, edited, following_viewer, after_change, insertion}
 use Rattle.desktop_definitions.specs.Change.{deletion}
 use Rattle.desktop_definitions.specs.Change.{looks_set, showing, caret_shown, put_in, put_at_caret, cut_out}
 use Rattle.desktop_definitions.specs.Change.{more_written}
 use Rattle.desktop_definitions.specs.Log.{log_shown, logged, all_logged}
-use Rattle.desktop_definitions.specs.Sound.{IsShaped, IsCaret, IsSelection}
+use Rattle.desktop_definitions.specs.Sound.{IsShaped, IsCaretPlaced, IsSelection}
 use Rattle.desktop_definitions.specs.Looks.{IsLook, AreLooks}
 use Rattle.desktop_laws.specs.ChangeLaws.{followed_shown}
 use Rattle.desktop_laws.specs.EditLaws.{edited_shaped, with_org_shaped, with_caret_shaped, with_selection_shaped}
@@ -65,12 +65,12 @@ shown_within bs h p org long low within = elim (line_shown bs h org p) as
 changed_within : (bs : List ℕ) (p more fewer org size long : ℕ) → size + fewer ≡ long + more → p ≤ size → org ≤ long
     → changed_org bs p more fewer org ≤ size
 changed_within bs p more fewer org size long sum low within = (elim (nat_le org p) as (λ b. nat_le org p ≡ b
-    → (if b then org else line_start bs (moved p more fewer org)) ≤ size) [
+    → (if b then org else line_start bs (moved_position p more fewer org)) ≤ size) [
       | true ↦ λ is. (let le = leb-true org p is in omega (arith, le, low))
-      | false ↦ λ is. (let start = greatest_within (begins_line bs) (moved p more fewer org) in
-          let at : moved p more fewer org ≤ size = by_test (fewer == 0) refl in omega (arith, start, at))
+      | false ↦ λ is. (let start = greatest_within (begins_line bs) (moved_position p more fewer org) in
+          let at : moved_position p more fewer org ≤ size = by_test (fewer == 0) refl in omega (arith, start, at))
     ]) refl where
-      by_test : (b : Bool) → (fewer == 0) ≡ b → moved p more fewer org ≤ size
+      by_test : (b : Bool) → (fewer == 0) ≡ b → moved_position p more fewer org ≤ size
       by_test true is = let none = eqb-true fewer 0 is in
           subst (λ c. (if c then org + more else (if nat_lt org (p + fewer) then p else org - fewer)) ≤ size) (sym is)
           (let le : org + more ≤ size = omega (arith, none, sum, within) in le)
@@ -85,7 +85,7 @@ changed_within bs p more fewer org size long sum low within = (elim (nat_le org 
 
 module _ (n p more fewer size long : ℕ) (bs : List ℕ) (sum : size + fewer ≡ long + more) (low : p ≤ size) where
   follows : (e : ℕ × Viewer) → (e.1.main ≡ n → e.1.org ≤ long)
-      → IsMoved n size e (e.0, followed n bs p more fewer e.1)
+      → IsMoved n size e (e.0, following_viewer n bs p more fewer e.1)
   follows e within = (elim (e.1.main == n) as (λ b. (e.1.main == n) ≡ b → IsMoved n size e
       (e.0, if b then record e.1 { org = changed_org bs p more fewer e.1.org } else e.1)) [
         | true ↦ λ is. record {
@@ -106,7 +106,7 @@ module _ (n p more fewer size long : ℕ) (bs : List ℕ) (sum : size + fewer �
 
   all_follow : (viewers : List (ℕ × Viewer)) → AllByRecursion (λ e. e.1.main ≡ n → e.1.org ≤ long) viewers
       → (k : ℕ) (d : ℕ × Viewer) → k < length viewers
-      → IsMoved n size (get_or viewers k d) (get_or (with_values (followed n bs p more fewer) viewers) k d)
+      → IsMoved n size (get_or viewers k d) (get_or (with_values (following_viewer n bs p more fewer) viewers) k d)
   all_follow [] within k d few = absurd (omega (arith, few))
   all_follow (e ∷ es) within zero d few = follows e within.0
   all_follow (e ∷ es) within (suc k) d few = all_follow es within.1 k d (omega (arith, few))
@@ -118,21 +118,21 @@ orgs_of n long (e ∷ es) within =
     ((λ same. subst (λ m. e.1.org ≤ long m) same within.0), orgs_of n long es within.1)
 
 module _ (d : Desktop) (shaped : IsShaped d) where
-  change_shaped : (n : ℕ) (text : Text ℕ) (p more fewer : ℕ) → IsSome (numbered d.texts n) → AreLooks text
+  change_shaped : (n : ℕ) (text : Text ℕ) (p more fewer : ℕ) → IsSome (text_numbered d.texts n) → AreLooks text
       → length text + fewer ≡ length (text_of d n) + more → p ≤ length text
       → IsShaped (after_change d n text p more fewer)
   unfolding after_change
   change_shaped n text p more fewer there looks sum low =
-      let viewers : List (ℕ × Viewer) = with_values (followed n (bytes_of text) p more fewer) d.viewers in
+      let viewers : List (ℕ × Viewer) = with_values (following_viewer n (bytes_of text) p more fewer) d.viewers in
       let within = orgs_of n (λ m. length (text_in d.texts m)) d.viewers
       (orgs_within d.texts d.viewers shaped.viewers) in
       edited_shaped d n text viewers there
       (record {
-        as_long = length-map d.viewers (λ (e : ℕ × Viewer). (e.0, followed n (bytes_of text) p more fewer e.1));
+        as_long = length-map d.viewers (λ (e : ℕ × Viewer). (e.0, following_viewer n (bytes_of text) p more fewer e.1));
         each = all_follow n p more fewer (length text) (length (text_of d n)) (bytes_of text) sum low d.viewers within;
       }) shaped looks
 
-  pub insertion_shaped : (n p : ℕ) (more : Text ℕ) → IsSome (numbered d.texts n) → p ≤ length (text_of d n)
+  pub insertion_shaped : (n p : ℕ) (more : Text ℕ) → IsSome (text_numbered d.texts n) → p ≤ length (text_of d n)
       → AreLooks more → AreLooks (text_of d n) → IsShaped (insertion d n p more)
   unfolding insertion
   insertion_shaped n p [] there low looks others = shaped
@@ -141,7 +141,7 @@ module _ (d : Desktop) (shaped : IsShaped d) where
       change_shaped n (inserted p (c ∷ more) (text_of d n)) p (length (c ∷ more)) 0 there
       (inserted_looks p (c ∷ more) (text_of d n) looks others) (omega (arith, long)) (omega (arith, long, low))
 
-  pub deletion_shaped : (n p q : ℕ) → IsSome (numbered d.texts n) → q ≤ length (text_of d n)
+  pub deletion_shaped : (n p q : ℕ) → IsSome (text_numbered d.texts n) → q ≤ length (text_of d n)
       → AreLooks (text_of d n) → IsShaped (deletion d n p q)
   unfolding deletion
   deletion_shaped n p q there low others = (elim (nat_lt p q) as (λ b. nat_lt p q ≡ b
@@ -155,7 +155,7 @@ module _ (d : Desktop) (shaped : IsShaped d) where
 
   -- ---- what a viewer on the display shows
 
-  pub main_there : (v : ℕ) → IsPlaced v d.columns → IsSome (numbered d.texts (viewer_of d v).main)
+  pub main_there : (v : ℕ) → IsPlaced v d.columns → IsSome (text_numbered d.texts (viewer_of d v).main)
   main_there v placed = main_seen d shaped.viewers shaped.places v placed
 
   pub showing_shaped : (v p : ℕ) → IsPlaced v d.columns → p ≤ length (main_of d v) → IsShaped (showing d v p)
@@ -175,7 +175,7 @@ caret_shown_shaped d shaped v p placed low =
 pub in_look_looks : (look : Look) (bytes : List ℕ) → IsLook look → AreLooks (in_look look bytes)
 in_look_looks look bytes is = All-map (λ c. IsLook c.1) (λ (b : ℕ). (b, look)) bytes (λ i b low. is)
 
-pub plain_looks : (bytes : List ℕ) → AreLooks (plain bytes)
+pub plain_looks : (bytes : List ℕ) → AreLooks (plain_text bytes)
 plain_looks bytes = in_look_looks default_look bytes default_is_look
 
 found_looks : (o : Option (Text ℕ)) → IfSome o AreLooks → AreLooks (unwrap_or o [])
@@ -183,16 +183,16 @@ found_looks None is = no_looks
 found_looks (Some text) is = is
 
 pub text_looks : (d : Desktop) → IsShaped d → (n : ℕ) → AreLooks (text_of d n)
-text_looks d shaped n = found_looks (numbered d.texts n)
+text_looks d shaped n = found_looks (text_numbered d.texts n)
     (IfSome-lookup_from_All AreLooks (is_at (nat_cmp n)) d.texts shaped.looks.texts)
 
 -- ---- what a viewer shows after a change of its text
 
-changed_main : (d : Desktop) (n : ℕ) (text : Text ℕ) (p more fewer v : ℕ) → IsSome (numbered d.texts n)
+changed_main : (d : Desktop) (n : ℕ) (text : Text ℕ) (p more fewer v : ℕ) → IsSome (text_numbered d.texts n)
     → (viewer_of d v).main ≡ n → main_of (after_change d n text p more fewer) v ≡ text
 unfolding after_change
 changed_main d n text p more fewer v there is =
-    let viewers : List (ℕ × Viewer) = with_values (followed n (bytes_of text) p more fewer) d.viewers in
+    let viewers : List (ℕ × Viewer) = with_values (following_viewer n (bytes_of text) p more fewer) d.viewers in
     let number : (viewer_or_none viewers v).main ≡ n = same_main d.viewers viewers v
     (followed_shown n (bytes_of text) p more fewer d.viewers) ∙ is in
     ap (λ (m : ℕ). text_in (set_value (is_at (nat_cmp n)) d.texts text) m) number
@@ -208,7 +208,7 @@ unfolding insertion
 insertion_columns d n p [] = refl
 insertion_columns d n p (c ∷ more) = change_columns d n (inserted p (c ∷ more) (text_of d n)) p (length (c ∷ more)) 0
 
-pub insertion_long : (d : Desktop) (p : ℕ) (more : Text ℕ) (v : ℕ) → IsSome (numbered d.texts (viewer_of d v).main)
+pub insertion_long : (d : Desktop) (p : ℕ) (more : Text ℕ) (v : ℕ) → IsSome (text_numbered d.texts (viewer_of d v).main)
     → length (main_of (insertion d (viewer_of d v).main p more) v) ≡ length (main_of d v) + length more
 unfolding insertion
 insertion_long d p [] v there = omega arith
@@ -226,7 +226,7 @@ deletion_columns d n p q = elim (nat_lt p q) as
     ]
 
 -- where the stretch began is within the text still
-pub deletion_low : (d : Desktop) (p q v : ℕ) → IsSome (numbered d.texts (viewer_of d v).main)
+pub deletion_low : (d : Desktop) (p q v : ℕ) → IsSome (text_numbered d.texts (viewer_of d v).main)
     → p ≤ q → q ≤ length (main_of d v) → p ≤ length (main_of (deletion d (viewer_of d v).main p q) v)
 unfolding deletion
 deletion_low d p q v there order low =
@@ -254,7 +254,7 @@ module _ (d : Desktop) (shaped : IsShaped d) where
       (omega (arith, long, low))
 
   -- the caret stands in a viewer on the display
-  pub put_at_caret_shaped : (more : Text ℕ) (c : Caret) → IsCaret d.columns (main_length d.texts d.viewers) c
+  pub put_at_caret_shaped : (more : Text ℕ) (c : Caret) → IsCaretPlaced d.columns (main_length d.texts d.viewers) c
       → AreLooks more → IsShaped (put_at_caret d more c)
   put_at_caret_shaped [] c stands looks = shaped
   put_at_caret_shaped (first ∷ more) c stands looks =
@@ -327,9 +327,9 @@ fold_keeps P f keep (b ∷ bs) a is = fold_keeps P f keep bs (f a b) (keep a b i
 pub logged_shaped : (d : Desktop) (line : List ℕ) → IsShaped d → IsShaped (logged d line)
 unfolding logged
 logged_shaped d line shaped =
-    let now : Desktop = more_written (insertion d 0 (length (text_of d 0)) (plain line)) (length line) in
+    let now : Desktop = more_written (insertion d 0 (length (text_of d 0)) (plain_text line)) (length line) in
     fold_keeps IsShaped log_shown log_shown_shaped (keys_of now.viewers) now
-    (written_shaped _ (insertion_shaped d shaped 0 (length (text_of d 0)) (plain line) shaped.viewers.log
+    (written_shaped _ (insertion_shaped d shaped 0 (length (text_of d 0)) (plain_text line) shaped.viewers.log
     (omega arith) (plain_looks line) (text_looks d shaped 0)))
 
 pub all_logged_shaped : (d : Desktop) (lines : List (List ℕ)) → IsShaped d → IsShaped (all_logged d lines)

@@ -28,13 +28,13 @@ use Rattle.desktop_definitions.specs.declared.viewer.Viewer.{Viewer}
 use Rattle.desktop_definitions.specs.declared.viewer.Caret.{Caret}
 use Rattle.desktop_definitions.specs.declared.viewer.Selection.{Selection}
 use Rattle.desktop_definitions.specs.Limits.{most_pattern}
-use Rattle.desktop_definitions.specs.Tables.{Texts, numbered, lengths}
+use Rattle.desktop_definitions.specs.Tables.{Texts, text_numbered, lengths}
 use Rattle.piece_ring.specs.Text.{Text}
-use Rattle.desktop_definitions.specs.Desktop.{Desktop, DesktopOf, held}
+use Rattle.desktop_definitions.specs.Desktop.{Desktop, DesktopOf, characters_held}
 use Rattle.desktop_definitions.specs.Viewers.{viewer_in, text_in, main_length, caret_outside, selections_outside}
 use Rattle.desktop_definitions.specs.Viewers.{without_viewer, bare_viewer}
-use Rattle.desktop_definitions.specs.Opening.{is_shown, dropped}
-use Rattle.desktop_definitions.specs.Sound.{AreViewers, times_there, IsClosedPlace, IsCaret, IsSelection}
+use Rattle.desktop_definitions.specs.Opening.{is_shown, without_unshown}
+use Rattle.desktop_definitions.specs.Sound.{AreViewers, times_there, IsClosedPlace, IsCaretPlaced, IsSelection}
 use Rattle.desktop_definitions.specs.Sound.{AreMarks, AreFiles, HasLooks, IsShaped}
 use Rattle.desktop_laws.specs.StepLaws.{AllShown}
 use Rattle.desktop_laws.specs.LookedLaws.{looks_stay, dropped_looks}
@@ -186,7 +186,7 @@ StandStill old new taken = (w : ℕ) → times_shown w old ≤ times_shown w new
 module _ (test : ℕ → Bool) (old new : Columns) (long other : ℕ → ℕ)
     (still : (w : ℕ) → test w ≡ false → IsOnTop w old → IsOnTop w new)
     (same : (w : ℕ) → test w ≡ false → IsOnTop w old → other w ≡ long w) where
-  caret_still : (x : Caret) → test x.viewer ≡ false → IsCaret old long x → IsCaret new other x
+  caret_still : (x : Caret) → test x.viewer ≡ false → IsCaretPlaced old long x → IsCaretPlaced new other x
   caret_still x out stands = record {
     placed = still x.viewer out stands.placed;
     within = subst (λ n. x.position ≤ n) (sym (same x.viewer out stands.placed)) stands.within;
@@ -363,8 +363,8 @@ stay_as test (e ∷ es) all = rw (all 0 e.0 (omega arith)) (ap (λ l. e ∷ l) (
     (test n)) e.0 (keys_of es) all)))
 
 -- where all texts are shown none goes
-pub all_shown : {T : Type 0} (d : DesktopOf T) → All (λ n. IsTrue (is_shown d.viewers n)) (keys_of d.texts) → dropped d ≡ d
-unfolding dropped
+pub all_shown : {T : Type 0} (d : DesktopOf T) → All (λ n. IsTrue (is_shown d.viewers n)) (keys_of d.texts) → without_unshown d ≡ d
+unfolding without_unshown
 all_shown d all = λ k. record d { texts = stay_as (is_shown d.viewers) d.texts all k }
 
 fewer_lengths : (test : ℕ → Bool) (texts : Texts (Text ℕ)) → lengths (filter (λ e. test e.0) texts) ≤ lengths texts
@@ -394,12 +394,12 @@ module _ (d : Desktop) where
   abbrev left_texts : Texts (Text ℕ)
   left_texts = filter (λ e. is_shown d.viewers e.0) d.texts
 
-  text_left : (n : ℕ) → is_shown d.viewers n ≡ true → numbered left_texts n ≡ numbered d.texts n
+  text_left : (n : ℕ) → is_shown d.viewers n ≡ true → text_numbered left_texts n ≡ text_numbered d.texts n
   text_left n is =
       lookup-filter-keys (is_at (nat_cmp n)) (is_shown d.viewers) true
       (λ k same. subst (λ (m : ℕ). is_shown d.viewers m ≡ true) (at_same n k same) is) d.texts
 
-  some_left : (n : ℕ) → is_shown d.viewers n ≡ true → IsSome (numbered d.texts n) → IsSome (numbered left_texts n)
+  some_left : (n : ℕ) → is_shown d.viewers n ≡ true → IsSome (text_numbered d.texts n) → IsSome (text_numbered left_texts n)
   some_left n is some = subst (λ (o : Option (Text ℕ)). IsSome o) (sym (text_left n is)) some
 
   length_left : (n : ℕ) → is_shown d.viewers n ≡ true → length (text_in left_texts n) ≡ length (text_in d.texts n)
@@ -432,8 +432,8 @@ module _ (d : Desktop) where
         };
   }
 
-  pub dropped_shaped : IsShaped d → IsShaped (dropped d)
-  unfolding dropped
+  pub dropped_shaped : IsShaped d → IsShaped (without_unshown d)
+  unfolding without_unshown
   dropped_shaped shaped = record {
     viewers = viewers_shown shaped.viewers;
     places = shaped.places;
@@ -459,14 +459,14 @@ module _ (d : Desktop) where
     looks = dropped_looks d shaped.looks;
   }
 
-  pub dropped_shown : AllShown (dropped d)
-  unfolding dropped
+  pub dropped_shown : AllShown (without_unshown d)
+  unfolding without_unshown
   dropped_shown = subst (λ (ks : List ℕ). All (λ n. IsTrue (is_shown d.viewers n)) ks)
       (sym (keys_filter (is_shown d.viewers) d.texts))
       (λ i n low. filter_passes (is_shown d.viewers) (keys_of d.texts) i n low)
 
-  pub dropped_held : held (dropped d) ≤ held d
-  unfolding dropped held
+  pub dropped_held : characters_held (without_unshown d) ≤ characters_held d
+  unfolding without_unshown characters_held
   dropped_held =
       let parts = fewer_lengths (is_shown d.viewers) d.texts in
       omega (arith, parts)

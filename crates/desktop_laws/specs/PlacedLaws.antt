@@ -10,18 +10,18 @@ use Rattle.piece_ring.specs.declared.piece.Piece.{Piece}
 use Rattle.piece_ring.specs.Flat.{flat}
 use Rattle.piece_ring.specs.Text.{AreWithin}
 use Rattle.viewer_tracks.specs.Columns.{Columns, IsColumns, IsPlaced, IsOnTop, times_placed, times_meant}
-use Rattle.viewer_tracks.specs.Columns.{after_change as columns_changed, after_close, after_open, replaced_at}
+use Rattle.viewer_tracks.specs.Columns.{columns_changed as columns_changed, after_close, after_open, replaced_at}
 use Rattle.viewer_tracks.proofs.ColumnLemmas.{close_keeps}
 use Rattle.viewer_tracks.proofs.PlacedLemmas.{open_shows, change_shows, close_shows}
 use Rattle.desktop_definitions.specs.declared.reply.Reply.TheVariants.{Done}
 use Rattle.desktop_definitions.specs.Limits.{most_written, most_held}
 use Rattle.desktop_definitions.specs.Tables.{Texts, with_values}
-use Rattle.desktop_definitions.specs.Desktop.{DesktopOf, Desktop, KeptDesktop, held}
+use Rattle.desktop_definitions.specs.Desktop.{DesktopOf, Desktop, KeptDesktop, characters_held}
 use Rattle.desktop_definitions.specs.Viewers.{without_viewer, opened_at}
-use Rattle.desktop_definitions.specs.Opening.{is_shown, dropped}
-use Rattle.desktop_definitions.specs.Gesture.{resized, carried}
+use Rattle.desktop_definitions.specs.Opening.{is_shown, without_unshown}
+use Rattle.desktop_definitions.specs.Gesture.{resized, after_move}
 use Rattle.desktop_definitions.specs.Seen.{seen, seen_text}
-use Rattle.desktop_definitions.specs.Step.{fits, settled, outcome_of}
+use Rattle.desktop_definitions.specs.Step.{fits, outcome_after, outcome_of}
 use Rattle.desktop_definitions.specs.Sound.{AllWithin, IsWithin, IsSound, IsOver}
 use Rattle.desktop_definitions.specs.Outcome.{IsAnswered}
 use Rattle.desktop_laws.specs.OutcomeLaws.{acted}
@@ -41,8 +41,8 @@ filter_seen {T} {U} f test (e ∷ es) = elim (test e.0) as
       | false ↦ filter_seen f test es
     ]
 
-pub seen_dropped : (characters : List ℕ) (d : KeptDesktop) → seen characters (dropped d) ≡ dropped (seen characters d)
-unfolding seen dropped
+pub seen_dropped : (characters : List ℕ) (d : KeptDesktop) → seen characters (without_unshown d) ≡ without_unshown (seen characters d)
+unfolding seen without_unshown
 seen_dropped characters d = λ k. record (seen characters d) {
   texts = filter_seen (seen_text characters) (is_shown d.viewers) d.texts k;
 }
@@ -68,8 +68,8 @@ within_filter n test (e ∷ es) all =
       | false ↦ rest
     ]
 
-pub dropped_within : (n : ℕ) (d : KeptDesktop) → IsWithin n d → IsWithin n (dropped d)
-unfolding dropped
+pub dropped_within : (n : ℕ) (d : KeptDesktop) → IsWithin n d → IsWithin n (without_unshown d)
+unfolding without_unshown
 dropped_within n d within = record {
   texts = within_filter n (is_shown d.viewers) d.texts within.texts;
   files = within.files;
@@ -99,22 +99,22 @@ pub anew_written : {T : Type 0} (d : DesktopOf T) (columns : Columns) (taken : O
 anew_written d columns None = refl
 anew_written d columns (Some g) = refl
 
-pub anew_held : (d : Desktop) (columns : Columns) (taken : Option ℕ) → held (placed_anew d columns taken) ≡ held d
-unfolding held
+pub anew_held : (d : Desktop) (columns : Columns) (taken : Option ℕ) → characters_held (placed_anew d columns taken) ≡ characters_held d
+unfolding characters_held
 anew_held d columns None = refl
 anew_held d columns (Some g) = refl
 
-pub dropped_written : {T : Type 0} (d : DesktopOf T) → (dropped d).written ≡ d.written
-unfolding dropped
+pub dropped_written : {T : Type 0} (d : DesktopOf T) → (without_unshown d).written ≡ d.written
+unfolding without_unshown
 dropped_written d = refl
 
 -- ---- the limits
 
-pub fits_within : (d : Desktop) → d.written ≤ most_written → held d ≤ most_held → fits d ≡ true
-fits_within d written all = rw (le-leb d.written most_written written, le-leb (held d) most_held all) refl
+pub fits_within : (d : Desktop) → d.written ≤ most_written → characters_held d ≤ most_held → fits d ≡ true
+fits_within d written all = rw (le-leb d.written most_written written, le-leb (characters_held d) most_held all) refl
 
-pub done : (d new : Desktop) → fits (dropped new) ≡ true → outcome_of (dropped new) Done ≡ settled d (Ok new)
-unfolding settled
+pub done : (d new : Desktop) → fits (without_unshown new) ≡ true → outcome_of (without_unshown new) Done ≡ outcome_after d (Ok new)
+unfolding outcome_after
 done d new fit = rw fit refl
 
 -- ---- the outcome
@@ -135,18 +135,18 @@ over_after old d after now over written within seen_now sound = record {
 module _ (H : Type 0) (old : List ℕ) (d : KeptDesktop) (columns : Columns) (taken : Option ℕ) (over : IsOver old d)
     (anew : (characters : List ℕ) → IsPlacedAnew (seen characters d) columns taken) where
   abbrev after : KeptDesktop
-  after = dropped (placed_anew d columns taken)
+  after = without_unshown (placed_anew d columns taken)
 
-  seen_after : (characters : List ℕ) → seen characters after ≡ dropped (placed_anew (seen characters d) columns taken)
+  seen_after : (characters : List ℕ) → seen characters after ≡ without_unshown (placed_anew (seen characters d) columns taken)
   seen_after characters = seen_dropped characters (placed_anew d columns taken)
-      ∙ ap dropped (seen_anew characters d columns taken)
+      ∙ ap without_unshown (seen_anew characters d columns taken)
 
   written_after : after.written ≡ d.written
   written_after = dropped_written (placed_anew d columns taken) ∙ anew_written d columns taken
 
   module _ (characters : List ℕ) where
     abbrev now : Desktop
-    now = dropped (placed_anew (seen characters d) columns taken)
+    now = without_unshown (placed_anew (seen characters d) columns taken)
 
     written_now : now.written ≤ most_written
     unfolding seen
@@ -157,7 +157,7 @@ module _ (H : Type 0) (old : List ℕ) (d : KeptDesktop) (columns : Columns) (ta
         let low = (over.whole.sound characters).written_within in
         omega (arith, same, low)
 
-    held_now : held now ≤ most_held
+    held_now : characters_held now ≤ most_held
     held_now =
         let fewer = dropped_held (placed_anew (seen characters d) columns taken) in
         let same = anew_held (seen characters d) columns taken in
@@ -177,7 +177,7 @@ module _ (H : Type 0) (old : List ℕ) (d : KeptDesktop) (columns : Columns) (ta
       (dropped_within d.written (placed_anew d columns taken)
       (anew_within d.written d columns taken over.whole.within)) seen_after sound_now
 
-  pub anew_answered : IsAnswered H old old d after (settled (seen old d) (Ok (placed_anew
+  pub anew_answered : IsAnswered H old old d after (outcome_after (seen old d) (Ok (placed_anew
       (seen old d) columns taken))) Done
   anew_answered = acted H old old d after _ anew_over
       (λ h. (λ k. outcome_of (seen_after old k) Done)
@@ -201,9 +201,9 @@ module _ {T : Type 0} (d : DesktopOf T) (v : ℕ) where
   at_closed closed columns None = refl
   at_closed closed columns (Some g) = refl
 
-  pub carried_is : (x y : ℕ) → carried d v x y ≡ placed_anew d (after_open (after_close d.columns v) v x (y + 1))
+  pub carried_is : (x y : ℕ) → after_move d v x y ≡ placed_anew d (after_open (after_close d.columns v) v x (y + 1))
       (replaced_at (after_close d.columns v) x (y + 1))
-  unfolding carried opened_at
+  unfolding after_move opened_at
   carried_is x y = at_closed (after_close d.columns v) _ _
 
 -- who is shown still is after a viewer of a shown track was changed, and after it was carried elsewhere
@@ -248,7 +248,7 @@ module _ (H : Type 0) (old : List ℕ) (d : KeptDesktop) (over : IsOver old d) w
       none_comes (seen characters d) columns taken (over.whole.sound characters).shaped places.hold places.places stay
 
   abbrev answered : KeptDesktop × Desktop → Type 0
-  answered both = IsAnswered H old old d both.0 (settled (seen old d) (Ok both.1)) Done
+  answered both = IsAnswered H old old d both.0 (outcome_after (seen old d) (Ok both.1)) Done
 
   hold : IsColumns d.columns
   hold = over_columns old d over
@@ -268,8 +268,8 @@ module _ (H : Type 0) (old : List ℕ) (d : KeptDesktop) (over : IsOver old d) w
   pub carried_answered : (v x y : ℕ) → IsOnTop v d.columns
       → PlacesKept d.columns (after_open (after_close d.columns v) v x (y + 1))
       (replaced_at (after_close d.columns v) x (y + 1))
-      → answered (dropped (carried d v x y), carried (seen old d) v x y)
+      → answered (without_unshown (after_move d v x y), after_move (seen old d) v x y)
   unfolding seen
   carried_answered v x y placed places = subst answered
-      (λ k. (dropped (sym (carried_is d v x y) k), sym (carried_is (seen old d) v x y) k))
+      (λ k. (without_unshown (sym (carried_is d v x y) k), sym (carried_is (seen old d) v x y) k))
       (anew_answered H old d _ _ over (nobody _ _ places (carry_stays d.columns v x (y + 1) hold placed)))

@@ -5,7 +5,7 @@ use Rattle.std.specs.Map.{values_of}
 use Rattle.piece_ring.specs.declared.piece.Piece.{Piece}
 use Rattle.piece_ring.specs.Flat.{flat}
 use Rattle.piece_ring.specs.Text.{Text}
-use Rattle.readers_scanners.specs.Reading.{bytes}
+use Rattle.readers_scanners.specs.Reading.{bytes_of_text}
 use Rattle.desktop_definitions.specs.Tables.{Texts, Files, with_values}
 use Rattle.desktop_definitions.specs.Desktop.{KeptDesktop}
 
@@ -34,7 +34,7 @@ laid_table n (e ∷ es) = (e.0, laid n e.1) ∷ laid_table (n + length e.1) es
 -- the bytes that the texts of a table read, one text after another
 abbrev pub bytes_in : {K : Type 0} → List ℕ → List (K × Text ℕ) → List ℕ
 bytes_in characters [] = []
-bytes_in characters (e ∷ es) = bytes characters e.1 ++ bytes_in characters es
+bytes_in characters (e ∷ es) = bytes_of_text characters e.1 ++ bytes_in characters es
 
 -- ---- a desktop of which all is written anew: texts, then files, then both buffers
 
@@ -61,4 +61,4 @@ pub record IsRewritten (honest : Type 0) (old : List ℕ) (d : KeptDesktop) (mad
     pub as_many : length made ≡ in_all d
     -- where they were told truly these are the characters
     pub read : honest → made ≡ bytes_in old (flats d.texts) ++ bytes_in old (flats d.files)
-        ++ bytes old (flat d.copied) ++ bytes old (flat d.deleted)
+        ++ bytes_of_text old (flat d.copied) ++ bytes_of_text old (flat d.deleted)

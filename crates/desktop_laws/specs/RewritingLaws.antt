@@ -7,7 +7,7 @@ use Rattle.std.proofs.lemmas.List.Sums.{sum_by-cons}
 use Rattle.std.proofs.Math.Seq.{get_or-append_seam}
 use Rattle.piece_ring.specs.Flat.{run}
 use Rattle.piece_ring.specs.Text.{AreWithin}
-use Rattle.readers_scanners.specs.Reading.{contents, bytes}
+use Rattle.readers_scanners.specs.Reading.{contents, bytes_of_text}
 use Rattle.readers_scanners.proofs.Running.{length-bytes}
 use Rattle.desktop_definitions.specs.Words.{Look, Piece, Text, flat}
 use Rattle.desktop_definitions.specs.Tables.{with_values}
@@ -38,11 +38,11 @@ text_is_within m n (c ∷ text) low (suc k) d inside =
 -- ---- what they read
 
 laid_reads : (front more old : List ℕ) (text : Text ℕ) (n : ℕ) → length front ≡ n
-    → contents (front ++ (bytes old text ++ more)) (laid n text) ≡ contents old text
+    → contents (front ++ (bytes_of_text old text ++ more)) (laid n text) ≡ contents old text
 laid_reads front more old [] n is = refl
 laid_reads front more old (c ∷ text) n is =
     let b : ℕ = slice_index old c.0 in
-    let tail : List ℕ = bytes old text ++ more in
+    let tail : List ℕ = bytes_of_text old text ++ more in
     let first : slice_index (front ++ b ∷ tail) n ≡ b =
     subst (λ k. slice_index (front ++ b ∷ tail) k ≡ b) is (get_or-append_seam front b tail 0) in
     let further : length (front ++ b ∷ []) ≡ suc n = omega (arith, is, length-append front (b ∷ [])) in
@@ -56,7 +56,7 @@ table_reads : {K : Type 0} (front more old : List ℕ) (table : List (K × Text 
     ≡ with_values (contents old) table
 table_reads front more old [] n is = refl
 table_reads {K} front more old (e ∷ es) n is =
-    let b : List ℕ = bytes old e.1 in
+    let b : List ℕ = bytes_of_text old e.1 in
     let tail : List ℕ = bytes_in old es in
     let whole : front ++ (b ++ tail ++ more) ≡ front ++ (b ++ (tail ++ more)) =
     ap (λ (l : List ℕ). front ++ l) (append_assoc b tail more) in
@@ -84,7 +84,7 @@ pub length-bytes_in : {K : Type 0} (characters : List ℕ) (table : List (K × L
 length-bytes_in characters [] = refl
 length-bytes_in characters (e ∷ es) = omega (
   arith,
-  length-append (bytes characters (flat e.1)) (bytes_in characters (flats es)),
+  length-append (bytes_of_text characters (flat e.1)) (bytes_in characters (flats es)),
   length-bytes characters (flat e.1),
   length-bytes_in characters es,
   sum_by-cons (λ pieces. length (flat pieces)) e.1 (values_of es),
@@ -101,7 +101,7 @@ table_seen {K} all front more old table new n is moved whole =
     ∙ seen_flats old table
 
 pub text_seen : (all front more old : List ℕ) (text new : List Piece) (n : ℕ) → length front ≡ n
-    → flat new ≡ laid n (flat text) → all ≡ front ++ (bytes old (flat text) ++ more)
+    → flat new ≡ laid n (flat text) → all ≡ front ++ (bytes_of_text old (flat text) ++ more)
     → seen_text all new ≡ seen_text old text
 text_seen all front more old text new n is moved whole =
     ap (contents all) moved

@@ -22,18 +22,18 @@ use Rattle.desktop_definitions.specs.declared.reply.Reply.TheVariants.{Done, No}
 use Rattle.desktop_definitions.specs.Limits.{most_written, most_held, no_caret, no_selection, no_command, no_file, full}
 use Rattle.desktop_definitions.specs.Limits.{too_many_files, outside, wrong_symbol, no_viewer as viewer_missing}
 use Rattle.desktop_definitions.specs.Limits.{not_found, bad_value, too_deep, too_low}
-use Rattle.desktop_definitions.specs.Tables.{Texts, numbered}
+use Rattle.desktop_definitions.specs.Tables.{Texts, text_numbered}
 use Rattle.desktop_laws.specs.TableLaws.{lookup_seen, is_some_map, kept_lengths, lengths_seen}
-use Rattle.desktop_definitions.specs.Desktop.{Desktop, KeptDesktop, held}
+use Rattle.desktop_definitions.specs.Desktop.{Desktop, KeptDesktop, characters_held}
 use Rattle.desktop_definitions.specs.Viewers.{viewer_in, viewer_or_none, text_in, bare_viewer}
 use Rattle.desktop_definitions.specs.Opening.{is_shown}
 use Rattle.desktop_definitions.specs.Change.{more_written}
 use Rattle.desktop_definitions.specs.Seen.{seen, seen_text, seen_table}
 use Rattle.desktop_laws.specs.SeenLaws.{within_counted}
-use Rattle.desktop_definitions.specs.Step.{fits, settled, outcome_of}
+use Rattle.desktop_definitions.specs.Step.{fits, outcome_after, outcome_of}
 use Rattle.desktop_laws.specs.StepLaws.{AllShown, settled_done, settled_full}
 use Rattle.desktop_definitions.specs.Sound.{AreViewers, ArePlaces, IsSound, IsWithin, IsBuilt, IsOver}
-use Rattle.desktop_definitions.specs.Changed.{texts_shown, IsChanged, Counts}
+use Rattle.desktop_definitions.specs.Changed.{texts_shown, IsChanged, CountsHeld}
 use Rattle.desktop_definitions.specs.Outcome.{reply_codes, IsAnswered}
 use Rattle.desktop_laws.specs.OutcomeLaws.{refused, acted, within_longer}
 use Rattle.desktop_laws.specs.LookedLaws.{written_shaped, within_stays}
@@ -108,7 +108,7 @@ unfolding has_space
 space_written d made more fewer space = leb-true _ _ (and_parts _ _ space).0
 
 pub space_held : (d : Desktop) (made more fewer : ℕ) → has_space d made more fewer ≡ true
-    → held d + more ≤ most_held + fewer
+    → characters_held d + more ≤ most_held + fewer
 unfolding has_space
 space_held d made more fewer space = leb-true _ _ (and_parts _ _ space).1
 
@@ -120,7 +120,7 @@ pub space_sound : (d : Desktop) (fewer : ℕ) → IsSound d → has_space d 0 0 
 unfolding has_space
 space_sound d fewer sound = and_from _ _
     (le-leb (d.written + 0) most_written (let low = sound.written_within in omega (arith, low)))
-    (le-leb (held d + 0) (most_held + fewer) (let low = sound.held_within in omega (arith, low)))
+    (le-leb (characters_held d + 0) (most_held + fewer) (let low = sound.held_within in omega (arith, low)))
 
 shifted : (h x m f : ℕ) → h + f ≡ x → nat_le x (m + f) ≡ nat_le h m
 shifted h x m f is = (elim (nat_le h m) as (λ b. nat_le h m ≡ b → nat_le x (m + f) ≡ b) [
@@ -129,38 +129,38 @@ shifted h x m f is = (elim (nat_le h m) as (λ b. nat_le h m ≡ b → nat_le x 
 ]) refl
 
 -- the limits after a row, by what it makes and what it holds more and fewer
-pub space_made : (d new : Desktop) (made more fewer : ℕ) → Counts d new more fewer
+pub space_made : (d new : Desktop) (made more fewer : ℕ) → CountsHeld d new more fewer
     → has_space d made more fewer ≡ fits (more_written new made)
-unfolding has_space held
+unfolding has_space characters_held
 space_made d new made more fewer counts = λ k.
     nat_le (sym counts.written k + made) most_written
-    && shifted (held new) (held d + more) most_held fewer counts.counted k
+    && shifted (characters_held new) (characters_held d + more) most_held fewer counts.counted k
 
 plus_zero : (n : ℕ) → n + 0 ≡ n
 plus_zero n = omega arith
 
 -- the same where it makes none
-pub space_rest : (d new : Desktop) (more fewer : ℕ) → Counts d new more fewer → has_space d 0 more fewer ≡ fits new
-unfolding has_space held
+pub space_rest : (d new : Desktop) (more fewer : ℕ) → CountsHeld d new more fewer → has_space d 0 more fewer ≡ fits new
+unfolding has_space characters_held
 space_rest d new more fewer counts = λ k.
     nat_le ((plus_zero d.written ∙ sym counts.written) k) most_written
-    && shifted (held new) (held d + more) most_held fewer counts.counted k
+    && shifted (characters_held new) (characters_held d + more) most_held fewer counts.counted k
 
 -- ---- refusals for the limits
 
 unfit_answered : (H : Type 0) (old : List ℕ) (d : KeptDesktop) (new : Desktop) → IsOver old d
     → AllShown new → fits new ≡ false
-    → IsAnswered H old old d d (settled (seen old d) (Ok new)) (No full)
+    → IsAnswered H old old d d (outcome_after (seen old d) (Ok new)) (No full)
 unfit_answered H old d new over shown unfit = refused H old d _ full over known_full (λ h.
     sym (settled_full (seen old d) new shown unfit))
 
-shown_counted : (d new : Desktop) (more fewer : ℕ) → Counts d new more fewer → IsSound d → AllShown new
+shown_counted : (d new : Desktop) (more fewer : ℕ) → CountsHeld d new more fewer → IsSound d → AllShown new
 shown_counted d new more fewer counts sound = shown_rest d new counts.numbers counts.viewers sound.shown
 
 -- a row that makes characters is refused where there is no space
 pub full_answered : (H : Type 0) (old : List ℕ) (d : KeptDesktop) (new : Desktop) (made more fewer : ℕ) → IsOver old d
-    → Counts (seen old d) new more fewer → has_space (seen old d) made more fewer ≡ false
-    → IsAnswered H old old d d (settled (seen old d) (Ok (more_written new made))) (No full)
+    → CountsHeld (seen old d) new more fewer → has_space (seen old d) made more fewer ≡ false
+    → IsAnswered H old old d d (outcome_after (seen old d) (Ok (more_written new made))) (No full)
 full_answered H old d new made more fewer over counts none =
     unfit_answered H old d (more_written new made) over
     (shown_counted (seen old d) new more fewer counts (over.whole.sound old))
@@ -168,21 +168,21 @@ full_answered H old d new made more fewer over counts none =
 
 -- and so is one that makes none
 pub full_rest_answered : (H : Type 0) (old : List ℕ) (d : KeptDesktop) (new : Desktop) (more fewer : ℕ) → IsOver old d
-    → Counts (seen old d) new more fewer → has_space (seen old d) 0 more fewer ≡ false
-    → IsAnswered H old old d d (settled (seen old d) (Ok new)) (No full)
+    → CountsHeld (seen old d) new more fewer → has_space (seen old d) 0 more fewer ≡ false
+    → IsAnswered H old old d d (outcome_after (seen old d) (Ok new)) (No full)
 full_rest_answered H old d new more fewer over counts none =
     unfit_answered H old d new over (shown_counted (seen old d) new more fewer counts (over.whole.sound old))
     (sym (space_rest (seen old d) new more fewer counts) ∙ none)
 
 -- ---- rows that are done
 
-settled_sound : (d new : Desktop) → IsSound new → settled d (Ok new) ≡ (outcome_of new Done)
+settled_sound : (d new : Desktop) → IsSound new → outcome_after d (Ok new) ≡ (outcome_of new Done)
 settled_sound d new sound = settled_done d new sound.shown (fit_sound new sound)
 
 -- what is over its characters after a row, and seen as its outcome, is the event done
 pub row_answered : (H : Type 0) (old new : List ℕ) (before after : KeptDesktop) (outcome : Desktop) → IsOver new after
     → (H → seen new after ≡ outcome)
-    → IsAnswered H old new before after (settled (seen old before) (Ok outcome)) Done
+    → IsAnswered H old new before after (outcome_after (seen old before) (Ok outcome)) Done
 row_answered H old new before after outcome over is = acted H old new before after _ over (λ h.
     let sound : IsSound outcome = subst IsSound (is h) (over.whole.sound new) in
     (λ k. outcome_of (is h k) Done) ∙ sym (settled_sound (seen old before) outcome sound))
@@ -210,14 +210,14 @@ module _ {H : Type 0} (old now new : List ℕ) (before after : KeptDesktop) (out
       let low = space_written (seen all before) made more fewer (space all) in
       omega (arith, low, changed.rest.written)
 
-  held_within : (all : List ℕ) → held (seen all after) ≤ most_held
+  held_within : (all : List ℕ) → characters_held (seen all after) ≤ most_held
   held_within all =
       let low = space_held (seen all before) made more fewer (space all) in
       omega (arith, low, changed.counted all)
 
   -- a row that makes characters leaves the desktop over them and the old ones
   pub changed_over : IsOver new (more_written after made)
-  unfolding seen held
+  unfolding seen characters_held
   changed_over = record {
     counted = counted;
     whole = record {
@@ -237,7 +237,7 @@ pub changed_answered : (H : Type 0) (old made now new : List ℕ) (before after 
     → IsChanged H now before after outcome more fewer
     → ((all : List ℕ) → has_space (seen all before) (length made) more fewer ≡ true)
     → IsAnswered H old new before (more_written after (length made))
-    (settled (seen old before) (Ok (more_written outcome (length made)))) Done
+    (outcome_after (seen old before) (Ok (more_written outcome (length made)))) Done
 unfolding seen
 changed_answered H old made now new before after outcome more fewer over grown long same changed space =
     row_answered H old new before (more_written after (length made)) (more_written outcome (length made))
@@ -262,7 +262,7 @@ rest_over old now new before after outcome more fewer over changed as_long long 
 pub rest_answered : (H : Type 0) (old new : List ℕ) (before after : KeptDesktop) (outcome : Desktop) (more fewer : ℕ)
     → IsOver old before → length new ≡ length old → (H → new ≡ old) → IsChanged H old before after outcome more fewer
     → ((all : List ℕ) → has_space (seen all before) 0 more fewer ≡ true)
-    → IsAnswered H old new before after (settled (seen old before) (Ok outcome)) Done
+    → IsAnswered H old new before after (outcome_after (seen old before) (Ok outcome)) Done
 rest_answered H old new before after outcome more fewer over long same changed space =
     row_answered H old new before after outcome
     (rest_over old old new before after outcome more fewer over changed refl long space)
@@ -271,7 +271,7 @@ rest_answered H old new before after outcome more fewer over long same changed s
 -- and so is one that makes none and holds no more
 pub fewer_answered : (H : Type 0) (old new : List ℕ) (before after : KeptDesktop) (outcome : Desktop) (fewer : ℕ)
     → IsOver old before → length new ≡ length old → (H → new ≡ old) → IsChanged H old before after outcome 0 fewer
-    → IsAnswered H old new before after (settled (seen old before) (Ok outcome)) Done
+    → IsAnswered H old new before after (outcome_after (seen old before) (Ok outcome)) Done
 fewer_answered H old new before after outcome fewer over long same changed =
     rest_answered H old new before after outcome 0 fewer over long same changed
     (λ all. space_sound (seen all before) fewer (over.whole.sound all))
@@ -339,8 +339,8 @@ changed_further cs ds a b c x f m n g h more fewer so long same first next more_
 }
 
 -- the same of counts
-pub counts_then : (a b c : Desktop) (m n g h more fewer : ℕ) → Counts a b m g → Counts b c n h
-    → more ≡ m + n → fewer ≡ g + h → Counts a c more fewer
+pub counts_then : (a b c : Desktop) (m n g h more fewer : ℕ) → CountsHeld a b m g → CountsHeld b c n h
+    → more ≡ m + n → fewer ≡ g + h → CountsHeld a c more fewer
 counts_then a b c m n g h more fewer first next more_is fewer_is = record {
   counted = omega (arith, first.counted, next.counted, more_is, fewer_is);
   numbers = next.numbers ∙ first.numbers;
@@ -361,28 +361,28 @@ placed_there places v placed = some_placed _ _ _ (places.once v) placed
 
 -- the main text of a viewer is there
 pub main_there : {X : Type 0} (texts : Texts (List X)) (viewers : List (ℕ × Viewer)) → AreViewers texts viewers
-    → (v : ℕ) → IsSome (viewer_in viewers v) → IsSome (numbered texts (viewer_or_none viewers v).main)
+    → (v : ℕ) → IsSome (viewer_in viewers v) → IsSome (text_numbered texts (viewer_or_none viewers v).main)
 main_there texts viewers are v some = (elim (viewer_in viewers v) as
     (λ (found : Option Viewer). viewer_in viewers v ≡ found → IsSome found
-    → IsSome (numbered texts (unwrap_or found bare_viewer).main)) [
+    → IsSome (text_numbered texts (unwrap_or found bare_viewer).main)) [
       | None ↦ λ is none. absurd (cc none)
       | Some viewer ↦ λ is there. (are.each v viewer is).main
     ]) refl some
 
 pub main_seen : (d : Desktop) → AreViewers d.texts d.viewers → ArePlaces d.viewers d.columns d.closed → (v : ℕ)
-    → IsPlaced v d.columns → IsSome (numbered d.texts (viewer_or_none d.viewers v).main)
+    → IsPlaced v d.columns → IsSome (text_numbered d.texts (viewer_or_none d.viewers v).main)
 main_seen d are places v placed = main_there d.texts d.viewers are v (placed_there places v placed)
 
 -- the same of a desktop that is kept
 pub main_kept : (n : ℕ) (d : KeptDesktop) → IsBuilt n d → (v : ℕ) → IsPlaced v d.columns
-    → IsSome (numbered d.texts (viewer_or_none d.viewers v).main)
+    → IsSome (text_numbered d.texts (viewer_or_none d.viewers v).main)
 unfolding seen
 main_kept n d built v placed =
     let m = (viewer_or_none d.viewers v).main in
-    let there : IsSome (numbered (seen_table [] d.texts) m)
+    let there : IsSome (text_numbered (seen_table [] d.texts) m)
     = main_seen (seen [] d) (built.shaped []).viewers (built.shaped []).places v placed in
     sym (ap is_some (lookup_seen (seen_text []) (is_at (nat_cmp m)) d.texts)
-    ∙ is_some_map (seen_text []) (numbered d.texts m)) ∙ there
+    ∙ is_some_map (seen_text []) (text_numbered d.texts m)) ∙ there
 
 main_among : List (ℕ × ℕ × ℕ) → ℕ → ℕ
 main_among [] v = 0
@@ -408,14 +408,14 @@ one_of (e ∷ es) n =
     let sum = sum_by-cons (λ (pieces : List Piece). length (flat pieces)) e.1 (values_of es) in
     let rest = one_of es n in
     elim (is_at (nat_cmp n) e.0) as
-    (λ b. length (flat (unwrap_or (cond b (Some e.1) (numbered es n)) [])) ≤ kept_lengths (e ∷ es)) [
+    (λ b. length (flat (unwrap_or (cond b (Some e.1) (text_numbered es n)) [])) ≤ kept_lengths (e ∷ es)) [
       | true ↦ omega (arith, sum)
       | false ↦ omega (arith, sum, rest)
     ]
 
 -- no text has more characters than the desktop
-pub text_held : (d : KeptDesktop) (n : ℕ) → length (flat (text_in d.texts n)) ≤ held (seen [] d)
-unfolding seen held
+pub text_held : (d : KeptDesktop) (n : ℕ) → length (flat (text_in d.texts n)) ≤ characters_held (seen [] d)
+unfolding seen characters_held
 text_held d n =
     let one = one_of d.texts n in
     let all = lengths_seen [] d.texts in

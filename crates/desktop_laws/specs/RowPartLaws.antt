@@ -18,18 +18,18 @@ use Rattle.desktop_definitions.specs.declared.viewer.Caret.{Caret}
 use Rattle.desktop_definitions.specs.declared.viewer.Selection.{Selection}
 use Rattle.desktop_definitions.specs.declared.reply.Reply.TheVariants.{Done}
 use Rattle.desktop_definitions.specs.Limits.{most_written, most_held}
-use Rattle.desktop_definitions.specs.Tables.{numbered}
+use Rattle.desktop_definitions.specs.Tables.{text_numbered}
 use Rattle.desktop_laws.specs.TableLaws.{length_seen_text}
-use Rattle.desktop_definitions.specs.Desktop.{Desktop, KeptDesktop, held}
+use Rattle.desktop_definitions.specs.Desktop.{Desktop, KeptDesktop, characters_held}
 use Rattle.desktop_definitions.specs.Viewers.{viewer_of, viewer_or_none, text_in, text_of, main_of, selected}
 use Rattle.desktop_definitions.specs.Viewers.{with_selection, kept_main}
 use Rattle.desktop_definitions.specs.Change.{insertion, deletion, caret_shown, put_in, put_at_caret, cut_out}
 use Rattle.desktop_laws.specs.ChangeLaws.{counts_none, insertion_counts, caret_shown_counts, with_selection_counts}
 use Rattle.desktop_definitions.specs.Seen.{seen, seen_text}
 use Rattle.desktop_laws.specs.TextLaws.{text_in_seen, text_within as within_table}
-use Rattle.desktop_definitions.specs.Step.{settled}
+use Rattle.desktop_definitions.specs.Step.{outcome_after}
 use Rattle.desktop_definitions.specs.Sound.{IsSelection, IsSound, IsWithin, IsBuilt, IsOver}
-use Rattle.desktop_definitions.specs.Changed.{IsChanged, Counts}
+use Rattle.desktop_definitions.specs.Changed.{IsChanged, CountsHeld}
 use Rattle.desktop_definitions.specs.Outcome.{IsAnswered}
 use Rattle.desktop_laws.specs.RowLaws.{changed_as, changed_further, counts_then, rest_answered}
 use Rattle.desktop_laws.specs.DeskWords.{has_space}
@@ -135,7 +135,7 @@ module _ {H : Type 0} (characters : List ℕ) (d : KeptDesktop) (built : IsBuilt
       → length (flat copied) + length (flat deleted) + fewer ≡ length (flat d.copied) + length (flat d.deleted) + more
       → IsChanged H characters d (record d { copied = copied; deleted = deleted })
       (record (seen characters d) { copied = copied_text; deleted = deleted_text }) more fewer
-  unfolding seen held
+  unfolding seen characters_held
   buffers_changed copied deleted copied_text deleted_text more fewer c_in d_in c_looks d_looks c_is d_is sum = record {
     exact = λ h k. record (seen characters d) { copied = c_is h k; deleted = d_is h k };
     built = record {
@@ -178,8 +178,8 @@ module _ {H : Type 0} (characters : List ℕ) (d : KeptDesktop) (buffer : List P
       (kept_copied_looks (length characters) d built) looks (λ h. refl) is (omega arith)
 
 pub copied_counts : (d : Desktop) (text : Text ℕ)
-    → Counts d (record d { copied = text }) (length text) (length d.copied)
-unfolding held
+    → CountsHeld d (record d { copied = text }) (length text) (length d.copied)
+unfolding characters_held
 copied_counts d text = record {
   counted = omega arith;
   numbers = refl;
@@ -189,22 +189,22 @@ copied_counts d text = record {
 
 -- ---- what is put in
 
-pub put_in_counts : (d : Desktop) (v p : ℕ) (text : Text ℕ) → IsSome (numbered d.texts (viewer_of d v).main)
-    → Counts d (put_in d v p text) (length text) 0
+pub put_in_counts : (d : Desktop) (v p : ℕ) (text : Text ℕ) → IsSome (text_numbered d.texts (viewer_of d v).main)
+    → CountsHeld d (put_in d v p text) (length text) 0
 put_in_counts d v p text there =
     counts_then d (insertion d (viewer_of d v).main p text) (put_in d v p text) (length text) 0 0 0 (length text) 0
     (insertion_counts d (viewer_of d v).main p text there)
     (caret_shown_counts (insertion d (viewer_of d v).main p text) v (p + length text)) (omega arith) refl
 
 pub put_at_caret_counts : (d : Desktop) (text : Text ℕ) (c : Caret)
-    → IsSome (numbered d.texts (viewer_of d c.viewer).main) → Counts d (put_at_caret d text c) (length text) 0
+    → IsSome (text_numbered d.texts (viewer_of d c.viewer).main) → CountsHeld d (put_at_caret d text c) (length text) 0
 put_at_caret_counts d [] c there = counts_none d
 put_at_caret_counts d (first ∷ more) c there = put_in_counts d c.viewer c.position (first ∷ more) there
 
 -- a stretch is selected, and put in at the caret
 pub sent_counts : (d : Desktop) (s : Selection) (text : Text ℕ) (c : Caret)
-    → IsSome (numbered d.texts (viewer_of d c.viewer).main)
-    → Counts d (put_at_caret (with_selection d s) text c) (length text) 0
+    → IsSome (text_numbered d.texts (viewer_of d c.viewer).main)
+    → CountsHeld d (put_at_caret (with_selection d s) text c) (length text) 0
 sent_counts d s text c there =
     counts_then d (with_selection d s) (put_at_caret (with_selection d s) text c) 0 (length text) 0 0 (length text) 0
     (with_selection_counts d s) (put_at_caret_counts (with_selection d s) text c there) (omega arith) refl
@@ -253,12 +253,12 @@ space_less : (d : Desktop) (more fewer : ℕ) → more ≤ fewer → IsSound d �
 unfolding has_space
 space_less d more fewer less sound = and_from _ _
     (le-leb (d.written + 0) most_written (let low = sound.written_within in omega (arith, low)))
-    (le-leb (held d + more) (most_held + fewer) (let low = sound.held_within in omega (arith, low, less)))
+    (le-leb (characters_held d + more) (most_held + fewer) (let low = sound.held_within in omega (arith, low, less)))
 
 pub less_answered : (H : Type 0) (old new : List ℕ) (before after : KeptDesktop) (outcome : Desktop) (more fewer : ℕ)
     → more ≤ fewer → IsOver old before → length new ≡ length old → (H → new ≡ old)
     → IsChanged H old before after outcome more fewer
-    → IsAnswered H old new before after (settled (seen old before) (Ok outcome)) Done
+    → IsAnswered H old new before after (outcome_after (seen old before) (Ok outcome)) Done
 less_answered H old new before after outcome more fewer less over long same changed =
     rest_answered H old new before after outcome more fewer over long same changed
     (λ all. space_less (seen all before) more fewer less (over.whole.sound all))

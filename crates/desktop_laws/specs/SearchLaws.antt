@@ -15,7 +15,7 @@ use Rattle.piece_ring.specs.declared.piece.Look.{Look}
 use Rattle.piece_ring.specs.declared.piece.Piece.{Piece}
 use Rattle.piece_ring.specs.Flat.{flat}
 use Rattle.piece_ring.specs.Text.{Text}
-use Rattle.readers_scanners.specs.Reading.{contents, bytes}
+use Rattle.readers_scanners.specs.Reading.{contents, bytes_of_text}
 use Rattle.viewer_tracks.specs.Columns.{IsOnTop}
 use Rattle.desktop_definitions.specs.declared.viewer.Caret.{Caret}
 use Rattle.desktop_definitions.specs.declared.viewer.Selection.{Selection}
@@ -23,15 +23,15 @@ use Rattle.desktop_definitions.specs.declared.reply.Reply.{Reply}
 use Rattle.desktop_definitions.specs.declared.reply.Reply.TheVariants.{Done, No}
 use Rattle.desktop_definitions.specs.Limits.{most_pattern, no_caret, no_selection, not_found, full}
 use Rattle.desktop_laws.specs.TableLaws.{length_seen_text}
-use Rattle.desktop_definitions.specs.Desktop.{Desktop, KeptDesktop, held}
+use Rattle.desktop_definitions.specs.Desktop.{Desktop, KeptDesktop, characters_held}
 use Rattle.desktop_definitions.specs.Viewers.{main_of, newest, selected, kept_main}
 use Rattle.desktop_definitions.specs.Needs.{needs, unless}
 use Rattle.desktop_definitions.specs.Change.{bytes_of, showing, caret_shown, put_at_caret}
-use Rattle.desktop_definitions.specs.Effects.{found_at, pattern_after, searched}
+use Rattle.desktop_definitions.specs.Effects.{found_at, pattern_after, after_search}
 use Rattle.desktop_definitions.specs.Seen.{seen, seen_text}
-use Rattle.desktop_definitions.specs.Step.{settled, Outcome}
+use Rattle.desktop_definitions.specs.Step.{outcome_after, Outcome}
 use Rattle.desktop_definitions.specs.Sound.{IsBuilt, IsOver}
-use Rattle.desktop_definitions.specs.Changed.{IsChanged, Counts}
+use Rattle.desktop_definitions.specs.Changed.{IsChanged, CountsHeld}
 use Rattle.desktop_definitions.specs.Outcome.{IsAnswered}
 use Rattle.desktop_laws.specs.RowLaws.{rest_answered, fewer_answered, full_rest_answered, over_built}
 use Rattle.desktop_laws.specs.DeskWords.{has_space, start_in}
@@ -44,7 +44,7 @@ use Rattle.desktop_laws.specs.LookedLaws.{within_stays}
 -- ---- bytes that were read from a place on
 
 abbrev pub AreRead : List ℕ → ℕ → List ℕ → Type 0
-AreRead bytes place window = window ≡ take (length window) (drop place bytes)
+AreRead bytes_of_text place window = window ≡ take (length window) (drop place bytes_of_text)
 
 take_next : (xs : List ℕ) (n b : ℕ) → slice_get xs n ≡ Some b → take n xs ++ b ∷ [] ≡ take (suc n) xs
 take_next [] zero b is = absurd (cc is)
@@ -60,7 +60,7 @@ get_drop (suc p) n (x ∷ xs) =
     let at : suc (p + n) ≡ suc p + n = omega arith in get_drop p n xs ∙ ap (slice_get (x ∷ xs)) at
 
 -- a text has as many bytes as characters
-pub bytes_long : (characters : List ℕ) (text : Text ℕ) → length (bytes characters text) ≡ length text
+pub bytes_long : (characters : List ℕ) (text : Text ℕ) → length (bytes_of_text characters text) ≡ length text
 bytes_long characters text =
     length-map (contents characters text) (λ (c : ℕ × Look). c.0)
     ∙ length-map text (λ (c : ℕ × Look). (slice_index characters c.0, c.1))
@@ -191,11 +191,11 @@ module _ (bytes pattern : List ℕ) (pos place : ℕ) (window : List ℕ) (is : 
 -- ---- the pattern
 
 pub main_bytes : (characters : List ℕ) (d : KeptDesktop) (v : ℕ)
-    → bytes_of (main_of (seen characters d) v) ≡ bytes characters (flat (kept_main d v))
+    → bytes_of (main_of (seen characters d) v) ≡ bytes_of_text characters (flat (kept_main d v))
 main_bytes characters d v = ap bytes_of (kept_main_seen characters d v)
 
 selected_bytes : (characters : List ℕ) (d : KeptDesktop) (s : Selection) → bytes_of (selected (seen characters d) s)
-    ≡ slice_range (bytes characters (flat (kept_main d s.viewer))) s.beg s.end
+    ≡ slice_range (bytes_of_text characters (flat (kept_main d s.viewer))) s.beg s.end
 selected_bytes characters d s =
     let text = main_of (seen characters d) s.viewer in
     sym (take-map (λ (c : ℕ × Look). c.0) (s.end - s.beg) (drop s.beg text))
@@ -211,7 +211,7 @@ pattern_old characters d none = sym (ap (λ (o : Option Selection).
 
 -- and with one its first bytes
 pub pattern_selected : (characters : List ℕ) (d : KeptDesktop) (s : Selection) → newest d ≡ Some s
-    → take most_pattern (slice_range (bytes characters (flat (kept_main d s.viewer))) s.beg s.end)
+    → take most_pattern (slice_range (bytes_of_text characters (flat (kept_main d s.viewer))) s.beg s.end)
     ≡ pattern_after (seen characters d)
 unfolding seen
 pattern_selected characters d s is =
@@ -223,7 +223,7 @@ pattern_selected characters d s is =
 pub pattern_changed : (H : Type 0) (characters : List ℕ) (d : KeptDesktop) (pattern : List ℕ)
     → IsBuilt (length characters) d → length pattern ≤ most_pattern
     → IsChanged H characters d (record d { pattern = pattern }) (record (seen characters d) { pattern = pattern }) 0 0
-unfolding seen held
+unfolding seen characters_held
 pattern_changed H characters d pattern built few = record {
   exact = λ h. refl;
   built = record {
@@ -262,12 +262,12 @@ search_for d v pattern =
 
 module _ (characters : List ℕ) (d : KeptDesktop) (v : ℕ) (pattern : List ℕ)
     (is : pattern ≡ pattern_after (seen characters d)) where
-  searched_for : searched (seen characters d) v ≡ search_for (seen characters d) v pattern
-  unfolding searched search_for
+  searched_for : after_search (seen characters d) v ≡ search_for (seen characters d) v pattern
+  unfolding after_search search_for
   searched_for = ap (search_for (seen characters d) v) (sym is)
 
   -- without a pattern
-  pub searched_none : length pattern ≡ 0 → searched (seen characters d) v ≡ Err no_selection
+  pub searched_none : length pattern ≡ 0 → after_search (seen characters d) v ≡ Err no_selection
   unfolding search_for
   searched_none none =
       let test : nat_lt 0 (length pattern) ≡ false = le-ltb 0 (length pattern) (omega (arith, none)) in
@@ -278,8 +278,8 @@ module _ (characters : List ℕ) (d : KeptDesktop) (v : ℕ) (pattern : List ℕ
     test_some = lt-ltb 0 (length pattern) some
 
     search_by : (found : Option ℕ)
-        → found_at (bytes characters (flat (kept_main d v))) pattern (start_in v d.caret) ≡ found
-        → searched (seen characters d) v ≡ needs found not_found (shown_after (seen characters d) v pattern)
+        → found_at (bytes_of_text characters (flat (kept_main d v))) pattern (start_in v d.caret) ≡ found
+        → after_search (seen characters d) v ≡ needs found not_found (shown_after (seen characters d) v pattern)
     unfolding search_for seen
     search_by found at =
         searched_for
@@ -290,23 +290,23 @@ module _ (characters : List ℕ) (d : KeptDesktop) (v : ℕ) (pattern : List ℕ
         (ap (λ (l : List ℕ). found_at l pattern (start_in v d.caret)) (main_bytes characters d v) ∙ at)
 
     -- where it isn't found
-    pub searched_lost : found_at (bytes characters (flat (kept_main d v))) pattern (start_in v d.caret) ≡ None
-        → searched (seen characters d) v ≡ Err not_found
+    pub searched_lost : found_at (bytes_of_text characters (flat (kept_main d v))) pattern (start_in v d.caret) ≡ None
+        → after_search (seen characters d) v ≡ Err not_found
     searched_lost lost = search_by None lost
 
     pub searched_found : (p : ℕ)
-        → found_at (bytes characters (flat (kept_main d v))) pattern (start_in v d.caret) ≡ Some p
-        → searched (seen characters d) v
+        → found_at (bytes_of_text characters (flat (kept_main d v))) pattern (start_in v d.caret) ≡ Some p
+        → after_search (seen characters d) v
         ≡ Ok (caret_shown (record (seen characters d) { pattern = pattern }) v (p + length pattern))
     searched_found p found = search_by (Some p) found
 
 -- what was found in a text, by other names
 pub found_as : (mid old : List ℕ) (text main : List Piece) (slice pattern : List ℕ) (start v : ℕ) (caret : Option Caret)
     (found : Option ℕ) → mid ≡ old → text ≡ main → slice ≡ pattern → start ≡ start_in v caret
-    → found ≡ found_at (bytes mid (flat text)) slice start
-    → found_at (bytes old (flat main)) pattern (start_in v caret) ≡ found
+    → found ≡ found_at (bytes_of_text mid (flat text)) slice start
+    → found_at (bytes_of_text old (flat main)) pattern (start_in v caret) ≡ found
 found_as mid old text main slice pattern start v caret found same text_is pattern_is start_is is =
-    sym (is ∙ (λ k. found_at (bytes (same k) (flat (text_is k))) (pattern_is k) (start_is k)))
+    sym (is ∙ (λ k. found_at (bytes_of_text (same k) (flat (text_is k))) (pattern_is k) (start_is k)))
 
 -- an outcome by another name, where that is honest
 answered_as : {H : Type 0} {old new : List ℕ} {before after : KeptDesktop} {reply : Reply} (x y : Outcome)
@@ -328,7 +328,7 @@ module _ (H G : Type 0) (old mid new : List ℕ) (d shown : KeptDesktop) (v p si
     (over : IsOver old d) (so : H → G) (long : length mid ≡ length old) (same : H → mid ≡ old)
     (longer : length new ≡ length mid) (same_new : G → new ≡ mid) (few : length pattern ≤ most_pattern)
     (some : 0 < length pattern) (counted : size ≡ length pattern) (is : H → pattern ≡ pattern_after (seen old d))
-    (found : H → found_at (bytes old (flat (kept_main d v))) pattern (start_in v d.caret) ≡ Some p)
+    (found : H → found_at (bytes_of_text old (flat (kept_main d v))) pattern (start_in v d.caret) ≡ Some p)
     (changed : IsChanged G mid d shown (caret_shown (seen mid d) v (p + size)) 0 0) where
   shown_changed : IsChanged H old d shown (caret_shown (seen old d) v (p + length pattern)) 0 0
   shown_changed =
@@ -351,13 +351,13 @@ module _ (H G : Type 0) (old mid new : List ℕ) (d shown : KeptDesktop) (v p si
 
   -- where it is found the caret is shown, and the pattern set
   pub search_answered : IsAnswered H old new d (record shown { pattern = pattern })
-      (settled (seen old d) (searched (seen old d) v)) Done
+      (outcome_after (seen old d) (after_search (seen old d) v)) Done
   unfolding outcome
   search_answered =
-      answered_as (settled (seen old d) (Ok outcome)) (settled (seen old d) (searched (seen old d) v))
+      answered_as (outcome_after (seen old d) (Ok outcome)) (outcome_after (seen old d) (after_search (seen old d) v))
       (fewer_answered H old new d (record shown { pattern = pattern }) outcome 0 over (longer ∙ long)
       (λ h. same_new (so h) ∙ same h) search_changed)
-      (λ h. ap (settled (seen old d)) (sym (searched_found old d v pattern (is h) some p (found h))))
+      (λ h. ap (outcome_after (seen old d)) (sym (searched_found old d v pattern (is h) some p (found h))))
 
 -- ---- a buffer that is put in at the caret
 
@@ -377,10 +377,10 @@ module _ (H : Type 0) (old : List ℕ) (d : KeptDesktop) (buffer : List Piece) (
     put_some = rw is refl
 
     pub put_full : IsOnTop c.viewer d.columns → has_space (seen old d) 0 (length (flat buffer)) 0 ≡ false
-        → IsAnswered H old old d d (settled (seen old d) (put_row (seen old d) text)) (No full)
+        → IsAnswered H old old d d (outcome_after (seen old d) (put_row (seen old d) text)) (No full)
     put_full placed none = row_as (seen old d) (put_row (seen old d) text)
         (full_rest_answered H old d (put_at_caret (seen old d) text c) (length (flat buffer)) 0 over
-        (subst (λ n. Counts (seen old d) (put_at_caret (seen old d) text c) n 0)
+        (subst (λ n. CountsHeld (seen old d) (put_at_caret (seen old d) text c) n 0)
         (ap length (sym text_is) ∙ length_seen_text old buffer)
         (put_at_caret_counts (seen old d) text c (main_there_seen old d c.viewer over placed))) none)
         put_some
@@ -389,7 +389,7 @@ module _ (H : Type 0) (old : List ℕ) (d : KeptDesktop) (buffer : List Piece) (
         → (H → new ≡ old) → flat copy ≡ flat buffer
         → IsChanged H old d after (put_at_caret (seen old d) (seen_text old copy) c) (length (flat copy)) 0
         → ((all : List ℕ) → has_space (seen all d) 0 (length (flat buffer)) 0 ≡ true)
-        → IsAnswered H old new d after (settled (seen old d) (put_row (seen old d) text)) Done
+        → IsAnswered H old new d after (outcome_after (seen old d) (put_row (seen old d) text)) Done
     put_answered new after copy long same copy_is changed space = row_as (seen old d) (put_row (seen old d) text)
         (rest_answered H old new d after (put_at_caret (seen old d) text c) (length (flat buffer)) 0 over long same
         (subst (λ n. IsChanged H old d after (put_at_caret (seen old d) text c) n 0) (ap length copy_is)

@@ -17,11 +17,11 @@ use Rattle.desktop_definitions.specs.declared.viewer.Viewer.{Viewer}
 use Rattle.desktop_definitions.specs.declared.viewer.Caret.{Caret}
 use Rattle.desktop_definitions.specs.declared.viewer.Selection.{Selection}
 use Rattle.desktop_definitions.specs.declared.viewer.ClosedViewer.{ClosedViewer}
-use Rattle.desktop_definitions.specs.Tables.{Texts, numbered}
+use Rattle.desktop_definitions.specs.Tables.{Texts, text_numbered}
 use Rattle.desktop_definitions.specs.Viewers.{bare_viewer, viewer_in, viewer_or_none, text_in, caret_outside}
 use Rattle.desktop_definitions.specs.Viewers.{selections_outside}
 use Rattle.desktop_definitions.specs.Changed.{texts_shown}
-use Rattle.desktop_definitions.specs.Sound.{AreViewers, ArePlaces, AreMarks, IsCaret, IsSelection}
+use Rattle.desktop_definitions.specs.Sound.{AreViewers, ArePlaces, AreMarks, IsCaretPlaced, IsSelection}
 use Rattle.desktop_laws.specs.DeskWords.{IsMoved, AreMoved}
 
 -- ---- what may become of viewers
@@ -249,7 +249,7 @@ was long (Some old) (Some w) new same is = record {
 
 module _ {X Y : Type 0} (texts : Texts (List X)) (later : Texts (List Y)) (olds news : List (ℕ × Viewer))
     (numbers : keys_of later ≡ keys_of texts) (same : AreReorged (λ m. length (text_in later m)) olds news) where
-  still_there : (n : ℕ) → IsSome (numbered texts n) → IsSome (numbered later n)
+  still_there : (n : ℕ) → IsSome (text_numbered texts n) → IsSome (text_numbered later n)
   still_there n there = found_by_keys (is_at (nat_cmp n)) texts later numbers ∙ there
 
   was_there : (v : ℕ) (viewer : Viewer) → viewer_in news v ≡ Some viewer
@@ -267,8 +267,8 @@ module _ {X Y : Type 0} (texts : Texts (List X)) (later : Texts (List Y)) (olds 
         let w = was_there v viewer found in
         let is = are.each v w.old w.found_is in
         record {
-          menu = subst (λ m. IsSome (numbered later m)) (sym w.same.menu) (still_there w.old.menu is.menu);
-          main = subst (λ m. IsSome (numbered later m)) (sym w.same.main) (still_there w.old.main is.main);
+          menu = subst (λ m. IsSome (text_numbered later m)) (sym w.same.menu) (still_there w.old.menu is.menu);
+          main = subst (λ m. IsSome (text_numbered later m)) (sym w.same.main) (still_there w.old.main is.main);
           org = subst (λ m. viewer.org ≤ length (text_in later m)) (sym w.same.main) w.same.org;
           not_log = λ log. is.not_log (sym w.same.menu ∙ log);
           no_main = λ u other there main.
@@ -327,20 +327,20 @@ fewer_outside test p (s ∷ ss) =
 
 module _ (columns : Columns) (long later : ℕ → ℕ) (test : ℕ → Bool)
     (same : (v : ℕ) → test v ≡ false → later v ≡ long v) where
-  caret_stays : (caret : Option Caret) → ForSome caret (IsCaret columns long)
-      → ForSome (caret_outside test caret) (IsCaret columns later)
+  caret_stays : (caret : Option Caret) → ForSome caret (IsCaretPlaced columns long)
+      → ForSome (caret_outside test caret) (IsCaretPlaced columns later)
   caret_stays None stands = λ c is. absurd (cc is)
   caret_stays (Some caret) stands =
       (elim (test caret.viewer) as (λ b. test caret.viewer ≡ b
-      → ForSome (cond b None (Some caret)) (IsCaret columns later)) [
+      → ForSome (cond b None (Some caret)) (IsCaretPlaced columns later)) [
         | true ↦ λ inside c is. absurd (cc is)
         | false ↦ λ outside c is.
             let old = stands caret refl in
-            let now : IsCaret columns later caret = record {
+            let now : IsCaretPlaced columns later caret = record {
               placed = old.placed;
               within = (let low = old.within in let size = same caret.viewer outside in omega (arith, low, size));
             } in
-            let it : caret ≡ c = cc is in subst (IsCaret columns later) it now
+            let it : caret ≡ c = cc is in subst (IsCaretPlaced columns later) it now
       ]) refl
 
   selections_stay : (selections : List Selection) → AllByRecursion (IsSelection columns long) selections

@@ -16,12 +16,12 @@ use Rattle.event_bytes.specs.Bytes.{is_name}
 use Rattle.event_bytes.specs.declared.event.Event.TheVariants.{File}
 use Rattle.desktop_definitions.specs.declared.reply.Reply.TheVariants.{Done, No}
 use Rattle.desktop_definitions.specs.Limits.{most_written, most_held, full, too_many_files}
-use Rattle.desktop_definitions.specs.Tables.{Texts, name_cmp, put, has_room, lengths}
+use Rattle.desktop_definitions.specs.Tables.{Texts, name_cmp, file_put, has_file_room, lengths}
 use Rattle.desktop_laws.specs.TableLaws.{rising_put, put_few}
-use Rattle.desktop_definitions.specs.Desktop.{Desktop, empty_desktop, held}
-use Rattle.desktop_definitions.specs.Opening.{is_shown, dropped}
-use Rattle.desktop_definitions.specs.Change.{plain}
-use Rattle.desktop_definitions.specs.Step.{filed, fits, settled, raw, step, step_in, outcome_of}
+use Rattle.desktop_definitions.specs.Desktop.{Desktop, empty_desktop, characters_held}
+use Rattle.desktop_definitions.specs.Opening.{is_shown, without_unshown}
+use Rattle.desktop_definitions.specs.Change.{plain_text}
+use Rattle.desktop_definitions.specs.Step.{filed, fits, outcome_after, raw, step, step_in, outcome_of}
 use Rattle.desktop_definitions.specs.Sound.{IsShaped, IsSound}
 use Rattle.desktop_definitions.specs.Looks.{AreLooks}
 use Rattle.desktop_laws.specs.LookedLaws.{default_is_look, no_looks, looks_stay, put_looks}
@@ -40,50 +40,50 @@ keep_all test (e ∷ es) all =
     (ap (λ l. e ∷ l) (keep_all test es (λ i n low. all (suc i) n (omega (arith, low)))))
 
 -- where no text is left over none goes
-pub all_stay : (d : Desktop) → AllShown d → dropped d ≡ d
-unfolding dropped
+pub all_stay : (d : Desktop) → AllShown d → without_unshown d ≡ d
+unfolding without_unshown
 all_stay d all = λ k. record d { texts = keep_all (is_shown d.viewers) d.texts all k }
 
-pub settled_done : (d new : Desktop) → AllShown new → fits new ≡ true → settled d (Ok new) ≡ (outcome_of new Done)
-unfolding settled
+pub settled_done : (d new : Desktop) → AllShown new → fits new ≡ true → outcome_after d (Ok new) ≡ (outcome_of new Done)
+unfolding outcome_after
 settled_done d new all fit = rw (all_stay new all, fit) refl
 
-pub settled_full : (d new : Desktop) → AllShown new → fits new ≡ false → settled d (Ok new) ≡ (outcome_of d (No full))
-unfolding settled
+pub settled_full : (d new : Desktop) → AllShown new → fits new ≡ false → outcome_after d (Ok new) ≡ (outcome_of d (No full))
+unfolding outcome_after
 settled_full d new all unfit = rw (all_stay new all, unfit) refl
 
 -- ---- a file
 
 module _ (d : Desktop) (name bytes : List ℕ) (all : AllShown d) where
-  pub file_no_room : has_room d.files name ≡ false → outcome_of d (No too_many_files) ≡ step d (File name bytes)
-  unfolding step step_in settled raw
+  pub file_no_room : has_file_room d.files name ≡ false → outcome_of d (No too_many_files) ≡ step d (File name bytes)
+  unfolding step step_in outcome_after raw
   file_no_room none = rw none refl
 
-  pub file_full : has_room d.files name ≡ true → fits (filed d name (plain bytes)) ≡ false
+  pub file_full : has_file_room d.files name ≡ true → fits (filed d name (plain_text bytes)) ≡ false
       → outcome_of d (No full) ≡ step d (File name bytes)
   unfolding step step_in raw filed
-  file_full room unfit = rw room (sym (settled_full d (filed d name (plain bytes)) all unfit))
+  file_full room unfit = rw room (sym (settled_full d (filed d name (plain_text bytes)) all unfit))
 
-  pub file_done : has_room d.files name ≡ true → fits (filed d name (plain bytes)) ≡ true
-      → outcome_of (filed d name (plain bytes)) Done ≡ step d (File name bytes)
+  pub file_done : has_file_room d.files name ≡ true → fits (filed d name (plain_text bytes)) ≡ true
+      → outcome_of (filed d name (plain_text bytes)) Done ≡ step d (File name bytes)
   unfolding step step_in raw filed
-  file_done room fit = rw room (sym (settled_done d (filed d name (plain bytes)) all fit))
+  file_done room fit = rw room (sym (settled_done d (filed d name (plain_text bytes)) all fit))
 
 -- ---- the limits
 
 -- the limits, by numbers that are at hand
-pub fits_by : (d : Desktop) (written all : ℕ) → written ≡ d.written → all ≡ held d
+pub fits_by : (d : Desktop) (written all : ℕ) → written ≡ d.written → all ≡ characters_held d
     → (nat_le written most_written && nat_le all most_held) ≡ fits d
 fits_by d written all w h = rw (w, h) refl
 
 pub held_filed : (d : Desktop) (name : List ℕ) (text : Text ℕ) (gone : ℕ)
-    → lengths (put d.files name text) + gone ≡ lengths d.files + length text
-    → held (filed d name text) + gone ≡ held d + length text
-unfolding filed held
+    → lengths (file_put d.files name text) + gone ≡ lengths d.files + length text
+    → characters_held (filed d name text) + gone ≡ characters_held d + length text
+unfolding filed characters_held
 held_filed d name text gone sum = omega (arith, sum)
 
-pub files_held : (d : Desktop) → lengths d.files ≤ held d
-unfolding held
+pub files_held : (d : Desktop) → lengths d.files ≤ characters_held d
+unfolding characters_held
 files_held d = omega arith
 
 both : (a b : Bool) → a && b ≡ true → (a ≡ true) × (b ≡ true)
@@ -93,13 +93,13 @@ both false b h = absurd cc
 pub fit_written : (d : Desktop) → fits d ≡ true → d.written ≤ most_written
 fit_written d fit = leb-true _ _ (both _ _ fit).0
 
-pub fit_held : (d : Desktop) → fits d ≡ true → held d ≤ most_held
+pub fit_held : (d : Desktop) → fits d ≡ true → characters_held d ≤ most_held
 fit_held d fit = leb-true _ _ (both _ _ fit).1
 
 -- ---- what is sound stays so
 
 pub filed_shaped : (d : Desktop) (name : List ℕ) (text : Text ℕ) → IsShaped d → IsTrue (is_name name)
-    → has_room d.files name ≡ true → AreLooks text → IsShaped (filed d name text)
+    → has_file_room d.files name ≡ true → AreLooks text → IsShaped (filed d name text)
 unfolding filed
 filed_shaped d name text shaped valid room looks = record {
   viewers = shaped.viewers;
@@ -116,7 +116,7 @@ filed_shaped d name text shaped valid room looks = record {
 }
 
 pub filed_sound : (d : Desktop) (name : List ℕ) (text : Text ℕ) → IsSound d → IsTrue (is_name name)
-    → has_room d.files name ≡ true → AreLooks text → fits (filed d name text) ≡ true → IsSound (filed d name text)
+    → has_file_room d.files name ≡ true → AreLooks text → fits (filed d name text) ≡ true → IsSound (filed d name text)
 unfolding filed
 filed_sound d name text sound valid room looks fit = record {
   shaped = filed_shaped d name text sound.shaped valid room looks;
@@ -134,7 +134,7 @@ bare_stack = record {
 }
 
 pub empty_sound : IsSound empty_desktop
-unfolding empty_desktop IsStrictlySortedBy held track_of
+unfolding empty_desktop IsStrictlySortedBy characters_held track_of
 empty_sound = record {
   shaped = record {
     viewers = record {

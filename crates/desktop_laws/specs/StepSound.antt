@@ -29,8 +29,8 @@ use Rattle.piece_ring.specs.Text.{Text}
 use Rattle.readers_scanners.specs.Form.{form, number_form, number_symbol, quote_form, closes, longest_form}
 use Rattle.readers_scanners.specs.Form.{first_symbol}
 use Rattle.readers_scanners.specs.Form.{after_blanks, symbol}
-use Rattle.readers_scanners.specs.Symbol.{kept, value, greatest_size}
-use Rattle.readers_scanners.specs.Bytes.{quote, minus, is_inside, numeral}
+use Rattle.readers_scanners.specs.Symbol.{symbol_bytes, signed_number, greatest_size}
+use Rattle.readers_scanners.specs.Bytes.{quote, minus, is_string_byte, numeral}
 use Rattle.readers_scanners.specs.declared.symbol.Symbol.{Symbol}
 use Rattle.readers_scanners.specs.declared.symbol.Symbol.TheVariants.{Name, Str, Int, Special, Invalid}
 use Rattle.command_table.specs.Parameters.{name_in}
@@ -51,8 +51,8 @@ use Rattle.viewer_tracks.specs.declared.display.Track.TheVariants.{System}
 use Rattle.viewer_tracks.specs.declared.display.TheConstants.{ROWS, COLUMNS, DEPTH}
 use Rattle.viewer_tracks.specs.Display.{left_of}
 use Rattle.viewer_tracks.specs.Viewers.{Entry, IsTrack, bottom_of, top_of, entry_of}
-use Rattle.viewer_tracks.specs.Columns.{Columns, IsColumns, IsPlaced, IsOnTop, stack_of, shown, track_of}
-use Rattle.viewer_tracks.specs.Columns.{placed_top, placed_bottom, seen_at, after_open, after_change}
+use Rattle.viewer_tracks.specs.Columns.{Columns, IsColumns, IsPlaced, IsOnTop, stack_of, shown_track, track_of}
+use Rattle.viewer_tracks.specs.Columns.{placed_top, placed_bottom, seen_at, after_open, columns_changed}
 use Rattle.viewer_tracks.specs.Columns.{after_close, replaced_at, allocated, StandsAt}
 use Rattle.viewer_tracks.proofs.StackLemmas.{topmost_track}
 use Rattle.viewer_tracks.proofs.ColumnLemmas.{stack_in, open_keeps, cover_keeps, change_keeps, close_keeps}
@@ -68,38 +68,38 @@ use Rattle.desktop_definitions.specs.Limits.{most_pattern, too_low, too_deep, no
 use Rattle.desktop_definitions.specs.Limits.{wrong_symbol, no_selection, not_found, no_caret, outside}
 use Rattle.desktop_definitions.specs.Limits.{bad_value, no_command, full, no_viewer as viewer_missing}
 use Rattle.desktop_definitions.specs.Needs.{needs, unless, given}
-use Rattle.desktop_definitions.specs.Tables.{name_cmp, put, has_room}
-use Rattle.desktop_definitions.specs.Desktop.{Desktop, file_of, held}
+use Rattle.desktop_definitions.specs.Tables.{name_cmp, file_put, has_file_room}
+use Rattle.desktop_definitions.specs.Desktop.{Desktop, file_of, characters_held}
 use Rattle.desktop_definitions.specs.Viewers.{viewer_of, text_of}
 use Rattle.desktop_definitions.specs.Viewers.{main_of, menu_of, main_length}
 use Rattle.desktop_definitions.specs.Viewers.{newest, selected, rows_of, with_org, with_caret, unselected}
 use Rattle.desktop_definitions.specs.Viewers.{with_selection}
-use Rattle.desktop_definitions.specs.Change.{plain, bytes_of, in_look, looks_set, put_in, put_at_caret, cut_out}
+use Rattle.desktop_definitions.specs.Change.{plain_text, bytes_of, in_look, looks_set, put_in, put_at_caret, cut_out}
 use Rattle.desktop_definitions.specs.Change.{caret_shown, deletion, more_written}
-use Rattle.desktop_definitions.specs.Opening.{menu_line, new_number, new_id, opening_on, opening_over, dropped}
+use Rattle.desktop_definitions.specs.Opening.{menu_line, new_number, new_id, opening_on, opening_over, without_unshown}
 use Rattle.desktop_definitions.specs.Log.{all_logged}
 use Rattle.desktop_definitions.specs.Looks.{IsLook, AreLooks, SetsLook, font_set, colour_set, offset_set}
 use Rattle.desktop_definitions.specs.Shown.{caret_position}
 use Rattle.desktop_definitions.specs.Effects.{opened_on_copy, file_opened, document_opened, log_opened, put_away}
-use Rattle.desktop_definitions.specs.Effects.{brought_back, parted, viewer_copied, grown, viewer_grown, log_cleared}
+use Rattle.desktop_definitions.specs.Effects.{brought_back, after_copy, viewer_copied, after_grow, viewer_grown, log_cleared}
 use Rattle.desktop_definitions.specs.Effects.{directory_logged}
 use Rattle.desktop_definitions.specs.Effects.{files_deleted, deleting_line, storing_line, without_file, menu_name}
-use Rattle.desktop_definitions.specs.Effects.{stored, stored_as, look_set}
-use Rattle.desktop_definitions.specs.Effects.{selection_set, found_at, pattern_after, searched, collected}
-use Rattle.desktop_definitions.specs.Keys.{typed, pressed, without_character_before, with_copied, escaped}
+use Rattle.desktop_definitions.specs.Effects.{after_store, stored_as, look_set}
+use Rattle.desktop_definitions.specs.Effects.{selection_set, found_at, pattern_after, after_search, after_collect}
+use Rattle.desktop_definitions.specs.Keys.{after_typing, after_key, without_character_before, with_copied, without_marks}
 use Rattle.desktop_definitions.specs.Gesture.{is_on_display, region_at, part_of, left, frame_row, text_position}
-use Rattle.desktop_definitions.specs.Gesture.{menu_position, resized, carried, scrolled_to_row, scrolled_to_share}
+use Rattle.desktop_definitions.specs.Gesture.{menu_position, resized, after_move, scrolled_to_row, scrolled_to_share}
 use Rattle.desktop_definitions.specs.Gesture.{is_some_stretch, drawn_in, copied_to, looks_taken, taken_out}
 use Rattle.desktop_definitions.specs.Gesture.{sent_to_caret, tool_opened, stretch_drawn, pointed, IsRegionOf}
 use Rattle.desktop_definitions.specs.Gesture.{done_in_filler, done_in_menu, done_in_bar, done_at, done_with}
 use Rattle.text_core.specs.Attributes.{look_at}
 use Rattle.desktop_definitions.specs.declared.reply.Reply.TheVariants.{Done, No}
-use Rattle.desktop_definitions.specs.Call.{text_called, seen_at_marker, meant, name_of, number_of as number_called}
+use Rattle.desktop_definitions.specs.Call.{text_called, seen_at_marker, target_viewer, name_of, number_of as number_called}
 use Rattle.desktop_definitions.specs.Call.{names_of}
-use Rattle.desktop_definitions.specs.Commands.{command_at, commanded, called, done_with_name, done_with_number}
+use Rattle.desktop_definitions.specs.Commands.{command_at, commanded, after_call, done_with_name, done_with_number}
 use Rattle.desktop_definitions.specs.Commands.{done_with_viewer}
-use Rattle.desktop_definitions.specs.Step.{filed, fits, marked, settled, raw, step_in, Outcome, outcome_of}
-use Rattle.desktop_definitions.specs.Sound.{IsShaped, IsSound, IsCaret, IsClosedPlace, times_there}
+use Rattle.desktop_definitions.specs.Step.{filed, fits, marked, outcome_after, raw, step_in, Outcome, outcome_of}
+use Rattle.desktop_definitions.specs.Sound.{IsShaped, IsSound, IsCaretPlaced, IsClosedPlace, times_there}
 use Rattle.desktop_laws.specs.LookedLaws.{look_at_looks, relooked_is_look, copied_looks, taken_looks, typed_looks}
 use Rattle.desktop_laws.specs.LookedLaws.{looks_stay, shape_stays, written_shaped, files_looks, put_looks, no_looks}
 use Rattle.desktop_laws.specs.LookedLaws.{font_sets_look, colour_sets_look, offset_sets_look}
@@ -166,7 +166,7 @@ IsFileName s = IfSome (name_in s) (λ name. IsTrue (is_name name))
 
 number_named : (negative : Bool) (bs : List ℕ) → IfSome (number_form negative bs) IsFileName
 number_named negative bs = tested (list_all is_digit bs) (list_all is_name_byte bs) where
-  sized : (fits : Bool) → IsFileName (if fits then Int (value negative (numeral bs)) else Invalid)
+  sized : (fits : Bool) → IsFileName (if fits then Int (signed_number negative (numeral bs)) else Invalid)
   sized true = tt
   sized false = tt
 
@@ -178,9 +178,9 @@ number_named negative bs = tested (list_all is_digit bs) (list_all is_name_byte 
   tested false false = tt
 
 quote_named : (bs : List ℕ) → IfSome (quote_form bs) IsFileName
-quote_named bs = tested (list_all is_inside bs) (closes bs) where
+quote_named bs = tested (list_all is_string_byte bs) (closes bs) where
   tested : (inside closed : Bool) → IfSome (let o : Option Symbol = if inside then Some Invalid
-      else (if closed then Some (Str (kept (take (length bs - 1) bs))) else None) in o) IsFileName
+      else (if closed then Some (Str (symbol_bytes (take (length bs - 1) bs))) else None) in o) IsFileName
   tested true closed = tt
   tested false true = tt
   tested false false = tt
@@ -192,7 +192,7 @@ form_named (b ∷ bs) = tested (is_letter b) refl (list_all is_name_byte bs) ref
     ((b == minus) && begins is_digit bs) where
       tested : (letter : Bool) → is_letter b ≡ letter → (all : Bool) → list_all is_name_byte bs ≡ all
           → (digit quoted negative : Bool)
-          → IfSome (let o : Option Symbol = if letter then (if all then Some (Name (kept (b ∷ bs))) else None) else
+          → IfSome (let o : Option Symbol = if letter then (if all then Some (Name (symbol_bytes (b ∷ bs))) else None) else
           (if digit then number_form false (b ∷ bs) else (if quoted then quote_form bs else
           (if negative then number_form true bs else None))) in o) IsFileName
       tested true first true all digit quoted negative = name_is b bs first all
@@ -244,7 +244,7 @@ closed_within : (c : Columns) (v : ℕ) → IsColumns c → IsOnTop v c → IsCl
 closed_within c v are placed =
     let k = track_of c v in
     let own = ap (λ (t : List Entry). top_of t (entry_of t v)) (shown_stands c v are placed) in
-    let both = top_within (shown c k) (entry_of (shown c k) v) (topmost_track (stack_of c k) (stack_in c k are)) in
+    let both = top_within (shown_track c k) (entry_of (shown_track c k) v) (topmost_track (stack_of c k) (stack_in c k are)) in
     record { some = omega (arith, both.0, own); within = omega (arith, both.1, own) }
 
 -- ---- openings
@@ -275,8 +275,8 @@ module _ (d : Desktop) (shaped : IsShaped d) where
 copy_shaped : (d : Desktop) (name : List ℕ) (text : Text ℕ) (cell : ℕ × ℕ) → IsShaped d → AreLooks text
     → IsShaped (opened_on_copy d name text cell)
 copy_shaped d name text cell shaped looks =
-    written_shaped _ (subst IsShaped (sym (opening_is d (plain (menu_line name)) text cell))
-    (opening_on_shaped (text_more d text) (text_shaped d text shaped looks) (plain (menu_line name)) (new_number d) 0
+    written_shaped _ (subst IsShaped (sym (opening_is d (plain_text (menu_line name)) text cell))
+    (opening_on_shaped (text_more d text) (text_shaped d text shaped looks) (plain_text (menu_line name)) (new_number d) 0
     cell (new_shown d text shaped) (plain_looks (menu_line name))))
 
 -- ---- commands
@@ -302,7 +302,7 @@ module _ (d : Desktop) (shaped : IsShaped d) where
 
   log_opened_shaped : IsShaped (log_opened d)
   unfolding log_opened
-  log_opened_shaped = written_shaped _ (opening_on_shaped d shaped (plain (menu_line (codes "System.Log"))) 0 0
+  log_opened_shaped = written_shaped _ (opening_on_shaped d shaped (plain_text (menu_line (codes "System.Log"))) 0 0
       (allocated d.columns System d.marker) (log_can d shaped) (plain_looks (menu_line (codes "System.Log"))))
 
   put_away_shaped : (v : ℕ) → IsOnTop v d.columns → IsShaped (put_away d v)
@@ -325,7 +325,7 @@ module _ (d : Desktop) (shaped : IsShaped d) where
   unfolding viewer_copied
   copied_shaped v placed =
       let rows : ℕ = placed_top d.columns v - placed_bottom d.columns v in
-      elim (rows == 1) as (λ b. IfOk (let r : Result Desktop ℕ = if b then Err too_low else Ok (parted d v rows) in r)
+      elim (rows == 1) as (λ b. IfOk (let r : Result Desktop ℕ = if b then Err too_low else Ok (after_copy d v rows) in r)
       IsShaped) [
         | true ↦ tt
         | false ↦ opening_on_shaped d shaped _ _ _ _ (viewer_can d v shaped (on_top_placed d.columns v placed))
@@ -336,7 +336,7 @@ module _ (d : Desktop) (shaped : IsShaped d) where
   unfolding viewer_grown
   grown_shaped v placed =
       let k : Track = track_of d.columns v in
-      by_test IsShaped (nat_lt (length (stack_of d.columns k)) DEPTH) too_deep (Ok (grown d v))
+      by_test IsShaped (nat_lt (length (stack_of d.columns k)) DEPTH) too_deep (Ok (after_grow d v))
       (λ room. opening_over_shaped d shaped _ _ _ k (viewer_can d v shaped (on_top_placed d.columns v placed))
       (text_looks d shaped (viewer_of d v).menu) (ltb-true (length (stack_of d.columns k)) DEPTH room))
 
@@ -349,9 +349,9 @@ module _ (d : Desktop) (shaped : IsShaped d) where
   unfolding directory_logged
   directory_shaped = all_logged_shaped d _ shaped
 
-  collected_shaped : IsShaped (collected d)
-  unfolding collected
-  collected_shaped = written_shaped (held d) shaped
+  collected_shaped : IsShaped (after_collect d)
+  unfolding after_collect
+  collected_shaped = written_shaped (characters_held d) shaped
 
   deleted_shaped : (names : List (List ℕ)) → IfOk (files_deleted d names) IsShaped
   unfolding files_deleted
@@ -368,14 +368,14 @@ module _ (d : Desktop) (shaped : IsShaped d) where
             (all_without AreLooks d.files names shaped.looks.files);
       }))
 
-  stored_shaped : (v : ℕ) → IfOk (stored d v) IsShaped
-  unfolding stored
-  stored_shaped v = by_need IsShaped (menu_name d v) wrong_symbol (λ name. unless (has_room d.files name) too_many_files
+  stored_shaped : (v : ℕ) → IfOk (after_store d v) IsShaped
+  unfolding after_store
+  stored_shaped v = by_need IsShaped (menu_name d v) wrong_symbol (λ name. unless (has_file_room d.files name) too_many_files
       (Ok (stored_as d name (main_of d v)))) (λ name is.
       let valid : IsTrue (is_name name) = subst (λ (o : Option (List ℕ)). IfSome o (λ n. IsTrue (is_name n))) is
       (symbol_named (bytes_of (menu_of d v)) 0) in
-      by_test IsShaped (has_room d.files name) too_many_files (Ok (stored_as d name (main_of d v)))
-      (λ room. logged_shaped (record d { files = put d.files name (main_of d v) })
+      by_test IsShaped (has_file_room d.files name) too_many_files (Ok (stored_as d name (main_of d v)))
+      (λ room. logged_shaped (record d { files = file_put d.files name (main_of d v) })
       (storing_line name (length (main_of d v))) (record {
         viewers = shaped.viewers;
         places = shaped.places;
@@ -428,8 +428,8 @@ few_taken None d few = few
 few_taken (Some s) d few = let long = length-take most_pattern (bytes_of (selected d s)) in omega (arith, long)
 
 module _ (d : Desktop) (shaped : IsShaped d) where
-  searched_shaped : (v : ℕ) → IsOnTop v d.columns → IfOk (searched d v) IsShaped
-  unfolding searched
+  searched_shaped : (v : ℕ) → IsOnTop v d.columns → IfOk (after_search d v) IsShaped
+  unfolding after_search
   searched_shaped v placed =
       let pattern : List ℕ = pattern_after d in
       let with_pattern : Desktop = record d { pattern = pattern } in
@@ -454,7 +454,7 @@ module _ (d : Desktop) (shaped : IsShaped d) where
         | Some m ↦ λ is. (seen_placed d.columns v m.0 m.1 shaped.places.columns_hold is).placed
       ])
 
-  meant_placed : (call : Call) (v : ℕ) → IsOnTop call.viewer d.columns → meant d call ≡ Some v → IsOnTop v d.columns
+  meant_placed : (call : Call) (v : ℕ) → IsOnTop call.viewer d.columns → target_viewer d call ≡ Some v → IsOnTop v d.columns
   meant_placed call v placed = elim call.in_menu as
       (λ b. (let o : Option ℕ = if b then Some call.viewer else seen_at_marker d in o) ≡ Some v → IsOnTop v d.columns) [
         | true ↦ λ is. (let same : call.viewer ≡ v = cc is in subst (λ w. IsOnTop w d.columns) same placed)
@@ -475,12 +475,12 @@ module _ (d : Desktop) (shaped : IsShaped d) where
       by_value IsShaped (name_of d call) (file_opened d) (λ name is. file_opened_shaped d shaped name)
   commanded_shaped SystemOpenLog call placed = log_opened_shaped d shaped
   commanded_shaped SystemClose call placed =
-      by_need IsShaped (meant d call) viewer_missing (λ v. Ok (put_away d v))
+      by_need IsShaped (target_viewer d call) viewer_missing (λ v. Ok (put_away d v))
       (λ v is. put_away_shaped d shaped v (meant_placed call v placed is))
   commanded_shaped SystemRecall call placed =
       by_need IsShaped d.closed viewer_missing (λ k. Ok (brought_back d k)) (λ k is. brought_back_shaped d shaped k is)
   commanded_shaped SystemCopy call placed =
-      by_need IsShaped (meant d call) viewer_missing (viewer_copied d)
+      by_need IsShaped (target_viewer d call) viewer_missing (viewer_copied d)
       (λ v is. copied_shaped d shaped v (meant_placed call v placed is))
   commanded_shaped SystemClear call placed = log_cleared_shaped d shaped
   commanded_shaped SystemDirectory call placed = directory_shaped d shaped
@@ -506,21 +506,21 @@ module _ (d : Desktop) (shaped : IsShaped d) where
       by_value IsShaped (number_called d call) (λ z. needs (offset_set z) bad_value (selection_set d))
       (λ z is. set_shaped (offset_set z) (offset_sets_look z) (selection_set d) (selection_set_shaped d shaped))
   commanded_shaped EditStore call placed =
-      by_need IsShaped (meant d call) viewer_missing (stored d) (λ v is. stored_shaped d shaped v)
+      by_need IsShaped (target_viewer d call) viewer_missing (after_store d) (λ v is. stored_shaped d shaped v)
   commanded_shaped EditSearch call placed =
-      by_need IsShaped (meant d call) viewer_missing (searched d)
+      by_need IsShaped (target_viewer d call) viewer_missing (after_search d)
       (λ v is. searched_shaped v (meant_placed call v placed is))
   commanded_shaped EditRecall call placed =
       by_need IsShaped d.caret no_caret (λ c. Ok (put_at_caret d d.deleted c))
       (λ c is. put_at_caret_shaped d shaped d.deleted c (shaped.marks.caret_stands c is) shaped.looks.deleted)
   commanded_shaped SystemCollect call placed = collected_shaped d shaped
   commanded_shaped SystemGrow call placed =
-      by_need IsShaped (meant d call) viewer_missing (viewer_grown d)
+      by_need IsShaped (target_viewer d call) viewer_missing (viewer_grown d)
       (λ v is. grown_shaped d shaped v (meant_placed call v placed is))
 
   called_shaped : (version v : ℕ) (in_menu : Bool) (p : ℕ) → IsOnTop v d.columns
-      → IfOk (called version d v in_menu p) IsShaped
-  unfolding called
+      → IfOk (after_call version d v in_menu p) IsShaped
+  unfolding after_call
   called_shaped version v in_menu p placed =
       by_need IsShaped (command_at version (bytes_of (text_called d v in_menu)) p) no_command
       (λ found. commanded d found.0 (record { viewer = v; in_menu = in_menu; after = found.1 }))
@@ -528,15 +528,15 @@ module _ (d : Desktop) (shaped : IsShaped d) where
 
   -- ---- typing and keys
 
-  typed_shaped : (bytes : List ℕ) → IfOk (typed d bytes) IsShaped
-  unfolding typed
+  typed_shaped : (bytes : List ℕ) → IfOk (after_typing d bytes) IsShaped
+  unfolding after_typing
   typed_shaped bytes =
       by_need IsShaped d.caret no_caret
       (λ c. Ok (more_written (put_at_caret d (in_look d.look bytes) c) (length bytes)))
       (λ c is. written_shaped _ (put_at_caret_shaped d shaped (in_look d.look bytes) c (shaped.marks.caret_stands c is)
       (in_look_looks d.look bytes shaped.looks.look)))
 
-  before_shaped : (c : Caret) → IsCaret d.columns (main_length d.texts d.viewers) c
+  before_shaped : (c : Caret) → IsCaretPlaced d.columns (main_length d.texts d.viewers) c
       → IsShaped (without_character_before d c)
   before_shaped c stands = (elim (c.position == 0) as (λ b. (c.position == 0) ≡ b
       → IsShaped (if b then d else
@@ -550,8 +550,8 @@ module _ (d : Desktop) (shaped : IsShaped d) where
   with_copied_shaped s =
       shape_stays shaped refl shaped.pattern (copied_looks d shaped.looks (selected d s) (selected_looks d shaped s))
 
-  escaped_shaped : IsShaped (escaped d)
-  unfolding escaped
+  escaped_shaped : IsShaped (without_marks d)
+  unfolding without_marks
   escaped_shaped = record {
     viewers = shaped.viewers;
     places = shaped.places;
@@ -566,8 +566,8 @@ module _ (d : Desktop) (shaped : IsShaped d) where
     looks = looks_stay shaped.looks refl;
   }
 
-pressed_shaped : (d : Desktop) → IsShaped d → (key : Key) → IfOk (pressed d key) IsShaped
-unfolding pressed
+pressed_shaped : (d : Desktop) → IsShaped d → (key : Key) → IfOk (after_key d key) IsShaped
+unfolding after_key
 pressed_shaped d shaped Back =
     by_need IsShaped d.caret no_caret (λ c. Ok (without_character_before d c))
     (λ c is. before_shaped d shaped c (shaped.marks.caret_stands c is))
@@ -594,12 +594,12 @@ module _ (d : Desktop) (shaped : IsShaped d) where
   resized_shaped : (v y : ℕ) → IsOnTop v d.columns → IsShaped (resized d v y)
   resized_shaped v y placed =
       let hold = shaped.places.columns_hold in
-      subst IsShaped (sym (resized_is d v y)) (anew_shaped d (after_change d.columns v (y + 1)) None
-      (none_comes d (after_change d.columns v (y + 1)) None shaped (change_keeps d.columns v (y + 1) hold placed)
+      subst IsShaped (sym (resized_is d v y)) (anew_shaped d (columns_changed d.columns v (y + 1)) None
+      (none_comes d (columns_changed d.columns v (y + 1)) None shaped (change_keeps d.columns v (y + 1) hold placed)
       (λ w. let same = change_places d.columns v (y + 1) w hold placed in omega (arith, same))
       (change_stays d.columns v (y + 1) hold placed)))
 
-  carried_shaped : (v x y : ℕ) → IsOnTop v d.columns → IsShaped (carried d v x y)
+  carried_shaped : (v x y : ℕ) → IsOnTop v d.columns → IsShaped (after_move d v x y)
   carried_shaped v x y placed =
       let hold = shaped.places.columns_hold in
       let closed : Columns = after_close d.columns v in
@@ -814,19 +814,19 @@ module _ (d : Desktop) (shaped : IsShaped d) where
       (pointed version d (region_at d x0 y0) keys x0 y0 x1 y1)
       (λ on. pointed_shaped version (region_at d x0 y0) keys x0 y0 x1 y1 (region_is x0 y0))
   raw_shaped version (File name bytes) is =
-      by_test IsShaped (has_room d.files name) too_many_files (Ok (filed d name (plain bytes)))
-      (λ room. filed_shaped d name (plain bytes) shaped is.0 room (plain_looks bytes))
+      by_test IsShaped (has_file_room d.files name) too_many_files (Ok (filed d name (plain_text bytes)))
+      (λ room. filed_shaped d name (plain_text bytes) shaped is.0 room (plain_looks bytes))
 
-settled_sound : (d : Desktop) (r : Result Desktop ℕ) → IsSound d → IfOk r IsShaped → IsSound (settled d r).desktop
-unfolding settled
+settled_sound : (d : Desktop) (r : Result Desktop ℕ) → IsSound d → IfOk r IsShaped → IsSound (outcome_after d r).desktop
+unfolding outcome_after
 settled_sound d (Err code) sound shaped = sound
-settled_sound d (Ok new) sound shaped = (elim (fits (dropped new)) as (λ b. fits (dropped new) ≡ b
-    → IsSound (let both : Outcome = if b then outcome_of (dropped new) Done else outcome_of d (No full) in both).desktop) [
+settled_sound d (Ok new) sound shaped = (elim (fits (without_unshown new)) as (λ b. fits (without_unshown new) ≡ b
+    → IsSound (let both : Outcome = if b then outcome_of (without_unshown new) Done else outcome_of d (No full) in both).desktop) [
       | true ↦ λ fit. record {
         shaped = dropped_shaped new shaped;
         shown = dropped_shown new;
-        written_within = fit_written (dropped new) fit;
-        held_within = fit_held (dropped new) fit;
+        written_within = fit_written (without_unshown new) fit;
+        held_within = fit_held (without_unshown new) fit;
       }
       | false ↦ λ unfit. sound
     ]) refl

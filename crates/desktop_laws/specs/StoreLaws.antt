@@ -30,20 +30,20 @@ use Rattle.command_table.specs.Parameters.{first_names}
 use Rattle.command_table.proofs.Deciding.{all_are_read, first_names_decide}
 use Rattle.desktop_definitions.specs.Limits.{most_files, most_held, no_file, too_many_files, full}
 use Rattle.desktop_definitions.specs.declared.reply.Reply.TheVariants.{Done, No}
-use Rattle.desktop_definitions.specs.Tables.{Files, name_cmp, named, put, has_room, with_values, lengths}
+use Rattle.desktop_definitions.specs.Tables.{Files, name_cmp, file_named, file_put, has_file_room, with_values, lengths}
 use Rattle.desktop_laws.specs.TableLaws.{insert_seen, lookup_seen, length_seen, is_some_map, length_seen_text}
 use Rattle.desktop_laws.specs.TableLaws.{kept_length, lengths_seen}
 use Rattle.desktop_laws.specs.TableLaws.{rising_put, put_few, put_within}
-use Rattle.desktop_definitions.specs.Desktop.{Desktop, KeptDesktop, held}
+use Rattle.desktop_definitions.specs.Desktop.{Desktop, KeptDesktop, characters_held}
 use Rattle.desktop_definitions.specs.Effects.{without_file, files_deleted, deleting_line, storing_line, stored_as}
 use Rattle.desktop_definitions.specs.Log.{logged, all_logged}
 use Rattle.desktop_definitions.specs.Needs.{unless, given}
-use Rattle.desktop_definitions.specs.Step.{settled}
+use Rattle.desktop_definitions.specs.Step.{outcome_after}
 use Rattle.desktop_laws.specs.StepLaws.{files_held}
 use Rattle.desktop_definitions.specs.Outcome.{IsAnswered}
 use Rattle.desktop_definitions.specs.Seen.{seen, seen_text, seen_table}
 use Rattle.desktop_definitions.specs.Sound.{AreFiles, AllWithin, IsBuilt, IsOver, IsSound}
-use Rattle.desktop_definitions.specs.Changed.{IsChanged, IsExtended, IsStanding, Counts}
+use Rattle.desktop_definitions.specs.Changed.{IsChanged, IsExtended, IsStanding, CountsHeld}
 use Rattle.desktop_laws.specs.RowLaws.{space_held, changed_as, over_built, known_no_file}
 use Rattle.desktop_laws.specs.DeskWords.{has_space, can_go, kept_size}
 use Rattle.desktop_laws.specs.RowLaws.{known_too_many_files}
@@ -73,7 +73,7 @@ is_not false is = refl
 
 -- the files of which one has a name
 pub named_among : {X : Type 0} (files : Files X) (name : List ℕ)
-    → is_some (named files name) ≡ is_among (keys_of files) name
+    → is_some (file_named files name) ≡ is_among (keys_of files) name
 named_among files name =
     is_some-lookup (is_at (name_cmp name)) files ∙ ap (λ (test : List ℕ → Bool). list_any test (keys_of files))
     (λ i k. is_eq-slice_cmp name k i)
@@ -113,15 +113,15 @@ deleted_distinct files names can = (both (list_all (is_among files) names) (are_
 
 module _ {X : Type 0} where
   other_stays : (files : Files X) (name other : List ℕ) → bytes_eq name other ≡ false
-      → named (without_file files name) other ≡ named files other
+      → file_named (without_file files name) other ≡ file_named files other
   other_stays [] name other apart = refl
   other_stays (e ∷ es) name other apart =
       (elim (is_at (name_cmp name) e.0) as (λ b. is_at (name_cmp name) e.0 ≡ b
-      → named (let l : Files X = cond b es (e ∷ without_file es name) in l) other ≡ named (e ∷ es) other) [
+      → file_named (let l : Files X = cond b es (e ∷ without_file es name) in l) other ≡ file_named (e ∷ es) other) [
         | true ↦ λ here.
             let same : name ≡ e.0 = (bytes_eq-Decides name e.0).0 (sym (is_eq-slice_cmp name e.0) ∙ here) in
             (elim (is_at (name_cmp other) e.0) as (λ b. is_at (name_cmp other) e.0 ≡ b
-            → named es other ≡ (let o : Option X = cond b (Some e.1) (named es other) in o)) [
+            → file_named es other ≡ (let o : Option X = cond b (Some e.1) (file_named es other) in o)) [
               | true ↦ λ there.
                   let also : other ≡ e.0 = (bytes_eq-Decides other e.0).0 (sym (is_eq-slice_cmp other e.0) ∙ there) in
                   let equal : bytes_eq name other ≡ true
@@ -137,7 +137,7 @@ module _ {X : Type 0} where
   module _ (size : X → ℕ) where
     -- what a file of a name has, and 0 where there is none
     abbrev pub size_of : Files X → List ℕ → ℕ
-    size_of files name = unwrap_or (option_map size (named files name)) 0
+    size_of files name = unwrap_or (option_map size (file_named files name)) 0
 
     sizes_stay : (files : Files X) (name : List ℕ) (names : List (List ℕ)) → is_among names name ≡ false
         → sum_by (size_of (without_file files name)) names ≡ sum_by (size_of files) names
@@ -257,14 +257,14 @@ lengths_gone files names can characters =
 
 -- whether there is room rests on the names alone
 has_room_seen : (characters : List ℕ) (files : Files (List Piece)) (name : List ℕ)
-    → has_room (seen_table characters files) name ≡ has_room files name
+    → has_file_room (seen_table characters files) name ≡ has_file_room files name
 has_room_seen characters files name = λ k.
     (ap is_some (lookup_seen (seen_text characters) (is_at (name_cmp name)) files)
-    ∙ is_some_map (seen_text characters) (named files name)) k
+    ∙ is_some_map (seen_text characters) (file_named files name)) k
     || nat_lt (length_seen (seen_text characters) files k) most_files
 
 pub files_put : (files : Files (Text ℕ)) (name : List ℕ) (text : Text ℕ) → AreFiles files → IsTrue (is_name name)
-    → has_room files name ≡ true → AreFiles (put files name text)
+    → has_file_room files name ≡ true → AreFiles (file_put files name text)
 files_put files name text are valid room = record {
   names = All-keys-insert_entry name_cmp name text (λ n. IsTrue (is_name n)) files are.names valid;
   rising = rising_put (lists_total nat_cmp_total) name text files are.rising;
@@ -272,8 +272,8 @@ files_put files name text are valid room = record {
 }
 
 pub files_counts : (d : Desktop) (files : Files (Text ℕ)) (more fewer : ℕ)
-    → lengths files + fewer ≡ lengths d.files + more → Counts d (record d { files = files }) more fewer
-unfolding held
+    → lengths files + fewer ≡ lengths d.files + more → CountsHeld d (record d { files = files }) more fewer
+unfolding characters_held
 files_counts d files more fewer sum = record {
   counted = omega (arith, sum);
   numbers = refl;
@@ -288,7 +288,7 @@ module _ {H : Type 0} (characters : List ℕ) (d : KeptDesktop) (built : IsBuilt
       → ((all : List ℕ) → lengths (seen_table all files) + fewer ≡ lengths (seen_table all d.files) + more)
       → IsChanged H characters d (record d { files = files })
       (record (seen characters d) { files = seen_table characters files }) more fewer
-  unfolding seen held
+  unfolding seen characters_held
   files_changed files more fewer within looks are sum = record {
     exact = λ h. refl;
     built = record {
@@ -337,17 +337,17 @@ module _ {H : Type 0} (characters : List ℕ) (d : KeptDesktop) (built : IsBuilt
 
   -- the file of a name is another text
   pub storing_changed : (files : Files (List Piece)) (name : List ℕ) (text : List Piece) (gone : ℕ) (outcome : Text ℕ)
-      → files ≡ put d.files name text → IsTrue (is_name name) → has_room (seen_table [] d.files) name ≡ true
+      → files ≡ file_put d.files name text → IsTrue (is_name name) → has_file_room (seen_table [] d.files) name ≡ true
       → AreWithin (length characters) (flat text) → AreLooks (flat text) → seen_text characters text ≡ outcome
-      → ((all : List ℕ) (new : Text ℕ) → lengths (put (seen_table all d.files) name new) + gone
+      → ((all : List ℕ) (new : Text ℕ) → lengths (file_put (seen_table all d.files) name new) + gone
       ≡ lengths (seen_table all d.files) + length new)
       → IsChanged H characters d (record d { files = files })
-      (record (seen characters d) { files = put (seen characters d).files name outcome })
+      (record (seen characters d) { files = file_put (seen characters d).files name outcome })
       (length (flat text)) gone
   unfolding seen
   storing_changed files name text gone outcome is valid room within looks text_is sum =
       let now = λ (all : List ℕ). ap (seen_table all) is ∙ insert_seen (seen_text all) name_cmp d.files name text in
-      changed_as (record (seen characters d) { files = put (seen_table characters d.files) name outcome })
+      changed_as (record (seen characters d) { files = file_put (seen_table characters d.files) name outcome })
       (files_changed files (length (flat text)) gone
       (subst (AllWithin (length characters)) (sym is)
       (put_within (length characters) (length characters) d.files name text (omega arith) built.within.files within))
@@ -357,10 +357,10 @@ module _ {H : Type 0} (characters : List ℕ) (d : KeptDesktop) (built : IsBuilt
       (built.shaped all).files valid
       (has_room_seen all d.files name ∙ sym (has_room_seen [] d.files name) ∙ room)))
       (λ all. (let same : lengths (seen_table all files)
-      ≡ lengths (put (seen_table all d.files) name (seen_text all text)) = ap lengths (now all) in
+      ≡ lengths (file_put (seen_table all d.files) name (seen_text all text)) = ap lengths (now all) in
       let long = length_seen_text all text in omega (arith, same, long, sum all (seen_text all text)))))
       (λ h k. record (seen characters d) {
-        files = (now characters ∙ ap (put (seen_table characters d.files) name) text_is) k;
+        files = (now characters ∙ ap (file_put (seen_table characters d.files) name) text_is) k;
       })
 
 -- ---- rows that delete files
@@ -408,7 +408,7 @@ names_seen characters d names =
 module _ (H : Type 0) (old : List ℕ) (d : KeptDesktop) (over : IsOver old d) (names : List (List ℕ)) where
   -- a name is no file's, or stands there twice
   pub deleting_refused : false ≡ can_be_deleted (keys_of d.files) names
-      → IsAnswered H old old d d (settled (seen old d) (files_deleted (seen old d) names)) (No no_file)
+      → IsAnswered H old old d d (outcome_after (seen old d) (files_deleted (seen old d) names)) (No no_file)
   deleting_refused none = refusal_answered H old d (files_deleted (seen old d) names) no_file over known_no_file
       (deletion_refused (seen old d) names (names_seen old d names ∙ sym none))
 
@@ -426,7 +426,7 @@ module _ (H : Type 0) (old : List ℕ) (d : KeptDesktop) (over : IsOver old d) (
 
     -- the lines don't fit
     pub deleting_full : made ≡ line_bytes lines → has_space (seen old d) made made gone ≡ false
-        → IsAnswered H old old d d (settled (seen old d) (files_deleted (seen old d) names)) (No full)
+        → IsAnswered H old old d d (outcome_after (seen old d) (files_deleted (seen old d) names)) (No full)
     unfolding seen
     deleting_full made_is none = row_as (seen old d) (files_deleted (seen old d) names)
         (all_logged_full H old d left 0 gone over
@@ -443,7 +443,7 @@ module _ (H : Type 0) (old : List ℕ) (d : KeptDesktop) (over : IsOver old d) (
       deleting_stands = changed_stands over gone_now
 
       pub deleting_short : has_space (seen [] d) made made gone ≡ true
-          → held (seen [] (record d { files = files })) + made ≤ most_held
+          → characters_held (seen [] (record d { files = files })) + made ≤ most_held
       deleting_short space =
           let all = gone_now.counted [] in
           let low = space_held (seen [] d) made made gone space in
@@ -453,7 +453,7 @@ module _ (H : Type 0) (old : List ℕ) (d : KeptDesktop) (over : IsOver old d) (
       pub deleting_answered : (new : List ℕ) (after : KeptDesktop)
           → IsExtended H old new (record d { files = files }) after (λ x. all_logged x lines) made
           → ((all : List ℕ) → has_space (seen all d) made made gone ≡ true)
-          → IsAnswered H old new d after (settled (seen old d) (files_deleted (seen old d) names)) Done
+          → IsAnswered H old new d after (outcome_after (seen old d) (files_deleted (seen old d) names)) Done
       deleting_answered new after extended space = row_as (seen old d) (files_deleted (seen old d) names)
           (extended_answered old new d (record d { files = files }) after left (λ x. all_logged x lines) 0 gone made
           made
@@ -463,20 +463,20 @@ module _ (H : Type 0) (old : List ℕ) (d : KeptDesktop) (over : IsOver old d) (
 
 module _ (H : Type 0) (old : List ℕ) (d : KeptDesktop) (over : IsOver old d) (name : List ℕ) (text : Text ℕ) where
   abbrev row : Result Desktop ℕ
-  row = unless (has_room (seen old d).files name) too_many_files (Ok (stored_as (seen old d) name text))
+  row = unless (has_file_room (seen old d).files name) too_many_files (Ok (stored_as (seen old d) name text))
 
   -- there is no room for one more file
-  pub storing_refused : has_room (seen_table old d.files) name ≡ false
-      → IsAnswered H old old d d (settled (seen old d) row) (No too_many_files)
+  pub storing_refused : has_file_room (seen_table old d.files) name ≡ false
+      → IsAnswered H old old d d (outcome_after (seen old d) row) (No too_many_files)
   unfolding seen
   storing_refused none = refusal_answered H old d row too_many_files over known_too_many_files (rw none refl)
 
-  module _ (line : List ℕ) (size gone all : ℕ) (room : has_room (seen_table old d.files) name ≡ true)
+  module _ (line : List ℕ) (size gone all : ℕ) (room : has_file_room (seen_table old d.files) name ≡ true)
       (size_is : size ≡ length text) (line_is : line ≡ storing_line name size) (all_is : all ≡ size + length line)
-      (sum : (among : List ℕ) (new : Text ℕ) → lengths (put (seen_table among d.files) name new) + gone
+      (sum : (among : List ℕ) (new : Text ℕ) → lengths (file_put (seen_table among d.files) name new) + gone
       ≡ lengths (seen_table among d.files) + length new) where
     abbrev filed_as : Desktop
-    filed_as = record (seen old d) { files = put (seen old d).files name text }
+    filed_as = record (seen old d) { files = file_put (seen old d).files name text }
 
     stored_is : row ≡ Ok (logged filed_as line)
     unfolding seen
@@ -485,14 +485,14 @@ module _ (H : Type 0) (old : List ℕ) (d : KeptDesktop) (over : IsOver old d) (
 
     -- the file and the line don't fit
     pub storing_full : has_space (seen old d) (length line) all gone ≡ false
-        → IsAnswered H old old d d (settled (seen old d) row) (No full)
+        → IsAnswered H old old d d (outcome_after (seen old d) row) (No full)
     unfolding seen
     storing_full none = row_as (seen old d) row
         (logged_full H old d filed_as (length text) gone over
-        (files_counts (seen old d) (put (seen old d).files name text) (length text) gone (sum old text))
+        (files_counts (seen old d) (file_put (seen old d).files name text) (length text) gone (sum old text))
         line all (omega (arith, all_is, size_is)) none) stored_is
 
-    module _ (files : Files (List Piece)) (pieces : List Piece) (is : files ≡ put d.files name pieces)
+    module _ (files : Files (List Piece)) (pieces : List Piece) (is : files ≡ file_put d.files name pieces)
         (valid : IsTrue (is_name name)) (within : AreWithin (length old) (flat pieces))
         (looks : AreLooks (flat pieces)) (text_is : seen_text old pieces ≡ text) where
       long : length text ≡ length (flat pieces)
@@ -508,7 +508,7 @@ module _ (H : Type 0) (old : List ℕ) (d : KeptDesktop) (over : IsOver old d) (
       storing_stands = changed_stands over stored_now
 
       pub storing_short : has_space (seen [] d) (length line) all gone ≡ true
-          → held (seen [] (record d { files = files })) + length line ≤ most_held
+          → characters_held (seen [] (record d { files = files })) + length line ≤ most_held
       storing_short space =
           let now = stored_now.counted [] in
           let low = space_held (seen [] d) (length line) all gone space in
@@ -518,7 +518,7 @@ module _ (H : Type 0) (old : List ℕ) (d : KeptDesktop) (over : IsOver old d) (
       pub storing_answered : (new : List ℕ) (after : KeptDesktop)
           → IsExtended H old new (record d { files = files }) after (λ x. logged x line) (length line)
           → ((among : List ℕ) → has_space (seen among d) (length line) all gone ≡ true)
-          → IsAnswered H old new d after (settled (seen old d) row) Done
+          → IsAnswered H old new d after (outcome_after (seen old d) row) Done
       storing_answered new after extended space = row_as (seen old d) row
           (extended_answered old new d (record d { files = files }) after filed_as (λ x. logged x line)
           (length (flat pieces)) gone (length line) all over stored_now extended

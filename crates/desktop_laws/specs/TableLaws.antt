@@ -25,7 +25,7 @@ use Rattle.piece_ring.specs.Flat.{flat}
 use Rattle.piece_ring.specs.Offsets.{AreWithin-longer}
 use Rattle.piece_ring.specs.Text.{Text, AreWithin}
 use Rattle.desktop_definitions.specs.Limits.{most_files}
-use Rattle.desktop_definitions.specs.Tables.{Files, name_cmp, named, put, has_room, with_values, lengths}
+use Rattle.desktop_definitions.specs.Tables.{Files, name_cmp, file_named, file_put, has_file_room, with_values, lengths}
 use Rattle.desktop_definitions.specs.Seen.{seen_text, seen_table}
 use Rattle.desktop_definitions.specs.Sound.{AllWithin}
 
@@ -130,7 +130,7 @@ one_if (Some x) = refl
 
 -- a put of a name adds one file where there was none
 count_put : {T : Type 0} (files : Files T) (name : List ℕ) (text : T) → IsStrictlySortedBy name_cmp (keys_of files)
-    → length (put files name text) + cond (is_some (named files name)) 1 0 ≡ length files + 1
+    → length (file_put files name text) + cond (is_some (file_named files name)) 1 0 ≡ length files + 1
 count_put files name text rising =
     omega (
       arith,
@@ -138,8 +138,8 @@ count_put files name text rising =
           (lists_total nat_cmp_total) files name text rising,
       count_values files,
       count_values
-          (put files name text),
-      one_if (named files name),
+          (file_put files name text),
+      one_if (file_named files name),
     )
 
 room_for : (found : Bool) (count after : ℕ) → after + cond found 1 0 ≡ count + 1 → count ≤ most_files
@@ -148,15 +148,15 @@ room_for true count after sum small room = omega arith
 room_for false count after sum small room = omega (arith, ltb-true count most_files room)
 
 pub put_few : (files : Files (Text ℕ)) (name : List ℕ) (text : Text ℕ) → IsStrictlySortedBy name_cmp (keys_of files)
-    → length files ≤ most_files → has_room files name ≡ true → length (put files name text) ≤ most_files
+    → length files ≤ most_files → has_file_room files name ≡ true → length (file_put files name text) ≤ most_files
 put_few files name text rising few room = room_for _ _ _ (count_put files name text rising) few room
 
 -- ---- a file that goes
 
 module _ (files : Files (List Piece)) (name : List ℕ) (characters : List ℕ) (text : Text ℕ)
     (rising : IsStrictlySortedBy name_cmp (keys_of files)) where
-  gone : lengths (put (seen_table characters files) name text)
-      + unwrap_or (option_map length (named (seen_table characters files) name)) 0
+  gone : lengths (file_put (seen_table characters files) name text)
+      + unwrap_or (option_map length (file_named (seen_table characters files) name)) 0
       ≡ lengths (seen_table characters files) + length text
   gone = sum_by-insert_entry length (lists_total nat_cmp_total) (seen_table characters files) name text
       (subst (IsStrictlySortedBy name_cmp) (sym (keys_of-map_values (seen_text characters) files)) rising)
@@ -168,13 +168,13 @@ module _ (files : Files (List Piece)) (name : List ℕ) (characters : List ℕ) 
   size_seen (Some old) = length_seen_text characters old
 
   -- what a put of a name holds more, and what the old file of that name held
-  pub gone_size : lengths (put (seen_table characters files) name text)
-      + unwrap_or (option_map kept_length (named files name)) 0 ≡ lengths (seen_table characters files) + length text
+  pub gone_size : lengths (file_put (seen_table characters files) name text)
+      + unwrap_or (option_map kept_length (file_named files name)) 0 ≡ lengths (seen_table characters files) + length text
   gone_size =
-      let same : unwrap_or (option_map length (named (seen_table characters files) name)) 0
-      ≡ unwrap_or (option_map kept_length (named files name)) 0 =
+      let same : unwrap_or (option_map length (file_named (seen_table characters files) name)) 0
+      ≡ unwrap_or (option_map kept_length (file_named files name)) 0 =
       ap (λ (found : Option (Text ℕ)). unwrap_or (option_map length found) 0)
-      (lookup_seen (seen_text characters) (is_at (name_cmp name)) files) ∙ size_seen (named files name) in
+      (lookup_seen (seen_text characters) (is_at (name_cmp name)) files) ∙ size_seen (file_named files name) in
       omega (arith, gone, same)
 
 -- ---- characters within
@@ -183,6 +183,6 @@ pub longer : {K : Type 0} (n m : ℕ) (table : List (K × List Piece)) → n ≤
 longer n m table low within = λ i d here. AreWithin-longer n m _ low (within i d here)
 
 pub put_within : (n m : ℕ) (files : Files (List Piece)) (name : List ℕ) (text : List Piece) → n ≤ m → AllWithin n files
-    → AreWithin m (flat text) → AllWithin m (put files name text)
+    → AreWithin m (flat text) → AllWithin m (file_put files name text)
 put_within n m files name text low all here = All-values-insert_entry name_cmp name text
     (λ pieces. AreWithin m (flat pieces)) files (longer n m files low all) here

@@ -23,7 +23,7 @@ use Rattle.viewer_tracks.specs.declared.display.Track.TheVariants.{User, System}
 use Rattle.viewer_tracks.specs.declared.display.TheConstants.{ROWS}
 use Rattle.viewer_tracks.specs.Display.{left_of}
 use Rattle.viewer_tracks.specs.Viewers.{Entry as Standing, IsTrack, entry_viewer as standing_at, times_in}
-use Rattle.viewer_tracks.specs.Columns.{Columns, IsColumns, IsPlaced, shown, stack_of, placed_bottom}
+use Rattle.viewer_tracks.specs.Columns.{Columns, IsColumns, IsPlaced, shown_track, stack_of, placed_bottom}
 use Rattle.viewer_tracks.specs.Columns.{placed_top}
 use Rattle.viewer_tracks.proofs.StackLemmas.{topmost_track}
 use Rattle.viewer_tracks.proofs.ColumnLemmas.{stack_in}
@@ -81,8 +81,8 @@ few_in (e ∷ t) all = omega (
 few_in_track : (t : List Standing) → IsTrack t → length t ≤ ROWS
 few_in_track t track = omega (arith, few_in t track.some, track.fits)
 
-few_stand : (c : Columns) (k : Track) → IsColumns c → length (shown c k) ≤ ROWS
-few_stand c k columns = few_in_track (shown c k) (topmost_track (stack_of c k) (stack_in c k columns))
+few_stand : (c : Columns) (k : Track) → IsColumns c → length (shown_track c k) ≤ ROWS
+few_stand c k columns = few_in_track (shown_track c k) (topmost_track (stack_of c k) (stack_in c k columns))
 
 -- how often a list of selections is of the viewers of a track
 abbrev times_selected : List Selection → List Standing → ℕ
@@ -127,8 +127,8 @@ one_each_in ss t one =
 pub few_selections : (columns : Columns) (long : ℕ → ℕ) (caret : Option Caret) (selections : List Selection)
     → IsColumns columns → AreMarks columns long caret selections → length selections ≤ ROWS + ROWS
 few_selections columns long caret selections holds marks =
-    let u = shown columns User in
-    let s = shown columns System in
+    let u = shown_track columns User in
+    let s = shown_track columns System in
     let each : All (λ (o : Selection). 0 < times_in o.viewer u + times_in o.viewer s) selections =
     λ i d low. (marks.all_stand i d low).placed in
     omega (

@@ -16,10 +16,10 @@ use Rattle.event_bytes.specs.declared.event.Drag.{Drag}
 use Rattle.event_bytes.specs.declared.event.Event.{Event}
 use Rattle.event_bytes.specs.declared.event.Event.TheVariants.{Typed, Key, Mark, Point, File}
 use Rattle.event_bytes.specs.Bytes.{is_name, is_file_bytes, is_typed_bytes}
-use Rattle.event_bytes.specs.Keys.{all_of_keyboard, all_of_mouse, key_of, key_number, keys_of, keys_number}
-use Rattle.event_bytes.specs.Parts.{Reader, ◌>>=◌, byte_at, byte, word, counted, IsPart}
-use Rattle.event_bytes.specs.Spelling.{IsByte, IsEvent, kind, body, spelling, Begins}
-use Rattle.event_bytes.specs.Reading.{name_at, file_bytes_at, typed_bytes_at, file_at, key_at, keys_at, cell_at}
+use Rattle.event_bytes.specs.Keys.{all_of_keyboard, all_of_mouse, key_numbered, key_number, keys_of, keys_number}
+use Rattle.event_bytes.specs.Parts.{Reader, ◌>>=◌, byte_at, byte, word_bytes, counted_bytes, IsPart}
+use Rattle.event_bytes.specs.Spelling.{IsByte, IsEvent, kind, event_body, spelling, BeginsWithEvent}
+use Rattle.event_bytes.specs.Reading.{name_at, file_bytes_at, typed_bytes_at, event_file_at, key_at, keys_at, event_cell_at}
 use Rattle.event_bytes.specs.Reading.{drag_at}
 use Rattle.event_bytes.specs.Reading.{typed_body_at, key_body_at, mark_body_at, point_body_at, file_body_at, body_at}
 use Rattle.event_bytes.specs.Reading.{event_at}
@@ -39,12 +39,12 @@ short_file bytes valid = leb-true (length bytes) 900 (both _ _ valid).0
 short_typed : (bytes : List ℕ) → is_typed_bytes bytes ≡ true → length bytes ≤ 900
 short_typed bytes valid = short_file bytes (both _ _ valid).1
 
-pub name_part : IsPart (counted byte) (λ name. IsTrue (is_name name)) name_at
+pub name_part : IsPart (counted_bytes byte) (λ name. IsTrue (is_name name)) name_at
 unfolding name_at
 name_part = recast (λ name fits. fits.1) (λ name valid. (omega (arith, short_name name valid), valid))
     (only is_name (counted_part byte_part))
 
-file_bytes_part : IsPart (counted word) (λ bytes. IsTrue (is_file_bytes bytes)) file_bytes_at
+file_bytes_part : IsPart (counted_bytes word_bytes) (λ bytes. IsTrue (is_file_bytes bytes)) file_bytes_at
 unfolding file_bytes_at
 file_bytes_part =
     recast (λ bytes fits. fits.1) (λ bytes valid. (omega (arith, short_file bytes valid), valid))
@@ -54,15 +54,15 @@ file_bytes_part =
 abbrev Pair : Type 0
 Pair = List ℕ × List ℕ
 
-file_part : IsPart (λ (f : Pair). counted byte f.0 ++ counted word f.1) (λ f. IsTrue (is_name f.0)
-    × IsTrue (is_file_bytes f.1)) file_at
-unfolding file_at
+file_part : IsPart (λ (f : Pair). counted_bytes byte f.0 ++ counted_bytes word_bytes f.1) (λ f. IsTrue (is_name f.0)
+    × IsTrue (is_file_bytes f.1)) event_file_at
+unfolding event_file_at
 file_part = whole (
     field _ (λ (f : Pair). f.0) name_part (λ name _.
     last (λ (f : Pair). f.1) (λ bytes. (name, bytes)) file_bytes_part (λ bytes. (tt, refl)) (λ bytes. refl)
     (λ f known. ap (λ n. (n, f.1)) (sym known.1))))
 
-typed_part : IsPart (counted word) (λ bytes. IsTrue (is_typed_bytes bytes)) typed_bytes_at
+typed_part : IsPart (counted_bytes word_bytes) (λ bytes. IsTrue (is_typed_bytes bytes)) typed_bytes_at
 unfolding typed_bytes_at
 typed_part =
     recast (λ bytes fits. fits.1) (λ bytes valid. (omega (arith, short_typed bytes valid), valid))
@@ -87,7 +87,7 @@ module _ {A : Type 0} (all : List A) (number : A → ℕ) (in_order : map number
       numbered number (slice_get all) (λ a. let low = slice_get_within all (number a) a (again a) in
       omega (arith, few, low)) again place_is_number
 
-key_again : (key : KeyOf) → key_of (key_number key) ≡ Some key
+key_again : (key : KeyOf) → key_numbered (key_number key) ≡ Some key
 key_again Back = refl
 key_again Copy = refl
 key_again Paste = refl
@@ -121,8 +121,8 @@ cell_bytes c = byte c.x ++ byte c.y
 abbrev IsCell : Cell → Type 0
 IsCell c = IsByte c.x × IsByte c.y
 
-cell_part : IsPart cell_bytes IsCell cell_at
-unfolding cell_at
+cell_part : IsPart cell_bytes IsCell event_cell_at
+unfolding event_cell_at
 cell_part = whole (
     field _ (λ (c : Cell). c.x) byte_part (λ x _.
     last (λ (c : Cell). c.y) (λ y. cell x y) byte_part (λ y. (tt, refl)) (λ y. refl)
@@ -202,33 +202,33 @@ file_by (Mark x y) is = absurd (cc (is.1.1))
 file_by (Point keys x0 y0 x1 y1) is = absurd (cc (is.1.1))
 file_by (File name bytes) is = ((name, bytes), (refl, is.0))
 
-typed_body_part : IsPart body (IsOf 1) typed_body_at
+typed_body_part : IsPart event_body (IsOf 1) typed_body_at
 unfolding typed_body_at
 typed_body_part = made (λ bytes. Typed bytes) typed_part (λ bytes. refl) (λ bytes fits. (fits, (tt, refl))) typed_by
 
-key_body_part : IsPart body (IsOf 2) key_body_at
+key_body_part : IsPart event_body (IsOf 2) key_body_at
 unfolding key_body_at
 key_body_part = made (λ key. Key key) key_part (λ key. refl) (λ key fits. (tt, (tt, refl))) key_by
 
-mark_body_part : IsPart body (IsOf 3) mark_body_at
+mark_body_part : IsPart event_body (IsOf 3) mark_body_at
 unfolding mark_body_at
 mark_body_part = made marked cell_part (λ c. refl) (λ c fits. (fits, (tt, refl))) mark_by
 
-point_body_part : IsPart body (IsOf 4) point_body_at
+point_body_part : IsPart event_body (IsOf 4) point_body_at
 unfolding point_body_at
 point_body_part =
     made pointed drag_part (λ d. refl) (λ d fits. let (u, cells) = fits in
     ((cells.0.0, cells.0.1, cells.1.0, cells.1.1), (tt, refl))) point_by
 
-file_body_part : IsPart body (IsOf 5) file_body_at
+file_body_part : IsPart event_body (IsOf 5) file_body_at
 unfolding file_body_at
 file_body_part = made (λ f. File f.0 f.1) file_part (λ f. refl) (λ f fits. (fits, (tt, refl))) file_by
 
 -- one of the kinds, or none
-at_number : (number wanted : ℕ) {read : Reader Event} → IsPart body (IsOf wanted) read → nat_eq number wanted ≡ true
-    → IsPart body (IsOf number) read
+at_number : (number wanted : ℕ) {read : Reader Event} → IsPart event_body (IsOf wanted) read → nat_eq number wanted ≡ true
+    → IsPart event_body (IsOf number) read
 at_number number wanted {read} part same =
-    subst (λ n. IsPart body (IsOf n) read) (sym (eqb-true number wanted same)) part
+    subst (λ n. IsPart event_body (IsOf n) read) (sym (eqb-true number wanted same)) part
 
 no_other : (number : ℕ) → nat_eq number 1 ≡ false → nat_eq number 2 ≡ false → nat_eq number 3 ≡ false
     → nat_eq number 4 ≡ false → nat_eq number 5 ≡ false
@@ -239,7 +239,7 @@ no_other number a b c d e (Mark x y) is = absurd (cc (c, eq-eqb number 3 (sym is
 no_other number a b c d e (Point keys x0 y0 x1 y1) is = absurd (cc (d, eq-eqb number 4 (sym is.1.1)))
 no_other number a b c d e (File name bytes) is = absurd (cc (e, eq-eqb number 5 (sym is.1.1)))
 
-body_part : (number : ℕ) → IsPart body (IsOf number) (body_at number)
+body_part : (number : ℕ) → IsPart event_body (IsOf number) (body_at number)
 unfolding body_at
 body_part number =
     either (nat_eq number 1) (at_number number 1 typed_body_part) (λ not1.
@@ -264,18 +264,18 @@ event_part =
 
 -- ---- what begins with an event
 
-pub begins_read : (bytes : List ℕ) (event : Event) → (begins : Begins bytes event)
+pub begins_read : (bytes : List ℕ) (event : Event) → (begins : BeginsWithEvent bytes event)
     → event_at bytes ≡ Some (event, begins.rest)
 begins_read bytes event begins = ap event_at begins.parts ∙ event_part.again event begins.rest begins.valid
 
-pub one_begins : (bytes : List ℕ) (e f : Event) → Begins bytes e → Begins bytes f → e ≡ f
+pub one_begins : (bytes : List ℕ) (e f : Event) → BeginsWithEvent bytes e → BeginsWithEvent bytes f → e ≡ f
 one_begins bytes e f first second =
     ap (λ (x : Event × List ℕ). x.0)
     (some_is {A = Event × List ℕ} (e, first.rest) (f, second.rest) (sym (begins_read bytes e first)
     ∙ begins_read bytes f second))
 
 pub read_begins : (bytes : List ℕ) (event : Event) (rest : List ℕ) → event_at bytes ≡ Some (event, rest)
-    → Begins bytes event
+    → BeginsWithEvent bytes event
 read_begins bytes event rest is = let t = event_part.takes bytes event rest is in
     record { valid = t.fits; rest = rest; parts = t.parts }
 
@@ -296,5 +296,5 @@ length_within (Mark x y) valid = (omega arith, omega arith)
 length_within (Point keys x0 y0 x1 y1) valid = (omega arith, omega arith)
 length_within (File name bytes) valid =
     let whole : length (spelling (File name bytes)) ≡ 4 + length name + length bytes =
-    omega (arith, length-append (counted byte name) (counted word bytes)) in
+    omega (arith, length-append (counted_bytes byte name) (counted_bytes word_bytes bytes)) in
     (omega (arith, whole), omega (arith, whole, short_name name valid.0, short_file bytes valid.1))

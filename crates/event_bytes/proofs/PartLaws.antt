@@ -4,8 +4,8 @@ use Rattle.std.proofs.Common.{◌++◌, length, take, drop, Option, Some, None, 
 use Rattle.std.proofs.Common.{arith, length-append}
 use Rattle.std.proofs.lemmas.Bool.{ltb-true, ltb-false, lt-ltb, le-ltb}
 use Rattle.std.proofs.lemmas.List.{take-append-drop, length-take, take_at, drop_at}
-use Rattle.event_bytes.specs.Parts.{Reader, ◌>>=◌, when, byte, word, counted, byte_at, pair_at, bytes_at, counted_at}
-use Rattle.event_bytes.specs.Parts.{Takes, IsPart}
+use Rattle.event_bytes.specs.Parts.{Reader, ◌>>=◌, when, byte, word_bytes, counted_bytes, byte_at, pair_at, bytes_at, counted_at}
+use Rattle.event_bytes.specs.Parts.{TakesValue, IsPart}
 
 abbrev pub given : {A : Type 0} → A → Option A
 given x = Some x
@@ -34,7 +34,7 @@ unless_some false x y e = (refl, e)
 pub record IsTail {A : Type 0} (Known : A → Type 0) (write : A → List ℕ) (Fits : A
     → Type 0) (read : Reader A) : Type 0 where
   pub takes : (bytes : List ℕ) (x : A) (rest : List ℕ) → read bytes ≡ Some (x, rest) → Known x
-      × Takes write Fits bytes x rest
+      × TakesValue write Fits bytes x rest
   pub again : (x : A) (rest : List ℕ) → Known x → Fits x → read (write x ++ rest) ≡ Some (x, rest)
 
 abbrev pub Nothing : {A : Type 0} → A → Type 0
@@ -80,14 +80,14 @@ last {A} {X} {Known} {write} {Fits} {read} get make part made got all = record {
       let (x, x_is, e1) = bind_some (read bytes) (λ x. Some (make x.0, x.1)) (a, rest) e in
       let first = part.takes bytes x.0 x.1 x_is in
       let p = some_is {A = A × List ℕ} (make x.0, x.1) (a, rest) e1 in
-      let here : Takes (λ a. write (get a)) (λ a. Fits (get a)) bytes (make x.0) x.1 =
+      let here : TakesValue (λ a. write (get a)) (λ a. Fits (get a)) bytes (make x.0) x.1 =
       record {
         fits = subst Fits (sym (got x.0)) first.fits;
         parts = first.parts
             ∙ ap (λ y. write y ++ x.1) (sym (got x.0));
       } in
       subst (λ (y : A × List ℕ). Known y.0
-      × Takes (λ a. write (get a)) (λ a. Fits (get a)) bytes y.0 y.1) p (made x.0, here);
+      × TakesValue (λ a. write (get a)) (λ a. Fits (get a)) bytes y.0 y.1) p (made x.0, here);
   again = λ a rest known fits. ap (λ r. r >>= λ x. Some (make x.0, x.1)) (part.again (get a) rest fits)
       ∙ ap (λ b. given {A = A × List ℕ} (b, rest)) (all a known);
 }
@@ -102,9 +102,9 @@ only {A} {write} {Fits} {read} test part = record {
       let (x, x_is, e1) = bind_some (read bytes) (λ x. cond (test x.0) (Some x) None) (a, rest) e in
       let (holds, e2) = test_some (test x.0) (Some x) (a, rest) e1 in
       let first = part.takes bytes x.0 x.1 x_is in
-      let here : Takes write (λ x. Fits x × (test x ≡ true)) bytes x.0 x.1 =
+      let here : TakesValue write (λ x. Fits x × (test x ≡ true)) bytes x.0 x.1 =
       record { fits = (first.fits, holds); parts = first.parts } in
-      subst (λ (y : A × List ℕ). Takes write (λ x. Fits x × (test x ≡ true)) bytes y.0 y.1)
+      subst (λ (y : A × List ℕ). TakesValue write (λ x. Fits x × (test x ≡ true)) bytes y.0 y.1)
       (some_is {A = A × List ℕ} x (a, rest) e2) here;
   again = λ a rest fits. ap (λ r. r >>= λ x. cond (test x.0) (Some x) None) (part.again a rest fits.0)
       ∙ ap (λ b. cond b (given {A = A × List ℕ} (a, rest)) None) fits.1;
@@ -139,9 +139,9 @@ made {A} {X} {write} {Fits} {read} {writing} {IsMade} make part same to from = r
   takes = λ bytes a rest e.
       let (x, x_is, e1) = bind_some (read bytes) (λ x. Some (make x.0, x.1)) (a, rest) e in
       let first = part.takes bytes x.0 x.1 x_is in
-      let here : Takes writing IsMade bytes (make x.0) x.1 =
+      let here : TakesValue writing IsMade bytes (make x.0) x.1 =
       record { fits = to x.0 first.fits; parts = first.parts ∙ ap (λ t. t ++ x.1) (sym (same x.0)) } in
-      subst (λ (y : A × List ℕ). Takes writing IsMade bytes y.0 y.1)
+      subst (λ (y : A × List ℕ). TakesValue writing IsMade bytes y.0 y.1)
       (some_is {A = A × List ℕ} (make x.0, x.1) (a, rest) e1) here;
   again = λ a rest fits.
       let (x, known) = from a fits in
@@ -176,11 +176,11 @@ unfolding byte_at
 byte_part = record { takes = from; again = λ n rest fits. rw (lt-ltb n 256 fits) refl }
   where
     from : (bytes : List ℕ) (x : ℕ) (rest : List ℕ) → byte_at bytes ≡ Some (x, rest)
-        → Takes byte (λ n. n < 2 ^ 8) bytes x rest
+        → TakesValue byte (λ n. n < 2 ^ 8) bytes x rest
     from [] x rest e = absurd cc
     from (b ∷ bs) x rest e =
         let (small, e1) = test_some (ltb b 256) (Some (b, bs)) (x, rest) e in
-        subst (λ (y : ℕ × List ℕ). Takes byte (λ n. n < 2 ^ 8) (b ∷ bs) y.0 y.1)
+        subst (λ (y : ℕ × List ℕ). TakesValue byte (λ n. n < 2 ^ 8) (b ∷ bs) y.0 y.1)
         (some_is {A = ℕ × List ℕ} (b, bs) (x, rest) e1) (record { fits = ltb-true b 256 small; parts = refl })
 
 -- a value that is written as its number in one byte, where a test tells which numbers there are
@@ -192,17 +192,17 @@ numbered {A} number find small again named = record { takes = from; again = back
   where
     from : (bytes : List ℕ) (x : A) (rest : List ℕ)
         → (byte_at bytes >>= λ n. find n.0 >>= λ a. given {A = A × List ℕ} (a, n.1)) ≡ Some (x, rest)
-        → Takes (λ a. byte (number a)) (λ a. Unit {0}) bytes x rest
+        → TakesValue (λ a. byte (number a)) (λ a. Unit {0}) bytes x rest
     from bytes x rest e =
         let (n, n_is, e1) =
         bind_some (byte_at bytes) (λ n. find n.0 >>= λ a. given {A = A × List ℕ} (a, n.1)) (x, rest) e in
         let (a, a_is, e2) = bind_some (find n.0) (λ a. given {A = A × List ℕ} (a, n.1)) (x, rest) e1 in
         let first = byte_part.takes bytes n.0 n.1 n_is in
-        let here : Takes (λ a. byte (number a)) (λ a. Unit {0}) bytes a n.1 = record {
+        let here : TakesValue (λ a. byte (number a)) (λ a. Unit {0}) bytes a n.1 = record {
           fits = tt;
           parts = first.parts ∙ ap (λ m. byte m ++ n.1) (named n.0 a a_is);
         } in
-        subst (λ (y : A × List ℕ). Takes (λ a. byte (number a)) (λ a. Unit {0}) bytes y.0 y.1)
+        subst (λ (y : A × List ℕ). TakesValue (λ a. byte (number a)) (λ a. Unit {0}) bytes y.0 y.1)
         (some_is {A = A × List ℕ} (a, n.1) (x, rest) e2) here
 
     back : (x : A) (rest : List ℕ) → Unit {0}
@@ -219,32 +219,32 @@ two_bytes : (a b c d : ℕ) → a ≡ c → b ≡ d → a ∷ b ∷ [] ≡ c ∷
 two_bytes a b c d e f = cc
 
 -- the word of a higher and a lower byte
-word_of : (high low : ℕ) → high < 2 ^ 8 → low < 2 ^ 8 → word (high * 256 + low) ≡ high ∷ low ∷ []
+word_of : (high low : ℕ) → high < 2 ^ 8 → low < 2 ^ 8 → word_bytes (high * 256 + low) ≡ high ∷ low ∷ []
 word_of high low small small' =
     two_bytes _ _ _ _
     (let e : (high * 256 + low) / 256 % 256 ≡ high = omega (arith, small, small') in e)
     (let e : (high * 256 + low) % 256 ≡ low = omega (arith, small, small') in e)
 
-pub word_part : IsPart word (λ n. n < 2 ^ 16) pair_at
+pub word_part : IsPart word_bytes (λ n. n < 2 ^ 16) pair_at
 unfolding pair_at byte_at
 word_part = record { takes = from; again = back }
   where
     from : (bytes : List ℕ) (x : ℕ) (rest : List ℕ) → pair_at bytes ≡ Some (x, rest)
-        → Takes word (λ n. n < 2 ^ 16) bytes x rest
+        → TakesValue word_bytes (λ n. n < 2 ^ 16) bytes x rest
     from bytes x rest e =
         let (high, high_is, e1) = bind_some (byte_at bytes) _ _ e in
         let (low, low_is, e2) = bind_some (byte_at high.1) _ _ e1 in
         let first = byte_part.takes bytes high.0 high.1 high_is in
         let second = byte_part.takes high.1 low.0 low.1 low_is in
-        let here : Takes word (λ n. n < 2 ^ 16) bytes (high.0 * 256 + low.0) low.1 = record {
+        let here : TakesValue word_bytes (λ n. n < 2 ^ 16) bytes (high.0 * 256 + low.0) low.1 = record {
           fits = omega (arith, first.fits, second.fits);
           parts = first.parts ∙ ap (λ t. high.0 ∷ t) second.parts
               ∙ ap (λ t. t ++ low.1) (sym (word_of high.0 low.0 first.fits second.fits));
         } in
-        subst (λ (y : ℕ × List ℕ). Takes word (λ n. n < 2 ^ 16) bytes y.0 y.1)
+        subst (λ (y : ℕ × List ℕ). TakesValue word_bytes (λ n. n < 2 ^ 16) bytes y.0 y.1)
         (some_is {A = ℕ × List ℕ} (high.0 * 256 + low.0, low.1) (x, rest) e2) here
 
-    back : (n : ℕ) (rest : List ℕ) → n < 2 ^ 16 → pair_at (word n ++ rest) ≡ Some (n, rest)
+    back : (n : ℕ) (rest : List ℕ) → n < 2 ^ 16 → pair_at (word_bytes n ++ rest) ≡ Some (n, rest)
     back n rest small =
         let high : n / 256 % 256 < 256 = omega arith in
         let low : n % 256 < 256 = omega arith in
@@ -274,12 +274,12 @@ bytes_again n x rest len =
 
 -- bytes after their number
 pub counted_part : {number : ℕ → List ℕ} {Counts : ℕ → Type 0} {number_at : Reader ℕ} → IsPart number Counts number_at
-    → IsPart (counted number) (λ x. Counts (length x)) (counted_at number_at)
+    → IsPart (counted_bytes number) (λ x. Counts (length x)) (counted_at number_at)
 unfolding counted_at
 counted_part {number} {Counts} {number_at} part = record { takes = from; again = back }
   where
     from : (bytes x rest : List ℕ) → counted_at number_at bytes ≡ Some (x, rest)
-        → Takes (counted number) (λ x. Counts (length x)) bytes x rest
+        → TakesValue (counted_bytes number) (λ x. Counts (length x)) bytes x rest
     from bytes x rest e =
         let (n, n_is, e1) = bind_some (number_at bytes) (λ n. bytes_at n.0 n.1) (x, rest) e in
         let first = part.takes bytes n.0 n.1 n_is in
@@ -290,7 +290,7 @@ counted_part {number} {Counts} {number_at} part = record { takes = from; again =
               ∙ sym (append_assoc (number (length x)) x rest);
         }
 
-    back : (x rest : List ℕ) → Counts (length x) → counted_at number_at (counted number x ++ rest) ≡ Some (x, rest)
+    back : (x rest : List ℕ) → Counts (length x) → counted_at number_at (counted_bytes number x ++ rest) ≡ Some (x, rest)
     back x rest fits =
         ap (counted_at number_at) (append_assoc (number (length x)) x rest)
         ∙ ap (λ r. r >>= λ n. bytes_at n.0 n.1) (part.again (length x) (x ++ rest) fits)

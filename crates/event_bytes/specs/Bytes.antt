@@ -8,6 +8,12 @@ tabulator = 9
 abbrev pub carriage_return : ℕ
 carriage_return = 13
 
+abbrev pub line_feed : ℕ
+line_feed = 10
+
+abbrev pub question_mark : ℕ
+question_mark = 63
+
 abbrev pub period : ℕ
 period = 46
 

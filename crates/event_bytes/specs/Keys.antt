@@ -10,8 +10,8 @@ use Rattle.event_bytes.specs.declared.keys.Keys.TheVariants.{MiddleRight, Right,
 abbrev pub all_of_keyboard : List Key
 all_of_keyboard = Back ∷ Copy ∷ Paste ∷ Cut ∷ Escape ∷ []
 
-abbrev pub key_of : ℕ → Option Key
-key_of n = slice_get all_of_keyboard n
+abbrev pub key_numbered : ℕ → Option Key
+key_numbered n = slice_get all_of_keyboard n
 
 abbrev pub key_number : Key → ℕ
 key_number Back = 0

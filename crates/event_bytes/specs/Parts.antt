@@ -11,12 +11,12 @@ abbrev pub byte : ℕ → List ℕ
 byte n = n ∷ []
 
 -- two bytes, the higher first
-abbrev pub word : ℕ → List ℕ
-word n = to_be_bytes w16 n
+abbrev pub word_bytes : ℕ → List ℕ
+word_bytes n = to_be_bytes w16 n
 
 -- bytes after their number
-abbrev pub counted : (ℕ → List ℕ) → List ℕ → List ℕ
-counted number bytes = number (length bytes) ++ bytes
+abbrev pub counted_bytes : (ℕ → List ℕ) → List ℕ → List ℕ
+counted_bytes number bytes = number (length bytes) ++ bytes
 
 -- ---- reading
 
@@ -69,12 +69,12 @@ value_and_rest r = option_map (λ x. (x.0, x.1.now)) r
 -- ---- what ties the two
 
 -- The bytes are the writing of a value that fits, and the rest.
-pub record Takes {A : Type 0} (write : A → List ℕ) (Fits : A
+pub record TakesValue {A : Type 0} (write : A → List ℕ) (Fits : A
     → Type 0) (bytes : List ℕ) (x : A) (rest : List ℕ) : Type 0 where
   pub fits : Fits x
   pub parts : bytes ≡ write x ++ rest
 
 -- What is read was written so, and what is written so is read, whatever follows.
 pub record IsPart {A : Type 0} (write : A → List ℕ) (Fits : A → Type 0) (read : Reader A) : Type 0 where
-  pub takes : (bytes : List ℕ) (x : A) (rest : List ℕ) → read bytes ≡ Some (x, rest) → Takes write Fits bytes x rest
+  pub takes : (bytes : List ℕ) (x : A) (rest : List ℕ) → read bytes ≡ Some (x, rest) → TakesValue write Fits bytes x rest
   pub again : (x : A) (rest : List ℕ) → Fits x → read (write x ++ rest) ≡ Some (x, rest)

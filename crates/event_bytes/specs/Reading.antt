@@ -1,7 +1,7 @@
 -- Reading the event that bytes begin with.
 use Rattle.std.specs.Prelude.{ℕ, if◌then◌else◌, ◌==◌, List, Some, None}
 use Rattle.event_bytes.specs.Bytes.{is_name, is_file_bytes, is_typed_bytes}
-use Rattle.event_bytes.specs.Keys.{key_of, keys_of}
+use Rattle.event_bytes.specs.Keys.{key_numbered, keys_of}
 use Rattle.event_bytes.specs.Parts.{Reader, ◌>>=◌, when, byte_at, pair_at, counted_at, three_at}
 use Rattle.event_bytes.specs.declared.keys.Key.{Key as KeyOf}
 use Rattle.event_bytes.specs.declared.keys.Keys.{Keys}
@@ -19,8 +19,8 @@ file_bytes_at bytes = when is_file_bytes (counted_at pair_at) bytes
 unfoldable pub typed_bytes_at : Reader (List ℕ)
 typed_bytes_at bytes = when is_typed_bytes (counted_at pair_at) bytes
 
-unfoldable pub file_at : Reader (List ℕ × List ℕ)
-file_at bytes = do
+unfoldable pub event_file_at : Reader (List ℕ × List ℕ)
+event_file_at bytes = do
   name ← name_at bytes
   text ← file_bytes_at name.1
   Some ((name.0, text.0), text.1)
@@ -28,7 +28,7 @@ file_at bytes = do
 unfoldable pub key_at : Reader KeyOf
 key_at bytes = do
   number ← byte_at bytes
-  key ← key_of number.0
+  key ← key_numbered number.0
   Some (key, number.1)
 
 unfoldable pub keys_at : Reader Keys
@@ -38,8 +38,8 @@ keys_at bytes = do
   Some (keys, number.1)
 
 -- a column and a row
-unfoldable pub cell_at : Reader Cell
-cell_at bytes = do
+unfoldable pub event_cell_at : Reader Cell
+event_cell_at bytes = do
   x ← byte_at bytes
   y ← byte_at x.1
   Some (record { x = x.0; y = y.0 }, y.1)
@@ -47,7 +47,7 @@ cell_at bytes = do
 -- keys, and the cells where they were pressed and released
 unfoldable pub drag_at : Reader Drag
 drag_at bytes =
-    three_at keys_at cell_at cell_at
+    three_at keys_at event_cell_at event_cell_at
     (λ keys pressed released. record { keys = keys; pressed = pressed; released = released }) bytes
 
 -- the bodies of the five kinds
@@ -63,7 +63,7 @@ key_body_at bytes = do
 
 unfoldable pub mark_body_at : Reader Event
 mark_body_at bytes = do
-  cell ← cell_at bytes
+  cell ← event_cell_at bytes
   Some (Mark cell.0.x cell.0.y, cell.1)
 
 unfoldable pub point_body_at : Reader Event
@@ -73,7 +73,7 @@ point_body_at bytes = do
 
 unfoldable pub file_body_at : Reader Event
 file_body_at bytes = do
-  file ← file_at bytes
+  file ← event_file_at bytes
   Some (File file.0.0 file.0.1, file.1)
 
 -- what follows the number of a kind

@@ -2,7 +2,7 @@
 use Rattle.std.specs.Prelude.{◌≡◌, ◌<◌, ◌^◌, ℕ, List, [], ◌∷◌, ◌++◌, IsTrue}
 use Rattle.event_bytes.specs.Bytes.{is_name, is_file_bytes, is_typed_bytes}
 use Rattle.event_bytes.specs.Keys.{key_number, keys_number}
-use Rattle.event_bytes.specs.Parts.{byte, word, counted}
+use Rattle.event_bytes.specs.Parts.{byte, word_bytes, counted_bytes}
 use Rattle.event_bytes.specs.declared.event.Event.{Event}
 use Rattle.event_bytes.specs.declared.event.Event.TheVariants.{Typed, Key, Mark, Point, File}
 
@@ -26,18 +26,18 @@ kind (Point keys x0 y0 x1 y1) = 4
 kind (File name bytes) = 5
 
 -- the bytes after that number: a name after its length in one byte, other bytes after theirs in two
-abbrev pub body : Event → List ℕ
-body (Typed bytes) = counted word bytes
-body (Key key) = key_number key ∷ []
-body (Mark x y) = x ∷ y ∷ []
-body (Point keys x0 y0 x1 y1) = keys_number keys ∷ x0 ∷ y0 ∷ x1 ∷ y1 ∷ []
-body (File name bytes) = counted byte name ++ counted word bytes
+abbrev pub event_body : Event → List ℕ
+event_body (Typed bytes) = counted_bytes word_bytes bytes
+event_body (Key key) = key_number key ∷ []
+event_body (Mark x y) = x ∷ y ∷ []
+event_body (Point keys x0 y0 x1 y1) = keys_number keys ∷ x0 ∷ y0 ∷ x1 ∷ y1 ∷ []
+event_body (File name bytes) = counted_bytes byte name ++ counted_bytes word_bytes bytes
 
 unfoldable pub spelling : Event → List ℕ
-spelling event = kind event ∷ body event
+spelling event = kind event ∷ event_body event
 
 -- the bytes begin with the spelling of the event; a rest may follow
-pub record Begins (bytes : List ℕ) (event : Event) : Type 0 where
+pub record BeginsWithEvent (bytes : List ℕ) (event : Event) : Type 0 where
   pub valid : IsEvent event
   pub rest : List ℕ
   pub parts : bytes ≡ spelling event ++ rest

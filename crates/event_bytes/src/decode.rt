@@ -2,8 +2,8 @@
 ghost use Rattle.std.specs.Prelude.{◌≡◌, ◌≤◌, length, Some, IfSome};
 ghost use Rattle.std.specs.Option.{option_map};
 ghost use Rattle.event_bytes.specs.Parts.{value_and_rest, byte_at, pair_at, bytes_at, counted_at};
-ghost use Rattle.event_bytes.specs.Spelling.{spelling, Begins};
-ghost use Rattle.event_bytes.specs.Reading.{name_at, file_at, keys_at, cell_at};
+ghost use Rattle.event_bytes.specs.Spelling.{spelling, BeginsWithEvent};
+ghost use Rattle.event_bytes.specs.Reading.{name_at, event_file_at, keys_at, event_cell_at};
 ghost use Rattle.event_bytes.specs.Reading.{drag_at, typed_body_at, key_body_at, mark_body_at, point_body_at};
 ghost use Rattle.event_bytes.specs.Reading.{file_body_at, body_at, event_at};
 
@@ -16,10 +16,10 @@ impl Event {
     /// The event that the bytes begin with, and how many bytes spell it. None exactly where they begin with no event's
     /// spelling, as where it is cut off. What follows the spelling doesn't matter.
     pub fn decode(bytes: &[u8]) -> Option<(Event, usize)>
-        ensures found { IfSome result (λ x. Begins bytes.now x.0) }
+        ensures found { IfSome result (λ x. BeginsWithEvent bytes.now x.0) }
         ensures count { IfSome result (λ x. x.1 ≡ length (spelling x.0)) }
         ensures within { IfSome result (λ x. x.1 ≤ length bytes.now) }
-        ensures only { (event : Event) → Begins bytes.now event
+        ensures only { (event : Event) → BeginsWithEvent bytes.now event
             → result ≡ Some (event, length (spelling event)) }
     {
         let (event, rest) = event_from(bytes)?;
@@ -121,9 +121,9 @@ fn keys_from(bytes: &[u8]) -> Option<(Keys, &[u8])>
 }
 
 /// A column and a row, and the rest.
-#[tactic(auto, unfolding(crate::specs::Reading::cell_at))]
+#[tactic(auto, unfolding(crate::specs::Reading::event_cell_at))]
 fn cell_from(bytes: &[u8]) -> Option<(Cell, &[u8])>
-    ensures { value_and_rest result ≡ cell_at bytes.now }
+    ensures { value_and_rest result ≡ event_cell_at bytes.now }
 {
     let (x, rest) = byte_from(bytes)?;
     let (y, rest) = byte_from(rest)?;
@@ -147,9 +147,9 @@ fn drag_from(bytes: &[u8]) -> Option<(Drag, &[u8])>
 }
 
 /// The name and the bytes of a file, and the rest.
-#[tactic(auto, unfolding(crate::specs::Reading::file_at, crate::specs::Reading::file_bytes_at))]
+#[tactic(auto, unfolding(crate::specs::Reading::event_file_at, crate::specs::Reading::file_bytes_at))]
 fn file_from(bytes: &[u8]) -> Option<((Name, FileBytes), &[u8])>
-    ensures { value_and_rest result ≡ file_at bytes.now }
+    ensures { value_and_rest result ≡ event_file_at bytes.now }
 {
     let (name, rest) = name_from(bytes)?;
     let (bytes, rest) = counted_from(rest)?;

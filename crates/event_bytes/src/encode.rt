@@ -1,7 +1,7 @@
 //! The bytes of an event.
 ghost use Rattle.std.specs.Prelude.{◌≡◌, ◌+◌, ◌<◌, ◌≤◌, ◌^◌, ◌++◌, length};
 ghost use Rattle.arrayvec.specs.ArrayVec.{array_vec_len};
-ghost use Rattle.event_bytes.specs.Parts.{byte, word, counted};
+ghost use Rattle.event_bytes.specs.Parts.{byte, word_bytes, counted_bytes};
 ghost use Rattle.event_bytes.specs.Spelling.{IsEvent, spelling};
 
 use crate::event::{Event, FILE, KEY, MARK, POINT, TYPED};
@@ -49,7 +49,7 @@ impl Event {
 fn put_name(written: &mut Written, name: &[u8])
     requires short { length name.now < 2 ^ 8 }
     requires room { array_vec_len written.old + 1 + length name.now ≤ 935 }
-    ensures { written.new.items ≡ written.old.items ++ counted byte name.now }
+    ensures { written.new.items ≡ written.old.items ++ counted_bytes byte name.now }
 {
     written.push(name.len() as u8);
     put(written, name);
@@ -59,7 +59,7 @@ fn put_name(written: &mut Written, name: &[u8])
 fn put_long(written: &mut Written, bytes: &[u8])
     requires short { length bytes.now < 2 ^ 16 }
     requires room { array_vec_len written.old + 2 + length bytes.now ≤ 935 }
-    ensures { written.new.items ≡ written.old.items ++ counted word bytes.now }
+    ensures { written.new.items ≡ written.old.items ++ counted_bytes word_bytes bytes.now }
 {
     put(written, &(bytes.len() as u16).to_be_bytes());
     put(written, bytes);

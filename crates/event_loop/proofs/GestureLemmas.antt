@@ -14,11 +14,11 @@ use Rattle.desktop_definitions.specs.declared.region.Region.TheVariants.{Filler,
 use Rattle.desktop_definitions.specs.declared.viewer.Selection.{Selection}
 use Rattle.desktop_definitions.specs.Limits.{outside}
 use Rattle.desktop_definitions.specs.Needs.{unless}
-use Rattle.desktop_definitions.specs.Unread.{gesture_needs_no_byte, gesture_brings, grown, needs_no_byte, brought}
+use Rattle.desktop_definitions.specs.Unread.{gesture_needs_no_byte, gesture_brings, characters_after, needs_no_byte, characters_brought}
 use Rattle.desk_core.specs.Doing.{Settles, SettlesUnread, SettlesBringing, Uses, DoesUnread}
 use Rattle.desktop_definitions.specs.Desktop.{Desktop, KeptDesktop}
 use Rattle.desktop_definitions.specs.Seen.{seen}
-use Rattle.desktop_definitions.specs.Step.{settled, raw, outcome_of}
+use Rattle.desktop_definitions.specs.Step.{outcome_after, raw, outcome_of}
 use Rattle.desktop_definitions.specs.Outcome.{IsAnswered}
 use Rattle.desktop_definitions.specs.Gesture.{is_on_display, region_at, pointed}
 use Rattle.viewer_tracks.specs.declared.display.TheConstants.{COLUMNS, ROWS}
@@ -85,12 +85,12 @@ pub pointed_there : (version : ℕ) (H : Type 0) (old new : List ℕ) (d after :
     (x0 y0 x1 y1 : ℕ)
     (result : Result Reply Stop) {inside : Bool} {region : Region} {outcome : Result Desktop ℕ} → inside ≡ true
     → region ≡ region_at d x0 y0 → outcome ≡ pointed version (seen old d) region keys x0 y0 x1 y1
-    → IfOk result (λ reply. IsAnswered H old new d after (settled (seen old d) outcome) reply)
-    → IfOk result (λ reply. IsAnswered H old new d after (settled (seen old d)
+    → IfOk result (λ reply. IsAnswered H old new d after (outcome_after (seen old d) outcome) reply)
+    → IfOk result (λ reply. IsAnswered H old new d after (outcome_after (seen old d)
     (unless inside outside (pointed version (seen old d) (region_at (seen old d) x0 y0) keys x0 y0 x1 y1))) reply)
 pointed_there version H old new d after keys x0 y0 x1 y1 result inside here is answered =
     let x = seen old d in
-    subst (λ (o : Result Desktop ℕ). IfOk result (λ reply. IsAnswered H old new d after (settled x o) reply))
+    subst (λ (o : Result Desktop ℕ). IfOk result (λ reply. IsAnswered H old new d after (outcome_after x o) reply))
     (is ∙ ap (λ (a : Region). pointed version x a keys x0 y0 x1 y1) (here ∙ sym (region_seen old d x0 y0))
     ∙ sym (ap (λ (b : Bool). unless b outside (pointed version x (region_at x x0 y0) keys x0 y0 x1 y1)) inside))
     answered
@@ -130,8 +130,8 @@ pub unread_there : (version : ℕ) (d after : KeptDesktop) (keys : Keys) (x0 y0 
 unread_there version d after keys x0 y0 x1 y1 result effect {inside} {region} there here none is so =
     IfOk-weaker result (SettlesBringing (gesture_brings region keys) (λ all. effect (seen all d)) d after) _
     (λ reply settles all long.
-    ap (λ (a : Region). outcome_of (seen (grown all (gesture_brings a keys) reply) after) reply) (sym here)
-    ∙ settles all long ∙ ap (settled (seen all d))
+    ap (λ (a : Region). outcome_of (seen (characters_after all (gesture_brings a keys) reply) after) reply) (sym here)
+    ∙ settles all long ∙ ap (outcome_after (seen all d))
     (is all ∙ ap (λ (a : Region). pointed version (seen all d) a keys x0 y0 x1 y1)
     (here ∙ sym (region_seen all d x0 y0))
     ∙ sym (ap (λ (b : Bool). unless b outside
@@ -171,7 +171,7 @@ pub unread_anywhere : (version : ℕ) (d after : KeptDesktop) (keys : Keys) (v p
     → IfOk result (SettlesUnread (λ x. done_at version x keys v (place x)) d after)
 unread_anywhere version d after keys v p place result none settles =
     IfOk-weaker result (SettlesUnread (λ x. done_at version x keys v p) d after) _ (λ reply is all long.
-    is all long ∙ ap (settled (seen all d)) (done_anywhere version all d keys v p (place (seen all d)) none)) settles
+    is all long ∙ ap (outcome_after (seen all d)) (done_anywhere version all d keys v p (place (seen all d)) none)) settles
 
 -- ---- events
 
@@ -184,7 +184,7 @@ module _ {S : Type 0} (s : Ghosts S) {old new : S} {d after : KeptDesktop} {resu
       → (gesture_needs_no_byte d region keys ≡ true
       → IfOk result (SettlesBringing (gesture_brings region keys) (λ all. effect (seen all d)) d after))
       → Uses s result old new → DoesEvent s version (Point keys x0 y0 x1 y1) result old new d after
-  unfolding raw needs_no_byte brought
+  unfolding raw needs_no_byte characters_brought
   does_there answered unread uses = record {
     answered = pointed_there version (s.honest old) (s.characters old) (s.characters new) d after keys x0 y0 x1 y1 result
         inside here (is (s.characters old)) answered;

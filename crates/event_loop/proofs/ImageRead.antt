@@ -8,7 +8,7 @@ use Rattle.desk_image.specs.declared.fault.ImageFault.{ImageFault}
 use Rattle.desk_image.specs.declared.fault.ImageFault.TheVariants.{Damaged}
 use Rattle.desk_image.specs.Fitting.{FitsImage}
 use Rattle.desk_image.specs.Image.{Image, image_of, image_bytes, IsSpellable, Spells}
-use Rattle.desk_image.specs.Reading.{image_at, whole_image_at}
+use Rattle.desk_image.specs.Reading.{desktop_image_at, whole_image_at}
 use Rattle.desk_image.specs.Laws.{ReadingLaw, FittingLaw}
 use Rattle.desk_image.specs.Streams.{Gives}
 use Rattle.event_bytes.specs.Parts.{◌>>=◌}
@@ -29,7 +29,7 @@ at_end x i rest false some is = absurd cc
 no_rest : (version written : ℕ) (bytes : List ℕ) (i : Image) (rest : List ℕ)
     → whole_image_at version written bytes ≡ Some (i, rest) → rest ≡ []
 unfolding whole_image_at
-no_rest version written bytes i rest is = (elim (image_at version written bytes) as
+no_rest version written bytes i rest is = (elim (desktop_image_at version written bytes) as
     (λ o. (o >>= λ image. if length image.1 == 0 then Some image else None) ≡ Some (i, rest) → rest ≡ []) [
       | None ↦ λ is. absurd cc
       | Some x ↦ λ is. at_end x i rest (length x.1 == 0) refl is

@@ -5,7 +5,7 @@ ghost use Rattle.command_table.specs.Versions.{version_number, newest_version};
 ghost use Rattle.desktop_definitions.specs.declared.reply.Reply.TheVariants.{No};
 ghost use Rattle.desktop_definitions.specs.Desktop.{KeptDesktop, empty_desktop, file_of};
 ghost use Rattle.desktop_definitions.specs.Step.{step_in, outcome_of};
-ghost use Rattle.desktop_definitions.specs.Unread.{StepsUnread, ListsUnread, grown};
+ghost use Rattle.desktop_definitions.specs.Unread.{StepsUnread, ListsUnread, characters_after};
 ghost use Rattle.desktop_definitions.specs.Outcome.{IsReply, IsUnchanged, IsSameSource};
 ghost use Rattle.desktop_definitions.specs.Listing.{entries_of};
 ghost use Rattle.desktop_definitions.specs.Shown.{shown_screen};
@@ -53,9 +53,9 @@ impl Model for Desktop {
 
     ghost Value = { KeptDesktop };
 
-    ghost use Rattle.desk_core.specs.Kept.{kept};
+    ghost use Rattle.desk_core.specs.Kept.{kept_desktop};
 
-    ghost view = { λ d. kept d.desk };
+    ghost view = { λ d. kept_desktop d.desk };
 }
 
 impl Desktop {
@@ -140,7 +140,7 @@ impl Desktop {
             ≡ brought_in (seen (S.characters source.old) self.old) documents.now) }
         ensures unread { IfOk result (BringsUnread self.old self.new documents.now) }
         ensures added { IfOk result (λ reply. S.characters source.new
-            ≡ grown (S.characters source.old) (all_bytes documents.now) reply) }
+            ≡ characters_after (S.characters source.old) (all_bytes documents.now) reply) }
         ensures over { OnOk result (IsOver (S.characters source.new) self.new) }
         ensures replies { IfOk result IsReply }
         ensures refusal { (code : ℕ) → result ≡ Ok (No code)

@@ -3,7 +3,7 @@ ghost use Rattle.std.specs.Prelude.{◌≡◌, ◌+◌, ◌<◌, ◌≤◌, ◌^
 ghost use Rattle.event_bytes.specs.declared.event.Event.TheVariants.{File};
 ghost use Rattle.command_table.specs.Versions.{version_number, newest_version};
 ghost use Rattle.desktop_definitions.specs.Step.{fits, filed};
-ghost use Rattle.desk_core.specs.Words.{Text as AText, most_written, seen, IsKeptWhole, IsOver, kept};
+ghost use Rattle.desk_core.specs.Words.{Text as AText, most_written, seen, IsKeptWhole, IsOver, kept_desktop};
 ghost use Rattle.event_loop.specs.Doing.{DoesEvent};
 
 use crate::gestures::{Gesture, point};
@@ -27,9 +27,9 @@ pub fn act<S: CharSource>(
     event: &Event,
     source: &mut S,
 ) -> StepResult
-    requires { IsOver (S.characters source.old) (kept desk.old) }
+    requires { IsOver (S.characters source.old) (kept_desktop desk.old) }
     ensures { DoesEvent S.CharSource (version_number version) event.now result
-        source.old source.new (kept desk.old) (kept desk.new) }
+        source.old source.new (kept_desktop desk.old) (kept_desktop desk.new) }
 {
     match event {
         Event::Typed(bytes) => type_bytes(desk, bytes, source),
@@ -60,9 +60,9 @@ fn put_file<S: CharSource>(
     bytes: &FileBytes,
     source: &mut S,
 ) -> StepResult
-    requires { IsOver (S.characters source.old) (kept desk.old) }
+    requires { IsOver (S.characters source.old) (kept_desktop desk.old) }
     ensures { DoesEvent S.CharSource newest_version (File name.now bytes.now) result
-        source.old source.new (kept desk.old) (kept desk.new) }
+        source.old source.new (kept_desktop desk.old) (kept_desktop desk.new) }
 {
     let bytes = bytes.as_bytes();
     if !has_room(&desk.files, name) {
@@ -80,11 +80,11 @@ fn put_file<S: CharSource>(
 
 /// Whether the limits on characters hold once the file of that name becomes a text of so many new characters.
 fn file_fits(desk: &Desk, name: &Name, len: usize) -> bool
-    requires whole { IsKeptWhole (kept desk.now) }
+    requires whole { IsKeptWhole (kept_desktop desk.now) }
     requires short { len < 2 ^ 32 }
     ensures room { IsTrue result → desk.now.written + len ≤ most_written }
     ensures fits { (characters : List ℕ) (text : AText ℕ) → length text ≡ len
-        → result ≡ fits (filed (seen characters (kept desk.now)) name.now text) }
+        → result ≡ fits (filed (seen characters (kept_desktop desk.now)) name.now text) }
 {
     let gone = length_of(&desk.files, name);
     within_limits(desk.written as usize + len, desk.held() + len - gone)

@@ -5,11 +5,11 @@ ghost use Rattle.event_bytes.specs.declared.event.Event.TheVariants.{Point};
 ghost use Rattle.desktop_definitions.specs.declared.region.Region.TheVariants.{Filler, Menu, Bar, Body};
 ghost use Rattle.desktop_definitions.specs.Gesture.{menu_position, text_position, stretch_drawn, pointed};
 ghost use Rattle.desktop_definitions.specs.Gesture.{done_in_filler, done_in_menu, done_in_bar, done_at, done_with};
-ghost use Rattle.desktop_definitions.specs.Commands.{called};
+ghost use Rattle.desktop_definitions.specs.Commands.{after_call};
 ghost use Rattle.desktop_definitions.specs.Unread.{gesture_needs_no_byte, gesture_brings};
-ghost use Rattle.desk_core.specs.Words.{COLUMNS, ROWS, IsOnTop, IsOver, kept, Does, DoesUnread, DoesBringing};
+ghost use Rattle.desk_core.specs.Words.{COLUMNS, ROWS, IsOnTop, IsOver, kept_desktop, Does, DoesUnread, DoesBringing};
 ghost use Rattle.desk_commands.specs.Words.{version_number};
-ghost use Rattle.desk_input.specs.Reads.{IsRow, IsPlace};
+ghost use Rattle.desk_input.specs.Reads.{IsMainRow, IsMainPlace};
 ghost use Rattle.event_loop.specs.Doing.{DoesEvent};
 
 use char_file::CharSource;
@@ -44,10 +44,10 @@ pub fn point<S: CharSource>(
     gesture: Gesture,
     source: &mut S,
 ) -> StepResult
-    requires over { IsOver (S.characters source.old) (kept desk.old) }
+    requires over { IsOver (S.characters source.old) (kept_desktop desk.old) }
     ensures { DoesEvent S.CharSource (version_number version)
         (Point gesture.keys gesture.from.0 gesture.from.1 gesture.to.0 gesture.to.1) result
-        source.old source.new (kept desk.old) (kept desk.new) }
+        source.old source.new (kept_desktop desk.old) (kept_desktop desk.new) }
 {
     let Gesture { keys, from, to } = gesture;
     if !are_on_display(from, to) {
@@ -72,10 +72,10 @@ fn point_filler<S: CharSource>(
     cell: (u8, u8),
     source: &mut S,
 ) -> StepResult
-    requires over { IsOver (S.characters source.old) (kept desk.old) }
+    requires over { IsOver (S.characters source.old) (kept_desktop desk.old) }
     requires cell { (cell.0 < COLUMNS) × (cell.1 < ROWS) }
     ensures { DoesBringing S.CharSource (gesture_brings Filler keys) (λ all d. done_in_filler d keys cell.0 cell.1) result
-        source.old source.new (kept desk.old) (kept desk.new) }
+        source.old source.new (kept_desktop desk.old) (kept_desktop desk.new) }
 {
     match keys {
         Keys::Middle => open_tool(desk, cell.0, cell.1, source),
@@ -93,12 +93,12 @@ fn point_menu<S: CharSource>(
     cell: (u8, u8),
     source: &mut S,
 ) -> StepResult
-    requires placed { IsOnTop id (kept desk.old).columns }
-    requires over { IsOver (S.characters source.old) (kept desk.old) }
+    requires placed { IsOnTop id (kept_desktop desk.old).columns }
+    requires over { IsOver (S.characters source.old) (kept_desktop desk.old) }
     requires cell { (cell.0 < COLUMNS) × (cell.1 < ROWS) }
-    ensures { DoesUnread S.CharSource (gesture_needs_no_byte (kept desk.old) (Menu id) keys ≡ true)
+    ensures { DoesUnread S.CharSource (gesture_needs_no_byte (kept_desktop desk.old) (Menu id) keys ≡ true)
         (λ d. done_in_menu (version_number version) d keys id cell.0 cell.1) result
-        source.old source.new (kept desk.old) (kept desk.new) }
+        source.old source.new (kept_desktop desk.old) (kept_desktop desk.new) }
 {
     match keys {
         Keys::Left => desk.resize(id, cell.1, source),
@@ -116,10 +116,10 @@ fn call_in_menu<S: CharSource>(
     x: u8,
     source: &mut S,
 ) -> StepResult
-    requires placed { IsOnTop id (kept desk.old).columns }
-    requires over { IsOver (S.characters source.old) (kept desk.old) }
-    ensures { Does S.CharSource (λ d. called (version_number version) d id true (menu_position d id x)) result
-        source.old source.new (kept desk.old) (kept desk.new) }
+    requires placed { IsOnTop id (kept_desktop desk.old).columns }
+    requires over { IsOver (S.characters source.old) (kept_desktop desk.old) }
+    ensures { Does S.CharSource (λ d. after_call (version_number version) d id true (menu_position d id x)) result
+        source.old source.new (kept_desktop desk.old) (kept_desktop desk.new) }
 {
     let pos = menu_position(desk, id, x, source)?;
     call(desk, version, id, true, pos, source)
@@ -134,9 +134,9 @@ fn point_bar<S: CharSource>(
     row: u8,
     source: &mut S,
 ) -> StepResult
-    requires at { IsRow (S.characters source.old) (kept desk.old) id row }
-    ensures { DoesUnread S.CharSource (gesture_needs_no_byte (kept desk.old) (Bar id) keys ≡ true)
-        (λ d. done_in_bar d keys id row) result source.old source.new (kept desk.old) (kept desk.new) }
+    requires at { IsMainRow (S.characters source.old) (kept_desktop desk.old) id row }
+    ensures { DoesUnread S.CharSource (gesture_needs_no_byte (kept_desktop desk.old) (Bar id) keys ≡ true)
+        (λ d. done_in_bar d keys id row) result source.old source.new (kept_desktop desk.old) (kept_desktop desk.new) }
 {
     match keys {
         Keys::Left => scroll_row(desk, id, row, source),
@@ -155,10 +155,10 @@ fn point_text<S: CharSource>(
     gesture: Gesture,
     source: &mut S,
 ) -> StepResult
-    requires at { IsRow (S.characters source.old) (kept desk.old) id 0 }
-    ensures { DoesUnread S.CharSource (gesture_needs_no_byte (kept desk.old) (Body id) gesture.keys ≡ true)
+    requires at { IsMainRow (S.characters source.old) (kept_desktop desk.old) id 0 }
+    ensures { DoesUnread S.CharSource (gesture_needs_no_byte (kept_desktop desk.old) (Body id) gesture.keys ≡ true)
         (λ d. pointed (version_number version) d (Body id) gesture.keys gesture.from.0 gesture.from.1 gesture.to.0 gesture.to.1)
-        result source.old source.new (kept desk.old) (kept desk.new) }
+        result source.old source.new (kept_desktop desk.old) (kept_desktop desk.new) }
 {
     match gesture.keys {
         Keys::Left | Keys::LeftMiddle | Keys::LeftRight | Keys::Middle => point_cell(
@@ -183,10 +183,10 @@ fn point_cell<S: CharSource>(
     cell: (u8, u8),
     source: &mut S,
 ) -> StepResult
-    requires at { IsRow (S.characters source.old) (kept desk.old) id 0 }
-    ensures { DoesUnread S.CharSource (gesture_needs_no_byte (kept desk.old) (Body id) keys ≡ true)
+    requires at { IsMainRow (S.characters source.old) (kept_desktop desk.old) id 0 }
+    ensures { DoesUnread S.CharSource (gesture_needs_no_byte (kept_desktop desk.old) (Body id) keys ≡ true)
         (λ d. done_at (version_number version) d keys id (text_position d id cell.0 cell.1)) result
-        source.old source.new (kept desk.old) (kept desk.new) }
+        source.old source.new (kept_desktop desk.old) (kept_desktop desk.new) }
 {
     let pos = text_position(desk, id, cell.0, cell.1, source)?;
     point_position(desk, version, keys, id, pos, source)
@@ -202,10 +202,10 @@ fn point_position<S: CharSource>(
     pos: u32,
     source: &mut S,
 ) -> StepResult
-    requires { IsPlace (S.characters source.old) (kept desk.old) id pos }
-    ensures { DoesUnread S.CharSource (gesture_needs_no_byte (kept desk.old) (Body id) keys ≡ true)
+    requires { IsMainPlace (S.characters source.old) (kept_desktop desk.old) id pos }
+    ensures { DoesUnread S.CharSource (gesture_needs_no_byte (kept_desktop desk.old) (Body id) keys ≡ true)
         (λ d. done_at (version_number version) d keys id pos) result
-        source.old source.new (kept desk.old) (kept desk.new) }
+        source.old source.new (kept_desktop desk.old) (kept_desktop desk.new) }
 {
     match keys {
         Keys::Left => desk.set_caret(id, pos, source),
@@ -224,8 +224,8 @@ fn point_stretch<S: CharSource>(
     drawn: Selection,
     source: &mut S,
 ) -> StepResult
-    requires { IsPlace (S.characters source.old) (kept desk.old) drawn.viewer drawn.end }
-    ensures { Does S.CharSource (λ d. done_with d keys drawn) result source.old source.new (kept desk.old) (kept desk.new) }
+    requires { IsMainPlace (S.characters source.old) (kept_desktop desk.old) drawn.viewer drawn.end }
+    ensures { Does S.CharSource (λ d. done_with d keys drawn) result source.old source.new (kept_desktop desk.old) (kept_desktop desk.new) }
 {
     match keys {
         Keys::Right => desk.select(drawn, source),
@@ -237,10 +237,10 @@ fn point_stretch<S: CharSource>(
 
 /// With the stretch that was drawn between two cells of a viewer.
 fn draw<S: CharSource>(desk: &mut Desk, id: u16, gesture: Gesture, source: &mut S) -> StepResult
-    requires at { IsRow (S.characters source.old) (kept desk.old) id 0 }
+    requires at { IsMainRow (S.characters source.old) (kept_desktop desk.old) id 0 }
     ensures { Does S.CharSource (λ d.
         done_with d gesture.keys (stretch_drawn d id gesture.from.0 gesture.from.1 gesture.to.0 gesture.to.1)) result
-        source.old source.new (kept desk.old) (kept desk.new) }
+        source.old source.new (kept_desktop desk.old) (kept_desktop desk.new) }
 {
     let drawn = stretch_drawn(desk, id, gesture.from, gesture.to, source)?;
     point_stretch(desk, gesture.keys, drawn, source)

@@ -11,7 +11,7 @@ ghost use Rattle.stale_texts.specs.declared.stale.Stale.TheVariants.{Nothing};
 ghost use Rattle.stale_texts.specs.Stale.{is_stale, stale_in, stale_at_caret, stale_selected, stale_by_key};
 ghost use Rattle.stale_texts.specs.Stale.{stale_by_gesture, stale_of, stale_from, position_or_zero};
 ghost use Rattle.screen_cells.specs.Lines.{AreLinesOf};
-ghost use Rattle.desk_core.specs.Kept.{kept};
+ghost use Rattle.desk_core.specs.Kept.{kept_desktop};
 
 use desk_core::desk::Desk;
 use desk_core::marks::are_on_display;
@@ -24,7 +24,7 @@ use stale_texts::Stale;
 
 /// Which texts the event may change.
 pub fn stale_of(desk: &Desk, event: &Event) -> Stale
-    ensures { result ≡ stale_of (kept desk.now) event.now }
+    ensures { result ≡ stale_of (kept_desktop desk.now) event.now }
 {
     match event {
         Event::Typed(_) => stale_at_caret(&desk.viewers, desk.caret),
@@ -44,8 +44,8 @@ pub fn stale_of(desk: &Desk, event: &Event) -> Stale
 /// Which texts the mouse may change, whose keys went down at the cell `from` and up at `to`.
 fn stale_by_point(desk: &Desk, keys: Keys, from: (u8, u8), to: (u8, u8)) -> Stale
     ensures { result ≡ (if is_on_display from.0 from.1 && is_on_display to.0 to.1
-        then stale_by_gesture (kept desk.now).viewers (kept desk.now).caret (newest (kept desk.now))
-        (region_at (kept desk.now) from.0 from.1) keys else Nothing) }
+        then stale_by_gesture (kept_desktop desk.now).viewers (kept_desktop desk.now).caret (newest (kept_desktop desk.now))
+        (region_at (kept_desktop desk.now) from.0 from.1) keys else Nothing) }
 {
     if !are_on_display(from, to) {
         return Stale::Nothing;
@@ -163,7 +163,7 @@ fn stale_selected(viewers: &ViewerTable, selection: Option<Selection>) -> Stale
 /// From which position on the event may change a text.
 #[tactic(auto, unfolding(stale_texts::specs::Stale::stale_from))]
 pub fn stale_from(desk: &Desk, event: &Event) -> u32
-    ensures { result ≡ stale_from (kept desk.now) event.now }
+    ensures { result ≡ stale_from (kept_desktop desk.now) event.now }
 {
     match event {
         Event::Typed(_) => position_or_zero(desk.caret),

@@ -10,8 +10,8 @@ abbrev pub tool_event : Event
 tool_event = File TOOL_NAME.now TOOL_TEXT.now
 
 -- a click of the middle key on the empty display opens it
-abbrev pub opening : Event
-opening = Point Middle 60 31 60 31
+abbrev pub opening_click : Event
+opening_click = Point Middle 60 31 60 31
 
 abbrev pub furnishing : List Event
-furnishing = tool_event ∷ opening ∷ []
+furnishing = tool_event ∷ opening_click ∷ []

@@ -5,7 +5,7 @@
 
 ghost use Rattle.std.specs.Prelude.{◌≡◌, false, OnOk};
 ghost use Rattle.desktop_definitions.specs.Step.{steps};
-ghost use Rattle.first_desk.specs.FirstDesk.{tool_event as tool_filed, opening as opening_click, furnishing};
+ghost use Rattle.first_desk.specs.FirstDesk.{tool_event as tool_filed, opening_click as opening_click, furnishing};
 
 use desk_journal::{Error, Store};
 use event_bytes::{Event, FileBytes, Keys, Name};

@@ -9,8 +9,8 @@ use Rattle.std.proofs.lemmas.List.Folds.{list_all-append}
 use Rattle.std.proofs.lemmas.List.Sums.{prefix_len-le-length}
 use Rattle.std.proofs.lemmas.List.{map-append}
 use Rattle.event_bytes.specs.Bytes.{is_text_byte, carriage_return}
-use Rattle.host_documents.specs.HostText.{line_feed, fed, exported, returned, text_after, is_strange}
-use Rattle.host_documents.specs.HostText.{first_strange, question_mark, printed, printable}
+use Rattle.host_documents.specs.HostText.{line_feed, host_byte, exported, returned, text_after, is_strange}
+use Rattle.host_documents.specs.HostText.{first_strange, question_mark, printed_byte, printable}
 
 pub map_twice : {A : Type 0} (f : A → ℕ) (g : ℕ → ℕ) (xs : List A) → map g (map f xs) ≡ map (λ x. g (f x)) xs
 map_twice f g [] = refl
@@ -83,7 +83,7 @@ text_has_no_feed b text = by_case (b == line_feed) refl
     by_case true is = absurd (both_ways _ (ap is_text_byte (same_feed b is)) text)
 
 -- what goes to the host is no CR
-out_is_no_return : (b : ℕ) → (fed b == carriage_return) ≡ false
+out_is_no_return : (b : ℕ) → (host_byte b == carriage_return) ≡ false
 out_is_no_return b = by_case (b == carriage_return) refl
   where
     by_case : (r : Bool) → (b == carriage_return) ≡ r → (cond r line_feed b == carriage_return) ≡ false
@@ -92,7 +92,7 @@ out_is_no_return b = by_case (b == carriage_return) refl
 
 -- one byte of a document, to the host and back, after a byte that is no CR
 out_and_in : (before b : ℕ) → (before == carriage_return) ≡ false → is_text_byte b ≡ true
-    → option_to_list (returned before (fed b)) ≡ b ∷ []
+    → option_to_list (returned before (host_byte b)) ≡ b ∷ []
 out_and_in before b other text = by_case (b == carriage_return) refl
   where
     by_case : (r : Bool) → (b == carriage_return) ≡ r → option_to_list (returned before (cond r line_feed b)) ≡ b ∷ []
@@ -107,19 +107,19 @@ pub exported_back : (before : ℕ) (text : List ℕ) → (before == carriage_ret
     → list_all is_text_byte text ≡ true → text_after before (exported text) ≡ text
 exported_back before [] other are = refl
 exported_back before (b ∷ text) other are = let both = and_parts _ _ are in
-    ap (λ front. front ++ text_after (fed b) (exported text)) (out_and_in before b other both.0)
-    ∙ ap (λ rest. b ∷ rest) (exported_back (fed b) text (out_is_no_return b) both.1)
+    ap (λ front. front ++ text_after (host_byte b) (exported text)) (out_and_in before b other both.0)
+    ∙ ap (λ rest. b ∷ rest) (exported_back (host_byte b) text (out_is_no_return b) both.1)
 
 -- one byte of a file without CR, to a document and back
 in_and_out : (before b : ℕ) → (before == carriage_return) ≡ false → (b == carriage_return) ≡ false
-    → map fed (option_to_list (returned before b)) ≡ b ∷ []
+    → map host_byte (option_to_list (returned before b)) ≡ b ∷ []
 in_and_out before b other plain = by_case (b == line_feed) refl
   where
     by_case : (feed : Bool) → (b == line_feed) ≡ feed
-        → map fed (option_to_list (cond feed (cond (before == carriage_return) None (Some carriage_return)) (Some b)))
+        → map host_byte (option_to_list (cond feed (cond (before == carriage_return) None (Some carriage_return)) (Some b)))
         ≡ b ∷ []
     by_case true is =
-        ap (λ after. map fed (option_to_list (cond after None (Some carriage_return)))) other
+        ap (λ after. map host_byte (option_to_list (cond after None (Some carriage_return)))) other
         ∙ ap (λ n. n ∷ []) (sym (same_feed b is))
     by_case false is = ap (λ r. cond r line_feed b ∷ []) plain
 
@@ -128,7 +128,7 @@ pub imported_back : (before : ℕ) (file : List ℕ) → (before == carriage_ret
 imported_back before [] other are = refl
 imported_back before (b ∷ file) other are = let both = and_parts _ _ are in
     let plain = not-true _ both.0 in
-    map-append fed (option_to_list (returned before b)) (text_after b file)
+    map-append host_byte (option_to_list (returned before b)) (text_after b file)
     ∙ ap (λ front. front ++ exported (text_after b file)) (in_and_out before b other plain)
     ∙ ap (λ rest. b ∷ rest) (imported_back b file plain both.1)
 
@@ -139,7 +139,7 @@ same_mark true n is = absurd (both_ways _ is refl)
 same_mark false n is = refl
 
 -- a byte of a text, and a line feed, is not strange
-fed_plain : (b : ℕ) → is_text_byte b ≡ true → is_strange (fed b) ≡ false
+fed_plain : (b : ℕ) → is_text_byte b ≡ true → is_strange (host_byte b) ≡ false
 fed_plain b text = by_case (b == carriage_return) refl
   where
     by_case : (r : Bool) → (b == carriage_return) ≡ r → is_strange (cond r line_feed b) ≡ false
@@ -150,10 +150,10 @@ fed_plain b text = by_case (b == carriage_return) refl
 pub printable_same : (text : List ℕ) → list_all is_text_byte text ≡ true → printable text ≡ exported text
 printable_same [] are = refl
 printable_same (b ∷ text) are = let both = and_parts _ _ are in
-    ap (λ c. c ∷ printable text) (same_mark _ (fed b) (fed_plain b both.0))
-    ∙ ap (λ rest. fed b ∷ rest) (printable_same text both.1)
+    ap (λ c. c ∷ printable text) (same_mark _ (host_byte b) (fed_plain b both.0))
+    ∙ ap (λ rest. host_byte b ∷ rest) (printable_same text both.1)
 
-marked_plain : (b : ℕ) → not (is_strange (printed b)) ≡ true
+marked_plain : (b : ℕ) → not (is_strange (printed_byte b)) ≡ true
 marked_plain b = by_case (is_strange b) refl
   where
     by_case : (s : Bool) → is_strange b ≡ s → not (is_strange (cond s question_mark b)) ≡ true
@@ -162,4 +162,4 @@ marked_plain b = by_case (is_strange b) refl
 
 pub printable_plain : (text : List ℕ) → list_all (λ b. not (is_strange b)) (printable text) ≡ true
 printable_plain [] = refl
-printable_plain (b ∷ text) = and_from _ _ (marked_plain (fed b)) (printable_plain text)
+printable_plain (b ∷ text) = and_from _ _ (marked_plain (host_byte b)) (printable_plain text)

@@ -5,24 +5,19 @@ use Rattle.std.specs.Prelude.{Option, Some, None, Result, Ok, Err}
 use Rattle.std.specs.List.{list_any}
 use Rattle.std.specs.Option.{option_to_list}
 use Rattle.event_bytes.specs.Bytes.{carriage_return, is_text_byte}
+pub use Rattle.event_bytes.specs.Bytes.{line_feed, question_mark}
 use Rattle.host_documents.specs.declared.importing.Unfit.{Unfit}
 use Rattle.host_documents.specs.declared.importing.Unfit.TheVariants.{TooLong, NoText, Strange}
 use Rattle.host_documents.specs.declared.importing.TheConstants.{MOST_BYTES}
 use Rattle.host_documents.specs.declared.places.Place.{Place}
 
-abbrev pub line_feed : ℕ
-line_feed = 10
-
-abbrev pub question_mark : ℕ
-question_mark = 63
-
 -- what a document's byte is to the host
-abbrev pub fed : ℕ → ℕ
-fed b = if b == carriage_return then line_feed else b
+abbrev pub host_byte : ℕ → ℕ
+host_byte b = if b == carriage_return then line_feed else b
 
 -- the text of a document, as a file of the host's
 abbrev pub exported : List ℕ → List ℕ
-exported text = map fed text
+exported text = map host_byte text
 
 -- what a byte of the host's is to a document, after another one: a LF right after CR has ended no line of its own
 abbrev pub returned : ℕ → ℕ → Option ℕ
@@ -49,12 +44,12 @@ abbrev pub has_nul : List ℕ → Bool
 has_nul file = list_any (λ b. b == 0) file
 
 -- what a terminal gets in the place of a byte: one that it might take for an order is a question mark
-abbrev pub printed : ℕ → ℕ
-printed b = if is_strange b then question_mark else b
+abbrev pub printed_byte : ℕ → ℕ
+printed_byte b = if is_strange b then question_mark else b
 
 -- the text of a document, for a terminal
 abbrev pub printable : List ℕ → List ℕ
-printable text = map printed (exported text)
+printable text = map printed_byte (exported text)
 
 -- the place behind a text that begins at this line and column: each CR ends a line
 abbrev pub place_from : ℕ → ℕ → List ℕ → Place

@@ -1,6 +1,6 @@
 //! The way out.
 ghost use Rattle.std.specs.Prelude.{◌≡◌, IfOk, map};
-ghost use Rattle.host_documents.specs.HostText.{exported, fed as fed_byte, printable, printed as printed_byte};
+ghost use Rattle.host_documents.specs.HostText.{exported, host_byte as fed_byte, printable, printed_byte as printed_byte};
 
 use crate::importing::is_strange;
 use event_bytes::CARRIAGE_RETURN;

@@ -16,15 +16,15 @@ use Rattle.oberon_main.specs.declared.playing.PlayEnd.TheVariants.{Done, Fault, 
 use Rattle.script_lines.specs.declared.request.Request.{Request}
 use Rattle.script_lines.specs.Script.{BeginsWith, IsLine, lines_at_end}
 use Rattle.script_lines.specs.Request.{request_of}
-use Rattle.script_lines.specs.Reading.{Holds, Unplayed, TakesLine, TakesRest}
+use Rattle.script_lines.specs.Reading.{HoldsLine, Unplayed, TakesLine, TakesRest}
 use Rattle.oberon_main.specs.Worked.{IsWorkEnd}
 use Rattle.desk_journal.specs.Session.{Session}
-use Rattle.oberon_main.specs.Answers.{answer, after, out, after_all}
+use Rattle.oberon_main.specs.Answers.{answer, session_after, answers_to, after_all}
 use Rattle.desk_journal.specs.Session.{session_of}
 use Rattle.oberon_main.specs.Play.{LineEndsAs, RestEndsAs, CountsEnd, last_word}
-use Rattle.oberon_main.specs.Surviving.{KeepsAnswered, Withstands, LeavesFirst, Spares, TakesAll, Survives}
-use Rattle.oberon_main.specs.ByLines.{AreLines, CameWhole, IsNextLine, Lasts, LeavesLine, Serves, LeavesAt, IsRun}
-use Rattle.oberon_main.specs.ByLines.{RestLeaves, RestSurvives, Stops, IsCutShort, IsUnsaid, EndsUnsaid, EndsSaid}
+use Rattle.oberon_main.specs.Surviving.{KeepsAnswered, Withstands, LeavesFirst, SparesRequest, HasTakenAnswers, ScriptSurvives}
+use Rattle.oberon_main.specs.ByLines.{AreLines, CameWhole, IsNextLine, Lasts, LeavesLine, ServesLine, LeavesAt, IsLineRun}
+use Rattle.oberon_main.specs.ByLines.{RestLeaves, RestSurvives, ScriptStops, IsAnswerCutShort, IsUnsaid, EndsUnsaid, EndsSaid}
 use Rattle.oberon_main.specs.ByLines.{GoesByLines, PlaysLines, PlaysByLines}
 use Rattle.oberon_main.proofs.Played.{HasPlayed, all_both, out_both, out_one, last_line, lines_then, begins_read}
 use Rattle.oberon_main.proofs.Played.{begins_with_line, begins_rest, split_rest, split_with_rest}
@@ -152,45 +152,45 @@ module _ {D : Type 0} (d : Ghosts D) where
 
   -- what a request leaves, for the line that asks it
   moments_of : (held : Line) (request : Request) (old new : StoreView D)
-      → ((line : List ℕ) → Holds held line → request ≡ request_of line) → Withstands d request old new
-      → IsDurable d old → d.honest old.disk → (line : List ℕ) → Holds held line → LeavesLine d line old new
+      → ((line : List ℕ) → HoldsLine held line → request ≡ request_of line) → Withstands d request old new
+      → IsDurable d old → d.honest old.disk → (line : List ℕ) → HoldsLine held line → LeavesLine d line old new
   moments_of held request old new asked withstands durable honest line holds =
       subst (λ r. LeavesOnly (d.trail old.disk) (d.trail new.disk)
-      (MeansEither (d.size old.disk) old.desktop (after (session_of old) r).desktop)) (asked line holds)
+      (MeansEither (d.size old.disk) old.desktop (session_after (session_of old) r).desktop)) (asked line holds)
       (withstands.any_moment durable honest)
 
   pub line_stopped : (held : Line) (request : Request) (end : PlayEnd) (old new : StoreView D)
-      → ((line : List ℕ) → Holds held line → request ≡ request_of line) → IsWorkEnd end
-      → Withstands d request old new → (end ≡ Memory → Spares d old new)
-      → IsDurable d old → d.honest old.disk → (line : List ℕ) → Holds held line → LeavesAt d end line old new
+      → ((line : List ℕ) → HoldsLine held line → request ≡ request_of line) → IsWorkEnd end
+      → Withstands d request old new → (end ≡ Memory → SparesRequest d old new)
+      → IsDurable d old → d.honest old.disk → (line : List ℕ) → HoldsLine held line → LeavesAt d end line old new
   line_stopped held request end old new asked named withstands spared durable honest line holds =
       left_in end line old new named (moments_of held request old new asked withstands durable honest line holds)
       (λ is. spared is durable honest)
 
   pub line_served : (held : Line) (request : Request) (old new : StoreView D)
-      → ((line : List ℕ) → Holds held line → request ≡ request_of line)
-      → (d.honest old.disk → session_of new ≡ after (session_of old) request)
+      → ((line : List ℕ) → HoldsLine held line → request ≡ request_of line)
+      → (d.honest old.disk → session_of new ≡ session_after (session_of old) request)
       → IsDurable d new → (d.honest old.disk → d.honest new.disk) → Withstands d request old new
-      → IsDurable d old → d.honest old.disk → (line : List ℕ) → Holds held line → Serves d line old new
+      → IsDurable d old → d.honest old.disk → (line : List ℕ) → HoldsLine held line → ServesLine d line old new
   line_served held request old new asked session lasting still withstands durable honest line holds = record {
     any_moment = moments_of held request old new asked withstands durable honest line holds;
-    session = session honest ∙ ap (after (session_of old)) (asked line holds);
+    session = session honest ∙ ap (session_after (session_of old)) (asked line holds);
     lasts = lasting (still honest);
     as_large = withstands.as_large;
   }
 
   -- ---- what stands after the last line feed
 
-  pub no_rest : (held : Line) (store : StoreView D) → ((line : List ℕ) → Holds held line → line ≡ [])
+  pub no_rest : (held : Line) (store : StoreView D) → ((line : List ℕ) → HoldsLine held line → line ≡ [])
       → RestSurvives d held Done store store
   no_rest held store none durable honest rest holds =
-      subst (λ bs. IsRun d (lines_at_end [] bs) store store) (sym (none rest holds)) refl
+      subst (λ bs. IsLineRun d (lines_at_end [] bs) store store) (sym (none rest holds)) refl
 
-  pub rest_served : (held : Line) (old new : StoreView D) → ((line : List ℕ) → Holds held line → line ≢ [])
-      → (IsDurable d old → d.honest old.disk → (line : List ℕ) → Holds held line → Serves d line old new)
+  pub rest_served : (held : Line) (old new : StoreView D) → ((line : List ℕ) → HoldsLine held line → line ≢ [])
+      → (IsDurable d old → d.honest old.disk → (line : List ℕ) → HoldsLine held line → ServesLine d line old new)
       → RestSurvives d held Done old new
   rest_served held old new there serves durable honest rest holds =
-      subst (λ ls. IsRun d ls old new) (sym (last_line rest (there rest holds)))
+      subst (λ ls. IsLineRun d ls old new) (sym (last_line rest (there rest holds)))
       (new, serves durable honest rest holds, refl)
 
   rest_left : (end : PlayEnd) (rest : List ℕ) (old new : StoreView D) → LeavesAt d end rest old new
@@ -202,28 +202,28 @@ module _ {D : Type 0} (d : Ghosts D) where
   rest_left Output rest old new left = left
 
   pub rest_stopped : (held : Line) (end : PlayEnd) (old new : StoreView D)
-      → (IsDurable d old → d.honest old.disk → (line : List ℕ) → Holds held line → LeavesAt d end line old new)
+      → (IsDurable d old → d.honest old.disk → (line : List ℕ) → HoldsLine held line → LeavesAt d end line old new)
       → RestSurvives d held end old new
   rest_stopped held end old new left durable honest rest holds =
       rest_left end rest old new (left durable honest rest holds)
 
   -- ---- lines after lines
 
-  run_more : (lines : List (List ℕ)) (line : List ℕ) (old mid new : StoreView D) → IsRun d lines old mid
-      → Serves d line mid new → IsRun d (lines ++ line ∷ []) old new
-  run_more [] line old mid new run serves = (new, subst (λ store. Serves d line store new) run serves, refl)
+  run_more : (lines : List (List ℕ)) (line : List ℕ) (old mid new : StoreView D) → IsLineRun d lines old mid
+      → ServesLine d line mid new → IsLineRun d (lines ++ line ∷ []) old new
+  run_more [] line old mid new run serves = (new, subst (λ store. ServesLine d line store new) run serves, refl)
   run_more (first ∷ lines) line old mid new run serves =
       (run.0, run.1, run_more lines line run.0 mid new run.2 serves)
 
-  run_both : (lines more : List (List ℕ)) (old mid new : StoreView D) → IsRun d lines old mid → IsRun d more mid new
-      → IsRun d (lines ++ more) old new
-  run_both [] more old mid new run later = subst (λ store. IsRun d more store new) run later
+  run_both : (lines more : List (List ℕ)) (old mid new : StoreView D) → IsLineRun d lines old mid → IsLineRun d more mid new
+      → IsLineRun d (lines ++ more) old new
+  run_both [] more old mid new run later = subst (λ store. IsLineRun d more store new) run later
   run_both (first ∷ lines) more old mid new run later =
       (run.0, run.1, run_both lines more run.0 mid new run.2 later)
 
   -- lines that were served so far
   pub record Ran (old new : StoreView D) (lines : List (List ℕ)) : Type 0 where
-    pub run : d.honest old.disk → IsRun d lines old new
+    pub run : d.honest old.disk → IsLineRun d lines old new
 
   pub ran_none : (store : StoreView D) → Ran store store []
   ran_none store = record { run = λ honest. refl }
@@ -233,7 +233,7 @@ module _ {D : Type 0} (d : Ghosts D) where
       → (so_far : HasPlayed (d.honest old.disk) (Ran old mid) (session_of old) (session_of mid) left left' held held'
       most u) → (taken : TakesLine u u' left' left'' line) → IsDurable d mid
       → (d.honest old.disk → d.honest mid.disk)
-      → (IsDurable d mid → d.honest mid.disk → (bytes : List ℕ) → Holds line bytes → Serves d bytes mid new)
+      → (IsDurable d mid → d.honest mid.disk → (bytes : List ℕ) → HoldsLine line bytes → ServesLine d bytes mid new)
       → Ran old new (so_far.lines ++ taken.line ∷ [])
   ran_more {old = old} {mid = mid} new so_far taken durable still serves = record {
     run = λ honest. run_more so_far.lines taken.line old mid new (so_far.known.run honest)
@@ -288,8 +288,8 @@ module _ {D : Type 0} (d : Ghosts D) where
       → (so_far : HasPlayed (d.honest old.disk) (Ran old mid) (session_of old) (session_of mid) from left' held held'
       most u) → (taken : TakesLine u u' left' left'' line) → IsDurable d old → IsDurable d mid
       → (d.honest old.disk → d.honest mid.disk)
-      → (IsDurable d mid → d.honest mid.disk → (bytes : List ℕ) → Holds line bytes → LeavesAt d end bytes mid new)
-      → (d.honest mid.disk → (bytes : List ℕ) → Holds line bytes
+      → (IsDurable d mid → d.honest mid.disk → (bytes : List ℕ) → HoldsLine line bytes → LeavesAt d end bytes mid new)
+      → (d.honest mid.disk → (bytes : List ℕ) → HoldsLine line bytes
       → LineEndsAs end (request_of bytes) (session_of mid) held' held'')
       → d.honest old.disk → PlaysLines d end from left'' held held'' old new
   ended_by_line {from = from} {left'' = left''} end held'' new so_far taken started durable still leaves why honest =
@@ -302,8 +302,8 @@ module _ {D : Type 0} (d : Ghosts D) where
       {old mid : StoreView D} (held'' : Option (List ℕ)) (new : StoreView D)
       → (so_far : HasPlayed (d.honest old.disk) (Ran old mid) (session_of old) (session_of mid) from left' held held'
       most u) → (taken : TakesRest u u' left' left'' line) → IsAtEnd left'' → IsDurable d old → d.honest old.disk
-      → IsRun d (lines_at_end [] taken.rest) mid new
-      → Appends held' held'' (out (session_of mid) (lines_at_end [] taken.rest))
+      → IsLineRun d (lines_at_end [] taken.rest) mid new
+      → Appends held' held'' (answers_to (session_of mid) (lines_at_end [] taken.rest))
       → PlaysLines d Done from left'' held held'' old new
   all_answered {from = from} {held = held} {held' = held'} {old = old} {mid = mid} held'' new so_far taken at_end
       started honest run written =
@@ -317,9 +317,9 @@ module _ {D : Type 0} (d : Ghosts D) where
         run = run_both so_far.lines more old mid new (so_far.known.run honest) run;
         held_mid = held'';
         written = subst (Appends held held'')
-            (ap (λ (t : Session). out s so_far.lines ++ out t more) (so_far.session honest)
+            (ap (λ (t : Session). answers_to s so_far.lines ++ answers_to t more) (so_far.session honest)
             ∙ sym (out_both s so_far.lines more))
-            (Appends-trans held held' held'' (out s so_far.lines) (out (session_of mid) more) (so_far.written honest)
+            (Appends-trans held held' held'' (answers_to s so_far.lines) (answers_to (session_of mid) more) (so_far.written honest)
             written);
         ends = ((refl, are_all from so_far taken at_end), keeps_same held'');
       }
@@ -351,7 +351,7 @@ module _ {D : Type 0} (d : Ghosts D) where
       → (so_far : HasPlayed (d.honest old.disk) (Ran old mid) (session_of old) (session_of mid) from left' held held'
       most u) → (taken : TakesRest u u' left' left'' line) → IsAtEnd left'' → IsDurable d old → IsDurable d mid
       → (d.honest old.disk → d.honest mid.disk) → RestSurvives d line end mid new
-      → (d.honest mid.disk → (rest : List ℕ) → Holds line rest
+      → (d.honest mid.disk → (rest : List ℕ) → HoldsLine line rest
       → RestEndsAs end rest (session_of mid) (session_of new) held' held'')
       → d.honest old.disk → PlaysLines d end from left'' held held'' old new
   ended_by_rest end held'' new so_far taken at_end started durable still survives last honest =
@@ -389,7 +389,7 @@ module _ {D : Type 0} (d : Ghosts D) where
       counts,
     )
 
-    unsaid_for : (why : PlayEnd) → why ≢ Done → Stops d why from left answered mid new → Keeps held held'
+    unsaid_for : (why : PlayEnd) → why ≢ Done → ScriptStops d why from left answered mid new → Keeps held held'
         → CountsEnd why failed failed' → AppendsFront held' held'' (last_word why)
         → IsUnsaid d from left answered mid new failed failed' held held''
     unsaid_for why early stops keeps counts front = record {
@@ -448,18 +448,18 @@ module _ {D : Type 0} (d : Ghosts D) where
 -- ---- what a crash leaves, in events
 
 module _ {D : Type 0} (d : Ghosts D) where
-  pub run_session : (lines : List (List ℕ)) (old new : StoreView D) → IsRun d lines old new
+  pub run_session : (lines : List (List ℕ)) (old new : StoreView D) → IsLineRun d lines old new
       → session_of new ≡ after_all (session_of old) lines
   run_session [] old new run = ap session_of run
   run_session (line ∷ lines) old new run =
       run_session lines run.0 new run.2 ∙ ap (λ (s : Session). after_all s lines) run.1.session
 
-  pub run_size : (lines : List (List ℕ)) (old new : StoreView D) → IsRun d lines old new
+  pub run_size : (lines : List (List ℕ)) (old new : StoreView D) → IsLineRun d lines old new
       → d.size new.disk ≡ d.size old.disk
   run_size [] old new run = ap (λ (store : StoreView D). d.size store.disk) run
   run_size (line ∷ lines) old new run = run_size lines run.0 new run.2 ∙ run.1.as_large
 
-  run_keeps : (lines : List (List ℕ)) (old new : StoreView D) → Lasts d old → IsRun d lines old new
+  run_keeps : (lines : List (List ℕ)) (old new : StoreView D) → Lasts d old → IsLineRun d lines old new
       → KeepsAnswered d lines lines old new
   run_keeps [] old new lasts run = subst (λ store. KeepsAnswered d [] [] old store) (sym run) (no_line d old lasts)
   run_keeps (line ∷ lines) old new lasts run =
@@ -474,14 +474,14 @@ module _ {D : Type 0} (d : Ghosts D) where
     pub parts : lines ≡ answered ++ others
     pub plain : AllByRecursion IsLine lines
     pub begins : IfSome from (λ script. BeginsWith script lines)
-    pub written : TakesAll held held' (out (session_of old) answered)
+    pub written : HasTakenAnswers held held' (answers_to (session_of old) answered)
     pub kept : KeepsAnswered d answered lines old new
 
   module _ (from held held' : Option (List ℕ)) (answered : List (List ℕ)) (old mid new : StoreView D)
-      (lasts : Lasts d old) (plain : AllByRecursion IsLine answered) (run : IsRun d answered old mid) where
+      (lasts : Lasts d old) (plain : AllByRecursion IsLine answered) (run : IsLineRun d answered old mid) where
     -- nothing came after them
     kept_all : new ≡ mid → IfSome from (λ script. BeginsWith script answered)
-        → TakesAll held held' (out (session_of old) answered) → IsKept from held held' old new
+        → HasTakenAnswers held held' (answers_to (session_of old) answered) → IsKept from held held' old new
     kept_all same begins written = record {
       answered = answered;
       lines = answered;
@@ -496,7 +496,7 @@ module _ {D : Type 0} (d : Ghosts D) where
 
     -- the line after them failed
     kept_before : (line : List ℕ) → IsNextLine from answered line → LeavesLine d line mid new
-        → TakesAll held held' (out (session_of old) answered) → IsKept from held held' old new
+        → HasTakenAnswers held held' (answers_to (session_of old) answered) → IsKept from held held' old new
     kept_before line follows leaves written = record {
       answered = answered;
       lines = answered ++ line ∷ [];
@@ -510,8 +510,8 @@ module _ {D : Type 0} (d : Ghosts D) where
           (run_session answered old mid run) (run_size answered old mid run) (failed_line d mid new line leaves));
     }
 
-    kept_at : (why : PlayEnd) (left : Option (List ℕ)) → Stops d why from left answered mid new
-        → TakesAll held held' (out (session_of old) answered) → IsKept from held held' old new
+    kept_at : (why : PlayEnd) (left : Option (List ℕ)) → ScriptStops d why from left answered mid new
+        → HasTakenAnswers held held' (answers_to (session_of old) answered) → IsKept from held held' old new
     kept_at Done left stops written = kept_all stops.0 (begins_all from answered stops.1) written
     kept_at Fault left stops written = kept_before stops.line stops.follows stops.leaves written
     kept_at Memory left stops written = kept_before stops.line stops.follows
@@ -519,14 +519,14 @@ module _ {D : Type 0} (d : Ghosts D) where
     kept_at Input left stops written = kept_all stops.0 (begins_came from left answered stops.1) written
     kept_at Output left stops written = absurd stops
 
-    module _ (held_mid : Option (List ℕ)) (written : Appends held held_mid (out (session_of old) answered)) where
+    module _ (held_mid : Option (List ℕ)) (written : Appends held held_mid (answers_to (session_of old) answered)) where
       -- the output failed in the answer to the line after them
-      kept_with : IsCutShort d from answered mid new held_mid held' → IsKept from held held' old new
+      kept_with : IsAnswerCutShort d from answered mid new held_mid held' → IsKept from held held' old new
       kept_with cut =
           let s : Session = session_of old in
           let more : List (List ℕ) = answered ++ cut.line ∷ [] in
-          let answers : out s answered ++ answer (session_of mid) (request_of cut.line) ≡ out s more
-          = ap (λ l. out s answered ++ l) (ap (λ (t : Session). answer t (request_of cut.line))
+          let answers : answers_to s answered ++ answer (session_of mid) (request_of cut.line) ≡ answers_to s more
+          = ap (λ l. answers_to s answered ++ l) (ap (λ (t : Session). answer t (request_of cut.line))
           (run_session answered old mid run) ∙ sym (out_one (after_all s answered) cut.line))
           ∙ sym (out_both s answered (cut.line ∷ [])) in
           record {
@@ -538,8 +538,8 @@ module _ {D : Type 0} (d : Ghosts D) where
             begins = cut.follows.begins;
             written = (
               Output,
-              subst (AppendsFront held held') (answers ∙ sym (append-nil (out s more)))
-                  (front_after held held_mid held' (out s answered) (answer (session_of mid) (request_of cut.line))
+              subst (AppendsFront held held') (answers ∙ sym (append-nil (answers_to s more)))
+                  (front_after held held_mid held' (answers_to s answered) (answer (session_of mid) (request_of cut.line))
                   written cut.written),
             );
             kept = lines_after d old mid new answered (cut.line ∷ []) (cut.line ∷ [])
@@ -548,9 +548,9 @@ module _ {D : Type 0} (d : Ghosts D) where
           }
 
       whole_word : (why : PlayEnd) → Appends held_mid held' (last_word why)
-          → TakesAll held held' (out (session_of old) answered)
+          → HasTakenAnswers held held' (answers_to (session_of old) answered)
       whole_word why said =
-          (why, whole_front held held_mid held' (out (session_of old) answered) (last_word why) written said)
+          (why, whole_front held held_mid held' (answers_to (session_of old) answered) (last_word why) written said)
 
       kept_ends : (end : PlayEnd) (left : Option (List ℕ)) (failed failed' : ℕ)
           → EndsSaid d end from left answered mid new failed failed' held_mid held' → IsKept from held held' old new
@@ -561,7 +561,7 @@ module _ {D : Type 0} (d : Ghosts D) where
       kept_ends Output left failed failed' (inl cut) = kept_with cut.0
       kept_ends Output left failed failed' (inr unsaid) = kept_at unsaid.why left unsaid.stops (
         unsaid.why,
-        front_after held held_mid held' (out (session_of old) answered) (last_word unsaid.why) written
+        front_after held held_mid held' (answers_to (session_of old) answered) (last_word unsaid.why) written
             unsaid.written,
       )
 
@@ -572,7 +572,7 @@ module _ {D : Type 0} (d : Ghosts D) where
       (d.failures new.disk) played.ends
 
   script_kept : (script : List ℕ) (held held' : Option (List ℕ)) (old new : StoreView D)
-      → IsKept (Some script) held held' old new → Survives d script held held' old new
+      → IsKept (Some script) held held' old new → ScriptSurvives d script held held' old new
   script_kept script held held' old new kept =
       let begins : BeginsWith script kept.lines = kept.begins in
       record {
@@ -593,7 +593,7 @@ module _ {D : Type 0} (d : Ghosts D) where
   -- a script whose bytes are known
   pub lines_survive : (end : PlayEnd) (from left held held' : Option (List ℕ)) (old new : StoreView D)
       → PlaysByLines d end from left held held' old new
-      → IfSome from (λ script. Survives d script held held' old new)
+      → IfSome from (λ script. ScriptSurvives d script held held' old new)
   lines_survive end None left held held' old new played = tt
   lines_survive end (Some script) left held held' old new played =
       script_kept script held held' old new (is_kept end (Some script) left held held' old new played)

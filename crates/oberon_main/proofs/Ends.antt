@@ -8,7 +8,7 @@ use Rattle.desk_journal.specs.Errors.{TooSmall, Worn}
 use Rattle.oberon_main.specs.declared.answering.Answer.{Answer}
 use Rattle.oberon_main.specs.declared.playing.PlayEnd.{PlayEnd}
 use Rattle.oberon_main.specs.declared.playing.PlayEnd.TheVariants as ends
-use Rattle.oberon_main.specs.Worked.{end_of, IsWorkEnd}
+use Rattle.oberon_main.specs.Worked.{play_end_of, IsWorkEnd}
 
 -- A store that is in use, and isn't worn, refuses for want of memory or after a fault of the disk.
 pub record IsRefusal (error : Error) (failed failed' : ℕ) : Type 0 where
@@ -20,7 +20,7 @@ another_end : ends.Fault ≡ ends.Memory → ⊥
 another_end is = cc
 
 -- want of memory is told for nothing else
-memory_alone : (error : Error) → end_of error ≡ ends.Memory → error ≡ NoMemory
+memory_alone : (error : Error) → play_end_of error ≡ ends.Memory → error ≡ NoMemory
 memory_alone NoMemory is = refl
 memory_alone Fault is = absurd (another_end is)
 memory_alone MustReopen is = absurd (another_end is)
@@ -30,10 +30,10 @@ memory_alone TooSmall is = absurd (another_end is)
 memory_alone Worn is = absurd (another_end is)
 
 pub only_memory : (error : Error) (result : Result Answer PlayEnd)
-    → IfErr result (λ end. (error ≢ Worn) × (end ≡ end_of error)) → result ≡ Err ends.Memory → error ≡ NoMemory
+    → IfErr result (λ end. (error ≢ Worn) × (end ≡ play_end_of error)) → result ≡ Err ends.Memory → error ≡ NoMemory
 only_memory error result other is =
-    let why : IfErr {T = Answer} (Err ends.Memory) (λ end. (error ≢ Worn) × (end ≡ end_of error)) =
-    subst (λ r. IfErr r (λ end. (error ≢ Worn) × (end ≡ end_of error))) is other in
+    let why : IfErr {T = Answer} (Err ends.Memory) (λ end. (error ≢ Worn) × (end ≡ play_end_of error)) =
+    subst (λ r. IfErr r (λ end. (error ≢ Worn) × (end ≡ play_end_of error))) is other in
     memory_alone error (sym why.1)
 
 another_error : (error : Error) → (error ≡ NoMemory → ⊥) → (error ≡ Fault → ⊥) → (error ≡ NoMemory) ⊎ (error ≡ Fault)
@@ -42,7 +42,7 @@ another_error error memory fault (inl is) = memory is
 another_error error memory fault (inr is) = fault is
 
 counts : {T : Type 0} (error : Error) (failed failed' : ℕ) → IsRefusal error failed failed'
-    → FailsAs {T = T} ends.Fault IsWorkEnd (Err (end_of error)) failed failed'
+    → FailsAs {T = T} ends.Fault IsWorkEnd (Err (play_end_of error)) failed failed'
 counts NoMemory failed failed' refusal = record {
   rose = λ wrong. cc;
   calm = λ other. refusal.calm (λ wrong. cc);
@@ -61,7 +61,7 @@ counts TooSmall failed failed' refusal = absurd (another_error TooSmall (λ wron
 counts Worn failed failed' refusal = absurd (another_error Worn (λ wrong. cc) (λ wrong. cc) refusal.named)
 
 pub counts_end : {T : Type 0} (error : Error) (failed failed' : ℕ) → IsRefusal error failed failed' → (end : PlayEnd)
-    → end ≡ end_of error
+    → end ≡ play_end_of error
     → (result : Result T PlayEnd) → result ≡ Err end → FailsAs ends.Fault IsWorkEnd result failed failed'
 counts_end error failed failed' refusal end is result gives =
     subst (λ r. FailsAs ends.Fault IsWorkEnd r failed failed') (sym (gives ∙ ap (λ e. Err e) is))
@@ -89,7 +89,7 @@ pub counts_call : {T : Type 0} (error : Error) (failed failed' : ℕ) (named : E
     → FailsAs {T = T} Fault named (Err error) failed failed'
     → (error ≡ MustReopen → ⊥) → (bytes : Answer → Type 0) → (result : Result Answer PlayEnd)
     → IfOk result (λ a. (error ≡ Worn) × bytes a)
-    → IfErr result (λ end. (error ≢ Worn) × (end ≡ end_of error))
+    → IfErr result (λ end. (error ≢ Worn) × (end ≡ play_end_of error))
     → FailsAs ends.Fault IsWorkEnd result failed failed'
 counts_call error failed failed' named among faults usable bytes (Ok a) worn other = record {
   rose = λ wrong. cc;

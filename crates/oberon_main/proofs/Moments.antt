@@ -14,10 +14,10 @@ use Rattle.script_lines.specs.Request.{request_of}
 use Rattle.oberon_main.specs.declared.playing.PlayEnd.{PlayEnd}
 use Rattle.oberon_main.specs.declared.playing.PlayEnd.TheVariants.{Done, Fault, Memory, Input, Output}
 use Rattle.desk_journal.specs.Session.{Session}
-use Rattle.oberon_main.specs.Answers.{after, after_all}
+use Rattle.oberon_main.specs.Answers.{session_after, after_all}
 use Rattle.desk_journal.specs.Session.{session_of}
 use Rattle.oberon_main.specs.Surviving.{led_to}
-use Rattle.oberon_main.specs.ByLines.{IsNextLine, Lasts, LeavesLine, Serves, IsRun, Stops, EndsSaid, PlaysByLines}
+use Rattle.oberon_main.specs.ByLines.{IsNextLine, Lasts, LeavesLine, ServesLine, IsLineRun, ScriptStops, EndsSaid, PlaysByLines}
 use Rattle.oberon_main.specs.Moments.{AreAnswered, LeavesLines}
 use Rattle.oberon_main.specs.Moments.AreAnswered.{none, one_more}
 use Rattle.oberon_main.proofs.Played.{all_both, after_both}
@@ -78,7 +78,7 @@ module _ {D : Type 0} (d : Ghosts D) where
       moments = leaves;
     }
 
-    tail_at : (why : PlayEnd) (left : Option (List ℕ)) → Lasts d mid → Stops d why from left answered mid new
+    tail_at : (why : PlayEnd) (left : Option (List ℕ)) → Lasts d mid → ScriptStops d why from left answered mid new
         → IsTail from answered mid new
     tail_at Done left lasts stops = nothing_begun lasts stops.0 (begins_all from answered stops.1)
     tail_at Fault left lasts stops = line_begun stops.line stops.follows stops.leaves
@@ -99,7 +99,7 @@ module _ {D : Type 0} (d : Ghosts D) where
 
   -- ---- the lines before it
 
-  run_lasts : (lines : List (List ℕ)) (old new : StoreView D) → Lasts d old → IsRun d lines old new → Lasts d new
+  run_lasts : (lines : List (List ℕ)) (old new : StoreView D) → Lasts d old → IsLineRun d lines old new → Lasts d new
   run_lasts [] old new lasts run = subst (λ store. Lasts d store) (sym run) lasts
   run_lasts (line ∷ lines) old new lasts run = run_lasts lines run.0 new run.1.lasts run.2
 
@@ -109,7 +109,7 @@ module _ {D : Type 0} (d : Ghosts D) where
       later : (d.trail store.disk).clock ≤ trail.clock
       kept : (t : ℕ) → t ≤ (d.trail store.disk).clock → trail.at t ≡ (d.trail store.disk).at t
 
-    run_goes_on : (lines : List (List ℕ)) (old new : StoreView D) → IsRun d lines old new → GoesOn new → GoesOn old
+    run_goes_on : (lines : List (List ℕ)) (old new : StoreView D) → IsLineRun d lines old new → GoesOn new → GoesOn old
     run_goes_on [] old new run on = subst GoesOn run on
     run_goes_on (line ∷ lines) old new run on =
         let following : GoesOn run.0 = run_goes_on lines run.0 new run.2 on in
@@ -122,11 +122,11 @@ module _ {D : Type 0} (d : Ghosts D) where
     module _ (size : ℕ) (s : Session) (from : ℕ) where
       answer_more : (done : List (List ℕ)) (line : List ℕ) (first mid : StoreView D)
           → AreAnswered size s trail from (d.trail first.disk).clock done → session_of first ≡ after_all s done
-          → d.size first.disk ≡ size → Serves d line first mid → GoesOn mid
+          → d.size first.disk ≡ size → ServesLine d line first mid → GoesOn mid
           → AreAnswered size s trail from (d.trail mid.disk).clock (done ++ line ∷ [])
       answer_more done line first mid so_far session as_large serves on = one_more line so_far serves.any_moment.later
           (λ t above below c image. moved_either (d.size first.disk) size first.desktop
-          (after (session_of first) (request_of line)).desktop (led_to s done) (led_to s (done ++ line ∷ [])) c
+          (session_after (session_of first) (request_of line)).desktop (led_to s done) (led_to s (done ++ line ∷ [])) c
           (sym as_large) (led_here s (session_of first) done session)
           (led_on s (session_of first) done (line ∷ []) session)
           (serves.any_moment.each t above below c (subst (λ m. IsCrashImage m c) (on.kept t below) image)))
@@ -138,7 +138,7 @@ module _ {D : Type 0} (d : Ghosts D) where
 
       all_answered : (done lines : List (List ℕ)) (first mid : StoreView D)
           → AreAnswered size s trail from (d.trail first.disk).clock done → session_of first ≡ after_all s done
-          → d.size first.disk ≡ size → IsRun d lines first mid → GoesOn mid
+          → d.size first.disk ≡ size → IsLineRun d lines first mid → GoesOn mid
           → AreAnswered size s trail from (d.trail mid.disk).clock (done ++ lines)
       all_answered done [] first mid so_far session as_large run on =
           subst (λ ls. AreAnswered size s trail from (d.trail mid.disk).clock ls) (sym (append-nil done))
@@ -149,7 +149,7 @@ module _ {D : Type 0} (d : Ghosts D) where
           (append_assoc done (line ∷ []) lines)
           (all_answered (done ++ line ∷ []) lines run.0 mid
           (answer_more done line first run.0 so_far session as_large run.1 (run_goes_on lines run.0 mid run.2 on))
-          (run.1.session ∙ ap (λ (t : Session). after t (request_of line)) session
+          (run.1.session ∙ ap (λ (t : Session). session_after t (request_of line)) session
           ∙ sym (after_both s done (line ∷ []))) (run.1.as_large ∙ as_large) run.2 on)
 
   -- ---- a script

@@ -11,14 +11,14 @@ use Rattle.oberon_main.specs.declared.playing.PlayEnd.{PlayEnd}
 use Rattle.oberon_main.specs.declared.playing.PlayEnd.TheVariants.{Done, Fault, Memory, Input, Output}
 use Rattle.script_lines.specs.declared.request.Request.TheVariants.{Malformed}
 use Rattle.script_lines.specs.declared.line.Line.{Line}
-use Rattle.script_lines.specs.Script.{ended, IsLine, IsSplit, lines_at_end, BeginsWith}
-use Rattle.script_lines.specs.Reading.{Holds, Unplayed, TakesLine, TakesRest, ComesInPieces, most_bytes}
+use Rattle.script_lines.specs.Script.{script_line, IsLine, IsSplit, lines_at_end, BeginsWith}
+use Rattle.script_lines.specs.Reading.{HoldsLine, Unplayed, TakesLine, TakesRest, ComesInPieces, most_bytes}
 use Rattle.script_lines.specs.Request.{request_of}
 use Rattle.screen_cells.specs.Sent.{AppendsFront}
 use Rattle.desk_journal.specs.Session.{Session}
-use Rattle.oberon_main.specs.Answers.{answer, after, out, after_all}
-use Rattle.oberon_main.specs.Play.{IsPlayed, IsStopped, IsCutOff, TextOf, IsTold, IsHalted, EndsAs, CountsEnd}
-use Rattle.oberon_main.specs.Play.{CountsPlay, last_word, IsAnswered, LineEndsAs}
+use Rattle.oberon_main.specs.Answers.{answer, session_after, answers_to, after_all}
+use Rattle.oberon_main.specs.Play.{IsPlayed, IsStopped, IsCutOff, TextOf, IsEndTold, IsHalted, EndsAs, CountsEnd}
+use Rattle.oberon_main.specs.Play.{CountsPlay, last_word, IsRequestAnswered, LineEndsAs}
 use Rattle.oberon_main.specs.Play.{RestEndsAs}
 use Rattle.script_lines.proofs.Splitting.{some_split}
 
@@ -29,20 +29,20 @@ pub all_both : (lines more : List (List ℕ)) → AllByRecursion IsLine lines �
 all_both [] more p q = q
 all_both (line ∷ lines) more p q = (p.0, all_both lines more p.1 q)
 
-pub out_both : (s : Session) (lines more : List (List ℕ)) → out s (lines ++ more) ≡ out s lines
-    ++ out (after_all s lines) more
+pub out_both : (s : Session) (lines more : List (List ℕ)) → answers_to s (lines ++ more) ≡ answers_to s lines
+    ++ answers_to (after_all s lines) more
 out_both s [] more = refl
 out_both s (line ∷ lines) more = ap (λ l. answer s (request_of line) ++ l)
-    (out_both (after s (request_of line)) lines more)
-    ∙ sym (append_assoc (answer s (request_of line)) (out (after s (request_of line)) lines)
-    (out (after_all (after s (request_of line)) lines) more))
+    (out_both (session_after s (request_of line)) lines more)
+    ∙ sym (append_assoc (answer s (request_of line)) (answers_to (session_after s (request_of line)) lines)
+    (answers_to (after_all (session_after s (request_of line)) lines) more))
 
 pub after_both : (s : Session) (lines more : List (List ℕ))
     → after_all s (lines ++ more) ≡ after_all (after_all s lines) more
 after_both s [] more = refl
-after_both s (line ∷ lines) more = after_both (after s (request_of line)) lines more
+after_both s (line ∷ lines) more = after_both (session_after s (request_of line)) lines more
 
-pub out_one : (s : Session) (line : List ℕ) → out s (line ∷ []) ≡ answer s (request_of line)
+pub out_one : (s : Session) (line : List ℕ) → answers_to s (line ∷ []) ≡ answer s (request_of line)
 out_one s line = append-nil (answer s (request_of line))
 
 lines_both : (lines more : List (List ℕ)) (rest : List ℕ) → lines_at_end (lines ++ more) rest ≡ lines
@@ -61,15 +61,15 @@ last_line (b ∷ bs) there = refl
 -- ---- what was read is a prefix of the script
 
 begins_split : (script pending : List ℕ) (lines : List (List ℕ)) → AllByRecursion IsLine lines
-    → script ≡ flat_map ended lines ++ pending
+    → script ≡ flat_map script_line lines ++ pending
     → ((more : List (List ℕ)) × (rest : List ℕ) × IsSplit pending more rest) → BeginsWith script lines
 begins_split script pending lines each whole (more, rest, split) = record {
   ends = lines ++ more;
   rest = rest;
   split = record {
-    whole = whole ∙ ap (λ l. flat_map ended lines ++ l) split.whole
-        ∙ sym (append_assoc (flat_map ended lines) (flat_map ended more) rest)
-        ∙ ap (λ l. l ++ rest) (sym (flat_map-append ended lines more));
+    whole = whole ∙ ap (λ l. flat_map script_line lines ++ l) split.whole
+        ∙ sym (append_assoc (flat_map script_line lines) (flat_map script_line more) rest)
+        ∙ ap (λ l. l ++ rest) (sym (flat_map-append script_line lines more));
     each = all_both lines more each split.each;
     last = split.last;
   };
@@ -79,11 +79,11 @@ begins_split script pending lines each whole (more, rest, split) = record {
 
 pub begins_read : (script : List ℕ) (left : Option (List ℕ)) (read pending : List ℕ) (lines : List (List ℕ))
     → Consumes (Some script) left read
-    → AllByRecursion IsLine lines → read ≡ flat_map ended lines ++ pending → BeginsWith script lines
+    → AllByRecursion IsLine lines → read ≡ flat_map script_line lines ++ pending → BeginsWith script lines
 begins_read script None read pending lines came each parts = absurd came
 begins_read script (Some left) read pending lines came each parts =
     begins_split script (pending ++ left) lines each (came ∙ ap (λ l. l ++ left) parts
-    ∙ append_assoc (flat_map ended lines) pending left) (some_split (pending ++ left))
+    ∙ append_assoc (flat_map script_line lines) pending left) (some_split (pending ++ left))
 
 all_read : (script : List ℕ) (left : Option (List ℕ)) (read : List ℕ) → Consumes (Some script) left read
     → IsAtEnd left → script ≡ read
@@ -100,8 +100,8 @@ pub record HasPlayed (Honest : Type 0) (Known : List (List ℕ) → Type 0) (bef
   pub came : Consumes left left' read
   pub few : length read + most_bytes unplayed.reads ≤ most_bytes most
   pub each : AllByRecursion IsLine lines
-  pub parts : read ≡ flat_map ended lines ++ unplayed.pending
-  pub written : Honest → Appends held held' (out before lines)
+  pub parts : read ≡ flat_map script_line lines ++ unplayed.pending
+  pub written : Honest → Appends held held' (answers_to before lines)
   pub session : Honest → now ≡ after_all before lines
   pub known : Known lines
 
@@ -122,15 +122,15 @@ played_none Honest s left held most u none reads known = record {
 }
 
 -- what came with one line more
-parts_more : (read read' pending pending' line : List ℕ) (lines : List (List ℕ)) → read ≡ flat_map ended lines
-    ++ pending → pending ++ read' ≡ ended line ++ pending'
-    → read ++ read' ≡ flat_map ended (lines ++ line ∷ []) ++ pending'
+parts_more : (read read' pending pending' line : List ℕ) (lines : List (List ℕ)) → read ≡ flat_map script_line lines
+    ++ pending → pending ++ read' ≡ script_line line ++ pending'
+    → read ++ read' ≡ flat_map script_line (lines ++ line ∷ []) ++ pending'
 parts_more read read' pending pending' line lines before now =
-    ap (λ l. l ++ read') before ∙ append_assoc (flat_map ended lines) pending read'
-    ∙ ap (λ l. flat_map ended lines ++ l) now
-    ∙ sym (append_assoc (flat_map ended lines) (ended line) pending')
-    ∙ ap (λ l. l ++ pending') (ap (λ l. flat_map ended lines ++ l) (sym (append-nil (ended line)))
-    ∙ sym (flat_map-append ended lines (line ∷ [])))
+    ap (λ l. l ++ read') before ∙ append_assoc (flat_map script_line lines) pending read'
+    ∙ ap (λ l. flat_map script_line lines ++ l) now
+    ∙ sym (append_assoc (flat_map script_line lines) (script_line line) pending')
+    ∙ ap (λ l. l ++ pending') (ap (λ l. flat_map script_line lines ++ l) (sym (append-nil (script_line line)))
+    ∙ sym (flat_map-append script_line lines (line ∷ [])))
 
 few_both : (read read' all old new most : ℕ) → all ≡ read + read' → read + old ≤ most → read' + new ≤ old
     → all + new ≤ most
@@ -140,7 +140,7 @@ pub played_more : (Honest : Type 0) {Known Next : List (List ℕ) → Type 0} (b
     (left left' left'' held held' held'' : Option (List ℕ)) (most : ℕ) (old new : Unplayed) (line : Line)
     → (so_far : HasPlayed Honest Known before now left left' held held' most old)
     → (taken : TakesLine old new left' left'' line)
-    → (Honest → (bytes : List ℕ) → Holds line bytes → IsAnswered (request_of bytes) now now' held' held'')
+    → (Honest → (bytes : List ℕ) → HoldsLine line bytes → IsRequestAnswered (request_of bytes) now now' held' held'')
     → Next (so_far.lines ++ taken.line ∷ [])
     → HasPlayed Honest Next before now' left left'' held held'' most new
 played_more Honest before now now' left left' left'' held held' held'' most old new line so_far taken answered next =
@@ -154,17 +154,17 @@ played_more Honest before now now' left left' left'' held held' held'' most old 
       parts = parts_more so_far.read taken.read old.pending new.pending taken.line so_far.lines so_far.parts
           taken.parts;
       written = λ honest.
-          let one : IsAnswered (request_of taken.line) now now' held' held'' = answered honest taken.line taken.holds in
-          let same : answer now (request_of taken.line) ≡ out (after_all before so_far.lines) (taken.line ∷ [])
+          let one : IsRequestAnswered (request_of taken.line) now now' held' held'' = answered honest taken.line taken.holds in
+          let same : answer now (request_of taken.line) ≡ answers_to (after_all before so_far.lines) (taken.line ∷ [])
           = ap (λ (s : Session). answer s (request_of taken.line)) (so_far.session honest)
           ∙ sym (out_one (after_all before so_far.lines) taken.line) in
-          subst (Appends held held'') (ap (λ l. out before so_far.lines ++ l) same
+          subst (Appends held held'') (ap (λ l. answers_to before so_far.lines ++ l) same
           ∙ sym (out_both before so_far.lines (taken.line ∷ [])))
-          (Appends-trans held held' held'' (out before so_far.lines) (answer now (request_of taken.line))
+          (Appends-trans held held' held'' (answers_to before so_far.lines) (answer now (request_of taken.line))
           (so_far.written honest) one.written);
       session = λ honest.
-          let one : IsAnswered (request_of taken.line) now now' held' held'' = answered honest taken.line taken.holds in
-          one.session ∙ ap (λ (s : Session). after s (request_of taken.line)) (so_far.session honest)
+          let one : IsRequestAnswered (request_of taken.line) now now' held' held'' = answered honest taken.line taken.holds in
+          one.session ∙ ap (λ (s : Session). session_after s (request_of taken.line)) (so_far.session honest)
           ∙ sym (after_both before so_far.lines (taken.line ∷ []));
       known = next;
     }
@@ -235,41 +235,41 @@ counts_halted Output failed failed' counts = omega (arith, counts)
 
 stopped_at : (end : PlayEnd) (script : List ℕ) (before : Session) (held held' held'' : Option (List ℕ))
     (lines : List (List ℕ)) (failed : List ℕ)
-    → BeginsWith script (lines ++ failed ∷ []) → Appends held held' (out before lines)
+    → BeginsWith script (lines ++ failed ∷ []) → Appends held held' (answers_to before lines)
     → Keeps held' held'' × (request_of failed ≢ Malformed)
     → (text : List ℕ) × IsStopped [] script before text × Appends held held'' text
 stopped_at end script before held held' held'' lines failed begins written (kept, asked) = (
-  out before lines,
+  answers_to before lines,
   record {
     lines = lines;
     failed = failed;
     asked = asked;
     begins = begins;
-    answers = sym (append-nil (out before lines));
+    answers = sym (append-nil (answers_to before lines));
   },
-  Appends-kept held held' held'' (out before lines) written kept,
+  Appends-kept held held' held'' (answers_to before lines) written kept,
 )
 
 -- the answers to the first lines are a prefix of those to all lines
 answers_begin : (script : List ℕ) (before : Session) (lines : List (List ℕ)) (begins : BeginsWith script lines)
-    → out before (lines_at_end begins.ends begins.rest) ≡ out before lines ++ out (after_all before lines) begins.more
-answers_begin script before lines begins = ap (λ ls. out before ls) begins.first ∙ out_both before lines begins.more
+    → answers_to before (lines_at_end begins.ends begins.rest) ≡ answers_to before lines ++ answers_to (after_all before lines) begins.more
+answers_begin script before lines begins = ap (λ ls. answers_to before ls) begins.first ∙ out_both before lines begins.more
 
 halted_in : (script : List ℕ) (left : Option (List ℕ)) (before now : Session) (failed failed' : ℕ)
     (held held' held'' : Option (List ℕ)) (lines : List (List ℕ)) (line : List ℕ)
-    → BeginsWith script (lines ++ line ∷ []) → Appends held held' (out before lines) → now ≡ after_all before lines
+    → BeginsWith script (lines ++ line ∷ []) → Appends held held' (answers_to before lines) → now ≡ after_all before lines
     → failed' ≡ failed
     → AppendsFront held' held'' (answer now (request_of line)) → IsHalted script left before failed failed' held held''
 halted_in script left before now failed failed' held held' held'' lines line begins written session calm front =
-    let same : answer now (request_of line) ≡ out (after_all before lines) (line ∷ [])
+    let same : answer now (request_of line) ≡ answers_to (after_all before lines) (line ∷ [])
     = ap (λ (s : Session). answer s (request_of line)) session ∙ sym (out_one (after_all before lines) line) in
-    let later : List ℕ = out (after_all before (lines ++ line ∷ [])) begins.more in
-    let this : out before (lines ++ line ∷ []) ≡ out before lines ++ (front.front ++ front.back)
-    = out_both before lines (line ∷ []) ∙ ap (λ l. out before lines ++ l) (sym same ∙ front.parts) in
+    let later : List ℕ = answers_to (after_all before (lines ++ line ∷ [])) begins.more in
+    let this : answers_to before (lines ++ line ∷ []) ≡ answers_to before lines ++ (front.front ++ front.back)
+    = out_both before lines (line ∷ []) ∙ ap (λ l. answers_to before lines ++ l) (sym same ∙ front.parts) in
     record {
       end = Done;
       after = after_all before (lines_at_end begins.ends begins.rest);
-      text = out before (lines_at_end begins.ends begins.rest);
+      text = answers_to before (lines_at_end begins.ends begins.rest);
       comes = record {
         lines = begins.ends;
         rest = begins.rest;
@@ -279,18 +279,18 @@ halted_in script left before now failed failed' held held' held'' lines line beg
       };
       counts = calm;
       written = record {
-        front = out before lines ++ front.front;
+        front = answers_to before lines ++ front.front;
         back = front.back ++ later;
         parts = answers_begin script before (lines ++ line ∷ []) begins
-            ∙ ap (λ l. l ++ later) (this ∙ sym (append_assoc (out before lines) front.front front.back))
-            ∙ append_assoc (out before lines ++ front.front) front.back later;
-        taken = Appends-trans held held' held'' (out before lines) front.front written front.taken;
+            ∙ ap (λ l. l ++ later) (this ∙ sym (append_assoc (answers_to before lines) front.front front.back))
+            ∙ append_assoc (answers_to before lines ++ front.front) front.back later;
+        taken = Appends-trans held held' held'' (answers_to before lines) front.front written front.taken;
       };
     }
 
 line_ends : (end : PlayEnd) (script : List ℕ) (left : Option (List ℕ)) (before now now' : Session)
     (failed failed' : ℕ) (held held' held'' : Option (List ℕ)) (lines : List (List ℕ)) (line : List ℕ)
-    → BeginsWith script (lines ++ line ∷ []) → Appends held held' (out before lines) → now ≡ after_all before lines
+    → BeginsWith script (lines ++ line ∷ []) → Appends held held' (answers_to before lines) → now ≡ after_all before lines
     → CountsEnd end failed failed'
     → LineEndsAs end (request_of line) now held' held''
     → EndsAs end [] script left before now' failed failed' held held''
@@ -325,7 +325,7 @@ pub stopped_in_line : (Honest : Type 0) {Known : List (List ℕ) → Type 0} (en
     (left left' left'' held held' held'' : Option (List ℕ)) (most : ℕ) (old new : Unplayed) (line : Line)
     → HasPlayed Honest Known before now left left' held held' most old → TakesLine old new left' left'' line
     → CountsEnd end failed failed'
-    → (Honest → (bytes : List ℕ) → Holds line bytes → LineEndsAs end (request_of bytes) now held' held'')
+    → (Honest → (bytes : List ℕ) → HoldsLine line bytes → LineEndsAs end (request_of bytes) now held' held'')
     → Honest → IfSome left (λ script. EndsAs end [] script left'' before now' failed failed' held held'')
 stopped_in_line Honest end before now now' failed failed' None left' left'' held held' held'' most old new line so_far
     taken counts why honest = tt
@@ -349,12 +349,12 @@ begins_rest script lines rest split there = record {
 
 rest_ends : (end : PlayEnd) (script : List ℕ) (left : Option (List ℕ)) (before now now' : Session)
     (failed failed' : ℕ) (held held' held'' : Option (List ℕ)) (lines : List (List ℕ)) (rest : List ℕ)
-    → IsSplit script lines rest → Appends held held' (out before lines) → now ≡ after_all before lines
+    → IsSplit script lines rest → Appends held held' (answers_to before lines) → now ≡ after_all before lines
     → CountsEnd end failed failed'
     → RestEndsAs end rest now now' held' held'' → EndsAs end [] script left before now' failed failed' held held''
 rest_ends Done script left before now now' failed failed' held held' held'' lines rest split written session counts
     last = record {
-      text = out before (lines_at_end lines rest);
+      text = answers_to before (lines_at_end lines rest);
       comes = record {
         lines = lines;
         rest = rest;
@@ -365,10 +365,10 @@ rest_ends Done script left before now now' failed failed' held held' held'' line
             ∙ ap (λ ls. after_all before ls) (sym (lines_then lines rest));
       };
       written = subst (Appends held held'')
-          (ap (λ (s : Session). out before lines ++ out s (lines_at_end [] rest)) session
+          (ap (λ (s : Session). answers_to before lines ++ answers_to s (lines_at_end [] rest)) session
           ∙ sym (out_both before lines (lines_at_end [] rest))
-          ∙ ap (λ ls. out before ls) (sym (lines_then lines rest)))
-          (Appends-trans held held' held'' (out before lines) (out now (lines_at_end [] rest)) written last.written);
+          ∙ ap (λ ls. answers_to before ls) (sym (lines_then lines rest)))
+          (Appends-trans held held' held'' (answers_to before lines) (answers_to now (lines_at_end [] rest)) written last.written);
     }
 rest_ends Fault script left before now now' failed failed' held held' held'' lines rest split written session counts
     last =
@@ -386,11 +386,11 @@ rest_ends Output script left before now now' failed failed' held held' held'' li
     (begins_rest script lines rest split last.there) written session counts last.why
 
 -- all that came, with a rest after the last line feed
-pub split_rest : (read read' pending rest : List ℕ) (lines : List (List ℕ)) → read ≡ flat_map ended lines ++ pending
+pub split_rest : (read read' pending rest : List ℕ) (lines : List (List ℕ)) → read ≡ flat_map script_line lines ++ pending
     → pending ++ read' ≡ rest
-    → read ++ read' ≡ flat_map ended lines ++ rest
+    → read ++ read' ≡ flat_map script_line lines ++ rest
 split_rest read read' pending rest lines before now = ap (λ l. l ++ read') before
-    ∙ append_assoc (flat_map ended lines) pending read' ∙ ap (λ l. flat_map ended lines ++ l) now
+    ∙ append_assoc (flat_map script_line lines) pending read' ∙ ap (λ l. flat_map script_line lines ++ l) now
 
 pub split_with_rest : {Honest : Type 0} {Known : List (List ℕ) → Type 0} {before now : Session}
     {left' left'' held held' : Option (List ℕ)} {most : ℕ} {old new : Unplayed} {line : Line} (script : List ℕ)
@@ -409,7 +409,7 @@ pub ended_with_rest : (Honest : Type 0) {Known : List (List ℕ) → Type 0} (en
     (left left' left'' held held' held'' : Option (List ℕ)) (most : ℕ) (old new : Unplayed) (line : Line)
     → HasPlayed Honest Known before now left left' held held' most old → TakesRest old new left' left'' line
     → IsAtEnd left'' → CountsEnd end failed failed'
-    → (Honest → (rest : List ℕ) → Holds line rest → RestEndsAs end rest now now' held' held'')
+    → (Honest → (rest : List ℕ) → HoldsLine line rest → RestEndsAs end rest now now' held' held'')
     → Honest → IfSome left (λ script. EndsAs end [] script left'' before now' failed failed' held held'')
 ended_with_rest Honest end before now now' failed failed' None left' left'' held held' held'' most old new line so_far
     taken at_end counts last honest = tt
@@ -426,7 +426,7 @@ pub cut_off : (Honest : Type 0) {Known : List (List ℕ) → Type 0} (before now
 cut_off Honest before now failed failed' None left' left'' held held' most old new line so_far taken honest = tt
 cut_off Honest before now failed failed' (Some script) left' left'' held held' most old new line so_far taken honest =
     record {
-      text = out before so_far.lines;
+      text = answers_to before so_far.lines;
       comes = record {
         read = so_far.read ++ taken.read;
         came = Consumes-trans (Some script) left' left'' so_far.read taken.read so_far.came taken.came;
@@ -437,7 +437,7 @@ cut_off Honest before now failed failed' (Some script) left' left'' held held' m
           each = so_far.each;
           last = taken.plain;
         };
-        answers = sym (append-nil (out before so_far.lines));
+        answers = sym (append-nil (answers_to before so_far.lines));
         session = so_far.session honest;
       };
       written = so_far.written honest;
@@ -452,7 +452,7 @@ stopped_with word script before text stopped = record {
   failed = stopped.failed;
   asked = stopped.asked;
   begins = stopped.begins;
-  answers = ap (λ l. l ++ word) (stopped.answers ∙ append-nil (out before stopped.lines));
+  answers = ap (λ l. l ++ word) (stopped.answers ∙ append-nil (answers_to before stopped.lines));
 }
 
 cut_off_with : (word script : List ℕ) (left : Option (List ℕ)) (before now : Session) (text : List ℕ)
@@ -464,7 +464,7 @@ cut_off_with word script left before now text cut = record {
   lines = cut.lines;
   rest = cut.rest;
   split = cut.split;
-  answers = ap (λ l. l ++ word) (cut.answers ∙ append-nil (out before cut.lines));
+  answers = ap (λ l. l ++ word) (cut.answers ∙ append-nil (answers_to before cut.lines));
   session = cut.session;
 }
 
@@ -480,8 +480,8 @@ text_with Output script left before now text comes = absurd comes
 
 told_with : (end : PlayEnd) (script : List ℕ) (left : Option (List ℕ)) (before now : Session)
     (held held' held'' : Option (List ℕ))
-    → IsTold end [] script left before now held held' → Appends held' held'' (last_word end)
-    → IsTold end (last_word end) script left before now held held''
+    → IsEndTold end [] script left before now held held' → Appends held' held'' (last_word end)
+    → IsEndTold end (last_word end) script left before now held held''
 told_with end script left before now held held' held'' told said = record {
   text = told.text ++ last_word end;
   comes = text_with end script left before now told.text told.comes;
@@ -491,7 +491,7 @@ told_with end script left before now held held' held'' told said = record {
 -- The output failed in the last word.
 halted_after : (end : PlayEnd) (script : List ℕ) (left : Option (List ℕ)) (before now : Session) (failed failed' : ℕ)
     (held held' held'' : Option (List ℕ))
-    → IsTold end [] script left before now held held' → CountsEnd end failed failed'
+    → IsEndTold end [] script left before now held held' → CountsEnd end failed failed'
     → AppendsFront held' held'' (last_word end)
     → IsHalted script left before failed failed' held held''
 halted_after cause script left before now failed failed' held held' held'' told counts front = record {

@@ -9,11 +9,11 @@ use Rattle.desktop_definitions.specs.Desktop.{Desktop}
 use Rattle.desktop_definitions.specs.Step.{step, Outcome, outcome_of}
 use Rattle.store_layout.specs.declared.layout.TheConstants.{LAST_EPOCH, LAYOUT}
 use Rattle.script_lines.specs.declared.request.Request.TheVariants.{Post, Checkpoint}
-use Rattle.script_lines.specs.Script.{ended}
+use Rattle.script_lines.specs.Script.{script_line}
 use Rattle.script_answers.specs.Answer.{reply_line}
 use Rattle.desk_journal.specs.Session.{Session, HasRoomIn, IsDue, is_due, is_last, is_worn, renewed, stepped}
 use Rattle.desk_journal.proofs.Due.{due_or_room, due_is_due, due_parts, room_not_due}
-use Rattle.oberon_main.specs.Answers.{worn_line, answer, after}
+use Rattle.oberon_main.specs.Answers.{worn_line, answer, session_after}
 
 -- a session by its four parts
 session_parts : (s t : Session) → s.desktop ≡ t.desktop → s.layout ≡ t.layout → s.epoch ≡ t.epoch → s.events ≡ t.events
@@ -44,8 +44,8 @@ worn_answer s event last full = cond-true (is_worn s) worn_line (reply_line (ste
     (is_it_worn s last full)
 
 pub worn_after : (s : Session) (event : Event) → s.epoch ≡ LAST_EPOCH → IsDue s
-    → after s (Post event) ≡ s
-unfolding after
+    → session_after s (Post event) ≡ s
+unfolding session_after
 worn_after s event last full = cond-true (is_worn s) s _ (is_it_worn s last full)
 
 pub reply_answer : (s : Session) (event : Event) (d : Desktop) (reply : Reply)
@@ -59,8 +59,8 @@ reply_answer s event d reply room is =
 pub reply_after : (s now : Session) (event : Event) (reply : Reply)
     → ((s.epoch ≡ LAST_EPOCH) × IsDue s → ⊥) → outcome_of now.desktop reply ≡ step s.desktop event
     → (HasRoomIn s → (now.epoch ≡ s.epoch) × (now.events ≡ s.events + 1))
-    → (IsDue s → (now.epoch ≡ s.epoch + 1) × (now.events ≡ 1)) → now.layout ≡ LAYOUT → now ≡ after s (Post event)
-unfolding after
+    → (IsDue s → (now.epoch ≡ s.epoch + 1) × (now.events ≡ 1)) → now.layout ≡ LAYOUT → now ≡ session_after s (Post event)
+unfolding session_after
 reply_after s now event reply room is more anew layout =
     let desktop : now.desktop ≡ (step s.desktop event).desktop = ap (λ (p : Outcome). p.desktop) is in
     elim (due_or_room s) [
@@ -78,19 +78,19 @@ reply_after s now event reply room is more anew layout =
 
 pub last_answer : (s : Session) → s.epoch ≡ LAST_EPOCH → answer s Checkpoint ≡ worn_line
 unfolding answer
-last_answer s last = cond-true (is_last s) worn_line (ended (codes "ok")) (eq-eqb s.epoch LAST_EPOCH last)
+last_answer s last = cond-true (is_last s) worn_line (script_line (codes "ok")) (eq-eqb s.epoch LAST_EPOCH last)
 
-pub last_after : (s : Session) → s.epoch ≡ LAST_EPOCH → after s Checkpoint ≡ s
-unfolding after
+pub last_after : (s : Session) → s.epoch ≡ LAST_EPOCH → session_after s Checkpoint ≡ s
+unfolding session_after
 last_after s last = cond-true (is_last s) s (renewed s) (eq-eqb s.epoch LAST_EPOCH last)
 
-pub renewed_answer : (s : Session) → s.epoch ≢ LAST_EPOCH → answer s Checkpoint ≡ ended (codes "ok")
+pub renewed_answer : (s : Session) → s.epoch ≢ LAST_EPOCH → answer s Checkpoint ≡ script_line (codes "ok")
 unfolding answer
-renewed_answer s other = cond-false (is_last s) worn_line (ended (codes "ok")) (ne_eqb s.epoch LAST_EPOCH other)
+renewed_answer s other = cond-false (is_last s) worn_line (script_line (codes "ok")) (ne_eqb s.epoch LAST_EPOCH other)
 
 pub renewed_after : (s now : Session) → s.epoch ≢ LAST_EPOCH → now.desktop ≡ s.desktop → now.layout ≡ LAYOUT
-    → now.epoch ≡ s.epoch + 1 → now.events ≡ 0 → now ≡ after s Checkpoint
-unfolding after
+    → now.epoch ≡ s.epoch + 1 → now.events ≡ 0 → now ≡ session_after s Checkpoint
+unfolding session_after
 renewed_after s now other desktop layout epoch events =
     session_parts now (renewed s) desktop layout epoch events
     ∙ sym (cond-false (is_last s) s (renewed s) (ne_eqb s.epoch LAST_EPOCH other))

@@ -14,7 +14,7 @@ use Rattle.store_layout.specs.Meaning.{Means, MeansEither}
 use Rattle.store_layout.specs.declared.layout.TheConstants.{JOURNAL_EVENTS}
 use Rattle.desk_journal.specs.Checkpointing.{LeavesDesktop}
 use Rattle.desk_journal.specs.Device.{IsOnlyRead, IsSameDevice}
-use Rattle.desk_journal.specs.Posting.{LeavesEither, Needs, TurnsAway, IsLast}
+use Rattle.desk_journal.specs.Posting.{LeavesEither, IsDueBefore, TurnsAway, IsLast}
 use Rattle.desk_journal.specs.Prefixes.{MeansPrefix}
 use Rattle.desk_journal.specs.View.{StoreView, IsDurable}
 use Rattle.desk_journal.proofs.Passing.{at_start, shows_means}
@@ -24,18 +24,18 @@ use Rattle.script_lines.specs.declared.request.Request.{Request}
 use Rattle.script_lines.specs.declared.request.Request.TheVariants.{Post, Checkpoint, Show, Listing, Display, Malformed}
 use Rattle.script_lines.specs.Request.{request_of}
 use Rattle.desk_journal.specs.Session.{Session, is_due, is_last, is_worn, renewed, stepped}
-use Rattle.oberon_main.specs.Answers.{after, after_all}
+use Rattle.oberon_main.specs.Answers.{session_after, after_all}
 use Rattle.desk_journal.specs.Session.{session_of}
-use Rattle.oberon_main.specs.Surviving.{posted, accepted, LinesAreSteps, MeansLines, KeepsAnswered, Withstands, Spares}
-use Rattle.oberon_main.specs.ByLines.{Lasts, LeavesLine, Serves}
+use Rattle.oberon_main.specs.Surviving.{events_posted, accepted_of_lines, LinesAreSteps, MeansLines, KeepsAnswered, Withstands, SparesRequest}
+use Rattle.oberon_main.specs.ByLines.{Lasts, LeavesLine, ServesLine}
 use Rattle.oberon_main.proofs.Sessions.{worn_parts}
 
 -- ---- the events of lines
 
 -- whether or not a checkpoint comes first, an event that is accepted is one step
 pub stepped_once : (s : Session) (event : Event) → is_worn s ≡ false
-    → (after s (Post event)).desktop ≡ (step s.desktop event).desktop
-unfolding after
+    → (session_after s (Post event)).desktop ≡ (step s.desktop event).desktop
+unfolding session_after
 stepped_once s event room = ap (λ (t : Session). t.desktop)
     (cond-false (is_worn s) s (stepped (if is_due s then renewed s else s) event) room)
     ∙ ap (λ d. (step d event).desktop) (either_way (is_due s))
@@ -44,8 +44,8 @@ stepped_once s event room = ap (λ (t : Session). t.desktop)
     either_way true = refl
     either_way false = refl
 
-pub not_stepped : (s : Session) (event : Event) → is_worn s ≡ true → (after s (Post event)).desktop ≡ s.desktop
-unfolding after
+pub not_stepped : (s : Session) (event : Event) → is_worn s ≡ true → (session_after s (Post event)).desktop ≡ s.desktop
+unfolding session_after
 not_stepped s event worn = ap (λ (t : Session). t.desktop)
     (cond-true (is_worn s) s (stepped (if is_due s then renewed s else s) event) worn)
 
@@ -53,12 +53,12 @@ renewing : (s : Session) (b : Bool) → (if b then s else renewed s).desktop ≡
 renewing s true = refl
 renewing s false = refl
 
-pub checkpoint_steps : (s : Session) → (after s Checkpoint).desktop ≡ s.desktop
-unfolding after
+pub checkpoint_steps : (s : Session) → (session_after s Checkpoint).desktop ≡ s.desktop
+unfolding session_after
 checkpoint_steps s = renewing s (is_last s)
 
-posting : (s : Session) (event : Event) → (after s (Post event)).desktop ≡ steps s.desktop (posted s (Post event))
-unfolding posted
+posting : (s : Session) (event : Event) → (session_after s (Post event)).desktop ≡ steps s.desktop (events_posted s (Post event))
+unfolding events_posted
 posting s event = elim (true_or_false (is_worn s)) [
   | inl worn ↦ not_stepped s event worn
       ∙ sym (ap (steps s.desktop) (cond-true (is_worn s) [] (event ∷ []) worn))
@@ -66,8 +66,8 @@ posting s event = elim (true_or_false (is_worn s)) [
       ∙ sym (ap (steps s.desktop) (cond-false (is_worn s) [] (event ∷ []) room))
 ]
 
-request_steps : (s : Session) (request : Request) → (after s request).desktop ≡ steps s.desktop (posted s request)
-unfolding after posted
+request_steps : (s : Session) (request : Request) → (session_after s request).desktop ≡ steps s.desktop (events_posted s request)
+unfolding session_after events_posted
 request_steps s (Post event) = posting s event
 request_steps s Checkpoint = checkpoint_steps s
 request_steps s (Show name) = refl
@@ -78,19 +78,19 @@ request_steps s Malformed = refl
 pub lines_steps : LinesAreSteps
 lines_steps s [] = refl
 lines_steps s (line ∷ lines) =
-    let first = posted s (request_of line) in
-    let later = accepted (after s (request_of line)) lines in
-    lines_steps (after s (request_of line)) lines
+    let first = events_posted s (request_of line) in
+    let later = accepted_of_lines (session_after s (request_of line)) lines in
+    lines_steps (session_after s (request_of line)) lines
     ∙ ap (λ d. steps d later) (request_steps s (request_of line))
     ∙ sym (steps_both s.desktop first later)
 
 accepted_both : (s : Session) (lines more : List (List ℕ))
-    → accepted s (lines ++ more) ≡ accepted s lines ++ accepted (after_all s lines) more
+    → accepted_of_lines s (lines ++ more) ≡ accepted_of_lines s lines ++ accepted_of_lines (after_all s lines) more
 accepted_both s [] more = refl
 accepted_both s (line ∷ lines) more =
-    let next = after s (request_of line) in
-    ap (λ es. posted s (request_of line) ++ es) (accepted_both next lines more)
-    ∙ sym (append_assoc (posted s (request_of line)) (accepted next lines) (accepted (after_all next lines) more))
+    let next = session_after s (request_of line) in
+    ap (λ es. events_posted s (request_of line) ++ es) (accepted_both next lines more)
+    ∙ sym (append_assoc (events_posted s (request_of line)) (accepted_of_lines next lines) (accepted_of_lines (after_all next lines) more))
 
 -- ---- what an image means
 
@@ -98,26 +98,26 @@ accepted_both s (line ∷ lines) more =
 all_lines : (size : ℕ) (s : Session) (lines : List (List ℕ)) (c : Content)
     → Means size (after_all s lines).desktop c → MeansLines size s lines lines c
 all_lines size s lines c means =
-    subst (λ es. MeansPrefix size s.desktop (accepted s lines) es c) (append-nil (accepted s lines))
-    (whole_prefix size s.desktop (accepted s lines) [] c (subst (λ d. Means size d c) (lines_steps s lines) means))
+    subst (λ es. MeansPrefix size s.desktop (accepted_of_lines s lines) es c) (append-nil (accepted_of_lines s lines))
+    (whole_prefix size s.desktop (accepted_of_lines s lines) [] c (subst (λ d. Means size d c) (lines_steps s lines) means))
 
 -- more lines follow
 more_follow : (size : ℕ) (s : Session) (answered lines more : List (List ℕ)) (c : Content)
     → MeansLines size s answered lines c → MeansLines size s answered (lines ++ more) c
 more_follow size s answered lines more c p =
-    subst (λ es. MeansPrefix size s.desktop (accepted s answered) es c) (sym (accepted_both s lines more))
-    (prefix_of_more size s.desktop (accepted s answered) (accepted s lines) (accepted (after_all s lines) more) c p)
+    subst (λ es. MeansPrefix size s.desktop (accepted_of_lines s answered) es c) (sym (accepted_both s lines more))
+    (prefix_of_more size s.desktop (accepted_of_lines s answered) (accepted_of_lines s lines) (accepted_of_lines (after_all s lines) more) c p)
 
 -- lines went before
 lines_behind : (size : ℕ) (s : Session) (lines answered more : List (List ℕ)) (c : Content)
     → MeansLines size (after_all s lines) answered more c → MeansLines size s (lines ++ answered) (lines ++ more) c
 lines_behind size s lines answered more c p =
     let next = after_all s lines in
-    let some = accepted next answered in
-    let all = accepted next more in
-    subst (λ es. MeansPrefix size s.desktop (accepted s (lines ++ answered)) es c) (sym (accepted_both s lines more))
-    (subst (λ es. MeansPrefix size s.desktop es (accepted s lines ++ all) c) (sym (accepted_both s lines answered))
-    (prefix_behind size s.desktop (accepted s lines) some all c
+    let some = accepted_of_lines next answered in
+    let all = accepted_of_lines next more in
+    subst (λ es. MeansPrefix size s.desktop (accepted_of_lines s (lines ++ answered)) es c) (sym (accepted_both s lines more))
+    (subst (λ es. MeansPrefix size s.desktop es (accepted_of_lines s lines ++ all) c) (sym (accepted_both s lines answered))
+    (prefix_behind size s.desktop (accepted_of_lines s lines) some all c
     (subst (λ d. MeansPrefix size d some all c) (lines_steps s lines) p)))
 
 -- ---- one line
@@ -148,8 +148,8 @@ module _ {D : Type 0} (d : Ghosts D) where
   line_moments : (old new : StoreView D) (line : List ℕ) → LeavesLine d line old new
       → LeavesOnly (d.trail old.disk) (d.trail new.disk) (MeansLines (d.size old.disk) (session_of old) [] (line ∷ []))
   line_moments old new line moments = weakened moments (λ c either. elim either [
-    | inl means ↦ no_prefix (d.size old.disk) old.desktop (accepted (session_of old) (line ∷ [])) c means
-    | inr means ↦ fewer_acknowledged (d.size old.disk) old.desktop (accepted (session_of old) (line ∷ [])) _ c
+    | inl means ↦ no_prefix (d.size old.disk) old.desktop (accepted_of_lines (session_of old) (line ∷ [])) c means
+    | inr means ↦ fewer_acknowledged (d.size old.disk) old.desktop (accepted_of_lines (session_of old) (line ∷ [])) _ c
         (all_lines (d.size old.disk) (session_of old) (line ∷ []) c means)
   ])
 
@@ -162,12 +162,12 @@ module _ {D : Type 0} (d : Ghosts D) where
   }
 
   -- a line that was served
-  pub served_line : (old new : StoreView D) (line : List ℕ) → Serves d line old new
+  pub served_line : (old new : StoreView D) (line : List ℕ) → ServesLine d line old new
       → KeepsAnswered d (line ∷ []) (line ∷ []) old new
   served_line old new line serves = record {
     any_moment = line_moments old new line serves.any_moment;
     at_last = λ c image. all_lines (d.size old.disk) (session_of old) (line ∷ []) c
-        (subst (λ n. Means n (after (session_of old) (request_of line)).desktop c) serves.as_large
+        (subst (λ n. Means n (session_after (session_of old) (request_of line)).desktop c) serves.as_large
         (subst (λ (s : Session). Means (d.size new.disk) s.desktop c) serves.session
         (lasting_means new serves.lasts c image)));
   }
@@ -189,7 +189,7 @@ module _ {D : Type 0} (d : Ghosts D) where
         any_moment = chained
             (weakened before.any_moment (λ c p. more_follow size s [] lines more c p))
             (weakened following.any_moment
-            (λ c p. fewer_acknowledged size s.desktop (accepted s (lines ++ [])) (accepted s (lines ++ more)) c (seen [] c p)));
+            (λ c p. fewer_acknowledged size s.desktop (accepted_of_lines s (lines ++ [])) (accepted_of_lines s (lines ++ more)) c (seen [] c p)));
         at_last = λ c image. seen answered c (following.at_last c image);
       }
 
@@ -222,7 +222,7 @@ module _ {D : Type 0} (d : Ghosts D) where
     as_large = read.device.as_large;
   }
 
-  pub look_spares : (old new : StoreView D) → IsOnlyRead d old.disk new.disk → Spares d old new
+  pub look_spares : (old new : StoreView D) → IsOnlyRead d old.disk new.disk → SparesRequest d old new
   look_spares old new read durable honest = weakened (read.unwritten honest)
       (λ c image. durable_means d old durable honest c image)
 
@@ -235,7 +235,7 @@ module _ {D : Type 0} (d : Ghosts D) where
 
   -- in the last epoch, where a checkpoint is due, nothing changes
   pub post_withstands : (event : Event) (refused : Type 0) (old new : StoreView D) → old.must_reopen ≡ false
-      → LeavesEither d event old new → TurnsAway refused (IsLast old × Needs old) old new
+      → LeavesEither d event old new → TurnsAway refused (IsLast old × IsDueBefore old) old new
       → IsSameDevice d old.disk new.disk → Withstands d (Post event) old new
   post_withstands event refused old new usable leaves turned device = elim (true_or_false (is_worn (session_of old))) [
     | inl worn ↦

@@ -11,8 +11,8 @@ use Rattle.script_lines.specs.declared.request.Request.{Request}
 use Rattle.script_lines.specs.declared.request.Request.TheVariants.{Malformed}
 use Rattle.oberon_main.specs.declared.answering.Answer.{Answer}
 use Rattle.oberon_main.specs.declared.playing.PlayEnd.{PlayEnd}
-use Rattle.oberon_main.specs.Answers.{answer, after, worn_line}
-use Rattle.oberon_main.specs.Worked.{bytes_of, IsWorkedOut, WorksOut, LooksOut}
+use Rattle.oberon_main.specs.Answers.{answer, session_after, worn_line}
+use Rattle.oberon_main.specs.Worked.{bytes_of_answer, IsWorkedOut, WorksOut, LooksOut}
 use Rattle.oberon_main.proofs.Surviving.{look_withstands, look_spares}
 
 module _ {D : Type 0} (d : Ghosts D) {request : Request} {result : Result Answer PlayEnd} where
@@ -28,9 +28,9 @@ module _ {D : Type 0} (d : Ghosts D) {request : Request} {result : Result Answer
 
   -- A worn store changes nothing, and says so; any other refusal ends the script.
   pub refusal_works_out : {error : Error} {refused when : Type 0} (old new : StoreView D)
-      → IfOk result (λ a. (error ≡ Worn) × (bytes_of a ≡ worn_line)) → TurnsAway refused when old new
+      → IfOk result (λ a. (error ≡ Worn) × (bytes_of_answer a ≡ worn_line)) → TurnsAway refused when old new
       → (error ≡ Worn → refused)
-      → (when → (answer (session_of old) request ≡ worn_line) × (after (session_of old) request ≡ session_of old))
+      → (when → (answer (session_of old) request ≡ worn_line) × (session_after (session_of old) request ≡ session_of old))
       → old.must_reopen ≡ false → (d.honest new.disk ↔ d.honest old.disk) → IsWorkedOut d request result old new
   refusal_works_out old new says turned worn same usable premise = record {
     bytes = IfOk-weaker result _ _ (λ a is honest. is.1 ∙ sym (same (turned.only (worn is.0))).0) says;

@@ -11,10 +11,10 @@ use Rattle.script_lines.specs.declared.line.Line.{Line}
 use Rattle.script_lines.specs.declared.request.Request.TheVariants.{Malformed}
 use Rattle.script_lines.specs.Script.{IsLine, IsSplit, BeginsWith, lines_at_end}
 use Rattle.script_lines.specs.Request.{request_of}
-use Rattle.script_lines.specs.Reading.{Holds}
+use Rattle.script_lines.specs.Reading.{HoldsLine}
 use Rattle.oberon_main.specs.declared.playing.PlayEnd.{PlayEnd}
 use Rattle.oberon_main.specs.declared.playing.PlayEnd.TheVariants.{Done, Fault, Memory, Input, Output}
-use Rattle.oberon_main.specs.Answers.{answer, after, out}
+use Rattle.oberon_main.specs.Answers.{answer, session_after, answers_to}
 use Rattle.desk_journal.specs.Session.{session_of}
 use Rattle.oberon_main.specs.Play.{CountsEnd, last_word}
 use Rattle.oberon_main.specs.Surviving.{LeavesFirst}
@@ -51,12 +51,12 @@ module _ {D : Type 0} (d : Ghosts D) where
   -- at every moment a crash leaves the desktop before the line or the one after it
   abbrev pub LeavesLine : List ℕ → StoreView D → StoreView D → Type 0
   LeavesLine line old new = LeavesOnly (d.trail old.disk) (d.trail new.disk)
-      (MeansEither (d.size old.disk) old.desktop (after (session_of old) (request_of line)).desktop)
+      (MeansEither (d.size old.disk) old.desktop (session_after (session_of old) (request_of line)).desktop)
 
   -- The line was served: its answer was worked out. The store then shows the session after it, and a crash leaves that.
-  pub record Serves (line : List ℕ) (old new : StoreView D) : Type 0 where
+  pub record ServesLine (line : List ℕ) (old new : StoreView D) : Type 0 where
     pub any_moment : LeavesLine line old new
-    pub session : session_of new ≡ after (session_of old) (request_of line)
+    pub session : session_of new ≡ session_after (session_of old) (request_of line)
     pub lasts : Lasts new
     pub as_large : d.size new.disk ≡ d.size old.disk
 
@@ -67,34 +67,34 @@ module _ {D : Type 0} (d : Ghosts D) where
   LeavesAt Fault line old new = LeavesLine line old new
   LeavesAt Memory line old new = LeavesFirst d old new
   LeavesAt Input line old new = ⊥
-  LeavesAt Output line old new = Serves line old new
+  LeavesAt Output line old new = ServesLine line old new
 
   abbrev pub LeavesBy : Result Unit PlayEnd → List ℕ → StoreView D → StoreView D → Type 0
-  LeavesBy (Ok done) line old new = Serves line old new
+  LeavesBy (Ok done) line old new = ServesLine line old new
   LeavesBy (Err end) line old new = LeavesAt end line old new
 
   -- what is left of a line that is held, whatever the line is
   abbrev pub LineSurvives : Line → Result Unit PlayEnd → StoreView D → StoreView D → Type 0
-  LineSurvives held result old new = IsDurable d old → d.honest old.disk → (line : List ℕ) → Holds held line
+  LineSurvives held result old new = IsDurable d old → d.honest old.disk → (line : List ℕ) → HoldsLine held line
       → LeavesBy result line old new
 
   -- ---- lines, one after another
 
   -- These lines led from the one state of the store to the other: each was served, from where those before it led.
-  abbrev pub IsRun : List (List ℕ) → StoreView D → StoreView D → Type 0
-  IsRun [] old new = new ≡ old
-  IsRun (line ∷ lines) old new = (mid : StoreView D) × Serves line old mid × IsRun lines mid new
+  abbrev pub IsLineRun : List (List ℕ) → StoreView D → StoreView D → Type 0
+  IsLineRun [] old new = new ≡ old
+  IsLineRun (line ∷ lines) old new = (mid : StoreView D) × ServesLine line old mid × IsLineRun lines mid new
 
   -- what is left of what stands after the last line feed: nothing, or a line
   abbrev pub RestLeaves : PlayEnd → List ℕ → StoreView D → StoreView D → Type 0
-  RestLeaves Done rest old new = IsRun (lines_at_end [] rest) old new
+  RestLeaves Done rest old new = IsLineRun (lines_at_end [] rest) old new
   RestLeaves Fault rest old new = LeavesAt Fault rest old new
   RestLeaves Memory rest old new = LeavesAt Memory rest old new
   RestLeaves Input rest old new = LeavesAt Input rest old new
   RestLeaves Output rest old new = LeavesAt Output rest old new
 
   abbrev pub RestSurvives : Line → PlayEnd → StoreView D → StoreView D → Type 0
-  RestSurvives held end old new = IsDurable d old → d.honest old.disk → (rest : List ℕ) → Holds held rest
+  RestSurvives held end old new = IsDurable d old → d.honest old.disk → (rest : List ℕ) → HoldsLine held rest
       → RestLeaves end rest old new
 
   -- ---- how a script ends
@@ -108,19 +108,19 @@ module _ {D : Type 0} (d : Ghosts D) where
     pub leaves : LeavesAt end line old new
 
   -- Why no line was answered after these, and what the store came to since then. That the output failed is no reason.
-  abbrev pub Stops : PlayEnd → Option (List ℕ) → Option (List ℕ) → List (List ℕ) → StoreView D → StoreView D → Type 0
-  Stops Done from left answered old new = (new ≡ old) × IfSome from (λ script. AreLines script answered)
-  Stops Fault from left answered old new = FailsIn Fault from answered old new
-  Stops Memory from left answered old new = FailsIn Memory from answered old new
-  Stops Input from left answered old new = (new ≡ old) × IfSome from (λ script. CameWhole script left answered)
-  Stops Output from left answered old new = ⊥
+  abbrev pub ScriptStops : PlayEnd → Option (List ℕ) → Option (List ℕ) → List (List ℕ) → StoreView D → StoreView D → Type 0
+  ScriptStops Done from left answered old new = (new ≡ old) × IfSome from (λ script. AreLines script answered)
+  ScriptStops Fault from left answered old new = FailsIn Fault from answered old new
+  ScriptStops Memory from left answered old new = FailsIn Memory from answered old new
+  ScriptStops Input from left answered old new = (new ≡ old) × IfSome from (λ script. CameWhole script left answered)
+  ScriptStops Output from left answered old new = ⊥
 
   -- The output failed in the answer to the line after those that were answered, or when that was to be flushed.
-  pub record IsCutShort (from : Option (List ℕ)) (answered : List (List ℕ)) (old new : StoreView D)
+  pub record IsAnswerCutShort (from : Option (List ℕ)) (answered : List (List ℕ)) (old new : StoreView D)
       (held held' : Option (List ℕ)) : Type 0 where
     pub line : List ℕ
     pub follows : IsNextLine from answered line
-    pub serves : Serves line old new
+    pub serves : ServesLine line old new
     pub written : AppendsFront held held' (answer (session_of old) (request_of line))
 
   -- The output failed in the word that was to say why the script ended before its time.
@@ -128,32 +128,32 @@ module _ {D : Type 0} (d : Ghosts D) where
       (failed failed' : ℕ) (held held' : Option (List ℕ)) : Type 0 where
     pub why : PlayEnd
     pub early : why ≢ Done
-    pub stops : Stops why from left answered old new
+    pub stops : ScriptStops why from left answered old new
     pub counts : CountsEnd why failed failed'
     pub written : AppendsFront held held' (last_word why)
 
   -- the end of a script before its last word
   abbrev pub EndsUnsaid : PlayEnd → Option (List ℕ) → Option (List ℕ) → List (List ℕ) → StoreView D → StoreView D
       → Option (List ℕ) → Option (List ℕ) → Type 0
-  EndsUnsaid Done from left answered old new held held' = Stops Done from left answered old new × Keeps held held'
-  EndsUnsaid Fault from left answered old new held held' = Stops Fault from left answered old new × Keeps held held'
-  EndsUnsaid Memory from left answered old new held held' = Stops Memory from left answered old new × Keeps held held'
-  EndsUnsaid Input from left answered old new held held' = Stops Input from left answered old new × Keeps held held'
-  EndsUnsaid Output from left answered old new held held' = IsCutShort from answered old new held held'
+  EndsUnsaid Done from left answered old new held held' = ScriptStops Done from left answered old new × Keeps held held'
+  EndsUnsaid Fault from left answered old new held held' = ScriptStops Fault from left answered old new × Keeps held held'
+  EndsUnsaid Memory from left answered old new held held' = ScriptStops Memory from left answered old new × Keeps held held'
+  EndsUnsaid Input from left answered old new held held' = ScriptStops Input from left answered old new × Keeps held held'
+  EndsUnsaid Output from left answered old new held held' = IsAnswerCutShort from answered old new held held'
 
   -- the end of a script with its last word
   abbrev pub EndsSaid : PlayEnd → Option (List ℕ) → Option (List ℕ) → List (List ℕ) → StoreView D → StoreView D
       → ℕ → ℕ → Option (List ℕ) → Option (List ℕ) → Type 0
   EndsSaid Done from left answered old new failed failed' held held' =
-      Stops Done from left answered old new × Appends held held' (last_word Done)
+      ScriptStops Done from left answered old new × Appends held held' (last_word Done)
   EndsSaid Fault from left answered old new failed failed' held held' =
-      Stops Fault from left answered old new × Appends held held' (last_word Fault)
+      ScriptStops Fault from left answered old new × Appends held held' (last_word Fault)
   EndsSaid Memory from left answered old new failed failed' held held' =
-      Stops Memory from left answered old new × Appends held held' (last_word Memory)
+      ScriptStops Memory from left answered old new × Appends held held' (last_word Memory)
   EndsSaid Input from left answered old new failed failed' held held' =
-      Stops Input from left answered old new × Appends held held' (last_word Input)
+      ScriptStops Input from left answered old new × Appends held held' (last_word Input)
   EndsSaid Output from left answered old new failed failed' held held' =
-      (IsCutShort from answered old new held held' × (failed' ≡ failed))
+      (IsAnswerCutShort from answered old new held held' × (failed' ≡ failed))
       ⊎ IsUnsaid from left answered old new failed failed' held held'
 
   -- ---- a script
@@ -166,9 +166,9 @@ module _ {D : Type 0} (d : Ghosts D) where
     pub answered : List (List ℕ)
     pub plain : AllByRecursion IsLine answered
     pub mid : StoreView D
-    pub run : IsRun answered old mid
+    pub run : IsLineRun answered old mid
     pub held_mid : Option (List ℕ)
-    pub written : Appends held held_mid (out (session_of old) answered)
+    pub written : Appends held held_mid (answers_to (session_of old) answered)
     pub ends : Ends answered mid held_mid
 
   abbrev pub PlaysLines : PlayEnd → Option (List ℕ) → Option (List ℕ) → Option (List ℕ) → Option (List ℕ)

@@ -8,12 +8,12 @@ use Rattle.script_lines.specs.Script.{lines_at_end}
 use Rattle.desk_journal.specs.Files.{FileKeeps}
 use Rattle.desk_journal.specs.Session.{session_of}
 use Rattle.desk_journal.specs.View.{StoreView}
-use Rattle.oberon_main.specs.Surviving.{Survives, accepted}
+use Rattle.oberon_main.specs.Surviving.{ScriptSurvives, accepted_of_lines}
 
 -- Whatever a script leaves: at each moment each image that a crash may leave of the file's bytes means the desktop after
 -- a prefix of the events accepted of its lines, and at the end one that holds those of every line that was answered.
 abbrev pub FileScriptsSurvive : {F : Type 0} (f : Ghosts F) → DiskGhosts (FileDisk F f) → Type 0
 FileScriptsSurvive {F = F} f d = (script : List ℕ) (held held' : Option (List ℕ)) (old new : StoreView (FileDisk F f))
-    → (left : Survives d script held held' old new)
-    → FileKeeps f old.desktop (accepted (session_of old) left.answered)
-    (accepted (session_of old) (lines_at_end left.begins.ends left.begins.rest)) old new
+    → (left : ScriptSurvives d script held held' old new)
+    → FileKeeps f old.desktop (accepted_of_lines (session_of old) left.answered)
+    (accepted_of_lines (session_of old) (lines_at_end left.begins.ends left.begins.rest)) old new

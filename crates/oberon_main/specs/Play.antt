@@ -5,14 +5,14 @@ use Rattle.std.specs.Prelude.{Result, OnOk, IfErr, codes, false}
 use Rattle.std.specs.Io.KnownBytes.{Appends, Consumes, Keeps}
 use Rattle.oberon_main.specs.declared.playing.PlayEnd.{PlayEnd}
 use Rattle.oberon_main.specs.declared.playing.PlayEnd.TheVariants.{Done, Fault, Memory, Input, Output}
-use Rattle.script_lines.specs.Script.{ended, IsSplit, lines_at_end, BeginsWith}
+use Rattle.script_lines.specs.Script.{script_line, IsSplit, lines_at_end, BeginsWith}
 use Rattle.script_lines.specs.declared.request.Request.{Request}
 use Rattle.script_lines.specs.declared.request.Request.TheVariants.{Malformed}
 use Rattle.script_lines.specs.Request.{request_of}
 use Rattle.desk_journal.specs.Session.{Session}
-use Rattle.oberon_main.specs.Answers.{answer, after, out, after_all}
+use Rattle.oberon_main.specs.Answers.{answer, session_after, answers_to, after_all}
 use Rattle.script_lines.specs.declared.line.Line.{Line}
-use Rattle.script_lines.specs.Reading.{Holds}
+use Rattle.script_lines.specs.Reading.{HoldsLine}
 use Rattle.desk_journal.specs.Session.{session_of}
 use Rattle.sector_disk.specs.declared.disk.Disk.{Ghosts}
 use Rattle.desk_journal.specs.View.{StoreView}
@@ -21,9 +21,9 @@ use Rattle.screen_cells.specs.Sent.{AppendsFront}
 -- what stands after the last answer
 abbrev pub last_word : PlayEnd → List ℕ
 last_word Done = []
-last_word Fault = ended (codes "fault")
-last_word Memory = ended (codes "memory")
-last_word Input = ended (codes "input")
+last_word Fault = script_line (codes "fault")
+last_word Memory = script_line (codes "memory")
+last_word Input = script_line (codes "input")
 last_word Output = []
 
 -- no word
@@ -43,7 +43,7 @@ pub record IsPlayed (script : List ℕ) (before after : Session) (text : List �
   pub lines : List (List ℕ)
   pub rest : List ℕ
   pub split : IsSplit script lines rest
-  pub answers : text ≡ out before (lines_at_end lines rest)
+  pub answers : text ≡ answers_to before (lines_at_end lines rest)
   pub session : after ≡ after_all before (lines_at_end lines rest)
 
 -- The text where a line that isn't malformed fails: the answers to the lines before it, and then the word.
@@ -52,7 +52,7 @@ pub record IsStopped (word script : List ℕ) (before : Session) (text : List �
   pub failed : List ℕ
   pub asked : request_of failed ≢ Malformed
   pub begins : BeginsWith script (lines ++ failed ∷ [])
-  pub answers : text ≡ out before lines ++ word
+  pub answers : text ≡ answers_to before lines ++ word
 
 -- The text where a read fails: the answers to the lines that came whole before it, and then the word.
 pub record IsCutOff (word script : List ℕ) (left : Option (List ℕ)) (before after : Session)
@@ -62,19 +62,19 @@ pub record IsCutOff (word script : List ℕ) (left : Option (List ℕ)) (before 
   pub lines : List (List ℕ)
   pub rest : List ℕ
   pub split : IsSplit read lines rest
-  pub answers : text ≡ out before lines ++ word
+  pub answers : text ≡ answers_to before lines ++ word
   pub session : after ≡ after_all before lines
 
 -- The text of a script that ends so, with this word last. There is none for an output that fails.
 abbrev pub TextOf : PlayEnd → List ℕ → List ℕ → Option (List ℕ) → Session → Session → List ℕ → Type 0
-TextOf Done word script left before after text = IsPlayed script before after text
-TextOf Fault word script left before after text = IsStopped word script before text
-TextOf Memory word script left before after text = IsStopped word script before text
-TextOf Input word script left before after text = IsCutOff word script left before after text
-TextOf Output word script left before after text = ⊥
+TextOf Done word script left before session_after text = IsPlayed script before session_after text
+TextOf Fault word script left before session_after text = IsStopped word script before text
+TextOf Memory word script left before session_after text = IsStopped word script before text
+TextOf Input word script left before session_after text = IsCutOff word script left before session_after text
+TextOf Output word script left before session_after text = ⊥
 
 -- The text of this end was written as a whole.
-pub record IsTold (end : PlayEnd) (word script : List ℕ) (left : Option (List ℕ)) (before after : Session)
+pub record IsEndTold (end : PlayEnd) (word script : List ℕ) (left : Option (List ℕ)) (before after : Session)
     (held held' : Option (List ℕ)) : Type 0 where
   pub text : List ℕ
   pub comes : TextOf end word script left before after text
@@ -87,22 +87,22 @@ pub record IsHalted (script : List ℕ) (left : Option (List ℕ)) (before : Ses
   pub end : PlayEnd
   pub after : Session
   pub text : List ℕ
-  pub comes : TextOf end (last_word end) script left before after text
+  pub comes : TextOf end (last_word end) script left before session_after text
   pub counts : CountsEnd end failed failed'
   pub written : AppendsFront held held' text
 
 -- what a script that ended so has come to, with this word after the answers
 abbrev pub EndsAs : PlayEnd → List ℕ → List ℕ → Option (List ℕ) → Session → Session → ℕ → ℕ → Option (List ℕ)
     → Option (List ℕ) → Type 0
-EndsAs Done word script left before after failed failed' held held' =
-    IsTold Done word script left before after held held'
-EndsAs Fault word script left before after failed failed' held held' =
-    IsTold Fault word script left before after held held'
-EndsAs Memory word script left before after failed failed' held held' =
-    IsTold Memory word script left before after held held'
-EndsAs Input word script left before after failed failed' held held' =
-    IsTold Input word script left before after held held'
-EndsAs Output word script left before after failed failed' held held' =
+EndsAs Done word script left before session_after failed failed' held held' =
+    IsEndTold Done word script left before session_after held held'
+EndsAs Fault word script left before session_after failed failed' held held' =
+    IsEndTold Fault word script left before session_after held held'
+EndsAs Memory word script left before session_after failed failed' held held' =
+    IsEndTold Memory word script left before session_after held held'
+EndsAs Input word script left before session_after failed failed' held held' =
+    IsEndTold Input word script left before session_after held held'
+EndsAs Output word script left before session_after failed failed' held held' =
     IsHalted script left before failed failed' held held'
 
 -- A script was played over a store, and ended so, with what `word` says of an end after the answers.
@@ -146,9 +146,9 @@ CountsInput most Output reads reads' failed failed' = failed ≤ failed'
 -- ---- one line
 
 -- A request was answered, and the session is the one after it.
-pub record IsAnswered (request : Request) (before after_it : Session) (held held' : Option (List ℕ)) : Type 0 where
+pub record IsRequestAnswered (request : Request) (before after_it : Session) (held held' : Option (List ℕ)) : Type 0 where
   pub written : Appends held held' (answer before request)
-  pub session : after_it ≡ after before request
+  pub session : after_it ≡ session_after before request
 
 -- A request whose answer wasn't written as a whole: nothing of it was, or the output failed in it. A malformed line
 -- is always answered.
@@ -162,16 +162,16 @@ LineEndsAs Output request before held held' = AppendsFront held held' (answer be
 -- A line was played over a store, whatever the line is that is held.
 pub record PlaysLine {D : Type 0} (d : Ghosts D) (line : Line) (result : Result Unit PlayEnd)
     (held held' : Option (List ℕ)) (old new : StoreView D) : Type 0 where
-  pub answered : OnOk result (d.honest old.disk → (bytes : List ℕ) → Holds line bytes
-      → IsAnswered (request_of bytes) (session_of old) (session_of new) held held')
-  pub unanswered : IfErr result (λ end. d.honest old.disk → (bytes : List ℕ) → Holds line bytes
+  pub answered : OnOk result (d.honest old.disk → (bytes : List ℕ) → HoldsLine line bytes
+      → IsRequestAnswered (request_of bytes) (session_of old) (session_of new) held held')
+  pub unanswered : IfErr result (λ end. d.honest old.disk → (bytes : List ℕ) → HoldsLine line bytes
       → LineEndsAs end (request_of bytes) (session_of old) held held')
   pub usable : OnOk result (new.must_reopen ≡ false)
   pub premise : d.honest new.disk ↔ d.honest old.disk
 
 -- What stands after the last line feed: nothing, or a line.
 pub record IsLastAnswered (rest : List ℕ) (before after_it : Session) (held held' : Option (List ℕ)) : Type 0 where
-  pub written : Appends held held' (out before (lines_at_end [] rest))
+  pub written : Appends held held' (answers_to before (lines_at_end [] rest))
   pub session : after_it ≡ after_all before (lines_at_end [] rest)
 
 pub record IsLastStopped (end : PlayEnd) (rest : List ℕ) (before : Session)

@@ -8,7 +8,7 @@ use Rattle.script_lines.specs.Reading.{ComesInPieces}
 use Rattle.desk_journal.specs.View.{StoreView}
 use Rattle.oberon_main.specs.declared.playing.PlayEnd.{PlayEnd}
 use Rattle.oberon_main.specs.Play.{Plays, CountsPlay, CountsInput, CountsOutput, last_word}
-use Rattle.oberon_main.specs.Surviving.{Survives}
+use Rattle.oberon_main.specs.Surviving.{ScriptSurvives}
 use Rattle.oberon_main.specs.Moments.{LeavesLines}
 use Rattle.oberon_main.specs.ByLines.{PlaysByLines}
 
@@ -30,4 +30,4 @@ pub record PlaysScript {R W D : Type 0} (r : ReaderGhosts R) (w : WriterGhosts W
       (w.contents writer) (w.contents writer') old new
   pub any_moment : d.honest old.disk → LeavesLines d (r.remaining reader) old new
   pub survives : d.honest old.disk
-      → IfSome (r.remaining reader) (λ script. Survives d script (w.contents writer) (w.contents writer') old new)
+      → IfSome (r.remaining reader) (λ script. ScriptSurvives d script (w.contents writer) (w.contents writer') old new)

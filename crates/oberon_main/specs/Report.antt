@@ -5,18 +5,18 @@ use Rattle.desk_journal.specs.Errors.{Error}
 use Rattle.desk_journal.specs.Errors.{NoMemory, NotAStore, Damaged}
 use Rattle.oberon_main.specs.declared.playing.PlayEnd.{PlayEnd}
 use Rattle.oberon_main.specs.declared.playing.PlayEnd.TheVariants.{Done, Memory}
-use Rattle.script_lines.specs.Script.{ended}
+use Rattle.script_lines.specs.Script.{script_line}
 
 -- a store that can be used: its layout, its epoch, and how many events its journal has
 abbrev pub check_line : ℕ → ℕ → ℕ → List ℕ
-check_line layout epoch events = ended (codes "ok layout " ++ decimal layout ++ codes " epoch " ++ decimal epoch
+check_line layout epoch events = script_line (codes "ok layout " ++ decimal layout ++ codes " epoch " ++ decimal epoch
     ++ codes " events " ++ decimal events)
 
-abbrev pub refusal_line : Error → List ℕ
-refusal_line NotAStore = ended (codes "not a store")
-refusal_line (Damaged sector) = ended (codes "damaged " ++ decimal sector)
-refusal_line NoMemory = ended (codes "memory")
-refusal_line _ = ended (codes "fault")
+abbrev pub error_line : Error → List ℕ
+error_line NotAStore = script_line (codes "not a store")
+error_line (Damaged sector) = script_line (codes "damaged " ++ decimal sector)
+error_line NoMemory = script_line (codes "memory")
+error_line _ = script_line (codes "fault")
 
 abbrev pub refusal_status : Error → ℕ
 refusal_status NotAStore = 3

@@ -15,41 +15,41 @@ use Rattle.script_lines.specs.declared.request.Request.TheVariants.{Post, Checkp
 use Rattle.script_lines.specs.Script.{BeginsWith, lines_at_end}
 use Rattle.script_lines.specs.Request.{request_of}
 use Rattle.desk_journal.specs.Session.{Session, is_worn}
-use Rattle.oberon_main.specs.Answers.{after, out, after_all}
+use Rattle.oberon_main.specs.Answers.{session_after, answers_to, after_all}
 use Rattle.desk_journal.specs.Session.{session_of}
 use Rattle.oberon_main.specs.Play.{last_word}
 
 -- ---- the events of lines
 
 -- the event that a request posts, where it is accepted: a worn store accepts none
-unfoldable pub posted : Session → Request → List Event
-posted s (Post event) = if is_worn s then [] else event ∷ []
-posted s Checkpoint = []
-posted s (Show name) = []
-posted s Listing = []
-posted s Display = []
-posted s Malformed = []
+unfoldable pub events_posted : Session → Request → List Event
+events_posted s (Post event) = if is_worn s then [] else event ∷ []
+events_posted s Checkpoint = []
+events_posted s (Show name) = []
+events_posted s Listing = []
+events_posted s Display = []
+events_posted s Malformed = []
 
 -- the events that lines post, one after another, and that are accepted
-abbrev pub accepted : Session → List (List ℕ) → List Event
-accepted s [] = []
-accepted s (line ∷ lines) = posted s (request_of line) ++ accepted (after s (request_of line)) lines
+abbrev pub accepted_of_lines : Session → List (List ℕ) → List Event
+accepted_of_lines s [] = []
+accepted_of_lines s (line ∷ lines) = events_posted s (request_of line) ++ accepted_of_lines (session_after s (request_of line)) lines
 
 -- lines lead to the desktop to which the events lead that are accepted of them
 abbrev pub LinesAreSteps : Type 0
 LinesAreSteps = (s : Session) (lines : List (List ℕ))
-    → (after_all s lines).desktop ≡ steps s.desktop (accepted s lines)
+    → (after_all s lines).desktop ≡ steps s.desktop (accepted_of_lines s lines)
 
 -- the desktop to which the events lead that are accepted of the lines
 abbrev pub led_to : Session → List (List ℕ) → Desktop
-led_to s lines = steps s.desktop (accepted s lines)
+led_to s lines = steps s.desktop (accepted_of_lines s lines)
 
 -- ---- what an image means
 
 -- The content means the desktop after some of the events accepted of the lines, the first of them and none left out,
 -- and among them every event accepted of the lines that were answered.
 abbrev pub MeansLines : ℕ → Session → List (List ℕ) → List (List ℕ) → Content → Type 0
-MeansLines size before answered lines = MeansPrefix size before.desktop (accepted before answered) (accepted before lines)
+MeansLines size before answered lines = MeansPrefix size before.desktop (accepted_of_lines before answered) (accepted_of_lines before lines)
 
 -- Between two moments of a store a crash leaves the desktop after a prefix of the events of the lines, and at the
 -- second of them one that holds every event of the lines that were answered.
@@ -69,28 +69,28 @@ LeavesFirst d old new = LeavesOnly (d.trail old.disk) (d.trail new.disk) (Means 
 pub record Withstands {D : Type 0} (d : Ghosts D) (request : Request) (old new : StoreView D) : Type 0 where
   pub any_moment : IsDurable d old → d.honest old.disk
       → LeavesOnly (d.trail old.disk) (d.trail new.disk)
-      (MeansEither (d.size old.disk) old.desktop (after (session_of old) request).desktop)
+      (MeansEither (d.size old.disk) old.desktop (session_after (session_of old) request).desktop)
   pub as_large : d.size new.disk ≡ d.size old.disk
 
 -- Nothing of a request is in any image: at each moment a crash leaves the desktop before it.
-abbrev pub Spares : {D : Type 0} → Ghosts D → StoreView D → StoreView D → Type 0
-Spares d old new = IsDurable d old → d.honest old.disk → LeavesFirst d old new
+abbrev pub SparesRequest : {D : Type 0} → Ghosts D → StoreView D → StoreView D → Type 0
+SparesRequest d old new = IsDurable d old → d.honest old.disk → LeavesFirst d old new
 
 -- ---- a script
 
 -- all that was written is a prefix of the answers and the word that says why the script ended
-abbrev pub TakesAll : Option (List ℕ) → Option (List ℕ) → List ℕ → Type 0
-TakesAll held held' answers = (end : PlayEnd) × AppendsFront held held' (answers ++ last_word end)
+abbrev pub HasTakenAnswers : Option (List ℕ) → Option (List ℕ) → List ℕ → Type 0
+HasTakenAnswers held held' answers = (end : PlayEnd) × AppendsFront held held' (answers ++ last_word end)
 
 -- At every moment each image that a crash may leave means the desktop after a prefix of the events that the lines of
 -- the script post and that are accepted. At the end this prefix holds each event whose answer was worked out, and so
 -- each whose answer was written, in whole or in part.
-pub record Survives {D : Type 0} (d : Ghosts D) (script : List ℕ) (held held' : Option (List ℕ))
+pub record ScriptSurvives {D : Type 0} (d : Ghosts D) (script : List ℕ) (held held' : Option (List ℕ))
     (old new : StoreView D) : Type 0 where
   -- the first lines of the script, whose answers were worked out
   pub answered : List (List ℕ)
   pub begins : BeginsWith script answered
   -- what was written of their answers
-  pub written : TakesAll held held' (out (session_of old) answered)
+  pub written : HasTakenAnswers held held' (answers_to (session_of old) answered)
   -- the desktop after a prefix of the events of all its lines, which at last holds those of the lines answered
   pub kept : KeepsAnswered d answered (lines_at_end begins.ends begins.rest) old new

@@ -3,7 +3,7 @@ ghost use Rattle.std.specs.Prelude.{◌≡◌, ◌≢◌, false, IfOk, IfErr};
 ghost use Rattle.script_lines.specs.declared.request.Request.TheVariants.{Post, Checkpoint, Show};
 ghost use Rattle.script_lines.specs.declared.request.Request.TheVariants.{Listing, Display};
 ghost use Rattle.oberon_main.specs.Answers.{worn_line};
-ghost use Rattle.oberon_main.specs.Worked.{bytes_of, end_of, WorksOut, LooksOut};
+ghost use Rattle.oberon_main.specs.Worked.{bytes_of_answer, play_end_of, WorksOut, LooksOut};
 
 use crate::playing::PlayEnd;
 use desk_journal::{Error, Store};
@@ -26,7 +26,7 @@ pub enum Answer {
 impl Answer {
     /// Its bytes, with the line feed of each line.
     pub fn as_bytes(&self) -> &[u8]
-        ensures { result.now ≡ bytes_of self.now }
+        ensures { result.now ≡ bytes_of_answer self.now }
     {
         match self {
             Answer::Short(line) => line.as_slice(),
@@ -36,7 +36,7 @@ impl Answer {
 }
 
 /// Works out the answer to a request as a whole. Events and checkpoints change the store, nothing else does.
-#[tactic(auto, unfolding(crate::specs::Answers::answer, crate::specs::Answers::after))]
+#[tactic(auto, unfolding(crate::specs::Answers::answer, crate::specs::Answers::session_after))]
 pub fn work_out<D: Disk>(
     alloc: Global,
     request: &Request,
@@ -79,8 +79,8 @@ fn checkpoint<D: Disk>(store: &mut Store<D>) -> Result<Answer, PlayEnd>
 
 /// What a post or a checkpoint comes to that was refused: `worn` in the last epoch, else the script ends.
 fn refused(error: Error) -> Result<Answer, PlayEnd>
-    ensures worn { IfOk result (λ a. (error ≡ Error.Worn) × (bytes_of a ≡ worn_line)) }
-    ensures other { IfErr result (λ end. (error ≢ Error.Worn) × (end ≡ end_of error)) }
+    ensures worn { IfOk result (λ a. (error ≡ Error.Worn) × (bytes_of_answer a ≡ worn_line)) }
+    ensures other { IfErr result (λ end. (error ≢ Error.Worn) × (end ≡ play_end_of error)) }
 {
     match error {
         Error::Worn => Ok(Answer::Short(short_line(b"worn"))),
@@ -89,7 +89,7 @@ fn refused(error: Error) -> Result<Answer, PlayEnd>
 }
 
 /// Works out the lines of a file's text, or that there is no such file.
-#[tactic(auto, unfolding(crate::specs::Answers::answer, crate::specs::Answers::after))]
+#[tactic(auto, unfolding(crate::specs::Answers::answer, crate::specs::Answers::session_after))]
 fn show<D: Disk>(alloc: Global, name: &Name, store: &mut Store<D>) -> Result<Answer, PlayEnd>
     requires { store.old.must_reopen ≡ false }
     ensures { LooksOut D.Disk (Show name.now) result store.old store.new }
@@ -101,7 +101,7 @@ fn show<D: Disk>(alloc: Global, name: &Name, store: &mut Store<D>) -> Result<Ans
 }
 
 /// Works out the lines of what the desktop has.
-#[tactic(auto, unfolding(crate::specs::Answers::answer, crate::specs::Answers::after))]
+#[tactic(auto, unfolding(crate::specs::Answers::answer, crate::specs::Answers::session_after))]
 fn list<D: Disk>(alloc: Global, store: &mut Store<D>) -> Result<Answer, PlayEnd>
     requires { store.old.must_reopen ≡ false }
     ensures { LooksOut D.Disk Listing result store.old store.new }
@@ -111,7 +111,7 @@ fn list<D: Disk>(alloc: Global, store: &mut Store<D>) -> Result<Answer, PlayEnd>
 }
 
 /// Works out the printed screen.
-#[tactic(auto, unfolding(crate::specs::Answers::answer, crate::specs::Answers::after))]
+#[tactic(auto, unfolding(crate::specs::Answers::answer, crate::specs::Answers::session_after))]
 fn screen<D: Disk>(alloc: Global, store: &mut Store<D>) -> Result<Answer, PlayEnd>
     requires { store.old.must_reopen ≡ false }
     ensures { LooksOut D.Disk Display result store.old store.new }

@@ -3,14 +3,14 @@ ghost use Rattle.std.specs.Prelude.{◌≡◌, ◌+◌, ◌≤◌, ◌↔◌, �
 ghost use Rattle.sector_disk.specs.Faults.{FailsAs, OneOf};
 ghost use Rattle.screen_cells.specs.Sent.{Sends};
 ghost use Rattle.oberon_main.specs.declared.playing.PlayEnd.TheVariants as ends;
-ghost use Rattle.script_lines.specs.Reading.{Holds, ComesInPieces};
+ghost use Rattle.script_lines.specs.Reading.{HoldsLine, ComesInPieces};
 ghost use Rattle.desk_journal.specs.Session.{session_of};
 ghost use Rattle.oberon_main.specs.Play.{Plays, CountsEnd, CountsInput, CountsOutput, PlaysLine};
 ghost use Rattle.oberon_main.specs.Play.{RestEndsAs, last_word, no_word};
 ghost use Rattle.script_streams.specs.Counting.{CountsFault};
 ghost use Rattle.oberon_main.specs.Promised.{PlaysScript};
 ghost use Rattle.oberon_main.specs.ByLines.{PlaysLines, LineSurvives, RestSurvives};
-ghost use Rattle.oberon_main.specs.Worked.{end_of};
+ghost use Rattle.oberon_main.specs.Worked.{play_end_of};
 ghost use Rattle.desk_journal.specs.View.{IsDurable};
 
 use crate::answering::work_out;
@@ -56,9 +56,9 @@ impl From<OutputFault> for PlayEnd {
 
 impl From<Error> for PlayEnd {
     ghost use Rattle.std.specs.Prelude.{◌≡◌};
-    ghost use Rattle.oberon_main.specs.Worked.{end_of};
+    ghost use Rattle.oberon_main.specs.Worked.{play_end_of};
 
-    ghost from_gives = { λ error end. end ≡ end_of error };
+    ghost from_gives = { λ error end. end ≡ play_end_of error };
 
     /// A script ends by `Memory` where the store is out of memory, and by `Fault` where it refuses otherwise.
     fn from(error: Error) -> PlayEnd {
@@ -172,7 +172,7 @@ fn play_rest<W: AnswerWriter, D: Disk>(
     store: &mut Store<D>,
 ) -> PlayEnd
     requires { store.old.must_reopen ≡ false }
-    ensures told { D.honest store.old.disk → (rest : List ℕ) → Holds line.now rest
+    ensures told { D.honest store.old.disk → (rest : List ℕ) → HoldsLine line.now rest
         → RestEndsAs result rest (session_of store.old) (session_of store.new)
         (W.contents writer.old) (W.contents writer.new) }
     ensures usable { result ≡ ends.Done → store.new.must_reopen ≡ false }

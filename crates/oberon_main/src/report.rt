@@ -4,7 +4,7 @@ ghost use Rattle.std.specs.Io.KnownBytes.{Appends};
 ghost use Rattle.oberon_main.specs.declared.playing.PlayEnd.TheVariants as ends;
 ghost use Rattle.screen_cells.specs.Sent.{AppendsFront, Sends};
 ghost use Rattle.oberon_main.specs.Play.{CountsOutput};
-ghost use Rattle.oberon_main.specs.Report.{check_line, refusal_line, refusal_status, end_status};
+ghost use Rattle.oberon_main.specs.Report.{check_line, error_line, refusal_status, end_status};
 
 use crate::playing::PlayEnd;
 use arrayvec::ArrayVec;
@@ -67,7 +67,7 @@ pub fn status(end: &PlayEnd) -> u8
 /// there is no store or a damaged one, 5 for want of memory, else 4.
 pub fn refuse<W: AnswerWriter>(writer: &mut W, error: &Error) -> u8
     ensures status { result ≡ refusal_status error.now }
-    ensures said { AppendsFront (W.contents writer.old) (W.contents writer.new) (refusal_line error.now) }
+    ensures said { AppendsFront (W.contents writer.old) (W.contents writer.new) (error_line error.now) }
 {
     let _ = say_refusal(writer, error);
     match error {
@@ -79,7 +79,7 @@ pub fn refuse<W: AnswerWriter>(writer: &mut W, error: &Error) -> u8
 
 /// Writes the line about a refusal.
 fn say_refusal<W: AnswerWriter>(writer: &mut W, error: &Error) -> Result<(), OutputFault>
-    ensures { Sends result (W.contents writer.old) (W.contents writer.new) (refusal_line error.now) }
+    ensures { Sends result (W.contents writer.old) (W.contents writer.new) (error_line error.now) }
 {
     let line = refusal_bytes(error);
     send(writer, line.as_slice())
@@ -87,7 +87,7 @@ fn say_refusal<W: AnswerWriter>(writer: &mut W, error: &Error) -> Result<(), Out
 
 /// The line about a refusal.
 fn refusal_bytes(error: &Error) -> ShortLine
-    ensures { result.items ≡ refusal_line error.now }
+    ensures { result.items ≡ error_line error.now }
 {
     match error {
         Error::NotAStore => short_line(b"not a store"),

@@ -11,7 +11,7 @@ use Rattle.piece_ring.specs.declared.place.Seam.{Seam}
 use Rattle.piece_ring.specs.BackCursor.{text_before}
 use Rattle.piece_ring.specs.Flat.{run, characters_of, flat}
 use Rattle.piece_ring.specs.Nodes.{pieces}
-use Rattle.piece_ring.specs.Place.{pieces_of, text_of, IsSeam, IsFound}
+use Rattle.piece_ring.specs.Place.{pieces_of, text_along, IsSeam, IsFound}
 use Rattle.piece_ring.specs.PieceList.{IsPieceList}
 use Rattle.piece_ring.specs.Text.{Text}
 use Rattle.piece_ring.proofs.Dividing.{drop_at, first_part, found_long}
@@ -39,9 +39,9 @@ before_seam ns s t x next is =
 
 -- a seam, and no character of the piece after it
 pub at_seam : (ns : List (Ptr × Piece)) (s : Seam) (pos : ℕ) → IsSeam ns s → s.pos ≡ pos
-    → flat (take s.index (pieces_of ns)) ++ [] ≡ take pos (text_of ns)
+    → flat (take s.index (pieces_of ns)) ++ [] ≡ take pos (text_along ns)
 at_seam ns s pos h e =
-    append-nil (flat (take s.index (pieces_of ns))) ∙ sym (seam-take ns s h) ∙ ap (λ n. take n (text_of ns)) e
+    append-nil (flat (take s.index (pieces_of ns))) ∙ sym (seam-take ns s h) ∙ ap (λ n. take n (text_along ns)) e
 
 take_run : (off n k : ℕ) (l : Look) (rest : Text ℕ) → k ≤ n → take k (run off n l ++ rest) ≡ run off k l
 take_run off n zero l rest h = refl
@@ -51,7 +51,7 @@ take_run off (suc n) (suc k) l rest h = ap (λ t. (off, l) ∷ t) (take_run (suc
 -- the front of a piece that was found
 pub in_found : (ns : List (Ptr × Piece)) (trailer : Ptr) (count len pos : ℕ) (f : Found) (x : Piece)
     → IsPieceList ns trailer count len → IsFound ns pos f → slice_get (pieces ns) f.after.index ≡ Some x
-    → text_before ns f.before (first_part x (pos - f.before.pos)) ≡ take pos (text_of ns)
+    → text_before ns f.before (first_part x (pos - f.before.pos)) ≡ take pos (text_along ns)
 in_found ns trailer count len pos f x v h is =
     let ps = pieces_of ns in let k = f.before.index in let n : ℕ = pos - f.before.pos in
     let long = found_long ns trailer count len pos f x v h is in

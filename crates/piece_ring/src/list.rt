@@ -7,7 +7,7 @@ ghost use Rattle.piece_ring.specs.Flat.{flat, relooked_piece, IsWhole};
 ghost use Rattle.piece_ring.specs.Finger.{IsFingerAt, IsSettledAt, fingered};
 ghost use Rattle.piece_ring.specs.Merging.{AreUnited, Continues, IsMergedAt, UnitesAtMost};
 ghost use Rattle.piece_ring.specs.Nodes.{places, pieces, with_put_in, with_range};
-ghost use Rattle.piece_ring.specs.Place.{pieces_of, text_of, IsSeam, IsFound, IsPlace, IsOpenedAt};
+ghost use Rattle.piece_ring.specs.Place.{pieces_of, text_along, IsSeam, IsFound, IsPlace, IsOpenedAt};
 ghost use Rattle.piece_ring.specs.PieceList.{IsPieceList, IsStretch};
 ghost use Rattle.piece_ring.specs.Text.{inserted, deleted, stretch, looks_changed};
 
@@ -212,7 +212,7 @@ impl PieceList {
         requires { pos ≤ self.now.len }
         ensures cursor { IsBackCursor self.now.chain.nodes result.0 result.1 }
         ensures text { text_before self.now.chain.nodes result.0 result.1
-            ≡ take pos (text_of self.now.chain.nodes) }
+            ≡ take pos (text_along self.now.chain.nodes) }
     {
         match self.place(pos) {
             RingPlace::Between(seam) => (seam, EMPTY),
@@ -285,7 +285,7 @@ impl PieceList {
     /// The seam at `pos`. Where it takes a node to cut a piece there, the node is taken before anything is changed.
     pub(crate) fn seam_at(&mut self, alloc: Global, pos: u32) -> Result<Seam, NoMemory>
         requires { pos ≤ self.old.len }
-        ensures same { text_of self.new.chain.nodes ≡ text_of self.old.chain.nodes }
+        ensures same { text_along self.new.chain.nodes ≡ text_along self.old.chain.nodes }
         ensures long { self.new.len ≡ self.old.len }
         ensures seam { IfOk result (IsSeam self.new.chain.nodes) }
         ensures at { IfOk result (λ s. s.pos ≡ pos) }
@@ -321,7 +321,7 @@ impl PieceList {
     ) -> Result<(Seam, Seam), NoMemory>
         requires order { beg ≤ end }
         requires within { end ≤ self.old.len }
-        ensures same { text_of self.new.chain.nodes ≡ text_of self.old.chain.nodes }
+        ensures same { text_along self.new.chain.nodes ≡ text_along self.old.chain.nodes }
         ensures long { self.new.len ≡ self.old.len }
         ensures from { IfOk result (λ s. IsSeam self.new.chain.nodes s.0 × (s.0.pos ≡ beg)) }
         ensures upto { IfOk result (λ s. IsSeam self.new.chain.nodes s.1 × (s.1.pos ≡ end)) }
@@ -338,8 +338,8 @@ impl PieceList {
     pub(crate) fn insert(&mut self, seam: Seam, other: Stretch) -> Seam
         requires seam { IsSeam self.old.chain.nodes seam }
         requires fits { self.old.len + other.len < 2 ^ 32 }
-        ensures text { text_of self.new.chain.nodes
-            ≡ inserted seam.pos (flat (pieces other.chain.nodes)) (text_of self.old.chain.nodes) }
+        ensures text { text_along self.new.chain.nodes
+            ≡ inserted seam.pos (flat (pieces other.chain.nodes)) (text_along self.old.chain.nodes) }
         ensures made { pieces_of self.new.chain.nodes
             ≡ with_put_in seam.index (pieces other.chain.nodes) (pieces_of self.old.chain.nodes) }
         ensures after { IsSeam self.new.chain.nodes result }
@@ -368,10 +368,10 @@ impl PieceList {
         requires from { IsSeam self.old.chain.nodes from }
         requires upto { IsSeam self.old.chain.nodes upto }
         requires order { from.pos < upto.pos }
-        ensures text { text_of self.new.chain.nodes
-            ≡ deleted from.pos upto.pos (text_of self.old.chain.nodes) }
+        ensures text { text_along self.new.chain.nodes
+            ≡ deleted from.pos upto.pos (text_along self.old.chain.nodes) }
         ensures taken { flat (pieces result.chain.nodes)
-            ≡ stretch from.pos upto.pos (text_of self.old.chain.nodes) }
+            ≡ stretch from.pos upto.pos (text_along self.old.chain.nodes) }
     {
         let first = self.chain.next(from.at, from.index);
         let chain = self.chain.split(from.at, from.index, upto.at, upto.index);
@@ -393,8 +393,8 @@ impl PieceList {
         requires from { IsSeam self.old.chain.nodes from }
         requires upto { IsSeam self.old.chain.nodes upto }
         requires order { from.pos < upto.pos }
-        ensures text { text_of self.new.chain.nodes
-            ≡ looks_changed from.pos upto.pos sel look (text_of self.old.chain.nodes) }
+        ensures text { text_along self.new.chain.nodes
+            ≡ looks_changed from.pos upto.pos sel look (text_along self.old.chain.nodes) }
         ensures kept { IsSeam self.new.chain.nodes upto }
     {
         relook_nodes(&mut self.chain, from.at, from.index, upto.index, sel, look);
@@ -431,7 +431,7 @@ impl PieceList {
     /// It takes no memory.
     pub(crate) fn merge(&mut self, alloc: &Global, seam: Seam)
         requires { IsSeam self.old.chain.nodes seam }
-        ensures same { text_of self.new.chain.nodes ≡ text_of self.old.chain.nodes }
+        ensures same { text_along self.new.chain.nodes ≡ text_along self.old.chain.nodes }
         ensures long { self.new.len ≡ self.old.len }
         ensures merged { IsMergedAt (pieces_of self.new.chain.nodes) seam.pos }
         ensures elsewhere { (pos : ℕ) → seam.pos < pos → IsMergedAt (pieces_of self.old.chain.nodes) pos
@@ -452,7 +452,7 @@ impl PieceList {
     /// Merges the neighbours that meet at `pos`, if pieces do.
     fn merge_at(&mut self, alloc: &Global, pos: u32)
         requires { pos ≤ self.old.len }
-        ensures same { text_of self.new.chain.nodes ≡ text_of self.old.chain.nodes }
+        ensures same { text_along self.new.chain.nodes ≡ text_along self.old.chain.nodes }
         ensures long { self.new.len ≡ self.old.len }
         ensures merged { IsMergedAt (pieces_of self.new.chain.nodes) pos }
         ensures elsewhere { (at : ℕ) → pos < at → IsMergedAt (pieces_of self.old.chain.nodes) at
@@ -468,7 +468,7 @@ impl PieceList {
     /// Merges the neighbours that meet at `pos`, and keeps the place of the piece that has it.
     pub(crate) fn settle(&mut self, alloc: &Global, pos: u32)
         requires { pos ≤ self.old.len }
-        ensures same { text_of self.new.chain.nodes ≡ text_of self.old.chain.nodes }
+        ensures same { text_along self.new.chain.nodes ≡ text_along self.old.chain.nodes }
         ensures settled { IsSettledAt (fingered self.new.chain.nodes self.new.finger) pos }
         ensures elsewhere { (at : ℕ) → pos < at → IsMergedAt (pieces_of self.old.chain.nodes) at
             → IsMergedAt (pieces_of self.new.chain.nodes) at }
@@ -481,7 +481,7 @@ impl PieceList {
     /// The pieces, of which there is at least one. The trailer is freed.
     pub(crate) fn into_stretch(mut self, alloc: &Global) -> Stretch
         requires { 0 < self.len }
-        ensures { flat (pieces result.chain.nodes) ≡ text_of self.chain.nodes }
+        ensures { flat (pieces result.chain.nodes) ≡ text_along self.chain.nodes }
     {
         let start = self.start();
         let end = self.end();

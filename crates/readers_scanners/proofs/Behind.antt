@@ -4,7 +4,7 @@ use Rattle.std.specs.Prelude.{slice_index}
 use Rattle.std.proofs.Common.{refl, sym, ap, subst, ◌∙◌, arith}
 use Rattle.piece_ring.specs.declared.piece.Look.{Look}
 use Rattle.piece_ring.specs.Text.{Text}
-use Rattle.readers_scanners.specs.Reading.{Reading, IsReadingBack, bytes}
+use Rattle.readers_scanners.specs.Reading.{Reading, IsReadingBack, bytes_of_text}
 use Rattle.readers_scanners.specs.Walking.{byte_there}
 use Rattle.readers_scanners.proofs.Upcoming.{point, one_read}
 
@@ -35,9 +35,9 @@ module _ (text before : Text ℕ) (pos : ℕ) (more : Text ℕ) (c : ℕ × Look
   moves_back = let within = is.within in record { within = omega (arith, within); front = last.0 }
 
   pub byte_behind : (characters : List ℕ) (r : Reading) (byte : ℕ) → point text pos ≡ r
-      → byte ≡ slice_index characters c.0 → slice_get (bytes characters r.text) (pos - 1) ≡ Some byte
+      → byte ≡ slice_index characters c.0 → slice_get (bytes_of_text characters r.text) (pos - 1) ≡ Some byte
   byte_behind characters r byte e value =
-      subst (λ (x : Reading). slice_get (bytes characters x.text) (pos - 1) ≡ Some byte) e
+      subst (λ (x : Reading). slice_get (bytes_of_text characters x.text) (pos - 1) ≡ Some byte) e
       (byte_there characters text (pos - 1) (slice_index characters c.0, c.1)
       (one_read characters text (pos - 1) c last.1) ∙ ap Some (sym value))
 

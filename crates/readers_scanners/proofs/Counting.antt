@@ -11,17 +11,17 @@ use Rattle.piece_ring.specs.declared.piece.Piece.{Piece}
 use Rattle.piece_ring.specs.Flat.{run, characters_of}
 use Rattle.piece_ring.specs.Lengths.{length-run}
 use Rattle.piece_ring.specs.Text.{Text, AreWithin}
-use Rattle.readers_scanners.specs.Reading.{bytes, contents, IsCounted, IsReading}
+use Rattle.readers_scanners.specs.Reading.{bytes_of_text, contents, IsCounted, IsReading}
 use Rattle.readers_scanners.proofs.Upcoming.{enough, point}
 
 pub bytes-append : (characters : List ℕ) (a b : Text ℕ)
-    → bytes characters (a ++ b) ≡ bytes characters a ++ bytes characters b
+    → bytes_of_text characters (a ++ b) ≡ bytes_of_text characters a ++ bytes_of_text characters b
 bytes-append characters a b = ap (map (λ c. c.0)) (map-append _ a b) ∙ map-append (λ c. c.0) (contents characters a)
     (contents characters b)
 
 -- those that stand together read as they stand in the source
 run_bytes : (characters : List ℕ) (off n : ℕ) (look : Look) → off + n ≤ length characters
-    → bytes characters (run off n look) ≡ slice_range characters off (off + n)
+    → bytes_of_text characters (run off n look) ≡ slice_range characters off (off + n)
 run_bytes characters off zero look within =
     ap (λ k. take k (drop off characters)) (let none : 0 ≡ off + 0 - off = omega arith in none)
 run_bytes characters off (suc n) look within =
@@ -49,13 +49,13 @@ run_end n off (suc (suc k)) look more some all =
 module _ (text : Text ℕ) (position left : ℕ) (here : Piece) (behind : Text ℕ)
     (is : IsReading text position left here behind) where
   pub front_read : (characters : List ℕ) (n : ℕ) → n ≤ here.len
-      → slice_range (bytes characters text) position (position + n) ≡ bytes characters (run here.off n here.look)
+      → slice_range (bytes_of_text characters text) position (position + n) ≡ bytes_of_text characters (run here.off n here.look)
   front_read characters n within =
-      ap (λ k. take k (drop position (bytes characters text))) (let e : position + n - position ≡ n = omega arith in e)
+      ap (λ k. take k (drop position (bytes_of_text characters text))) (let e : position + n - position ≡ n = omega arith in e)
       ∙ ap (take n) (drop-map (λ c. c.0) position (contents characters text)
       ∙ ap (map (λ c. c.0)) (drop-map _ position text))
       ∙ take-map (λ c. c.0) n (contents characters (drop position text))
-      ∙ ap (map (λ c. c.0)) (take-map _ n (drop position text)) ∙ ap (bytes characters) front
+      ∙ ap (map (λ c. c.0)) (take-map _ n (drop position text)) ∙ ap (bytes_of_text characters) front
     where
       front : take n (drop position text) ≡ run here.off n here.look
       front = ap (take n) is.rest

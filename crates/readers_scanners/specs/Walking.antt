@@ -7,7 +7,7 @@ use Rattle.char_file.specs.Source.{OnlyReads}
 use Rattle.char_file.proofs.Reading.{no_read, read_on}
 use Rattle.piece_ring.specs.declared.piece.Look.{Look}
 use Rattle.piece_ring.specs.Text.{Text, AreWithin}
-use Rattle.readers_scanners.specs.Reading.{contents, bytes, Reading}
+use Rattle.readers_scanners.specs.Reading.{contents, bytes_of_text, Reading}
 
 module _ {S : Type 0} (characters : S → List ℕ) (failures : S → ℕ) (honest : S → Type 0) (same_ground : S → S
     → Type 0) where
@@ -59,11 +59,11 @@ module _ {S : Type 0} (characters : S → List ℕ) (failures : S → ℕ) (hone
 
       -- what was read before it
       pub seen_before : (byte p : ℕ) → reader.position ≡ p + 1
-          → (honest now → slice_get (bytes (characters now) reader.text) p ≡ Some byte)
-          → honest start → slice_get (bytes (characters start) text) (at - 1) ≡ Some byte
+          → (honest now → slice_get (bytes_of_text (characters now) reader.text) p ≡ Some byte)
+          → honest start → slice_get (bytes_of_text (characters start) text) (at - 1) ≡ Some byte
       seen_before byte p q there h =
           let same : p ≡ at - 1 = omega (arith, q, is.place) in
-          sym (λ k. slice_get (bytes (is.reads.same h k) (is.same k)) (same k)) ∙ there (is.reads.still h)
+          sym (λ k. slice_get (bytes_of_text (is.reads.same h k) (is.same k)) (same k)) ∙ there (is.reads.still h)
 
       -- what was read there
       pub seen_character : (c : ℕ × Look)
@@ -72,14 +72,14 @@ module _ {S : Type 0} (characters : S → List ℕ) (failures : S → ℕ) (hone
       seen_character c there h =
           sym (λ k. slice_get (contents (is.reads.same h k) (is.same k)) (is.place k)) ∙ there (is.reads.still h)
 
-      pub seen : (byte : ℕ) → (honest now → slice_get (bytes (characters now) reader.text) reader.position ≡ Some byte)
+      pub seen : (byte : ℕ) → (honest now → slice_get (bytes_of_text (characters now) reader.text) reader.position ≡ Some byte)
           → honest start
-          → slice_get (bytes (characters start) text) at ≡ Some byte
-      seen byte there h = sym (λ k. slice_get (bytes (is.reads.same h k) (is.same k)) (is.place k))
+          → slice_get (bytes_of_text (characters start) text) at ≡ Some byte
+      seen byte there h = sym (λ k. slice_get (bytes_of_text (is.reads.same h k) (is.same k)) (is.place k))
           ∙ there (is.reads.still h)
 
 -- the byte of a character that was read
 pub byte_there : (characters : List ℕ) (text : Text ℕ) (at : ℕ) (c : ℕ × Look)
     → slice_get (contents characters text) at ≡ Some c
-    → slice_get (bytes characters text) at ≡ Some c.0
+    → slice_get (bytes_of_text characters text) at ≡ Some c.0
 byte_there characters text at c there = slice_get-map _ (contents characters text) at ∙ ap (option_map _) there

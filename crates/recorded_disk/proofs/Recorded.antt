@@ -3,7 +3,7 @@ use Rattle.std.proofs.Common.{◌≡◌, ℕ, ◌++◌, ◌∷◌, [], Result, O
 use Rattle.sector_disk.specs.declared.call.DiskCall.{DiskCall}
 use Rattle.sector_disk.specs.Trail.{Moment}
 use Rattle.sector_disk.specs.Confined.{IsConfined}
-use Rattle.sector_disk.specs.Memory.{after, trail_of}
+use Rattle.sector_disk.specs.Memory.{moment_after, trail_of}
 use Rattle.sector_disk.proofs.Replay.{confined, Stays}
 use Rattle.recorded_disk.specs.Recording.{Recording, recorded}
 
@@ -15,7 +15,7 @@ was_made (Err _) old new call none = none
 pub confined_as_well : {E : Type 0} (result : Result (Unit {0}) E) (area : ℕ → Type 0) (old new : Recording)
     (call : DiskCall) → new.memory.size ≡ old.memory.size
     → OnOk result (new.memory.calls ≡ old.memory.calls ++ call ∷ [])
-    → OnErr result (new.memory.calls ≡ old.memory.calls) → ((m : Moment) → Stays area m (after call m))
+    → OnErr result (new.memory.calls ≡ old.memory.calls) → ((m : Moment) → Stays area m (moment_after call m))
     → IsConfined (λ d. d.memory.size) (λ _. Unit {0}) (λ d. trail_of d.memory.calls) area old new
 confined_as_well result area old new call as_large is none stays =
     let k = confined result area old.memory new.memory call as_large is none stays in record {

@@ -3,23 +3,23 @@ use Rattle.std.proofs.Common.{◌≡◌, ℕ, List, [], ◌∷◌, ◌++◌, ref
 use Rattle.std.proofs.lemmas.List.{append_assoc, append-nil}
 use Rattle.sector_disk.specs.declared.call.DiskCall.{DiskCall}
 use Rattle.recorded_disk.specs.Recording.{EndsWith}
-use Rattle.recorded_disk.specs.Spelling.{spelled, spelling}
+use Rattle.recorded_disk.specs.Spelling.{spelled, spelling_of_calls}
 
-pub none : spelling [] ≡ []
-unfolding spelling
+pub none : spelling_of_calls [] ≡ []
+unfolding spelling_of_calls
 none = refl
 
-pub spelling_more : (calls : List DiskCall) (call : DiskCall) → spelling (calls ++ call ∷ []) ≡ spelling calls ++ spelled call
-unfolding spelling
+pub spelling_more : (calls : List DiskCall) (call : DiskCall) → spelling_of_calls (calls ++ call ∷ []) ≡ spelling_of_calls calls ++ spelled call
+unfolding spelling_of_calls
 spelling_more [] call = append-nil (spelled call)
 spelling_more (first ∷ calls) call = ap (λ s. spelled first ++ s) (spelling_more calls call)
-    ∙ sym (append_assoc (spelled first) (spelling calls) (spelled call))
+    ∙ sym (append_assoc (spelled first) (spelling_of_calls calls) (spelled call))
 
 -- what is spelled, in a buffer that has room for the call
 pub grown : (old mid new : List ℕ) (before after : List DiskCall) (call : DiskCall) → mid ≡ old
-    → old ≡ spelling before → after ≡ before ++ call ∷ [] → new ≡ mid ++ spelled call → new ≡ spelling after
+    → old ≡ spelling_of_calls before → after ≡ before ++ call ∷ [] → new ≡ mid ++ spelled call → new ≡ spelling_of_calls after
 grown old mid new before after call same is more added =
-    added ∙ ap (λ s. s ++ spelled call) (same ∙ is) ∙ sym (spelling_more before call) ∙ sym (ap spelling more)
+    added ∙ ap (λ s. s ++ spelled call) (same ∙ is) ∙ sym (spelling_more before call) ∙ sym (ap spelling_of_calls more)
 
 -- all calls, and those since then
 pub ends_more : (calls calls' since since' : List DiskCall) (call : DiskCall) → EndsWith calls since

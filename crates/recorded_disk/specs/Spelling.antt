@@ -11,6 +11,6 @@ spelled (Write n bytes) = to_le_bytes w32 n ++ bytes
 spelled Sync = to_le_bytes w32 SYNC_NUMBER ++ []
 
 -- calls, one after another
-unfoldable pub spelling : List DiskCall → List ℕ
-spelling [] = []
-spelling (call ∷ calls) = spelled call ++ spelling calls
+unfoldable pub spelling_of_calls : List DiskCall → List ℕ
+spelling_of_calls [] = []
+spelling_of_calls (call ∷ calls) = spelled call ++ spelling_of_calls calls

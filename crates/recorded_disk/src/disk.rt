@@ -7,7 +7,7 @@ ghost use Rattle.std.specs.Vec.{vec_len, vec_capacity};
 ghost use Rattle.sector_disk.specs.Trail.{now, CountsFault};
 ghost use Rattle.sector_disk.specs.Memory.{trail_of};
 ghost use Rattle.recorded_disk.specs.Recording.{blank_recording, forgotten, recorded};
-ghost use Rattle.recorded_disk.specs.Spelling.{spelling};
+ghost use Rattle.recorded_disk.specs.Spelling.{spelling_of_calls};
 
 use ghost_traces::{Count, Trace};
 use sector_disk::{Disk, DiskCall, Fault, MemoryDisk, NoMemory, Sector};
@@ -33,7 +33,7 @@ pub struct RecordedDisk {
 impl Model for RecordedDisk {
     ghost use Rattle.std.specs.Prelude.{◌≡◌, ◌+◌};
     ghost use Rattle.recorded_disk.specs.Recording.{Recording, EndsWith};
-    ghost use Rattle.recorded_disk.specs.Spelling.{spelling};
+    ghost use Rattle.recorded_disk.specs.Spelling.{spelling_of_calls};
 
     ghost Value = { Recording };
 
@@ -42,7 +42,7 @@ impl Model for RecordedDisk {
       since = d.since.items;
     } };
 
-    ghost invariant = { λ d. EndsWith d.disk.calls d.since.items × (d.spelled.items ≡ spelling d.since.items) };
+    ghost invariant = { λ d. EndsWith d.disk.calls d.since.items × (d.spelled.items ≡ spelling_of_calls d.since.items) };
 }
 
 impl RecordedDisk {
@@ -62,7 +62,7 @@ impl RecordedDisk {
     /// The calls since it was last told to forget, each after the one before: a write as the number of its sector in
     /// four bytes, the lowest first, and the sector's 1,024 bytes; a sync as `SYNC_NUMBER` in four bytes.
     pub fn spelled(&self) -> &[u8]
-        ensures { result.now ≡ spelling self.now.since }
+        ensures { result.now ≡ spelling_of_calls self.now.since }
     {
         self.spelled.as_slice()
     }

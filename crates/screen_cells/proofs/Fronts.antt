@@ -7,7 +7,7 @@ use Rattle.std.proofs.lemmas.List.{length-map, length-take, length-append, map-a
 use Rattle.std.proofs.Math.Seq.{take-append-le}
 use Rattle.std.proofs.lemmas.Bool.Decides.{leb_tells}
 use Rattle.piece_ring.specs.Text.{Text}
-use Rattle.text_frames.specs.Lines.{is_return, ends_line, begins_line, greatest, line_start}
+use Rattle.text_frames.specs.Lines.{is_return, ends_line, begins_line, greatest_where, line_start}
 use Rattle.text_frames.specs.Cells.{column_after, column_in, row_of, row_start, column_of}
 use Rattle.text_frames.specs.Row.{ShownCell, cells_of, cells_at, row_cells}
 use Rattle.text_frames.proofs.RowCells.{cells_done}
@@ -56,7 +56,7 @@ module _ (xs ys : List ℕ) where
   start_front (suc k) within =
       let here : begins_line (xs ++ ys) (suc k) ≡ begins_line xs (suc k) =
       ap ends_line (get_front xs ys k (omega (arith, within))) in
-      ap (λ b. cond b (suc k) (greatest (begins_line (xs ++ ys)) k)) here
+      ap (λ b. cond b (suc k) (greatest_where (begins_line (xs ++ ys)) k)) here
       ∙ ap (λ n. cond (begins_line xs (suc k)) (suc k) n) (start_front k (omega (arith, within)))
 
   row_front : (org k : ℕ) → org ≤ k → k ≤ length xs → row_of (xs ++ ys) org k ≡ row_of xs org k

@@ -11,7 +11,7 @@ use Rattle.viewer_tracks.specs.declared.display.TheConstants.{ROWS, COLUMNS, SYS
 use Rattle.viewer_tracks.specs.declared.display.Track.TheVariants.{User, System}
 use Rattle.viewer_tracks.specs.Display.{track_at, left_of}
 use Rattle.viewer_tracks.specs.Viewers.{viewer_at}
-use Rattle.viewer_tracks.specs.Columns.{Columns, no_viewers, shown}
+use Rattle.viewer_tracks.specs.Columns.{Columns, no_viewers, shown_track}
 use Rattle.screen_pictures.specs.declared.cell.Cell.{Cell}
 use Rattle.screen_cells.specs.declared.shown.Shown.{Shown}
 use Rattle.screen_cells.specs.declared.strip.Strip.{Strip}
@@ -126,7 +126,7 @@ module _ {S : Type 0} (characters : S → List ℕ) (failures : S → ℕ) (hone
       (λ k below. painted.done h t k (omega (arith, all)) below)
 
 -- no viewer is seen where there is none
-seen_nowhere : (b : Bool) (y : ℕ) → viewer_at (shown no_viewers (if b then User else System)) y ≡ None
+seen_nowhere : (b : Bool) (y : ℕ) → viewer_at (shown_track no_viewers (if b then User else System)) y ≡ None
 unfolding viewer_at
 seen_nowhere true y = refl
 seen_nowhere false y = refl

@@ -8,7 +8,7 @@ use Rattle.text_frames.specs.RowLaws.{rows_still}
 use Rattle.screen_cells.specs.declared.shown.Shown.{Shown}
 use Rattle.screen_cells.specs.declared.walk.Walk.{Walk}
 use Rattle.screen_cells.specs.Shown.{IsShowable}
-use Rattle.screen_cells.specs.Walks.{IsWalk, IsKept}
+use Rattle.screen_cells.specs.Walks.{IsWalk, IsKeptWalk}
 
 module _ (honest later : Type 0) (characters rest : List ℕ) (already : later → honest)
     (same : honest → rest ≡ characters) (as_long : length rest ≡ length characters) where
@@ -19,8 +19,8 @@ module _ (honest later : Type 0) (characters rest : List ℕ) (already : later �
         same is.rows;
   }
 
-  pub kept_still : (shown : List Shown) (kept : Option Walk) → IfSome kept (IsKept honest characters shown)
-      → IfSome kept (IsKept later rest shown)
+  pub kept_still : (shown : List Shown) (kept : Option Walk) → IfSome kept (IsKeptWalk honest characters shown)
+      → IfSome kept (IsKeptWalk later rest shown)
   kept_still shown kept is = IfSome_then kept is (λ walk here. record {
     there = here.there;
     walk = walk_still walk here.walk;

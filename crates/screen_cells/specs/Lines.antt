@@ -65,11 +65,11 @@ abbrev pub HasLine : LineKey → Option KeptLine → Type 0
 HasLine key None = ⊥
 HasLine key (Some line) = line.key ≡ key
 
-abbrev pub HasCaret : CaretKey → Option KeptCaret → Type 0
-HasCaret key None = ⊥
-HasCaret key (Some caret) = caret.key ≡ key
+abbrev pub HasCaretKey : CaretKey → Option KeptCaret → Type 0
+HasCaretKey key None = ⊥
+HasCaretKey key (Some caret) = caret.key ≡ key
 
 -- there is a place for a line of each row of the display
-pub record AreReady (lines : KeptLines) : Type 0 where
+pub record HavePlaces (lines : KeptLines) : Type 0 where
   pub user : ROWS ≤ length lines.user.items
   pub system : ROWS ≤ length lines.system.items

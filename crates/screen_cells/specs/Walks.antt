@@ -13,10 +13,10 @@ pub record IsWalk (honest : Type 0) (characters : List ℕ) (walk : Walk) : Type
   pub rows : AreRows honest characters (flat walk.shown.main.now) walk.shown.frame.now.org walk.rows
 
 -- It is a walk of the viewer that it names.
-pub record IsKept (honest : Type 0) (characters : List ℕ) (shown : List Shown) (kept : Walk) : Type 0 where
+pub record IsKeptWalk (honest : Type 0) (characters : List ℕ) (shown : List Shown) (kept : Walk) : Type 0 where
   pub there : slice_get shown kept.index ≡ Some kept.shown
   pub walk : IsWalk honest characters kept
 
 pub record AreKept (honest : Type 0) (characters : List ℕ) (shown : List Shown) (walks : Walks) : Type 0 where
-  pub user : IfSome walks.user (IsKept honest characters shown)
-  pub system : IfSome walks.system (IsKept honest characters shown)
+  pub user : IfSome walks.user (IsKeptWalk honest characters shown)
+  pub system : IfSome walks.system (IsKeptWalk honest characters shown)

@@ -7,7 +7,7 @@ ghost use Rattle.readers_scanners.specs.Words.{CountsFault, OnlyReads};
 ghost use Rattle.text_frames.specs.Row.{row_cells};
 ghost use Rattle.screen_pictures.specs.Picture.{caret_at};
 ghost use Rattle.screen_cells.specs.Shown.{IsShowable, as_read};
-ghost use Rattle.screen_cells.specs.Lines.{IsSlotOf, IsCaretOf, AreLinesOf, IsNumbered, HasLine, HasCaret, AreReady};
+ghost use Rattle.screen_cells.specs.Lines.{IsSlotOf, IsCaretOf, AreLinesOf, IsNumbered, HasLine, HasCaretKey, HavePlaces};
 ghost use Rattle.screen_cells.specs.Lines.{IsAbove, HasSameRows, kept_cells};
 ghost use Rattle.screen_cells.specs.Walks.{IsWalk};
 
@@ -83,7 +83,7 @@ impl KeptLines {
 
     /// Makes a place for a line of each row, where there is none yet. NoMemory where an allocation is refused.
     pub fn prepare(&mut self) -> Result<(), AllocError>
-        ensures ready { OnOk result (AreReady self.new) }
+        ensures ready { OnOk result (HavePlaces self.new) }
         ensures lines { (texts : ℕ → AText ℕ) → AreLinesOf texts self.old → AreLinesOf texts self.new }
     {
         fill(&mut self.user)?;
@@ -308,7 +308,7 @@ pub(crate) fn keep_row<S: CharSource>(
 /// The caret that is kept, where it is the one of that key.
 fn caret_kept(caret: Option<KeptCaret>, key: CaretKey) -> Option<KeptCaret>
     ensures some { IfSome result (λ found. (caret ≡ Some found) × (found.key ≡ key)) }
-    ensures none { IfNone result (¬ HasCaret key caret) }
+    ensures none { IfNone result (¬ HasCaretKey key caret) }
 {
     match caret {
         Some(kept) if kept.key == key => Some(kept),

@@ -9,7 +9,7 @@ ghost use Rattle.screen_cells.specs.Shown.{IsShowable, as_read, strip_cell};
 ghost use Rattle.screen_pictures.specs.Screen.{screen_of, cell_at, column_at, row_at, values};
 ghost use Rattle.screen_cells.specs.Rows.{painted_row, strips_cell};
 ghost use Rattle.screen_cells.specs.Walks.{AreKept};
-ghost use Rattle.screen_cells.specs.Lines.{AreLinesOf, IsNumbered, AreReady};
+ghost use Rattle.screen_cells.specs.Lines.{AreLinesOf, IsNumbered, HavePlaces};
 
 use crate::lines::{KeptLines, kept_cells};
 use crate::shown::Shown;
@@ -93,7 +93,7 @@ impl Screen {
         source: &mut S,
     ) -> Result<(), Fault>
         requires showable { All (IsShowable (length (S.characters source.old))) shown.now }
-        requires ready { AreReady lines.old }
+        requires ready { HavePlaces lines.old }
         ensures painted { OnOk result (S.honest source.old → (texts : ℕ → AText ℕ)
             → All (IsNumbered texts (S.characters source.old)) shown.now → AreLinesOf texts lines.old
             → self.new ≡ screen_of (picture tracks.now (map (as_read (S.characters source.old)) shown.now) marker)) }
@@ -144,7 +144,7 @@ fn paint_row<'a, S: CharSource>(
     source: &mut S,
 ) -> Result<(), Fault>
     requires row { y < ROWS }
-    requires ready { AreReady lines.old }
+    requires ready { HavePlaces lines.old }
     requires showable { All (IsShowable (length (S.characters source.old))) shown.now }
     requires kept { AreKept (S.honest source.old) (S.characters source.old) shown.now walks.old }
     ensures painted { OnOk result (S.honest source.old → (texts : ℕ → AText ℕ)
@@ -153,7 +153,7 @@ fn paint_row<'a, S: CharSource>(
     ensures lines { S.honest source.old → (texts : ℕ → AText ℕ)
         → All (IsNumbered texts (S.characters source.old)) shown.now → AreLinesOf texts lines.old
         → AreLinesOf texts lines.new }
-    ensures ready { AreReady lines.new }
+    ensures ready { HavePlaces lines.new }
     ensures kept { OnOk result (AreKept (S.honest source.new) (S.characters source.new) shown.now walks.new) }
     ensures reads { OnlyReads S.characters S.failures S.honest S.same_ground source.old source.new }
     ensures cause { CountsFault result (S.failures source.old) (S.failures source.new) }

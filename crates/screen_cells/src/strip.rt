@@ -6,12 +6,12 @@ ghost use Rattle.readers_scanners.specs.Words.{CountsFault, OnlyReads};
 ghost use Rattle.text_frames.specs.Row.{ShownCell};
 ghost use Rattle.viewer_tracks.specs.Display.{left_of};
 ghost use Rattle.viewer_tracks.specs.Viewers.{viewer_at, id_number};
-ghost use Rattle.viewer_tracks.specs.Columns.{shown as shown_track, StandsAt};
+ghost use Rattle.viewer_tracks.specs.Columns.{shown_track as shown_track, StandsAt};
 ghost use Rattle.screen_pictures.specs.Picture.{filler, viewer_cell, width_of, track_cell};
 ghost use Rattle.screen_cells.specs.Shown.{IsShowable, as_read, strip_cell};
 ghost use Rattle.piece_ring.specs.Text.{Text as AText};
 ghost use Rattle.screen_cells.specs.Lines.{IsSlotOf, IsCaretOf, IsNumbered, kept_cells};
-ghost use Rattle.screen_cells.specs.Walks.{IsWalk, IsKept};
+ghost use Rattle.screen_cells.specs.Walks.{IsWalk, IsKeptWalk};
 
 use crate::lines::{KeptCaret, Slot, caret_cell, keep_menu, keep_row};
 use crate::shown::Shown;
@@ -178,7 +178,7 @@ pub(crate) fn track_strip<'a, S: CharSource>(
 ) -> Result<Strip, Fault>
     requires row { y < ROWS }
     requires showable { All (IsShowable (length (S.characters source.old))) shown.now }
-    requires kept { IfSome kept.old (IsKept (S.honest source.old) (S.characters source.old) shown.now) }
+    requires kept { IfSome kept.old (IsKeptWalk (S.honest source.old) (S.characters source.old) shown.now) }
     ensures strip { IfOk result (λ strip. S.honest source.old → (texts : ℕ → AText ℕ)
         → All (IsNumbered texts (S.characters source.old)) shown.now → IsSlotOf texts slot.old
         → IfSome caret.old (IsCaretOf texts) → (column : ℕ) → strip_cell strip (kept_cells slot.new) column
@@ -189,7 +189,7 @@ pub(crate) fn track_strip<'a, S: CharSource>(
     ensures caret { S.honest source.old → (texts : ℕ → AText ℕ)
         → All (IsNumbered texts (S.characters source.old)) shown.now → IfSome caret.old (IsCaretOf texts)
         → IfSome caret.new (IsCaretOf texts) }
-    ensures kept { OnOk result (IfSome kept.new (IsKept (S.honest source.new) (S.characters source.new) shown.now)) }
+    ensures kept { OnOk result (IfSome kept.new (IsKeptWalk (S.honest source.new) (S.characters source.new) shown.now)) }
     ensures reads { OnlyReads S.characters S.failures S.honest S.same_ground source.old source.new }
     ensures cause { CountsFault result (S.failures source.old) (S.failures source.new) }
 {

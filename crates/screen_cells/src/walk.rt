@@ -1,7 +1,7 @@
 //! How far a viewer has been painted.
 ghost use Rattle.std.specs.Prelude.{◌≡◌, ◌<◌, length, All, IfSome};
 ghost use Rattle.screen_cells.specs.Shown.{IsShowable};
-ghost use Rattle.screen_cells.specs.Walks.{IsKept};
+ghost use Rattle.screen_cells.specs.Walks.{IsKeptWalk};
 
 use crate::shown::Shown;
 use text_frames::{CharSource, FrameRows};
@@ -36,8 +36,8 @@ pub(crate) fn walk_of<'a, S: CharSource>(
 ) -> Walk<'a>
     requires within { index < length shown.now }
     requires showable { All (IsShowable (length (S.characters source.now))) shown.now }
-    requires kept { IfSome kept (IsKept (S.honest source.now) (S.characters source.now) shown.now) }
-    ensures walk { IsKept (S.honest source.now) (S.characters source.now) shown.now result }
+    requires kept { IfSome kept (IsKeptWalk (S.honest source.now) (S.characters source.now) shown.now) }
+    ensures walk { IsKeptWalk (S.honest source.now) (S.characters source.now) shown.now result }
     ensures index { result.index ≡ index }
     ensures rows { result.h ≡ h }
 {
@@ -51,7 +51,7 @@ pub(crate) fn walk_of<'a, S: CharSource>(
 fn first_walk<'a, S: CharSource>(shown: &[Shown<'a>], index: usize, h: u8, source: &S) -> Walk<'a>
     requires within { index < length shown.now }
     requires showable { All (IsShowable (length (S.characters source.now))) shown.now }
-    ensures walk { IsKept (S.honest source.now) (S.characters source.now) shown.now result }
+    ensures walk { IsKeptWalk (S.honest source.now) (S.characters source.now) shown.now result }
     ensures index { result.index ≡ index }
     ensures rows { result.h ≡ h }
 {

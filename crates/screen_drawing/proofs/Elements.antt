@@ -4,7 +4,7 @@ use Rattle.std.specs.Fmt.{decimal}
 use Rattle.std.specs.List.{concat}
 use Rattle.terminal_painting.specs.declared.face.Face.{Face}
 use Rattle.terminal_painting.specs.declared.pen.Pen.{Pen}
-use Rattle.screen_drawing.specs.Drawn.{escaped, heading, rectangle, rule_text, slant_text, text_cells, weight_text}
+use Rattle.screen_drawing.specs.Drawn.{escaped_text, heading, rectangle, rule_text, slant_text, text_cells, weight_text}
 use Rattle.screen_drawing.specs.Spelling.{baseline, cell_height, cell_width, colour_code}
 
 pub rectangle_pieces : (x y width height colour : ℕ) (xs ys widths heights colours : List ℕ) → xs ≡ decimal x
@@ -18,7 +18,7 @@ rectangle_pieces x y width height colour xs ys widths heights colours a b c d e 
 pub text_pieces : (x y : ℕ) (faces : List Face) (pen : Pen) (xs ys widths inks weights slants rules bytes : List ℕ)
     → xs ≡ decimal (cell_width * x) → ys ≡ decimal (cell_height * y + baseline)
     → widths ≡ decimal (cell_width * length faces) → inks ≡ colour_code pen.ink → weights ≡ weight_text pen.weight
-    → slants ≡ slant_text pen.is_italic → rules ≡ rule_text pen.rule → bytes ≡ escaped faces
+    → slants ≡ slant_text pen.is_italic → rules ≡ rule_text pen.rule → bytes ≡ escaped_text faces
     → concat (codes "<text x='" ∷ xs ∷ codes "' y='" ∷ ys ∷ codes "' textLength='" ∷ widths ∷ codes "' fill='" ∷ inks
     ∷ codes "'" ∷ weights ∷ slants ∷ rules ∷ codes ">" ∷ bytes ∷ codes "</text>\n" ∷ []) ≡ text_cells x y faces pen
 text_pieces x y faces pen xs ys widths inks weights slants rules bytes a b c d e f g h k =

@@ -12,7 +12,7 @@ use Rattle.output_bytes.proofs.Taking.{HasTaken, front_part, taken_all, taken_pa
 use Rattle.terminal_painting.specs.declared.face.Face.{Face}
 use Rattle.terminal_painting.specs.declared.pen.Pen.{Pen}
 use Rattle.screen_drawing.specs.Drawn.{drawn_start, drawn_stretch, is_start, pen_at, stretch_at}
-use Rattle.screen_drawing.specs.Spelling.{joined}
+use Rattle.screen_drawing.specs.Spelling.{joined_pieces}
 
 -- a part more of what is left, or a front of it
 pub next_taken : (old mid new : Option (List ℕ)) (text left part rest : List ℕ) → left ≡ part ++ rest
@@ -32,10 +32,10 @@ all_taken old new text left before none = taken_all old new new text left before
 
 -- the pieces from an index on
 pub next_piece : (pieces : List (Bor (List ℕ))) (i : ℕ) (d : Bor (List ℕ)) → i < length pieces
-    → joined (drop i pieces) ≡ (get_or pieces i d).now ++ joined (drop (i + 1) pieces)
+    → joined_pieces (drop i pieces) ≡ (get_or pieces i d).now ++ joined_pieces (drop (i + 1) pieces)
 next_piece pieces i d within =
-    ap joined (drop-cons pieces i d within)
-    ∙ ap (λ n. (get_or pieces i d).now ++ joined (drop n pieces)) (sym (add-one i))
+    ap joined_pieces (drop-cons pieces i d within)
+    ∙ ap (λ n. (get_or pieces i d).now ++ joined_pieces (drop n pieces)) (sym (add-one i))
 
 -- what is made of the numbers from x on
 pub next_number : (f : ℕ → List ℕ) (x n : ℕ) → x < n

@@ -20,7 +20,7 @@ use Rattle.terminal_painting.specs.declared.pen.Rule.{Rule}
 use Rattle.terminal_painting.specs.declared.pen.Rule.TheVariants.{Plain, Under, Over}
 use Rattle.terminal_painting.specs.declared.pen.TheConstants.{BLACK, WHITE}
 use Rattle.terminal_painting.specs.Scene.{row_of_cells}
-use Rattle.terminal_painting.specs.Pen.{blank, same_pen}
+use Rattle.terminal_painting.specs.Pen.{blank_face, same_pen}
 use Rattle.screen_drawing.specs.Spelling.{baseline, caret_width, cell_height, cell_width, colour_code, escaped_byte}
 
 -- a rectangle in one colour: its corner, width and height in units
@@ -47,8 +47,8 @@ rule_text Plain = []
 rule_text Under = codes " text-decoration='underline'"
 rule_text Over = codes " text-decoration='overline'"
 
-abbrev pub escaped : List Face → List ℕ
-escaped faces = flat_map (λ face. escaped_byte face.byte) faces
+abbrev pub escaped_text : List Face → List ℕ
+escaped_text faces = flat_map (λ face. escaped_byte face.byte) faces
 
 -- the characters of cells from a column on, in a row from the top
 abbrev pub text_cells : ℕ → ℕ → List Face → Pen → List ℕ
@@ -56,7 +56,7 @@ text_cells x y faces pen = concat
     (codes "<text x='" ∷ decimal (cell_width * x) ∷ codes "' y='" ∷ decimal (cell_height * y + baseline)
     ∷ codes "' textLength='" ∷ decimal (cell_width * length faces) ∷ codes "' fill='" ∷ colour_code pen.ink
     ∷ codes "'" ∷ weight_text pen.weight ∷ slant_text pen.is_italic ∷ rule_text pen.rule
-    ∷ codes ">" ∷ escaped faces ∷ codes "</text>\n" ∷ [])
+    ∷ codes ">" ∷ escaped_text faces ∷ codes "</text>\n" ∷ [])
 
 -- whether a pen draws a line along its characters
 abbrev pub is_ruled : Rule → Bool
@@ -83,17 +83,17 @@ drawn_stretch x y faces pen = drawn_paper x y (length faces) pen.paper ++ drawn_
 
 -- the pen at a column, and whether a stretch of one pen begins there
 abbrev pub pen_at : List Face → ℕ → Pen
-pen_at row x = (slice_index_or row x (blank WHITE)).pen
+pen_at row x = (slice_index_or row x (blank_face WHITE)).pen
 
 abbrev pub is_start : List Face → ℕ → Bool
 is_start row x = (x == 0) || not (same_pen (pen_at row x) (pen_at row (x - 1)))
 
 -- how many cells there are at the beginning in one pen
-abbrev pub is_in_another : Pen → Face → Bool
-is_in_another pen face = not (same_pen face.pen pen)
+abbrev pub is_in_another_pen : Pen → Face → Bool
+is_in_another_pen pen face = not (same_pen face.pen pen)
 
 abbrev pub stretch_length : Pen → List Face → ℕ
-stretch_length pen faces = position_or_len (is_in_another pen) faces
+stretch_length pen faces = position_or_len (is_in_another_pen pen) faces
 
 abbrev pub stretch_at : List Face → ℕ → List Face
 stretch_at row x = take (stretch_length (pen_at row x) (drop x row)) (drop x row)
@@ -136,5 +136,5 @@ heading = concat
 abbrev pub background : List ℕ
 background = rectangle 0 0 (cell_width * COLUMNS) (cell_height * ROWS) WHITE
 
-unfoldable pub drawn : List (List Cell) → List ℕ
-drawn screen = concat (heading ∷ background ∷ drawn_rows screen ∷ codes "</svg>\n" ∷ [])
+unfoldable pub drawing_of : List (List Cell) → List ℕ
+drawing_of screen = concat (heading ∷ background ∷ drawn_rows screen ∷ codes "</svg>\n" ∷ [])

@@ -20,8 +20,8 @@ abbrev pub caret_width : ℕ
 caret_width = 2
 
 -- pieces, one after another
-abbrev pub joined : List (Bor (List ℕ)) → List ℕ
-joined pieces = flat_map (λ piece. piece.now) pieces
+abbrev pub joined_pieces : List (Bor (List ℕ)) → List ℕ
+joined_pieces pieces = flat_map (λ piece. piece.now) pieces
 
 -- of the terminal's 256 colours those from 232 on are greys. Those before them, from 16 on, are a cube of six steps of
 -- red, six of green and six of blue, of which a step of blue is 1, one of green 6 and one of red 36. (No pen has one of

@@ -3,9 +3,9 @@ ghost use Rattle.std.specs.Prelude.{◌≡◌, ◌<◌, ◌≤◌, ◌*◌, leng
 ghost use Rattle.output_bytes.specs.Sent.{Sends};
 ghost use Rattle.viewer_tracks.specs.declared.display.TheConstants.{COLUMNS as columns, ROWS as rows};
 ghost use Rattle.screen_pictures.specs.Screen.{column_at};
-ghost use Rattle.screen_drawing.specs.Drawn.{background, drawn, drawn_caret, drawn_cells, drawn_column, drawn_row};
+ghost use Rattle.screen_drawing.specs.Drawn.{background, drawing_of, drawn_caret, drawn_cells, drawn_column, drawn_row};
 ghost use Rattle.screen_drawing.specs.Drawn.{drawn_rows, drawn_paper, drawn_start, drawn_stretch, drawn_text, heading};
-ghost use Rattle.screen_drawing.specs.Drawn.{is_bare, is_in_another, is_ruled, is_start, pen_at, stretch_at};
+ghost use Rattle.screen_drawing.specs.Drawn.{is_bare, is_in_another_pen, is_ruled, is_start, pen_at, stretch_at};
 ghost use Rattle.screen_drawing.specs.Drawn.{are_spaces, stretch_length};
 ghost use Rattle.screen_drawing.specs.Spelling.{caret_width, cell_height, cell_width};
 
@@ -40,7 +40,7 @@ pub fn draw<W: Write>(
     writer: &mut W,
     screen: &[[Cell; COLUMN_COUNT]; ROW_COUNT],
 ) -> Result<(), OutputFault>
-    ensures { Sends result (W.contents writer.old) (W.contents writer.new) (drawn screen.now) }
+    ensures { Sends result (W.contents writer.old) (W.contents writer.new) (drawing_of screen.now) }
 {
     draw_heading(writer)?;
     draw_background(writer)?;
@@ -191,7 +191,7 @@ fn stretch_length(faces: &[Face], pen: Pen) -> usize
 
 /// Where the first face in another pen stands.
 fn other_pen(faces: &[Face], pen: Pen) -> Option<usize>
-    ensures first { result ≡ position (is_in_another pen) faces.now }
+    ensures first { result ≡ position (is_in_another_pen pen) faces.now }
     ensures within { IfSome result (λ at. at < length faces.now) }
 {
     faces.iter().position(|face| !face.pen.is_same(pen))

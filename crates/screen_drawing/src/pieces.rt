@@ -1,7 +1,7 @@
 //! A text that is written piece by piece.
 ghost use Rattle.std.specs.Prelude.{◌≡◌};
 ghost use Rattle.output_bytes.specs.Sent.{Sends};
-ghost use Rattle.screen_drawing.specs.Spelling.{joined};
+ghost use Rattle.screen_drawing.specs.Spelling.{joined_pieces};
 
 use output_bytes::{OutputFault, send};
 use std::io::Write;
@@ -11,7 +11,7 @@ pub(crate) type Drawing = Result<(), OutputFault>;
 
 /// Writes the pieces, one after another.
 pub(crate) fn send_all<W: Write>(writer: &mut W, pieces: &[&[u8]]) -> Drawing
-    ensures { Sends result (W.contents writer.old) (W.contents writer.new) (joined pieces.now) }
+    ensures { Sends result (W.contents writer.old) (W.contents writer.new) (joined_pieces pieces.now) }
 {
     for piece in pieces {
         send(writer, piece)?;

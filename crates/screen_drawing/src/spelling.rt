@@ -3,7 +3,7 @@ ghost use Rattle.std.specs.Prelude.{◌≡◌, ◌++◌, ◌+◌, ◌*◌, ◌<�
 ghost use Rattle.std.specs.Fmt.{decimal};
 ghost use Rattle.arrayvec.specs.ArrayVec.{array_vec_len};
 ghost use Rattle.screen_drawing.specs.Spelling.{colour_code, escaped_byte, step_strength, strength};
-ghost use Rattle.screen_drawing.specs.Drawn.{escaped};
+ghost use Rattle.screen_drawing.specs.Drawn.{escaped_text};
 
 use arrayvec::ArrayVec;
 use output_bytes::hex_digit;
@@ -81,7 +81,7 @@ fn step_strength(step: u8) -> u8
 /// The characters of cells.
 pub(crate) fn escaped(faces: &[Face]) -> Escaped
     requires { length faces.now ≤ 80 }
-    ensures { result.items ≡ escaped faces.now }
+    ensures { result.items ≡ escaped_text faces.now }
 {
     let mut text = Escaped::new();
     for face in faces {

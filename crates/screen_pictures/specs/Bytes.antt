@@ -1,18 +1,12 @@
 -- The bytes of some characters.
 use Rattle.std.specs.Prelude.{ℕ, ◌+◌, Bool, ◌&&◌, ◌==◌, nat_le, if◌then◌else◌}
-pub use Rattle.event_bytes.specs.Bytes.{tabulator, period}
-
-abbrev pub line_feed : ℕ
-line_feed = 10
+pub use Rattle.event_bytes.specs.Bytes.{tabulator, line_feed, period, question_mark}
 
 abbrev pub space : ℕ
 space = 32
 
 abbrev pub hyphen : ℕ
 hyphen = 45
-
-abbrev pub question_mark : ℕ
-question_mark = 63
 
 abbrev pub vertical_bar : ℕ
 vertical_bar = 124

@@ -18,7 +18,7 @@ use Rattle.viewer_tracks.specs.declared.display.Track.TheVariants.{User, System}
 use Rattle.viewer_tracks.specs.declared.display.TheConstants.{COLUMNS, SYSTEM_LEFT}
 use Rattle.viewer_tracks.specs.Display.{track_at, left_of}
 use Rattle.viewer_tracks.specs.Viewers.{viewer_at}
-use Rattle.viewer_tracks.specs.Columns.{Columns, shown, placed_bottom, placed_top}
+use Rattle.viewer_tracks.specs.Columns.{Columns, shown_track, placed_bottom, placed_top}
 use Rattle.screen_pictures.specs.declared.cell.Cell.{Cell}
 use Rattle.screen_pictures.specs.declared.cell.Mark.{Mark}
 use Rattle.screen_pictures.specs.declared.cell.Mark.TheVariants.{Marker, Menu, Bar, Text as InText, Filler}
@@ -106,7 +106,7 @@ seen_cell columns viewers track column y (Some id) =
 
 abbrev pub track_cell : Columns → List Painted → Track → ℕ → ℕ → Cell
 track_cell columns viewers track column y =
-    seen_cell columns viewers track column y (viewer_at (shown columns track) y)
+    seen_cell columns viewers track column y (viewer_at (shown_track columns track) y)
 
 -- a cell with the marker on it, or as it is
 abbrev pub with_marker : Bool → Cell → Cell

@@ -18,12 +18,12 @@ least n passes = position_or_len passes (range_with_len 0 n)
 unfoldable pub without_trailing : ℕ → List ℕ → List ℕ
 without_trailing blank bytes = take (least (length bytes) (λ n. list_all (λ b. b == blank) (drop n bytes))) bytes
 
-abbrev pub ended : List ℕ → List ℕ
-ended text = text ++ line_feed ∷ []
+abbrev pub ended_line : List ℕ → List ℕ
+ended_line text = text ++ line_feed ∷ []
 
 -- a row's number in two digits, a colon, and its bytes without blanks at their end
 abbrev pub row_line : ℕ → ℕ → List ℕ → List ℕ
-row_line y blank bytes = ended ((digit (y / 10) ∷ digit (y % 10) ∷ codes ":") ++ without_trailing blank bytes)
+row_line y blank bytes = ended_line ((digit (y / 10) ∷ digit (y % 10) ∷ codes ":") ++ without_trailing blank bytes)
 
 abbrev pub character_line : ℕ → List Cell → List ℕ
 character_line y row = row_line y space (map (λ c. c.ch) row)
@@ -47,4 +47,4 @@ mark_lines screen = flat_map (λ y. mark_line y (row_at screen y)) (filter (λ y
     (down_from ROWS))
 
 unfoldable pub printed : List (List Cell) → List ℕ
-printed screen = character_lines screen ++ (ended (codes "marks") ++ (mark_lines screen ++ ended (codes "end")))
+printed screen = character_lines screen ++ (ended_line (codes "marks") ++ (mark_lines screen ++ ended_line (codes "end")))

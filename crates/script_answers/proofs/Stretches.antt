@@ -9,8 +9,8 @@ use Rattle.std.proofs.lemmas.Bool.{ltb-false}
 use Rattle.std.proofs.lemmas.List.Sums.{prefix_len-le-length}
 use Rattle.piece_ring.specs.declared.piece.Look.{Look}
 use Rattle.piece_ring.specs.Text.{Text}
-use Rattle.script_answers.specs.Answer.{LookStretch, is_same_look, joined, stretches, stretch_line}
-use Rattle.script_answers.specs.Stretch.{bytes_in, is_in_another, count_in}
+use Rattle.script_answers.specs.Answer.{LookStretch, is_same_look, joined_stretches, stretches, stretch_line}
+use Rattle.script_answers.specs.Stretch.{stretch_bytes, is_in_another_look, count_in}
 
 both : (a b : Bool) → a && b ≡ true → (a ≡ true) × (b ≡ true)
 both true b h = (refl, h)
@@ -32,7 +32,7 @@ is_itself a = λ k. (unsigned_Decides a.font a.font).1 refl k && ((unsigned_Deci
     (signed_Decides a.voff a.voff).1 refl k)
 
 -- where no character is in another look, all are counted
-pub none_other : (look : Look) (text : Text ℕ) → position (is_in_another look) text ≡ None
+pub none_other : (look : Look) (text : Text ℕ) → position (is_in_another_look look) text ≡ None
     → length text ≡ count_in look text
 none_other look text none =
     let most : count_in look text ≤ length text = prefix_len-le-length _ text in
@@ -58,18 +58,18 @@ counted look d text = elim (is_same_look look d.1) as
 
 -- the first stretch, when the beginning of the text in its look is so long
 abbrev cut_at : ℕ × Look → Text ℕ → ℕ → List LookStretch
-cut_at c text n = stretch c.1 (c.0 ∷ bytes_in (take n text)) ∷ stretches (drop n text)
+cut_at c text n = stretch c.1 (c.0 ∷ stretch_bytes (take n text)) ∷ stretches (drop n text)
 
 pub first_stretch : (c : ℕ × Look) (text : Text ℕ) → stretches (c ∷ text) ≡ cut_at c text (count_in c.1 text)
 first_stretch c [] = refl
 first_stretch c (d ∷ text) =
     let rest = first_stretch d text in
-    ap (joined c) rest ∙ (elim (is_same_look c.1 d.1) as (λ b. is_same_look c.1 d.1 ≡ b →
-    (let l : List LookStretch = cond b (stretch d.1 (c.0 ∷ d.0 ∷ bytes_in (take (count_in d.1 text) text)) ∷ stretches
+    ap (joined_stretches c) rest ∙ (elim (is_same_look c.1 d.1) as (λ b. is_same_look c.1 d.1 ≡ b →
+    (let l : List LookStretch = cond b (stretch d.1 (c.0 ∷ d.0 ∷ stretch_bytes (take (count_in d.1 text) text)) ∷ stretches
     (drop (count_in d.1 text) text)) (stretch c.1 (c.0 ∷ []) ∷ cut_at d text (count_in d.1 text)) in l)
     ≡ cut_at c (d ∷ text) (cond b (suc (count_in c.1 text)) 0)) [
       | true ↦ λ same. (λ k. stretch (sym (same_is c.1 d.1 same) k)
-          (c.0 ∷ d.0 ∷ bytes_in (take (count_in (sym (same_is c.1 d.1 same) k) text) text))
+          (c.0 ∷ d.0 ∷ stretch_bytes (take (count_in (sym (same_is c.1 d.1 same) k) text) text))
           ∷ stretches (drop (count_in (sym (same_is c.1 d.1 same) k) text) text))
       | false ↦ λ other. ap (λ (l : List LookStretch). stretch c.1 (c.0 ∷ []) ∷ l) (sym rest)
     ]) refl ∙ ap (cut_at c (d ∷ text)) (sym (counted c.1 d text))
@@ -88,27 +88,27 @@ some_counted (d ∷ text) c is =
 
 pub stretches_of : (text : Text ℕ) (c : ℕ × Look) → slice_get text 0 ≡ Some c
     → stretches text
-    ≡ stretch c.1 (bytes_in (take (count_in c.1 text) text)) ∷ stretches (drop (count_in c.1 text) text)
+    ≡ stretch c.1 (stretch_bytes (take (count_in c.1 text) text)) ∷ stretches (drop (count_in c.1 text) text)
 stretches_of [] c is = absurd cc
 stretches_of (d ∷ text) c is =
     let same : d ≡ c = cc is in
     subst (λ (x : ℕ × Look). stretches (d ∷ text)
-    ≡ stretch x.1 (bytes_in (take (count_in x.1 (d ∷ text)) (d ∷ text))) ∷ stretches (drop (count_in x.1 (d ∷ text))
+    ≡ stretch x.1 (stretch_bytes (take (count_in x.1 (d ∷ text)) (d ∷ text))) ∷ stretches (drop (count_in x.1 (d ∷ text))
     (d ∷ text))) same
-    (first_stretch d text ∙ (λ k. stretch d.1 (bytes_in (take (sym (itself_counted d text) k) (d ∷ text))) ∷ stretches
+    (first_stretch d text ∙ (λ k. stretch d.1 (stretch_bytes (take (sym (itself_counted d text) k) (d ∷ text))) ∷ stretches
     (drop (sym (itself_counted d text) k) (d ∷ text))))
 
 -- one more line
 pub line_more : (before after : List ℕ) (text : Text ℕ) (c : ℕ × Look) (n : ℕ) (all : List ℕ)
     → slice_get text 0 ≡ Some c → n ≡ count_in c.1 text
-    → after ≡ before ++ stretch_line (stretch c.1 (bytes_in (take n text)))
+    → after ≡ before ++ stretch_line (stretch c.1 (stretch_bytes (take n text)))
     → before ++ flat_map stretch_line (stretches text) ≡ all
     → after ++ flat_map stretch_line (stretches (drop n text)) ≡ all
 line_more before after text c n all first count grown was =
-    let line = stretch_line (stretch c.1 (bytes_in (take n text))) in
+    let line = stretch_line (stretch c.1 (stretch_bytes (take n text))) in
     let rest = flat_map stretch_line (stretches (drop n text)) in
-    let parts : stretches text ≡ stretch c.1 (bytes_in (take n text)) ∷ stretches (drop n text) =
+    let parts : stretches text ≡ stretch c.1 (stretch_bytes (take n text)) ∷ stretches (drop n text) =
     stretches_of text c first
-    ∙ (λ k. stretch c.1 (bytes_in (take (sym count k) text)) ∷ stretches (drop (sym count k) text)) in
+    ∙ (λ k. stretch c.1 (stretch_bytes (take (sym count k) text)) ∷ stretches (drop (sym count k) text)) in
     ap (λ l. l ++ rest) grown ∙ append_assoc before line rest
     ∙ ap (λ (ss : List LookStretch). before ++ flat_map stretch_line ss) (sym parts) ∙ was

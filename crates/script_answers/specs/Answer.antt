@@ -11,26 +11,26 @@ use Rattle.desktop_definitions.specs.declared.reply.Reply.{Reply}
 use Rattle.desktop_definitions.specs.declared.reply.Reply.TheVariants.{Done, No}
 use Rattle.desktop_definitions.specs.declared.entry.Entry.{Entry}
 use Rattle.desktop_definitions.specs.declared.entry.Entry.TheVariants.{File, Viewer, Over, Written}
-use Rattle.script_lines.specs.Script.{ended}
-use Rattle.script_lines.specs.Request.{is_printable}
+use Rattle.script_lines.specs.Script.{script_line}
+use Rattle.script_lines.specs.Request.{is_script_byte}
 
 abbrev pub refusal_line : ℕ → List ℕ
-refusal_line code = ended (codes "no " ++ decimal code)
+refusal_line code = script_line (codes "no " ++ decimal code)
 
 abbrev pub reply_line : Reply → List ℕ
-reply_line Done = ended (codes "ok")
+reply_line Done = script_line (codes "ok")
 reply_line (No code) = refusal_line code
 
 abbrev pub end_line : List ℕ
-end_line = ended (codes "end")
+end_line = script_line (codes "end")
 
 -- a byte from the space to the tilde but the percent sign as itself, any other as a percent sign and two digits
-abbrev pub shown_byte : ℕ → List ℕ
-shown_byte b =
-    if is_printable b && not (b == 37) then b ∷ [] else 37 ∷ hex_digit (b / 16) ∷ hex_digit (b % 16) ∷ []
+abbrev pub answer_byte : ℕ → List ℕ
+answer_byte b =
+    if is_script_byte b && not (b == 37) then b ∷ [] else 37 ∷ hex_digit (b / 16) ∷ hex_digit (b % 16) ∷ []
 
-abbrev pub shown : List ℕ → List ℕ
-shown bytes = flat_map shown_byte bytes
+abbrev pub escaped_answer : List ℕ → List ℕ
+escaped_answer bytes = flat_map answer_byte bytes
 
 -- the two looks are one
 abbrev pub is_same_look : Look → Look → Bool
@@ -42,9 +42,9 @@ pub record LookStretch : Type 0 where
   pub bytes : List ℕ
 
 -- a character before stretches of one look each: it joins the first of them, where that has its look
-abbrev pub joined : ℕ × Look → List LookStretch → List LookStretch
-joined c [] = record { look = c.1; bytes = c.0 ∷ [] } ∷ []
-joined c (s ∷ ss) =
+abbrev pub joined_stretches : ℕ × Look → List LookStretch → List LookStretch
+joined_stretches c [] = record { look = c.1; bytes = c.0 ∷ [] } ∷ []
+joined_stretches c (s ∷ ss) =
     if is_same_look c.1 s.look
     then record { look = s.look; bytes = c.0 ∷ s.bytes } ∷ ss
     else record { look = c.1; bytes = c.0 ∷ [] } ∷ s ∷ ss
@@ -52,14 +52,14 @@ joined c (s ∷ ss) =
 -- a text as its longest stretches of one look
 abbrev pub stretches : Text ℕ → List LookStretch
 stretches [] = []
-stretches (c ∷ text) = joined c (stretches text)
+stretches (c ∷ text) = joined_stretches c (stretches text)
 
 -- font, colour and offset, each with a space after it, and the bytes
 abbrev pub look_words : Look → List ℕ
 look_words look = decimal look.font ++ 32 ∷ decimal look.colour ++ 32 ∷ signed_decimal look.voff ++ 32 ∷ []
 
 abbrev pub stretch_line : LookStretch → List ℕ
-stretch_line s = ended (look_words s.look ++ shown s.bytes)
+stretch_line s = script_line (look_words s.look ++ escaped_answer s.bytes)
 
 -- A text: a line for each stretch. An empty text has no such line.
 abbrev pub text_lines : Text ℕ → List ℕ
@@ -71,11 +71,11 @@ show_lines None = refusal_line 5
 show_lines (Some text) = text_lines text
 
 abbrev pub entry_line : Entry → List ℕ
-entry_line (File name len) = ended (codes "file " ++ name ++ 32 ∷ decimal len)
-entry_line (Viewer x bottom top name len) = ended (codes "viewer " ++ decimal x ++ 32 ∷ decimal bottom
-    ++ 32 ∷ decimal top ++ 32 ∷ shown name ++ 32 ∷ decimal len)
-entry_line (Over x depth) = ended (codes "over " ++ decimal x ++ 32 ∷ decimal depth)
-entry_line (Written n) = ended (codes "written " ++ decimal n)
+entry_line (File name len) = script_line (codes "file " ++ name ++ 32 ∷ decimal len)
+entry_line (Viewer x bottom top name len) = script_line (codes "viewer " ++ decimal x ++ 32 ∷ decimal bottom
+    ++ 32 ∷ decimal top ++ 32 ∷ escaped_answer name ++ 32 ∷ decimal len)
+entry_line (Over x depth) = script_line (codes "over " ++ decimal x ++ 32 ∷ decimal depth)
+entry_line (Written n) = script_line (codes "written " ++ decimal n)
 
 abbrev pub list_lines : List Entry → List ℕ
 list_lines entries = flat_map entry_line entries ++ end_line

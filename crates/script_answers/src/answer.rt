@@ -2,12 +2,12 @@
 ghost use Rattle.std.specs.Prelude.{◌≡◌, ◌+◌, ◌<◌, ◌≤◌, [], ◌∷◌, ◌++◌, length, position, IfOk, IfSome, OnOk, codes};
 ghost use Rattle.std.specs.Fmt.{decimal, signed_decimal};
 ghost use Rattle.arrayvec.specs.ArrayVec.{array_vec_len};
-ghost use Rattle.script_lines.specs.Script.{ended};
-ghost use Rattle.script_answers.specs.Answer.{reply_line, refusal_line, shown_byte, shown};
+ghost use Rattle.script_lines.specs.Script.{script_line};
+ghost use Rattle.script_answers.specs.Answer.{reply_line, refusal_line, answer_byte, escaped_answer};
 ghost use Rattle.script_answers.specs.Answer.{is_same_look, look_words, stretch_line, text_lines};
 ghost use Rattle.script_answers.specs.Answer.{entry_line, list_lines};
 ghost use Rattle.screen_pictures.specs.Printed.{printed};
-ghost use Rattle.script_answers.specs.Stretch.{bytes_in, is_in_another, count_in};
+ghost use Rattle.script_answers.specs.Stretch.{stretch_bytes, is_in_another_look, count_in};
 
 use arrayvec::ArrayVec;
 use desktop_definitions::{Entry, Reply};
@@ -22,7 +22,7 @@ pub type ShortLine = ArrayVec<u8, 64>;
 /// A text and a line feed after it.
 pub fn short_line(text: &[u8]) -> ShortLine
     requires { length text.now < 64 }
-    ensures { result.items ≡ ended text.now }
+    ensures { result.items ≡ script_line text.now }
 {
     let mut line = ShortLine::new();
     line.try_extend_from_slice(text).unwrap();
@@ -50,7 +50,7 @@ pub fn refusal_bytes(code: u8) -> ShortLine
 /// A word with its space, a number, and a line feed.
 pub fn numbered_line(word: &[u8], number: u32) -> ShortLine
     requires { length word.now < 50 }
-    ensures { result.items ≡ ended (word.now ++ decimal number) }
+    ensures { result.items ≡ script_line (word.now ++ decimal number) }
 {
     short_line(numbered(word, number).as_slice())
 }
@@ -86,7 +86,7 @@ pub fn text_bytes(alloc: Global, text: &[(u8, Look)]) -> Result<Vec<u8>, AllocEr
 /// Adds the line of a stretch: its look and its bytes.
 fn push_stretch(text: &mut Vec<u8>, look: Look, stretch: &[(u8, Look)]) -> Result<(), AllocError>
     ensures { OnOk result (text.new.items
-        ≡ text.old.items ++ stretch_line (record { look = look; bytes = bytes_in stretch.now })) }
+        ≡ text.old.items ++ stretch_line (record { look = look; bytes = stretch_bytes stretch.now })) }
 {
     push_look(text, look)?;
     push_shown(text, stretch)?;
@@ -107,7 +107,7 @@ fn count_in_look(text: &[(u8, Look)], look: Look) -> usize
 
 /// Where the first character in another look stands.
 fn other_look(text: &[(u8, Look)], look: Look) -> Option<usize>
-    ensures first { result ≡ position (is_in_another look) text.now }
+    ensures first { result ≡ position (is_in_another_look look) text.now }
     ensures within { IfSome result (λ at. at < length text.now) }
 {
     text.iter().position(|c| !is_same(look, c.1))
@@ -152,7 +152,7 @@ fn push_signed(text: &mut Vec<u8>, number: i8) -> Result<(), AllocError>
 
 /// Adds the characters' bytes as a script spells them.
 fn push_shown(text: &mut Vec<u8>, characters: &[(u8, Look)]) -> Result<(), AllocError>
-    ensures { OnOk result (text.new.items ≡ text.old.items ++ shown (bytes_in characters.now)) }
+    ensures { OnOk result (text.new.items ≡ text.old.items ++ escaped_answer (stretch_bytes characters.now)) }
 {
     for character in characters {
         text.extend_from_slice(shown_bytes(character.0).as_slice())?;
@@ -162,7 +162,7 @@ fn push_shown(text: &mut Vec<u8>, characters: &[(u8, Look)]) -> Result<(), Alloc
 
 /// Adds bytes as a script spells them.
 fn push_spelled(text: &mut Vec<u8>, bytes: &[u8]) -> Result<(), AllocError>
-    ensures { OnOk result (text.new.items ≡ text.old.items ++ shown bytes.now) }
+    ensures { OnOk result (text.new.items ≡ text.old.items ++ escaped_answer bytes.now) }
 {
     for byte in bytes {
         text.extend_from_slice(shown_bytes(*byte).as_slice())?;
@@ -172,7 +172,7 @@ fn push_spelled(text: &mut Vec<u8>, bytes: &[u8]) -> Result<(), AllocError>
 
 /// A byte as a script spells it: itself, or a percent sign and two hexadecimal digits.
 fn shown_bytes(byte: u8) -> ArrayVec<u8, 3>
-    ensures { result.items ≡ shown_byte byte }
+    ensures { result.items ≡ answer_byte byte }
 {
     let mut shown = ArrayVec::new();
     if matches!(byte, 32..=126) && byte != b'%' {
@@ -240,7 +240,7 @@ fn push_viewer(
     len: u32,
 ) -> Result<(), AllocError>
     ensures { OnOk result (text.new.items ≡ text.old.items ++ (codes "viewer " ++ decimal x ++ 32 ∷ decimal bottom
-        ++ 32 ∷ decimal top ++ 32 ∷ shown name.now ++ 32 ∷ decimal len)) }
+        ++ 32 ∷ decimal top ++ 32 ∷ escaped_answer name.now ++ 32 ∷ decimal len)) }
 {
     text.extend_from_slice(b"viewer ")?;
     push_number(text, x as u32)?;

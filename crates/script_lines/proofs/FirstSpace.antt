@@ -6,7 +6,7 @@ use Rattle.std.specs.Option.{option_map}
 use Rattle.std.specs.List.{position_or_len}
 use Rattle.std.proofs.lemmas.Bool.{cases_Bool, ltb-false, cond-true, cond-false}
 use Rattle.std.proofs.lemmas.List.{take_all}
-use Rattle.script_lines.specs.Words.{is_space, word, argument}
+use Rattle.script_lines.specs.Words.{is_space, first_word, argument}
 
 -- where the first place is past the end, or stands
 at_place : (i n : ℕ) (o : Option ℕ) → o ≡ cond (ltb i n) (Some i) None → (o ≡ None → n ≤ i) × ((k : ℕ) → o ≡ Some k
@@ -17,10 +17,10 @@ at_place i n o e = elim (cases_Bool (ltb i n)) [
       ((λ _. ltb-false i n past), λ k found. cc)
 ]
 
-pub word_whole : (line : List ℕ) → position is_space line ≡ None → word line ≡ line
+pub word_whole : (line : List ℕ) → position is_space line ≡ None → first_word line ≡ line
 word_whole line none = take_all (position_or_len is_space line) line ((at_place _ _ _ refl).0 none)
 
-pub word_front : (line : List ℕ) (i : ℕ) → position is_space line ≡ Some i → word line ≡ take i line
+pub word_front : (line : List ℕ) (i : ℕ) → position is_space line ≡ Some i → first_word line ≡ take i line
 word_front line i found = ap (λ n. take n line) ((at_place _ _ _ refl).1 i found)
 
 pub argument_behind : (line : List ℕ) (i : ℕ) → position is_space line ≡ Some i

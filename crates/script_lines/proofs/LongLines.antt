@@ -3,12 +3,12 @@ use Rattle.std.proofs.Common.{◌≡◌, ℕ, ◌<◌, List, length}
 use Rattle.std.specs.List.{list_all}
 use Rattle.std.specs.Prelude.{unwrap_or}
 use Rattle.std.proofs.lemmas.Bool.{lt-leb, and_left, cond-false}
-use Rattle.script_lines.specs.Request.{longest_line, is_printable, is_readable, request_of, command_of}
-use Rattle.script_lines.specs.Words.{word, argument}
+use Rattle.script_lines.specs.Request.{longest_line, is_script_byte, is_readable, request_of, command_of}
+use Rattle.script_lines.specs.Words.{first_word, argument}
 use Rattle.script_lines.specs.declared.request.Request.TheVariants.{Malformed}
 
 pub long_malformed : (line : List ℕ) → longest_line < length line → request_of line ≡ Malformed
 unfolding request_of
 long_malformed line long = cond-false (is_readable line)
-    (unwrap_or (command_of (word line) (argument line)) Malformed) Malformed
-    (and_left _ (list_all is_printable line) (lt-leb (length line) longest_line long))
+    (unwrap_or (command_of (first_word line) (argument line)) Malformed) Malformed
+    (and_left _ (list_all is_script_byte line) (lt-leb (length line) longest_line long))

@@ -2,11 +2,11 @@
 use Rattle.std.specs.Prelude.{◌≡◌, ◌⊎◌, ℕ, ◌+◌, ◌*◌, ◌<◌, ◌≤◌, List, [], ◌++◌, length, true, false, Option}
 use Rattle.std.specs.Io.KnownBytes.{Consumes}
 use Rattle.script_lines.specs.Request.{longest_line}
-use Rattle.script_lines.specs.Script.{ended, IsLine}
+use Rattle.script_lines.specs.Script.{script_line, IsLine}
 use Rattle.script_lines.specs.declared.line.Line.{Line}
 
 -- A line is held whole, or it is known that it is too long to be one of the language.
-pub record Holds (held : Line) (line : List ℕ) : Type 0 where
+pub record HoldsLine (held : Line) (line : List ℕ) : Type 0 where
   pub long : held.is_long ≡ true → longest_line < length line
   pub short : held.is_long ≡ false → held.bytes.items ≡ line
 
@@ -43,9 +43,9 @@ pub record TakesLine (old new : Unplayed) (left left' : Option (List ℕ)) (held
   pub read : List ℕ
   pub came : Consumes left left' read
   pub plain : IsLine line
-  pub parts : old.pending ++ read ≡ ended line ++ new.pending
+  pub parts : old.pending ++ read ≡ script_line line ++ new.pending
   pub few : length read + most_bytes new.reads ≤ most_bytes old.reads
-  pub holds : Holds held line
+  pub holds : HoldsLine held line
 
 -- No line feed came any more: this rest is all that was pending and read.
 pub record TakesRest (old new : Unplayed) (left left' : Option (List ℕ)) (held : Line) : Type 0 where
@@ -56,4 +56,4 @@ pub record TakesRest (old new : Unplayed) (left left' : Option (List ℕ)) (held
   pub parts : old.pending ++ read ≡ rest
   pub none : new.pending ≡ []
   pub few : length read + most_bytes new.reads ≤ most_bytes old.reads
-  pub holds : Holds held rest
+  pub holds : HoldsLine held rest

@@ -3,8 +3,8 @@ use Rattle.std.specs.Prelude.{◌≡◌, ◌≢◌, ℕ, List, [], ◌∷◌, �
 use Rattle.std.specs.List.{AllByRecursion, flat_map}
 
 -- a line as it stands in a script, with the line feed that ends it
-abbrev pub ended : List ℕ → List ℕ
-ended line = line ++ 10 ∷ []
+abbrev pub script_line : List ℕ → List ℕ
+script_line line = line ++ 10 ∷ []
 
 -- no line feed stands in it
 abbrev pub IsLine : List ℕ → Type 0
@@ -12,7 +12,7 @@ IsLine bytes = AllByRecursion (λ b. b ≢ 10) bytes
 
 -- The bytes are these lines, each with its line feed, and after the last one a rest without a line feed.
 pub record IsSplit (bytes : List ℕ) (lines : List (List ℕ)) (rest : List ℕ) : Type 0 where
-  pub whole : bytes ≡ flat_map ended lines ++ rest
+  pub whole : bytes ≡ flat_map script_line lines ++ rest
   pub each : AllByRecursion IsLine lines
   pub last : IsLine rest
 

@@ -8,28 +8,24 @@ use Rattle.event_bytes.specs.Bytes.{is_digit}
 use Rattle.event_bytes.specs.Keys.{all_of_keyboard, all_of_mouse}
 use Rattle.event_bytes.specs.declared.keys.Key.{Key}
 use Rattle.event_bytes.specs.declared.keys.Keys.{Keys}
+pub use Rattle.event_bytes.specs.Parts.{◌>>=◌}
 
 abbrev pub is_space : ℕ → Bool
 is_space b = b == 32
 
 -- what stands before the first space
-abbrev pub word : List ℕ → List ℕ
-word line = before_first is_space line
+abbrev pub first_word : List ℕ → List ℕ
+first_word line = before_first is_space line
 
 -- what stands after the first space, None where there is none
 abbrev pub argument : List ℕ → Option (List ℕ)
 argument line = option_map (λ i. drop (i + 1) line) (position is_space line)
 
-infixl 10 ◌>>=◌
-abbrev pub ◌>>=◌ : {A B : Type 0} → Option A → (A → Option B) → Option B
-None >>= f = None
-(Some x) >>= f = f x
-
 -- what the word before a space names, and what stands after the space
 abbrev pub leading : {A : Type 0} → (List ℕ → Option A) → List ℕ → Option (A × List ℕ)
 leading named text = do
   rest ← argument text
-  x ← named (word text)
+  x ← named (first_word text)
   Some (x, rest)
 
 -- ---- numbers
@@ -54,19 +50,19 @@ to_number (b ∷ bs) = if is_digit b then number_from (b - 48) bs else None
 -- ---- keys
 
 -- the value in the place of the word of which this is so
-abbrev pub named : {A W : Type 0} → (W → Bool) → List W → List A → Option A
-named is_name words values = do
+abbrev pub value_named : {A W : Type 0} → (W → Bool) → List W → List A → Option A
+value_named is_name words values = do
   place ← position is_name words
   slice_get values place
 
 -- a key of the keyboard by its word
 unfoldable pub key_named : List ℕ → Option Key
 key_named name =
-    named (bytes_eq name) (codes "back" ∷ codes "copy" ∷ codes "paste" ∷ codes "cut" ∷ codes "escape" ∷ [])
+    value_named (bytes_eq name) (codes "back" ∷ codes "copy" ∷ codes "paste" ∷ codes "cut" ∷ codes "escape" ∷ [])
     all_of_keyboard
 
 -- keys of the mouse by the first letters of each, in the order in which they are pressed
 unfoldable pub keys_named : List ℕ → Option Keys
 keys_named name =
-    named (bytes_eq name) (codes "l" ∷ codes "lm" ∷ codes "lr" ∷ codes "m" ∷ codes "ml" ∷ codes "mr" ∷ codes "r"
+    value_named (bytes_eq name) (codes "l" ∷ codes "lm" ∷ codes "lr" ∷ codes "m" ∷ codes "ml" ∷ codes "mr" ∷ codes "r"
     ∷ codes "rl" ∷ codes "rm" ∷ []) all_of_mouse

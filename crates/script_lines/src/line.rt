@@ -2,7 +2,7 @@
 ghost use Rattle.std.specs.Prelude.{◌≡◌, ◌==◌, ℕ, List, [], ◌∷◌, ◌+◌, ◌<◌, ◌≤◌, ◌++◌, ◌↔◌, length, position, IsTrue};
 ghost use Rattle.std.specs.Prelude.{true, false, Some, None, IfSome, MatchOption};
 ghost use Rattle.std.specs.Io.KnownBytes.{Consumes, IsAtEnd};
-ghost use Rattle.script_lines.specs.Script.{ended, IsLine};
+ghost use Rattle.script_lines.specs.Script.{script_line, IsLine};
 ghost use Rattle.script_lines.specs.Request.{request_of};
 
 use crate::request::{Request, ask};
@@ -18,11 +18,11 @@ pub struct Line {
 }
 
 impl Line {
-    ghost use Rattle.script_lines.specs.Reading.{Holds};
+    ghost use Rattle.script_lines.specs.Reading.{HoldsLine};
 
     /// The empty line.
     pub fn new() -> Line
-        ensures { Holds result [] }
+        ensures { HoldsLine result [] }
     {
         Line {
             bytes: ArrayVec::new(),
@@ -32,7 +32,7 @@ impl Line {
 
     /// Makes the request what the line asks for.
     pub fn ask(&self, request: &mut Request)
-        ensures { (line : List ℕ) → Holds self.now line → request.new ≡ request_of line }
+        ensures { (line : List ℕ) → HoldsLine self.now line → request.new ≡ request_of line }
     {
         if self.is_long {
             *request = Request::Malformed;
@@ -43,14 +43,14 @@ impl Line {
 
     /// Whether it is the empty line.
     pub fn is_empty(&self) -> bool
-        ensures { (line : List ℕ) → Holds self.now line → IsTrue result ↔ (line ≡ []) }
+        ensures { (line : List ℕ) → HoldsLine self.now line → IsTrue result ↔ (line ≡ []) }
     {
         !self.is_long && self.bytes.is_empty()
     }
 
     /// Makes it the empty line.
     fn clear(&mut self)
-        ensures { Holds self.new [] }
+        ensures { HoldsLine self.new [] }
     {
         self.bytes.clear();
         self.is_long = false;
@@ -58,7 +58,7 @@ impl Line {
 
     /// Adds bytes at its end.
     fn extend(&mut self, bytes: &[u8])
-        ensures { (line : List ℕ) → Holds self.old line → Holds self.new (line ++ bytes.now) }
+        ensures { (line : List ℕ) → HoldsLine self.old line → HoldsLine self.new (line ++ bytes.now) }
     {
         match self.bytes.try_extend_from_slice(bytes) {
             Ok(()) => {}
@@ -102,7 +102,7 @@ impl Model for Script {
 }
 
 impl Script {
-    ghost use Rattle.script_lines.specs.Reading.{Holds, TakesLine, TakesRest, most_lines, IsReadFault};
+    ghost use Rattle.script_lines.specs.Reading.{HoldsLine, TakesLine, TakesRest, most_lines, IsReadFault};
 
     /// A script of which nothing is read yet, and that may take so many reads before the one that says that it is at
     /// its end.
@@ -145,10 +145,10 @@ impl Script {
     /// Adds what is pending up to the next line feed to the line. Whether there was one: then it is taken too.
     fn take_pending(&mut self, line: &mut Line) -> bool
         ensures feed { IsTrue result → (front : List ℕ) × IsLine front
-            × (self.old.pending ≡ ended front ++ self.new.pending)
-            × ((before : List ℕ) → Holds line.old before → Holds line.new (before ++ front)) }
+            × (self.old.pending ≡ script_line front ++ self.new.pending)
+            × ((before : List ℕ) → HoldsLine line.old before → HoldsLine line.new (before ++ front)) }
         ensures none { result ≡ false → (self.new.pending ≡ []) × IsLine self.old.pending
-            × ((before : List ℕ) → Holds line.old before → Holds line.new (before ++ self.old.pending)) }
+            × ((before : List ℕ) → HoldsLine line.old before → HoldsLine line.new (before ++ self.old.pending)) }
         ensures reads { self.new.reads ≡ self.old.reads }
     {
         let pending = &self.piece[self.next..self.end];

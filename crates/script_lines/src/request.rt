@@ -7,8 +7,8 @@
 ghost use Rattle.std.specs.Prelude.{◌≡◌, IfSome, IsTrue};
 ghost use Rattle.std.specs.Option.{option_map};
 ghost use Rattle.std.specs.List.{list_all};
-ghost use Rattle.script_lines.specs.Request.{is_printable, is_readable, file_bytes_of, typed_bytes_of, typed_of};
-ghost use Rattle.script_lines.specs.Request.{key_of, mark_of, point_of, file_of, show_of, word_of, words_of};
+ghost use Rattle.script_lines.specs.Request.{is_script_byte, is_readable, file_bytes_of, typed_bytes_of, typed_of};
+ghost use Rattle.script_lines.specs.Request.{key_request, mark_request, point_of, file_request, show_of, word_request, words_of};
 ghost use Rattle.script_lines.specs.Request.{command_of, request_of, typed_plain};
 
 use crate::percent::{is_plain, spelled};
@@ -110,7 +110,7 @@ fn is_text(line: &[u8]) -> bool
 
 /// Whether each byte is one from the space to the tilde.
 fn are_printable(bytes: &[u8]) -> bool
-    ensures { result ≡ list_all is_printable bytes.now }
+    ensures { result ≡ list_all is_script_byte bytes.now }
 {
     bytes.iter().all(|byte| matches!(*byte, 32..=126))
 }
@@ -127,9 +127,9 @@ fn command(name: &[u8], rest: Option<&[u8]>) -> Option<Request>
 }
 
 /// What a line of one word asks for.
-#[tactic(auto, unfolding(crate::specs::Request::word_of))]
+#[tactic(auto, unfolding(crate::specs::Request::word_request))]
 fn one_word(name: &[u8]) -> Option<Request>
-    ensures { result ≡ word_of name.now }
+    ensures { result ≡ word_request name.now }
 {
     match name {
         _ if name == b"list".as_slice() => Some(Request::Listing),
@@ -168,14 +168,14 @@ fn typed(text: &[u8]) -> Option<Request>
 
 /// The request that `key` makes of its word.
 fn pressed(name: &[u8]) -> Option<Request>
-    ensures { result ≡ key_of name.now }
+    ensures { result ≡ key_request name.now }
 {
     Some(Request::Post(Event::Key(key(name)?)))
 }
 
 /// The request that `mark` makes of its column and row.
 fn mark(text: &[u8]) -> Option<Request>
-    ensures { result ≡ mark_of text.now }
+    ensures { result ≡ mark_request text.now }
 {
     let (x, rest) = leading_number(text)?;
     let y = number(rest)?;
@@ -202,7 +202,7 @@ fn point(text: &[u8]) -> Option<Request>
 
 /// The request that `file` makes of its two arguments.
 fn file(name: &[u8], text: &[u8]) -> Option<Request>
-    ensures { result ≡ file_of name.now text.now }
+    ensures { result ≡ file_request name.now text.now }
 {
     let name = Name::new(name)?;
     let bytes = file_bytes(text)?;

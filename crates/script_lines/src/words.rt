@@ -3,8 +3,8 @@ ghost use Rattle.std.specs.Prelude.{◌≡◌, ◌<◌, length, position, IfSome
 ghost use Rattle.std.specs.Option.{option_map};
 ghost use Rattle.std.specs.Str.{bytes_eq};
 ghost use Rattle.event_bytes.specs.Parts.{value_and_rest};
-ghost use Rattle.script_lines.specs.Words.{is_space, word, argument, leading, one_more, number_from, to_number};
-ghost use Rattle.script_lines.specs.Words.{key_named, keys_named, named};
+ghost use Rattle.script_lines.specs.Words.{is_space, first_word, argument, leading, one_more, number_from, to_number};
+ghost use Rattle.script_lines.specs.Words.{key_named, keys_named, value_named};
 
 use event_bytes::{Key, Keys, is_digit};
 
@@ -18,7 +18,7 @@ const KEYS_WORDS: [&[u8]; 9] = [b"l", b"lm", b"lr", b"m", b"ml", b"mr", b"r", b"
 /// What stands before the first space, and what stands after it.
 #[tactic(auto, using(crate::proofs::FirstSpace::word_parts))]
 pub fn split_word(line: &[u8]) -> (&[u8], Option<&[u8]>)
-    ensures before { result.0.now ≡ word line.now }
+    ensures before { result.0.now ≡ first_word line.now }
     ensures behind { option_map (λ rest. rest.now) result.1 ≡ argument line.now }
 {
     match first_space(line) {
@@ -106,7 +106,7 @@ fn keys(name: &[u8]) -> Option<Keys>
 
 /// The value in the place in which the name stands among the words.
 fn named<T: Copy>(words: &[&[u8]], values: &[T], name: &[u8]) -> Option<T>
-    ensures { result ≡ named (λ word. bytes_eq name.now word.now) words.now values.now }
+    ensures { result ≡ value_named (λ word. bytes_eq name.now word.now) words.now values.now }
 {
     values.get(place_of(words, name)?).copied()
 }

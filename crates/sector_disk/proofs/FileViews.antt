@@ -7,30 +7,30 @@ use Rattle.std.proofs.lemmas.List.FromFn.{get_or-map-range_with_len, length-map-
 use Rattle.std.proofs.lemmas.Bool.{cases_eq, or_from, or_parts, or_left}
 use Rattle.std.proofs.lemmas.Bool.Decides.{nat_tests}
 use Rattle.sector_disk.specs.declared.disk.TheConstants.{SECTOR_BYTES}
-use Rattle.sector_disk.specs.Trail.{IsCrashImage, Touches, Only, written, settled}
+use Rattle.sector_disk.specs.Trail.{IsCrashImage, Touches, Only, written, after_sync}
 use Rattle.sector_disk.specs.Confined.{IsConfined}
 use Rattle.sector_disk.specs.FileTrail.{FileMoment, FileTrail, current, IsFileImage, Span, overwritten, file_synced}
 use Rattle.sector_disk.specs.FileTrail.{ChangesOnly, IsFileConfined}
-use Rattle.sector_disk.specs.FileSectors.{bytes_in, any_in, sectors_in, sectors_at, sectors_of}
+use Rattle.sector_disk.specs.FileSectors.{bytes_from, any_in, sectors_in, sectors_at, sectors_of}
 use Rattle.sector_disk.proofs.FileBytes.{reads_inside, reads_outside, pending_inside, pending_outside}
 
-pub length-bytes_in : (bytes : ℕ → ℕ) (from n : ℕ) → length (bytes_in bytes from n) ≡ n
-unfolding bytes_in
+pub length-bytes_in : (bytes : ℕ → ℕ) (from n : ℕ) → length (bytes_from bytes from n) ≡ n
+unfolding bytes_from
 length-bytes_in bytes from n = length-map-range_with_len bytes from n
 
-pub bytes_in_at : (bytes : ℕ → ℕ) (from n i : ℕ) → i < n → get_or (bytes_in bytes from n) i 0 ≡ bytes (from + i)
-unfolding bytes_in
+pub bytes_in_at : (bytes : ℕ → ℕ) (from n i : ℕ) → i < n → get_or (bytes_from bytes from n) i 0 ≡ bytes (from + i)
+unfolding bytes_from
 bytes_in_at bytes from n i low = get_or-map-range_with_len bytes from n i (from + i) 0 low refl
 
 -- a list of those bytes
 pub bytes_by_index : (bytes : ℕ → ℕ) (from n : ℕ) (l : List ℕ) → length l ≡ n
-    → ((i : ℕ) → i < n → get_or l i 0 ≡ bytes (from + i)) → l ≡ bytes_in bytes from n
-bytes_by_index bytes from n l long each = ext_get_or 0 l (bytes_in bytes from n) (long ∙ sym (length-bytes_in bytes from n))
+    → ((i : ℕ) → i < n → get_or l i 0 ≡ bytes (from + i)) → l ≡ bytes_from bytes from n
+bytes_by_index bytes from n l long each = ext_get_or 0 l (bytes_from bytes from n) (long ∙ sym (length-bytes_in bytes from n))
     (λ i low. each i (omega (arith, low, long)) ∙ sym (bytes_in_at bytes from n i (omega (arith, low, long))))
 
 pub bytes_in_same : (bytes bytes' : ℕ → ℕ) (from n : ℕ) → ((i : ℕ) → from ≤ i → i < from + n → bytes' i ≡ bytes i)
-    → bytes_in bytes' from n ≡ bytes_in bytes from n
-bytes_in_same bytes bytes' from n same = bytes_by_index bytes from n (bytes_in bytes' from n) (length-bytes_in bytes' from n)
+    → bytes_from bytes' from n ≡ bytes_from bytes from n
+bytes_in_same bytes bytes' from n same = bytes_by_index bytes from n (bytes_from bytes' from n) (length-bytes_in bytes' from n)
     (λ i low. bytes_in_at bytes' from n i low ∙ same (from + i) (omega arith) (omega (arith, low)))
 
 pub any_in_none : (is : ℕ → Bool) (from n : ℕ) → ((i : ℕ) → from ≤ i → i < from + n → is i ≡ false)
@@ -99,7 +99,7 @@ sector_written m n bytes long = λ i. record { reads = λ k. reads k i; pending 
       | inr past ↦ inr (omega (arith, past, long))
     ]
 
-    here : bytes_in (overwritten m (SECTOR_BYTES * n) bytes).reads (SECTOR_BYTES * n) SECTOR_BYTES ≡ bytes
+    here : bytes_from (overwritten m (SECTOR_BYTES * n) bytes).reads (SECTOR_BYTES * n) SECTOR_BYTES ≡ bytes
     here = sym (bytes_by_index (overwritten m (SECTOR_BYTES * n) bytes).reads (SECTOR_BYTES * n) SECTOR_BYTES bytes long
         (λ i low. sym (reads_inside m (SECTOR_BYTES * n) bytes (SECTOR_BYTES * n + i) (omega arith)
         (omega (arith, low, long))
@@ -108,15 +108,15 @@ sector_written m n bytes long = λ i. record { reads = λ k. reads k i; pending 
         back : (i : ℕ) → (SECTOR_BYTES * n + i) - SECTOR_BYTES * n ≡ i
         back i = omega arith
 
-    reads : (k : ℕ) → bytes_in (overwritten m (SECTOR_BYTES * n) bytes).reads (SECTOR_BYTES * k) SECTOR_BYTES
-        ≡ (if k == n then bytes else bytes_in m.reads (SECTOR_BYTES * k) SECTOR_BYTES)
+    reads : (k : ℕ) → bytes_from (overwritten m (SECTOR_BYTES * n) bytes).reads (SECTOR_BYTES * k) SECTOR_BYTES
+        ≡ (if k == n then bytes else bytes_from m.reads (SECTOR_BYTES * k) SECTOR_BYTES)
     reads k = elim (cases_eq k n) [
-      | inl same ↦ ap (λ q. bytes_in (overwritten m (SECTOR_BYTES * n) bytes).reads (SECTOR_BYTES * q) SECTOR_BYTES) same
+      | inl same ↦ ap (λ q. bytes_from (overwritten m (SECTOR_BYTES * n) bytes).reads (SECTOR_BYTES * q) SECTOR_BYTES) same
           ∙ here
-          ∙ sym (ap (λ b. if b then bytes else bytes_in m.reads (SECTOR_BYTES * k) SECTOR_BYTES) (tests_same k n same))
+          ∙ sym (ap (λ b. if b then bytes else bytes_from m.reads (SECTOR_BYTES * k) SECTOR_BYTES) (tests_same k n same))
       | inr other ↦ bytes_in_same m.reads (overwritten m (SECTOR_BYTES * n) bytes).reads (SECTOR_BYTES * k) SECTOR_BYTES
           (λ i low high. reads_outside m (SECTOR_BYTES * n) bytes i (away k i other low high))
-          ∙ sym (ap (λ b. if b then bytes else bytes_in m.reads (SECTOR_BYTES * k) SECTOR_BYTES) (tests_other k n other))
+          ∙ sym (ap (λ b. if b then bytes else bytes_from m.reads (SECTOR_BYTES * k) SECTOR_BYTES) (tests_other k n other))
     ]
 
     pending : (k : ℕ) → any_in (overwritten m (SECTOR_BYTES * n) bytes).pending (SECTOR_BYTES * k) SECTOR_BYTES
@@ -133,7 +133,7 @@ sector_written m n bytes long = λ i. record { reads = λ k. reads k i; pending 
     ]
 
 -- all settled
-pub sectors_synced : (m : FileMoment) → sectors_at (file_synced m) ≡ settled (sectors_at m)
+pub sectors_synced : (m : FileMoment) → sectors_at (file_synced m) ≡ after_sync (sectors_at m)
 sectors_synced m = λ i. record {
   reads = sectors_in m.reads;
   pending = λ k. any_in_none (λ _. false) (SECTOR_BYTES * k) SECTOR_BYTES (λ j low high. refl) i;

@@ -5,9 +5,9 @@ use Rattle.std.proofs.lemmas.Bool.Decides.{nat_tests}
 use Rattle.sector_disk.specs.declared.call.DiskCall.{DiskCall}
 use Rattle.sector_disk.specs.declared.call.DiskCall.TheVariants.{Write, Sync}
 use Rattle.sector_disk.specs.declared.sectors.Sectors.{Sectors}
-use Rattle.sector_disk.specs.Trail.{written, settled}
+use Rattle.sector_disk.specs.Trail.{written, after_sync}
 use Rattle.sector_disk.specs.Memory.{trail_of, IsLastSync}
-use Rattle.sector_disk.specs.Sectors.{seen, held, IsKept}
+use Rattle.sector_disk.specs.Sectors.{moment_of, synced_content, IsLeftBy}
 use Rattle.sector_disk.proofs.Replay.{long, past, now_after}
 
 -- a write
@@ -28,8 +28,8 @@ module _ (calls new : List DiskCall) (n : ℕ) (bytes : List ℕ) (is : new ≡ 
     ];
   }
 
-  pub kept_written : (old sectors : Sectors) → seen sectors ≡ written (seen old) n bytes → held sectors ≡ held old
-      → IsKept calls old → IsKept new sectors
+  pub kept_written : (old sectors : Sectors) → moment_of sectors ≡ written (moment_of old) n bytes → synced_content sectors ≡ synced_content old
+      → IsLeftBy calls old → IsLeftBy new sectors
   kept_written old sectors reads settled was = record {
     moment = was.moment;
     last_sync = wrote_since was.moment was.last_sync.within was.last_sync;
@@ -40,8 +40,8 @@ module _ (calls new : List DiskCall) (n : ℕ) (bytes : List ℕ) (is : new ≡ 
 
 -- a sync
 module _ (calls new : List DiskCall) (is : new ≡ calls ++ Sync ∷ []) where
-  pub kept_synced : (old sectors : Sectors) → seen sectors ≡ settled (seen old) → held sectors ≡ (seen old).reads
-      → IsKept calls old → IsKept new sectors
+  pub kept_synced : (old sectors : Sectors) → moment_of sectors ≡ after_sync (moment_of old) → synced_content sectors ≡ (moment_of old).reads
+      → IsLeftBy calls old → IsLeftBy new sectors
   kept_synced old sectors reads settles was = record {
     moment = length new;
     last_sync = record {
@@ -49,6 +49,6 @@ module _ (calls new : List DiskCall) (is : new ≡ calls ++ Sync ∷ []) where
       quiet = λ k. ap (λ m. m.pending k) (now_after calls new Sync is);
       last = λ u after before. absurd (omega arith);
     };
-    reads = reads ∙ ap settled was.reads ∙ sym (now_after calls new Sync is);
+    reads = reads ∙ ap after_sync was.reads ∙ sym (now_after calls new Sync is);
     settled = settles ∙ ap (λ m. m.reads) was.reads ∙ sym (ap (λ m. m.reads) (now_after calls new Sync is));
   }

@@ -11,9 +11,9 @@ use Rattle.std.specs.Map.{lookup}
 use Rattle.std.proofs.lemmas.Bool.{cases_eq}
 use Rattle.std.proofs.lemmas.Bool.Decides.{nat_tests}
 use Rattle.sector_disk.specs.declared.sectors.Sectors.{Sectors}
-use Rattle.sector_disk.specs.Trail.{written, settled}
-use Rattle.sector_disk.specs.Memory.{blank, zeros}
-use Rattle.sector_disk.specs.Sectors.{seen, held, IsAsBefore, IsWritten, IsOpened, IsPut}
+use Rattle.sector_disk.specs.Trail.{written, after_sync}
+use Rattle.sector_disk.specs.Memory.{zero_moment, zeros}
+use Rattle.sector_disk.specs.Sectors.{moment_of, synced_content, IsAsBefore, IsSectorWritten, IsMadePending, IsPut}
 
 abbrev Map : Type 0
 Map = BTreeMap ℕ (List ℕ)
@@ -67,7 +67,7 @@ same_bytes old new n bytes are put k = elim (cases_eq k n) [
 
 all_before : (old new : Sectors) → ((k : ℕ) → bytes_in new.latest k ≡ bytes_in old.latest k)
     → ((k : ℕ) → get nat_cmp new.settled k ≡ get nat_cmp old.settled k) → IsAsBefore old new
-unfolding seen held
+unfolding moment_of synced_content
 all_before old new reads rest = record {
   reads = λ i. record { reads = λ k. reads k i; pending = λ k. is_some (rest k i) };
   settled = λ i k. unwrap_or (rest k i) (reads k i);
@@ -100,8 +100,8 @@ still_before first last = record {
 }
 
 -- a sector that has no bytes here reads as zeros
-pub unwritten : (s : Sectors) (n : ℕ) → is_some (get nat_cmp s.latest n) ≡ false → (seen s).reads n ≡ zeros
-unfolding seen
+pub unwritten : (s : Sectors) (n : ℕ) → is_some (get nat_cmp s.latest n) ≡ false → (moment_of s).reads n ≡ zeros
+unfolding moment_of
 unwritten s n missing = none (get nat_cmp s.latest n) missing
   where
     none : (o : Option (List ℕ)) → is_some o ≡ false → unwrap_or o zeros ≡ zeros
@@ -112,26 +112,26 @@ unwritten s n missing = none (get nat_cmp s.latest n) missing
 pub made_room : (old : Sectors) (latest : Map) (n : ℕ) (bytes : List ℕ) → bytes ≡ zeros
     → is_some (get nat_cmp old.latest n) ≡ false → Updates nat_cmp old.latest latest n (Some bytes)
     → IsAsBefore old (record { alloc = old.alloc; latest = latest; settled = old.settled })
-unfolding seen
+unfolding moment_of
 made_room old latest n bytes are missing put =
     all_before old (record { alloc = old.alloc; latest = latest; settled = old.settled })
     (same_bytes old.latest latest n bytes (are ∙ sym (unwritten old n missing)) put) (λ k. refl)
 
-pub open_already : (old : Sectors) (n : ℕ) → (seen old).pending n ≡ true → IsOpened old old n
+pub open_already : (old : Sectors) (n : ℕ) → (moment_of old).pending n ≡ true → IsMadePending old old n
 open_already old n pends = record {
   reads = λ k. refl;
   pending = λ k. elim (cases_eq k n) [
-    | inl same ↦ ap (λ k. (seen old).pending k) same ∙ pends
-        ∙ sym (ap (λ b. if b then true else (seen old).pending k) (tests_same k n same))
-    | inr other ↦ sym (ap (λ b. if b then true else (seen old).pending k) (tests_other k n other))
+    | inl same ↦ ap (λ k. (moment_of old).pending k) same ∙ pends
+        ∙ sym (ap (λ b. if b then true else (moment_of old).pending k) (tests_same k n same))
+    | inr other ↦ sym (ap (λ b. if b then true else (moment_of old).pending k) (tests_other k n other))
   ];
   settled = refl;
 }
 
-pub opened : (old : Sectors) (kept : Map) (n : ℕ) (bytes : List ℕ) → bytes ≡ (seen old).reads n
-    → (seen old).pending n ≡ false → IsPut old.settled kept n (Some bytes)
-    → IsOpened old (record { alloc = old.alloc; latest = old.latest; settled = kept }) n
-unfolding seen held
+pub opened : (old : Sectors) (kept : Map) (n : ℕ) (bytes : List ℕ) → bytes ≡ (moment_of old).reads n
+    → (moment_of old).pending n ≡ false → IsPut old.settled kept n (Some bytes)
+    → IsMadePending old (record { alloc = old.alloc; latest = old.latest; settled = kept }) n
+unfolding moment_of synced_content
 opened old kept n bytes are quiet settles = record {
   reads = λ k. refl;
   pending = λ k. ap is_some (put_in old.settled kept n bytes settles k) ∙ moved (k == n) k;
@@ -157,10 +157,10 @@ opened old kept n bytes are quiet settles = record {
     ]
 
 -- the write of a sector that is open
-module _ (old mid new : Sectors) (n : ℕ) (bytes : List ℕ) (is : IsOpened old mid n)
+module _ (old mid new : Sectors) (n : ℕ) (bytes : List ℕ) (is : IsMadePending old mid n)
     (put : Updates nat_cmp mid.latest new.latest n (Some bytes)) (kept : new.settled ≡ mid.settled) where
-  pub wrote : seen new ≡ written (seen old) n bytes
-  unfolding seen
+  pub wrote : moment_of new ≡ written (moment_of old) n bytes
+  unfolding moment_of
   wrote = λ i. record { reads = λ k. reads k i; pending = λ k. pending k i }
     where
       moved : (b : _) (k : ℕ) → unwrap_or (if b then Some bytes else get nat_cmp mid.latest k) zeros
@@ -173,11 +173,11 @@ module _ (old mid new : Sectors) (n : ℕ) (bytes : List ℕ) (is : IsOpened old
           (put_in mid.latest new.latest n bytes (updated mid.latest new.latest n (Some bytes) put) k) ∙ moved (k == n) k
           ∙ ap (λ l. if k == n then bytes else l) (is.reads k)
 
-      pending : (k : ℕ) → is_some (get nat_cmp new.settled k) ≡ (if k == n then true else (seen old).pending k)
+      pending : (k : ℕ) → is_some (get nat_cmp new.settled k) ≡ (if k == n then true else (moment_of old).pending k)
       pending k = ap (λ m. is_some (get nat_cmp m k)) kept ∙ is.pending k
 
-  pub still_held : held new ≡ held old
-  unfolding seen held
+  pub still_held : synced_content new ≡ synced_content old
+  unfolding moment_of synced_content
   still_held = (λ i k. same k i) ∙ is.settled
     where
       there : (o : Option (List ℕ)) (d e : List ℕ) → is_some o ≡ true → unwrap_or o d ≡ unwrap_or o e
@@ -188,7 +188,7 @@ module _ (old mid new : Sectors) (n : ℕ) (bytes : List ℕ) (is : IsOpened old
           ≡ unwrap_or (get nat_cmp mid.settled k) (bytes_in mid.latest k)
       same k = ap (λ m. unwrap_or (get nat_cmp m k) (bytes_in new.latest k)) kept ∙ elim (cases_eq k n) [
         | inl here ↦ there (get nat_cmp mid.settled k) _ _
-            (is.pending k ∙ ap (λ b. if b then true else (seen old).pending k) (tests_same k n here))
+            (is.pending k ∙ ap (λ b. if b then true else (moment_of old).pending k) (tests_same k n here))
         | inr other ↦ ap (unwrap_or (get nat_cmp mid.settled k))
             (ap (λ o. unwrap_or o zeros) (put.2 k (elsewhere k n other)))
       ]
@@ -206,13 +206,13 @@ module _ (old new : Sectors) (n : ℕ) (bytes : List ℕ) (room : is_some (get n
   some_bytes None none = absurd (cc)
   some_bytes (Some x) some = refl
 
-  is_open : (b : Bool) → is_some (get nat_cmp old.settled n) ≡ b → IsOpened old (with_settled new.settled) n
-  unfolding seen
-  is_open true pends = subst (λ m. IsOpened old (with_settled m) n) (sym (kept pends)) (open_already old n pends)
+  is_open : (b : Bool) → is_some (get nat_cmp old.settled n) ≡ b → IsMadePending old (with_settled new.settled) n
+  unfolding moment_of
+  is_open true pends = subst (λ m. IsMadePending old (with_settled m) n) (sym (kept pends)) (open_already old n pends)
   is_open false quiet = opened old new.settled n (bytes_in old.latest n) refl quiet
       (subst (λ o. IsPut old.settled new.settled n o) (some_bytes (get nat_cmp old.latest n) room) (keeps quiet))
 
-  pub overwritten : IsWritten old new n bytes
+  pub overwritten : IsSectorWritten old new n bytes
   overwritten =
       let open_there = is_open (is_some (get nat_cmp old.settled n)) refl in
       record {
@@ -221,8 +221,8 @@ module _ (old new : Sectors) (n : ℕ) (bytes : List ℕ) (room : is_some (get n
       }
 
 -- a write after calls that left all as it was
-pub written_after : {old mid new : Sectors} {n : ℕ} {bytes : List ℕ} → IsAsBefore old mid → IsWritten mid new n bytes
-    → IsWritten old new n bytes
+pub written_after : {old mid new : Sectors} {n : ℕ} {bytes : List ℕ} → IsAsBefore old mid → IsSectorWritten mid new n bytes
+    → IsSectorWritten old new n bytes
 written_after {n = n} {bytes = bytes} same write = record {
   reads = write.reads ∙ ap (λ m. written m n bytes) same.reads;
   settled = write.settled ∙ same.settled;
@@ -230,28 +230,28 @@ written_after {n = n} {bytes = bytes} same write = record {
 
 -- after a sync, where nothing is kept beside what is read
 pub all_settled : (old : Sectors) (kept : Map) → IsEmpty kept
-    → seen (record { alloc = old.alloc; latest = old.latest; settled = kept }) ≡ settled (seen old)
-unfolding seen
+    → moment_of (record { alloc = old.alloc; latest = old.latest; settled = kept }) ≡ after_sync (moment_of old)
+unfolding moment_of
 all_settled old kept empty = λ i. record {
   reads = bytes_in old.latest;
   pending = λ k. is_some (none_in kept empty k i);
 }
 
 pub settled_reads : (old : Sectors) (kept : Map) → IsEmpty kept
-    → held (record { alloc = old.alloc; latest = old.latest; settled = kept }) ≡ (seen old).reads
-unfolding seen held
+    → synced_content (record { alloc = old.alloc; latest = old.latest; settled = kept }) ≡ (moment_of old).reads
+unfolding moment_of synced_content
 settled_reads old kept empty = λ i k. unwrap_or (none_in kept empty k i) (bytes_in old.latest k)
 
 -- before the first call
 pub none_seen : (alloc : Global) (latest kept : Map) → IsEmpty latest → IsEmpty kept
-    → seen (record { alloc = alloc; latest = latest; settled = kept }) ≡ blank
-unfolding seen
+    → moment_of (record { alloc = alloc; latest = latest; settled = kept }) ≡ zero_moment
+unfolding moment_of
 none_seen alloc latest kept empty none = λ i. record {
   reads = λ k. unwrap_or (none_in latest empty k i) zeros;
   pending = λ k. is_some (none_in kept none k i);
 }
 
 pub none_held : (alloc : Global) (latest kept : Map) → IsEmpty latest → IsEmpty kept
-    → held (record { alloc = alloc; latest = latest; settled = kept }) ≡ blank.reads
-unfolding held
+    → synced_content (record { alloc = alloc; latest = latest; settled = kept }) ≡ zero_moment.reads
+unfolding synced_content
 none_held alloc latest kept empty none = λ i k. unwrap_or (none_in kept none k i) (unwrap_or (none_in latest empty k i) zeros)

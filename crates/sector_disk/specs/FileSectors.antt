@@ -6,8 +6,8 @@ use Rattle.sector_disk.specs.Trail.{Content, Moment, Trail}
 use Rattle.sector_disk.specs.FileTrail.{FileMoment, FileTrail}
 
 -- n bytes from an offset on
-unfoldable pub bytes_in : (ℕ → ℕ) → ℕ → ℕ → List ℕ
-bytes_in bytes from n = map bytes (range_with_len from n)
+unfoldable pub bytes_from : (ℕ → ℕ) → ℕ → ℕ → List ℕ
+bytes_from bytes from n = map bytes (range_with_len from n)
 
 -- whether one of n bytes from an offset on is so
 unfoldable pub any_in : (ℕ → Bool) → ℕ → ℕ → Bool
@@ -16,7 +16,7 @@ any_in is from (suc n) = is from || any_in is (from + 1) n
 
 -- what the sectors of these bytes hold
 abbrev pub sectors_in : (ℕ → ℕ) → Content
-sectors_in bytes n = bytes_in bytes (SECTOR_BYTES * n) SECTOR_BYTES
+sectors_in bytes n = bytes_from bytes (SECTOR_BYTES * n) SECTOR_BYTES
 
 abbrev pub sectors_at : FileMoment → Moment
 sectors_at m = record {

@@ -7,7 +7,7 @@ use Rattle.std.proofs.lemmas.List.FromFn.{fill_by_all, get_or-map-range_with_len
 use Rattle.std.proofs.lemmas.List.FromFn.{take-map-range_with_len, map-range_with_len_more}
 use Rattle.sector_disk.specs.Trail.{Content}
 use Rattle.sector_disk.specs.declared.disk.TheConstants.{SECTOR_BYTES}
-use Rattle.sector_disk.specs.Stored.{byte_of, stored, Holds}
+use Rattle.sector_disk.specs.Stored.{byte_of, stored, HoldsBytes}
 
 pub length-stored : (c : Content) (from n : ℕ) → length (stored c from n) ≡ n
 unfolding stored
@@ -36,7 +36,7 @@ stored_same c c' from n same = stored_by_index c' from n (stored c from n) (leng
     ∙ sym (ap (λ b. get_or b (i % SECTOR_BYTES) 0) (same (i / SECTOR_BYTES) (omega (arith, low)))))
 
 -- where sectors hold bytes these are stored there
-pub stored_held : (c : Content) (from : ℕ) (l : List ℕ) → Holds c from l → stored c from (length l) ≡ l
+pub stored_held : (c : Content) (from : ℕ) (l : List ℕ) → HoldsBytes c from l → stored c from (length l) ≡ l
 stored_held c from l held = stored_by_index c from (length l) l refl (λ i low.
     let whole : SECTOR_BYTES * (i / SECTOR_BYTES) + i % SECTOR_BYTES ≡ i = omega arith in
     ap (λ n. get_or l n 0) (sym whole)

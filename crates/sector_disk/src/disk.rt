@@ -1,6 +1,6 @@
 //! What every disk is and promises.
 ghost use Rattle.std.specs.Prelude.{◌≡◌, ◌<◌, ℕ, OnOk, OnErr};
-ghost use Rattle.sector_disk.specs.Trail.{Trail, now, Nowhere, Only, written, settled, CountsFault};
+ghost use Rattle.sector_disk.specs.Trail.{Trail, now, Nowhere, Only, written, after_sync, CountsFault};
 ghost use Rattle.sector_disk.specs.Confined.{IsConfined};
 
 /// The error of a call that the device didn't do.
@@ -53,6 +53,6 @@ pub trait Disk {
     fn sync(&mut self) -> Result<(), Fault>
         ensures kept { IsConfined size honest trail Nowhere self.old self.new }
         ensures cause { CountsFault result (failures self.old) (failures self.new) }
-        ensures settled { OnOk result (honest self.old → now (trail self.new) ≡ settled (now (trail self.old))) }
+        ensures settled { OnOk result (honest self.old → now (trail self.new) ≡ after_sync (now (trail self.old))) }
         ensures unsettled { OnErr result (honest self.old → now (trail self.new) ≡ now (trail self.old)) };
 }

@@ -5,9 +5,9 @@ ghost use Rattle.std.specs.BTreeMap.{get, Updates, IsUnchanged};
 ghost use Rattle.std.specs.Ordering.{nat_cmp};
 ghost use Rattle.std.specs.Set.{is_member};
 ghost use Rattle.std.specs.List.Sorted.{IsStrictlySortedBy};
-ghost use Rattle.sector_disk.specs.Trail.{settled};
-ghost use Rattle.sector_disk.specs.Memory.{blank, zeros};
-ghost use Rattle.sector_disk.specs.Sectors.{seen, held, IsAsBefore, IsPut, IsWritten};
+ghost use Rattle.sector_disk.specs.Trail.{after_sync};
+ghost use Rattle.sector_disk.specs.Memory.{zero_moment, zeros};
+ghost use Rattle.sector_disk.specs.Sectors.{moment_of, synced_content, IsAsBefore, IsPut, IsSectorWritten};
 
 use crate::heap::HeapSector;
 use crate::{NoMemory, SECTOR_BYTES, Sector};
@@ -87,8 +87,8 @@ pub(crate) struct Sectors {
 impl Sectors {
     /// All zeros, with nothing pending.
     pub(crate) fn new(alloc: Global) -> Sectors
-        ensures reads { seen result ≡ blank }
-        ensures settled { held result ≡ blank.reads }
+        ensures reads { moment_of result ≡ zero_moment }
+        ensures settled { synced_content result ≡ zero_moment.reads }
     {
         Sectors {
             alloc,
@@ -98,9 +98,9 @@ impl Sectors {
     }
 
     /// Copies to the buffer the bytes of sector `n` as they were written last, zeros where it never was.
-    #[tactic(auto, unfolding(crate::specs::Sectors::seen))]
+    #[tactic(auto, unfolding(crate::specs::Sectors::moment_of))]
     pub(crate) fn copy_latest(&self, n: u32, buffer: &mut Sector)
-        ensures { buffer.new ≡ (seen self.now).reads n }
+        ensures { buffer.new ≡ (moment_of self.now).reads n }
     {
         match self.latest.get(&n) {
             Some(sector) => sector.copy_to(buffer),
@@ -109,9 +109,9 @@ impl Sectors {
     }
 
     /// Copies to the buffer the bytes that sector `n` had at the last sync.
-    #[tactic(auto, unfolding(crate::specs::Sectors::seen, crate::specs::Sectors::held))]
+    #[tactic(auto, unfolding(crate::specs::Sectors::moment_of, crate::specs::Sectors::synced_content))]
     pub(crate) fn copy_settled(&self, n: u32, buffer: &mut Sector)
-        ensures { buffer.new ≡ held self.now n }
+        ensures { buffer.new ≡ synced_content self.now n }
     {
         match self.settled.get(&n) {
             Some(sector) => sector.copy_to(buffer),
@@ -121,7 +121,7 @@ impl Sectors {
 
     /// The bytes of sector `n` as they were written last, zeros where it never was.
     pub(crate) fn latest(&self, n: u32) -> Sector
-        ensures { result ≡ (seen self.now).reads n }
+        ensures { result ≡ (moment_of self.now).reads n }
     {
         let mut bytes = empty_sector();
         self.copy_latest(n, &mut bytes);
@@ -129,9 +129,9 @@ impl Sectors {
     }
 
     /// Whether sector `n` was written after the last sync.
-    #[tactic(auto, unfolding(crate::specs::Sectors::seen))]
+    #[tactic(auto, unfolding(crate::specs::Sectors::moment_of))]
     pub(crate) fn is_pending(&self, n: u32) -> bool
-        ensures { result ≡ (seen self.now).pending n }
+        ensures { result ≡ (moment_of self.now).pending n }
     {
         self.settled.contains_key(&n)
     }
@@ -175,7 +175,7 @@ impl Sectors {
 
     /// Writes sector `n`. `NoMemory`: there was no memory for it, and nothing is changed.
     pub(crate) fn write(&mut self, n: u32, bytes: &Sector) -> Result<(), NoMemory>
-        ensures written { OnOk result (IsWritten self.old self.new n bytes.now) }
+        ensures written { OnOk result (IsSectorWritten self.old self.new n bytes.now) }
         ensures refused { OnErr result (IsAsBefore self.old self.new) }
     {
         if self.put(n, bytes)? {
@@ -188,8 +188,8 @@ impl Sectors {
 
     /// Settles every pending sector.
     pub(crate) fn sync(&mut self)
-        ensures reads { seen self.new ≡ settled (seen self.old) }
-        ensures settled { held self.new ≡ (seen self.old).reads }
+        ensures reads { moment_of self.new ≡ after_sync (moment_of self.old) }
+        ensures settled { synced_content self.new ≡ (moment_of self.old).reads }
     {
         self.settled.clear();
     }
@@ -197,7 +197,7 @@ impl Sectors {
     /// The pending sectors, in rising order.
     pub(crate) fn pending_sectors(&self, alloc: Global) -> Result<Vec<u32>, NoMemory>
         ensures rising { IfOk result (λ v. IsStrictlySortedBy nat_cmp v.items) }
-        ensures which { IfOk result (λ v. (n : ℕ) → is_member nat_eq v.items n ≡ (seen self.now).pending n) }
+        ensures which { IfOk result (λ v. (n : ℕ) → is_member nat_eq v.items n ≡ (moment_of self.now).pending n) }
     {
         self.settled.keys().copied().collect(alloc)
     }

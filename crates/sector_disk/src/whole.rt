@@ -2,7 +2,7 @@
 ghost use Rattle.std.specs.Prelude.{◌≡◌, ◌<◌, ◌≤◌, ◌+◌, ◌^◌, true, length};
 ghost use Rattle.sector_disk.specs.Trail.{Nowhere};
 ghost use Rattle.sector_disk.specs.FileTrail.{current, Span, overwritten, IsFileConfined};
-ghost use Rattle.sector_disk.specs.FileSectors.{bytes_in};
+ghost use Rattle.sector_disk.specs.FileSectors.{bytes_from};
 
 use crate::host_file::{HostError, HostFile};
 
@@ -15,7 +15,7 @@ pub(crate) fn read_whole<F: HostFile>(file: &mut F, buffer: &mut [u8], offset: u
     ensures kept { IsFileConfined F.honest F.trail Nowhere file.old file.new }
     ensures still_intact { F.intact file.new ≡ true }
     ensures bytes { result ≡ true → F.honest file.old
-        → buffer.new ≡ bytes_in (current (F.trail file.old)).reads offset (length buffer.old) }
+        → buffer.new ≡ bytes_from (current (F.trail file.old)).reads offset (length buffer.old) }
 {
     let mut filled = 0;
     'calls: for _ in 0..u64::MAX {

@@ -9,7 +9,7 @@ use Rattle.std.proofs.Math.Seq.{take-add}
 use Rattle.std.specs.List.{between}
 use Rattle.sector_disk.specs.Trail.{Content, Moment, written}
 use Rattle.sector_disk.specs.declared.disk.TheConstants.{SECTOR_BYTES}
-use Rattle.sector_disk.specs.Stored.{Holds}
+use Rattle.sector_disk.specs.Stored.{HoldsBytes}
 use Rattle.sector_streams.specs.declared.filling.Filling.{Filling}
 use Rattle.sector_streams.specs.Filling.{InRange, IsSpread, HasTaken}
 
@@ -47,7 +47,7 @@ module _ (m m' : Moment) (from full used : ℕ) (buffer l : List ℕ) (is_writte
         ∙ sym (get_or_past l (SECTOR_BYTES * (full + 1) + j) 0 (omega (arith, was.count, all)));
   }
 
-  pub held : used ≤ SECTOR_BYTES → Holds m'.reads from l
+  pub held : used ≤ SECTOR_BYTES → HoldsBytes m'.reads from l
   held fits = λ k j low within. upto k j (omega (arith, low, was.count, fits)) within
 
 -- no byte yet

@@ -23,8 +23,8 @@ abbrev pub bytes_left : Content → Draining → List ℕ
 bytes_left c r = drop (bytes_read r) (stored c (start_sector r) (extent_of r))
 
 -- within a sector the buffer is that sector
-abbrev pub IsLoaded : Content → Draining → Type 0
-IsLoaded c r = ¬ (r.at % SECTOR_BYTES ≡ 0) → r.buffer ≡ c (r.from + r.at / SECTOR_BYTES)
+abbrev pub IsSectorLoaded : Content → Draining → Type 0
+IsSectorLoaded c r = ¬ (r.at % SECTOR_BYTES ≡ 0) → r.buffer ≡ c (r.from + r.at / SECTOR_BYTES)
 
 -- the sectors of its bytes are on a disk of this size
 abbrev pub IsOnDisk : ℕ → Draining → Type 0

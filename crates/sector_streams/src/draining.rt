@@ -27,7 +27,7 @@ impl Draining {
     ghost use Rattle.desk_image.specs.Passing.{IsNext};
     ghost use Rattle.sector_disk.specs.Stored.{stored};
     ghost use Rattle.sector_streams.specs.Draining.{start_sector, extent_of, bytes_read, bytes_left};
-    ghost use Rattle.sector_streams.specs.Draining.{IsLoaded, IsOnDisk};
+    ghost use Rattle.sector_streams.specs.Draining.{IsSectorLoaded, IsOnDisk};
 
     /// Stands before the first of the `extent` bytes from sector `from` on.
     pub fn new(from: u32, extent: u32) -> Draining
@@ -36,7 +36,7 @@ impl Draining {
         ensures extent { extent_of result ≡ extent }
         ensures unread { bytes_read result ≡ 0 }
         ensures left { (c : Content) → bytes_left c result ≡ stored c from extent }
-        ensures loaded { (c : Content) → IsLoaded c result }
+        ensures loaded { (c : Content) → IsSectorLoaded c result }
     {
         Draining {
             from,
@@ -54,9 +54,9 @@ impl Draining {
         ensures from { self.new.from ≡ self.old.from }
         ensures extent { self.new.extent ≡ self.old.extent }
         ensures at { self.new.at ≡ self.old.at }
-        ensures loaded { D.honest disk.old → IsLoaded (now (D.trail disk.old)).reads self.old
-            → IsLoaded (now (D.trail disk.old)).reads self.new }
-        ensures buffer { OnOk result (D.honest disk.old → IsLoaded (now (D.trail disk.old)).reads self.old
+        ensures loaded { D.honest disk.old → IsSectorLoaded (now (D.trail disk.old)).reads self.old
+            → IsSectorLoaded (now (D.trail disk.old)).reads self.new }
+        ensures buffer { OnOk result (D.honest disk.old → IsSectorLoaded (now (D.trail disk.old)).reads self.old
             → self.new.buffer ≡ (now (D.trail disk.old)).reads (self.old.from + self.old.at / SECTOR_BYTES)) }
     {
         if self.at % SECTOR_BYTES == 0 {
@@ -72,9 +72,9 @@ impl Draining {
         ensures cause { CountsFault result (D.failures disk.old) (D.failures disk.new) }
         ensures from { start_sector self.new ≡ start_sector self.old }
         ensures extent { extent_of self.new ≡ extent_of self.old }
-        ensures loaded { D.honest disk.old → IsLoaded (now (D.trail disk.old)).reads self.old
-            → IsLoaded (now (D.trail disk.old)).reads self.new }
-        ensures next { D.honest disk.old → IsLoaded (now (D.trail disk.old)).reads self.old
+        ensures loaded { D.honest disk.old → IsSectorLoaded (now (D.trail disk.old)).reads self.old
+            → IsSectorLoaded (now (D.trail disk.old)).reads self.new }
+        ensures next { D.honest disk.old → IsSectorLoaded (now (D.trail disk.old)).reads self.old
             → IfOk result (λ byte. IsNext byte (bytes_left (now (D.trail disk.old)).reads self.old)
             (bytes_left (now (D.trail disk.new)).reads self.new)) }
     {

@@ -44,7 +44,7 @@ pub struct Filling {
 impl Filling {
     ghost use Rattle.sector_disk.specs.Trail.{Content, CountsFault, now};
     ghost use Rattle.sector_disk.specs.Confined.{IsConfined};
-    ghost use Rattle.sector_disk.specs.Stored.{Holds};
+    ghost use Rattle.sector_disk.specs.Stored.{HoldsBytes};
     ghost use Rattle.sector_streams.specs.Filling.{first_sector, most_sectors, SectorsOf, IsSpread, HasTaken};
 
     /// No bytes yet, on their way to `limit` sectors from sector `from` on.
@@ -136,7 +136,7 @@ impl Filling {
         ensures held { OnOk result (D.honest disk.old → (bytes : List ℕ)
             → HasTaken (now (D.trail disk.old)).reads self.now bytes
             → length bytes ≤ SECTOR_BYTES * most_sectors self.now
-            → Holds (now (D.trail disk.new)).reads (first_sector self.now) bytes) }
+            → HoldsBytes (now (D.trail disk.new)).reads (first_sector self.now) bytes) }
     {
         let last = self.from + self.full;
         disk.write(last, &self.buffer)

@@ -28,14 +28,14 @@ impl<'a, D: Disk> SectorSource<'a, D> {
 
 impl<'a, D: Disk> ByteSource for SectorSource<'a, D> {
     ghost use Rattle.sector_disk.specs.Trail.{now};
-    ghost use Rattle.sector_streams.specs.Draining.{IsLoaded, bytes_left, OnSameBytes};
+    ghost use Rattle.sector_streams.specs.Draining.{IsSectorLoaded, bytes_left, OnSameBytes};
     ghost use Rattle.sector_streams.specs.JoinedLaws.{stretch_self, stretch_through};
 
     ghost remaining = { λ s. bytes_left (now (D.trail s.disk.now)).reads s.draining.now };
 
     ghost failures = { λ s. D.Disk.failures s.disk.now };
 
-    ghost honest = { λ s. D.honest s.disk.now × IsLoaded (now (D.trail s.disk.now)).reads s.draining.now };
+    ghost honest = { λ s. D.honest s.disk.now × IsSectorLoaded (now (D.trail s.disk.now)).reads s.draining.now };
 
     ghost same_ground = { λ a b. OnSameBytes D.Disk a.disk.now b.disk.now a.draining.now b.draining.now
         a.disk.ghost_name b.disk.ghost_name a.draining.ghost_name b.draining.ghost_name };

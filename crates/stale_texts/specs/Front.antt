@@ -18,7 +18,7 @@ use Rattle.desktop_definitions.specs.declared.viewer.Caret.{Caret}
 use Rattle.desktop_definitions.specs.declared.reply.Reply.TheVariants.{Done, No}
 use Rattle.desktop_definitions.specs.Limits.{no_caret, full}
 use Rattle.desktop_definitions.specs.Sound.{IsSound}
-use Rattle.desktop_definitions.specs.Tables.{Texts, numbered}
+use Rattle.desktop_definitions.specs.Tables.{Texts, text_numbered}
 use Rattle.desktop_definitions.specs.Desktop.{Desktop, KeptDesktop}
 use Rattle.desktop_definitions.specs.Seen.{seen}
 use Rattle.desktop_definitions.specs.Viewers.{viewer_of, text_of}
@@ -26,9 +26,9 @@ use Rattle.desktop_definitions.specs.Needs.{needs}
 use Rattle.desktop_definitions.specs.Change.{edited, after_change, insertion, bytes_of, in_look}
 use Rattle.desktop_definitions.specs.Change.{put_at_caret, showing, more_written}
 use Rattle.desktop_definitions.specs.Changed.{texts_shown}
-use Rattle.desktop_definitions.specs.Keys.{typed}
-use Rattle.desktop_definitions.specs.Opening.{dropped}
-use Rattle.desktop_definitions.specs.Step.{fits, settled, raw, step_in, Outcome, outcome_of}
+use Rattle.desktop_definitions.specs.Keys.{after_typing}
+use Rattle.desktop_definitions.specs.Opening.{without_unshown}
+use Rattle.desktop_definitions.specs.Step.{fits, outcome_after, raw, step_in, Outcome, outcome_of}
 use Rattle.desktop_laws.specs.ChangeLaws.{followed_shown, org_shown}
 use Rattle.desktop_laws.specs.PlaceLaws.{at_is}
 use Rattle.desktop_laws.specs.RowLaws.{shown_rest}
@@ -43,24 +43,24 @@ record KeepsFront (k n : ℕ) (d new : Desktop) : Type 0 where
   pub viewers : texts_shown new.viewers ≡ texts_shown d.viewers
 
 -- a table in which a text is set that has the same first characters as the one there
-front_set : (k m : ℕ) (w : Text ℕ) (es : Texts (Text ℕ)) → take k w ≡ take k (unwrap_or (numbered es m) [])
-    → take k (unwrap_or (numbered (set_value (is_at (nat_cmp m)) es w) m) []) ≡ take k (unwrap_or (numbered es m) [])
+front_set : (k m : ℕ) (w : Text ℕ) (es : Texts (Text ℕ)) → take k w ≡ take k (unwrap_or (text_numbered es m) [])
+    → take k (unwrap_or (text_numbered (set_value (is_at (nat_cmp m)) es w) m) []) ≡ take k (unwrap_or (text_numbered es m) [])
 front_set k m w [] same = refl
 front_set k m w (e ∷ es) same = (elim (e.0 == m) as (λ b. (e.0 == m) ≡ b
-    → take k (unwrap_or (numbered (set_value (is_at (nat_cmp m)) (e ∷ es) w) m) [])
-    ≡ take k (unwrap_or (numbered (e ∷ es) m) [])) [
+    → take k (unwrap_or (text_numbered (set_value (is_at (nat_cmp m)) (e ∷ es) w) m) [])
+    ≡ take k (unwrap_or (text_numbered (e ∷ es) m) [])) [
       | true ↦ λ here.
           let at : is_at (nat_cmp m) e.0 ≡ true = at_is m e.0 ∙ here in
           let so : take k w ≡ take k e.1 = subst there at same in
           rw at (rw at so)
       | false ↦ λ elsewhere.
           let at : is_at (nat_cmp m) e.0 ≡ false = at_is m e.0 ∙ elsewhere in
-          let so : take k w ≡ take k (unwrap_or (numbered es m) []) = subst there at same in
+          let so : take k w ≡ take k (unwrap_or (text_numbered es m) []) = subst there at same in
           rw at (rw at (front_set k m w es so))
     ]) refl
   where
     there : Bool → Type 0
-    there b = take k w ≡ take k (unwrap_or (cond {A = Option (Text ℕ)} b (Some e.1) (numbered es m)) [])
+    there b = take k w ≡ take k (unwrap_or (cond {A = Option (Text ℕ)} b (Some e.1) (text_numbered es m)) [])
 
 module _ (k m : ℕ) where
   front_edited : (d : Desktop) (text : Text ℕ) (viewers : List (ℕ × Viewer)) → take k text ≡ take k (text_of d m)
@@ -100,12 +100,12 @@ module _ (d : Desktop) (sound : IsSound d) where
 
 -- what is done keeps it, and a refusal does
 front_settled : (k n : ℕ) (d : Desktop) (r : Result Desktop ℕ) → AllShown d → IfOk r (KeepsFront k n d)
-    → take k (text_of (settled d r).desktop n) ≡ take k (text_of d n)
-unfolding settled
+    → take k (text_of (outcome_after d r).desktop n) ≡ take k (text_of d n)
+unfolding outcome_after
 front_settled k n d (Err code) shown is = refl
-front_settled k n d (Ok new) shown is = elim (fits (dropped new)) as
+front_settled k n d (Ok new) shown is = elim (fits (without_unshown new)) as
     (λ b. take k (text_of
-    (let after : Outcome = if b then outcome_of (dropped new) Done else outcome_of d (No full) in after).desktop n)
+    (let after : Outcome = if b then outcome_of (without_unshown new) Done else outcome_of d (No full) in after).desktop n)
     ≡ take k (text_of d n)) [
       | true ↦ ap (λ (x : Desktop). take k (text_of x n)) (all_stay new (shown_rest d new is.numbers is.viewers shown))
           ∙ is.text
@@ -118,13 +118,13 @@ module _ (d : Desktop) (sound : IsSound d) (bytes : List ℕ) where
 
   -- of the text in which the caret stands
   at_caret : (c : Caret) → d.caret ≡ Some c
-      → take c.position (text_of (settled d (typed d bytes)).desktop (viewer_of d c.viewer).main)
+      → take c.position (text_of (outcome_after d (after_typing d bytes)).desktop (viewer_of d c.viewer).main)
       ≡ take c.position (text_of d (viewer_of d c.viewer).main)
-  unfolding typed
+  unfolding after_typing
   at_caret c here =
       let n : ℕ = (viewer_of d c.viewer).main in
       let is = front_put d sound (in_look d.look bytes) c (caret_within c here) in
-      subst (λ (o : Option Caret). take c.position (text_of (settled d (needs o no_caret
+      subst (λ (o : Option Caret). take c.position (text_of (outcome_after d (needs o no_caret
       (λ c. Ok (more_written (put_at_caret d (in_look d.look bytes) c) (length bytes))))).desktop n)
       ≡ take c.position (text_of d n)) (sym here)
       (front_settled c.position n d (Ok (more_written (put_at_caret d (in_look d.look bytes) c) (length bytes)))
@@ -135,7 +135,7 @@ module _ (d : Desktop) (sound : IsSound d) (bytes : List ℕ) where
       → take c.position (text_of (step_in version d (Typed bytes)).desktop n) ≡ take c.position (text_of d n)
   unfolding step_in raw
   of_caret version n c here is =
-      subst (λ m. take c.position (text_of (settled d (typed d bytes)).desktop m) ≡ take c.position (text_of d m)) is
+      subst (λ m. take c.position (text_of (outcome_after d (after_typing d bytes)).desktop m) ≡ take c.position (text_of d m)) is
       (at_caret c here)
 
   elsewhere : (n : ℕ) (c : Caret) → d.caret ≡ Some c → ((viewer_of d c.viewer).main == n) ≡ false

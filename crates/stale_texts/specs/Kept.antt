@@ -28,7 +28,7 @@ use Rattle.desktop_definitions.specs.Limits.{no_caret, no_selection, outside, to
 use Rattle.text_frames.specs.Cells.{position_at, row_of}
 use Rattle.desktop_definitions.specs.declared.reply.Reply.TheVariants.{Done, No}
 use Rattle.desktop_definitions.specs.Sound.{IsSound}
-use Rattle.desktop_definitions.specs.Tables.{Texts, numbered, has_room}
+use Rattle.desktop_definitions.specs.Tables.{Texts, text_numbered, has_file_room}
 use Rattle.desktop_definitions.specs.Desktop.{Desktop, KeptDesktop}
 use Rattle.desktop_definitions.specs.Seen.{seen}
 use Rattle.desktop_definitions.specs.Viewers.{viewer_of, newest, text_of, with_org, with_selection, unselected}
@@ -37,13 +37,13 @@ use Rattle.desktop_definitions.specs.Needs.{needs, unless}
 use Rattle.desktop_definitions.specs.Change.{edited, after_change, insertion, deletion, looks_set, showing}
 use Rattle.desktop_definitions.specs.Change.{bytes_of, in_look, caret_shown, put_in, put_at_caret, cut_out}
 use Rattle.desktop_definitions.specs.Changed.{texts_shown}
-use Rattle.desktop_definitions.specs.Keys.{typed, pressed, without_character_before, with_copied, escaped}
-use Rattle.desktop_definitions.specs.Opening.{dropped}
+use Rattle.desktop_definitions.specs.Keys.{after_typing, after_key, without_character_before, with_copied, without_marks}
+use Rattle.desktop_definitions.specs.Opening.{without_unshown}
 use Rattle.desktop_definitions.specs.Gesture.{done_in_filler, done_in_menu, done_in_bar, done_at, done_with}
 use Rattle.desktop_definitions.specs.Gesture.{is_on_display, region_at, pointed, resized, scrolled_to_row}
 use Rattle.desktop_definitions.specs.Gesture.{scrolled_to_share, copied_to, looks_taken, taken_out, sent_to_caret}
 use Rattle.desktop_definitions.specs.Gesture.{drawn_in, is_some_stretch}
-use Rattle.desktop_definitions.specs.Step.{filed, marked, fits, settled, raw, step_in, Outcome, outcome_of}
+use Rattle.desktop_definitions.specs.Step.{filed, marked, fits, outcome_after, raw, step_in, Outcome, outcome_of}
 use Rattle.desktop_laws.specs.ChangeLaws.{followed_shown, org_shown}
 use Rattle.desktop_laws.specs.PlaceLaws.{at_is}
 use Rattle.desktop_laws.specs.RowLaws.{shown_rest}
@@ -55,10 +55,10 @@ use Rattle.stale_texts.specs.Stale.{is_stale, stale_by_key, stale_by_gesture, st
 
 -- another text stays where one is set
 other_stays : {X : Type 0} (n m : ℕ) (w : X) (es : Texts X) → (m == n) ≡ false
-    → numbered (es) n ≡ numbered (set_value (is_at (nat_cmp m)) es w) n
+    → text_numbered (es) n ≡ text_numbered (set_value (is_at (nat_cmp m)) es w) n
 other_stays n m w [] apart = refl
 other_stays n m w (e ∷ es) apart = (elim (e.0 == m) as (λ b. (e.0 == m) ≡ b
-    → numbered (e ∷ es) n ≡ numbered (set_value (is_at (nat_cmp m)) (e ∷ es) w) n) [
+    → text_numbered (e ∷ es) n ≡ text_numbered (set_value (is_at (nat_cmp m)) (e ∷ es) w) n) [
       | true ↦ λ here.
           (let at : is_at (nat_cmp m) e.0 ≡ true = at_is m e.0 ∙ here in
           let not_n : is_at (nat_cmp n) e.0 ≡ false = at_is n e.0 ∙ (let same = eqb-true e.0 m here in
@@ -72,16 +72,16 @@ other_stays n m w (e ∷ es) apart = (elim (e.0 == m) as (λ b. (e.0 == m) ≡ b
 -- ---- parts of an event
 
 -- The same viewers show the same texts of the same numbers, and the text of number n is as it was.
-pub record Leaves (n : ℕ) (d new : Desktop) : Type 0 where
+pub record LeavesText (n : ℕ) (d new : Desktop) : Type 0 where
   pub text : text_of new n ≡ text_of d n
   pub numbers : keys_of new.texts ≡ keys_of d.texts
   pub viewers : texts_shown new.viewers ≡ texts_shown d.viewers
 
 module _ (n : ℕ) where
-  leaves_all : (d : Desktop) → Leaves n d d
+  leaves_all : (d : Desktop) → LeavesText n d d
   leaves_all d = record { text = refl; numbers = refl; viewers = refl }
 
-  leaves_then : (d mid new : Desktop) → Leaves n d mid → Leaves n mid new → Leaves n d new
+  leaves_then : (d mid new : Desktop) → LeavesText n d mid → LeavesText n mid new → LeavesText n d new
   leaves_then d mid new first second = record {
     text = second.text ∙ first.text;
     numbers = second.numbers ∙ first.numbers;
@@ -89,7 +89,7 @@ module _ (n : ℕ) where
   }
 
   leaves_edited : (d : Desktop) (m : ℕ) (text : Text ℕ) (viewers : List (ℕ × Viewer)) → (m == n) ≡ false
-      → texts_shown viewers ≡ texts_shown d.viewers → Leaves n d (edited d m text viewers)
+      → texts_shown viewers ≡ texts_shown d.viewers → LeavesText n d (edited d m text viewers)
   leaves_edited d m text viewers apart same = record {
     text = ap (λ (found : Option (Text ℕ)). unwrap_or found []) (sym (other_stays n m text d.texts apart));
     numbers = keys-set_value (is_at (nat_cmp m)) d.texts text;
@@ -97,32 +97,32 @@ module _ (n : ℕ) where
   }
 
   leaves_change : (d : Desktop) (m : ℕ) (text : Text ℕ) (p more fewer : ℕ) → (m == n) ≡ false
-      → Leaves n d (after_change d m text p more fewer)
+      → LeavesText n d (after_change d m text p more fewer)
   unfolding after_change
   leaves_change d m text p more fewer apart =
       leaves_edited d m text _ apart (followed_shown m (bytes_of text) p more fewer d.viewers)
 
-  leaves_insertion : (d : Desktop) (m p : ℕ) (more : Text ℕ) → (m == n) ≡ false → Leaves n d (insertion d m p more)
+  leaves_insertion : (d : Desktop) (m p : ℕ) (more : Text ℕ) → (m == n) ≡ false → LeavesText n d (insertion d m p more)
   unfolding insertion
   leaves_insertion d m p [] apart = leaves_all d
   leaves_insertion d m p (c ∷ more) apart = leaves_change d m _ p (length (c ∷ more)) 0 apart
 
-  leaves_deletion : (d : Desktop) (m p q : ℕ) → (m == n) ≡ false → Leaves n d (deletion d m p q)
+  leaves_deletion : (d : Desktop) (m p q : ℕ) → (m == n) ≡ false → LeavesText n d (deletion d m p q)
   unfolding deletion
   leaves_deletion d m p q apart = elim (nat_lt p q) as
-      (λ b. Leaves n d (if b then after_change d m (deleted p q (text_of d m)) p 0 (q - p) else d)) [
+      (λ b. LeavesText n d (if b then after_change d m (deleted p q (text_of d m)) p 0 (q - p) else d)) [
         | true ↦ leaves_change d m (deleted p q (text_of d m)) p 0 (q - p) apart
         | false ↦ leaves_all d
       ]
 
-  leaves_org : (d : Desktop) (v org : ℕ) → Leaves n d (with_org d v org)
+  leaves_org : (d : Desktop) (v org : ℕ) → LeavesText n d (with_org d v org)
   leaves_org d v org = record {
     text = refl;
     numbers = refl;
     viewers = org_shown (is_at (nat_cmp v)) org d.viewers;
   }
 
-  leaves_shown : (d : Desktop) (v p : ℕ) → Leaves n d (caret_shown d v p)
+  leaves_shown : (d : Desktop) (v p : ℕ) → LeavesText n d (caret_shown d v p)
   unfolding showing
   leaves_shown d v p = record {
     text = refl;
@@ -131,28 +131,28 @@ module _ (n : ℕ) where
   }
 
   leaves_put : (d : Desktop) (v p : ℕ) (more : Text ℕ) → ((viewer_of d v).main == n) ≡ false
-      → Leaves n d (put_in d v p more)
+      → LeavesText n d (put_in d v p more)
   leaves_put d v p more apart =
       leaves_then d (insertion d (viewer_of d v).main p more) (put_in d v p more)
       (leaves_insertion d (viewer_of d v).main p more apart)
       (leaves_shown (insertion d (viewer_of d v).main p more) v (p + length more))
 
   leaves_put_at : (d : Desktop) (more : Text ℕ) (c : Caret) → ((viewer_of d c.viewer).main == n) ≡ false
-      → Leaves n d (put_at_caret d more c)
+      → LeavesText n d (put_at_caret d more c)
   leaves_put_at d [] c apart = leaves_all d
   leaves_put_at d (first ∷ more) c apart = leaves_put d c.viewer c.position (first ∷ more) apart
 
-  leaves_cut : (d : Desktop) (s : Selection) → ((viewer_of d s.viewer).main == n) ≡ false → Leaves n d (cut_out d s)
+  leaves_cut : (d : Desktop) (s : Selection) → ((viewer_of d s.viewer).main == n) ≡ false → LeavesText n d (cut_out d s)
   leaves_cut d s apart =
       leaves_then d (deletion d (viewer_of d s.viewer).main s.beg s.end) (cut_out d s)
       (leaves_deletion d (viewer_of d s.viewer).main s.beg s.end apart)
       (leaves_shown (deletion d (viewer_of d s.viewer).main s.beg s.end) s.viewer s.beg)
 
   leaves_without : (d : Desktop) (c : Caret) → ((viewer_of d c.viewer).main == n) ≡ false
-      → Leaves n d (without_character_before d c)
+      → LeavesText n d (without_character_before d c)
   leaves_without d c apart =
       let between = deletion d (viewer_of d c.viewer).main (c.position - 1) c.position in
-      elim (c.position == 0) as (λ b. Leaves n d (if b then d else caret_shown between c.viewer (c.position - 1))) [
+      elim (c.position == 0) as (λ b. LeavesText n d (if b then d else caret_shown between c.viewer (c.position - 1))) [
         | true ↦ leaves_all d
         | false ↦ leaves_then d between _
             (leaves_deletion d (viewer_of d c.viewer).main (c.position - 1) c.position apart)
@@ -160,16 +160,16 @@ module _ (n : ℕ) where
       ]
 
   leaves_looks : (d : Desktop) (s : Selection) (selector : ℕ) (look : Look)
-      → ((viewer_of d s.viewer).main == n) ≡ false → Leaves n d (looks_set d s selector look)
+      → ((viewer_of d s.viewer).main == n) ≡ false → LeavesText n d (looks_set d s selector look)
   unfolding looks_set
   leaves_looks d s selector look apart =
       let is = leaves_edited d (viewer_of d s.viewer).main _ d.viewers apart refl in
       record { text = is.text; numbers = is.numbers; viewers = is.viewers }
 
-  leaves_drawn : (d : Desktop) (s : Selection) → Leaves n d (drawn_in d s)
+  leaves_drawn : (d : Desktop) (s : Selection) → LeavesText n d (drawn_in d s)
   unfolding drawn_in
   leaves_drawn d s = elim (is_some_stretch s) as
-      (λ b. Leaves n d (if b then with_selection d s else unselected d s.viewer)) [
+      (λ b. LeavesText n d (if b then with_selection d s else unselected d s.viewer)) [
         | true ↦ record { text = refl; numbers = refl; viewers = refl }
         | false ↦ record { text = refl; numbers = refl; viewers = refl }
       ]
@@ -178,7 +178,7 @@ module _ (n : ℕ) where
 
 -- what is done or refused leaves them
 abbrev LeavesIn : ℕ → Desktop → Result Desktop ℕ → Type 0
-LeavesIn n d r = IfOk r (Leaves n d)
+LeavesIn n d r = IfOk r (LeavesText n d)
 
 module _ (version n : ℕ) (d : Desktop) where
   needed : {A : Type 0} (o : Option A) (code : ℕ) (f : A → Result Desktop ℕ)
@@ -202,15 +202,15 @@ module _ (version n : ℕ) (d : Desktop) where
       (λ o. is_stale (stale_selected d.viewers o) n ≡ false → ((viewer_of d s.viewer).main == n) ≡ false)
       (sym here) (λ apart. apart)
 
-  typed_leaves : (bytes : List ℕ) → is_stale (stale_at_caret d.viewers d.caret) n ≡ false → LeavesIn n d (typed d bytes)
-  unfolding typed
+  typed_leaves : (bytes : List ℕ) → is_stale (stale_at_caret d.viewers d.caret) n ≡ false → LeavesIn n d (after_typing d bytes)
+  unfolding after_typing
   typed_leaves bytes apart = needed d.caret no_caret _ (λ c here.
       let is = leaves_put_at n d (in_look d.look bytes) c (caret_apart c here apart) in
       record { text = is.text; numbers = is.numbers; viewers = is.viewers })
 
   pressed_leaves : (key : Key) → is_stale (stale_by_key d.viewers d.caret (newest d) key) n ≡ false
-      → LeavesIn n d (pressed d key)
-  unfolding pressed stale_by_key escaped
+      → LeavesIn n d (after_key d key)
+  unfolding after_key stale_by_key without_marks
   pressed_leaves Back apart = needed d.caret no_caret _
       (λ c here. leaves_without n d c (caret_apart c here apart))
   pressed_leaves Copy apart = needed (newest d) no_selection _
@@ -222,16 +222,16 @@ module _ (version n : ℕ) (d : Desktop) where
       record { text = is.text; numbers = is.numbers; viewers = is.viewers })
   pressed_leaves Escape apart = record { text = refl; numbers = refl; viewers = refl }
 
-  row_leaves : (v row : ℕ) → Leaves n d (scrolled_to_row d v row)
+  row_leaves : (v row : ℕ) → LeavesText n d (scrolled_to_row d v row)
   unfolding scrolled_to_row
   row_leaves v row = let begin = position_at (bytes_of (main_of d v)) (viewer_of d v).org 0 row in
       elim (row_of (bytes_of (main_of d v)) (viewer_of d v).org begin == row) as
-      (λ b. Leaves n d (if b then with_org d v begin else d)) [
+      (λ b. LeavesText n d (if b then with_org d v begin else d)) [
         | true ↦ leaves_org n d v begin
         | false ↦ leaves_all n d
       ]
 
-  share_leaves : (v row : ℕ) → Leaves n d (scrolled_to_share d v row)
+  share_leaves : (v row : ℕ) → LeavesText n d (scrolled_to_share d v row)
   unfolding scrolled_to_share
   share_leaves v row = leaves_org n d v _
 
@@ -320,17 +320,17 @@ module _ (version n : ℕ) (d : Desktop) where
         | true ↦ λ apart. pointed_leaves (region_at d x0 y0) keys x0 y0 x1 y1 apart
         | false ↦ λ apart. tt
       ]) apart
-  raw_leaves (File name bytes) apart = provided (has_room d.files name) too_many_files _
+  raw_leaves (File name bytes) apart = provided (has_file_room d.files name) too_many_files _
       (record { text = refl; numbers = refl; viewers = refl })
 
 -- a text that an effect leaves stays as it is, where each text was shown before
 settled_leaves : (n : ℕ) (d : Desktop) (r : Result Desktop ℕ) → AllShown d → LeavesIn n d r
-    → text_of (settled d r).desktop n ≡ text_of d n
-unfolding settled
+    → text_of (outcome_after d r).desktop n ≡ text_of d n
+unfolding outcome_after
 settled_leaves n d (Err code) shown is = refl
-settled_leaves n d (Ok new) shown is = elim (fits (dropped new)) as
+settled_leaves n d (Ok new) shown is = elim (fits (without_unshown new)) as
     (λ b. text_of
-    (let after : Outcome = if b then outcome_of (dropped new) Done else outcome_of d (No full) in after).desktop n
+    (let after : Outcome = if b then outcome_of (without_unshown new) Done else outcome_of d (No full) in after).desktop n
     ≡ text_of d n) [
       | true ↦ ap (λ (x : Desktop). text_of x n) (all_stay new (shown_rest d new is.numbers is.viewers shown)) ∙ is.text
       | false ↦ refl

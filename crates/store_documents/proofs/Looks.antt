@@ -7,7 +7,7 @@ use Rattle.desk_journal.specs.Device.{IsOnlyRead}
 use Rattle.desk_journal.specs.Errors.{Error}
 use Rattle.desk_journal.specs.Looking.{OnlyLooks}
 use Rattle.desk_journal.specs.View.{StoreView}
-use Rattle.store_documents.specs.Standings.{OnlyLooked}
+use Rattle.store_documents.specs.Standings.{HasOnlyLooked}
 
 module _ {D : Type 0} (d : Ghosts D) where
   read_twice : {old mid new : D} → IsOnlyRead d old mid → IsOnlyRead d mid new → IsOnlyRead d old new
@@ -21,8 +21,8 @@ module _ {D : Type 0} (d : Ghosts D) where
         chained before (weakened (second.unwritten (first.device.still honest)) (at_last before));
   }
 
-  pub looked_on : {T : Type 0} {old mid new : StoreView D} (result : Result T Error) → OnlyLooked d old mid
-      → OnlyLooks d result mid new → OnlyLooked d old new
+  pub looked_on : {T : Type 0} {old mid new : StoreView D} (result : Result T Error) → HasOnlyLooked d old mid
+      → OnlyLooks d result mid new → HasOnlyLooked d old new
   looked_on result so_far look = record {
     desktop = λ honest. look.desktop (so_far.disk.device.still honest) ∙ so_far.desktop honest;
     kept = look.kept ∙ so_far.kept;

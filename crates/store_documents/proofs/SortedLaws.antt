@@ -3,10 +3,10 @@ use Rattle.std.proofs.Common.{◌∙◌, ◌++◌, ◌∷◌, [], List, ℕ, sym
 use Rattle.std.proofs.lemmas.List.Elements.{filter-append}
 use Rattle.desktop_definitions.specs.Desktop.{Desktop}
 use Rattle.store_documents.specs.declared.sorting.Sorted.{Sorted}
-use Rattle.store_documents.specs.Standings.{AreSorted, IsAdded, standing_of, is_new, is_same, is_other}
+use Rattle.store_documents.specs.Standings.{AreSorted, IsPutBehind, standing_of, is_new, is_same, is_other}
 
 module _ (d : Desktop) (document : List ℕ × List ℕ) (before : List (List ℕ × List ℕ)) (old new : Sorted) where
-  pub sorted_more : AreSorted d before old → IsAdded document (standing_of d document) old new
+  pub sorted_more : AreSorted d before old → IsPutBehind document (standing_of d document) old new
       → AreSorted d (before ++ document ∷ []) new
   sorted_more sorted added = record {
     fresh = added.fresh_is

@@ -11,17 +11,17 @@ use Rattle.store_documents.specs.declared.exporting.ExportFault.{ExportFault}
 use Rattle.store_documents.specs.declared.exporting.ExportFault.TheVariants.{Store, Output}
 
 -- the bytes of a text as a reader gets them
-abbrev pub text_of : Reader → Text ℕ → List ℕ
-text_of Program text = exported (bytes_of text)
-text_of Terminal text = printable (bytes_of text)
+abbrev pub text_for_reader : Reader → Text ℕ → List ℕ
+text_for_reader Program text = exported (bytes_of text)
+text_for_reader Terminal text = printable (bytes_of text)
 
 -- the document whole; or nothing, where there is none
 abbrev pub IsExported : Reader → Option (Text ℕ) → Bool → Option (List ℕ) → Option (List ℕ) → Type 0
 IsExported reader None found old new = (found ≡ false) × Keeps old new
-IsExported reader (Some text) found old new = (found ≡ true) × Appends old new (text_of reader text)
+IsExported reader (Some text) found old new = (found ≡ true) × Appends old new (text_for_reader reader text)
 
 -- nothing, where the store refused; or a front of a document that there is, where the output did
-abbrev pub IsCutOff : Reader → Option (Text ℕ) → ExportFault → Option (List ℕ) → Option (List ℕ) → Type 0
-IsCutOff reader file (Store error) old new = Keeps old new
-IsCutOff reader None Output old new = ⊥
-IsCutOff reader (Some text) Output old new = AppendsFront old new (text_of reader text)
+abbrev pub IsExportCutOff : Reader → Option (Text ℕ) → ExportFault → Option (List ℕ) → Option (List ℕ) → Type 0
+IsExportCutOff reader file (Store error) old new = Keeps old new
+IsExportCutOff reader None Output old new = ⊥
+IsExportCutOff reader (Some text) Output old new = AppendsFront old new (text_for_reader reader text)

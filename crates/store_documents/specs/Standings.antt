@@ -1,19 +1,16 @@
 -- How documents stand to those of a store.
-use Rattle.std.specs.Prelude.{◌≡◌, ℕ, Bool, true, false, if◌then◌else◌, List, [], ◌∷◌, ◌++◌, map, filter}
+use Rattle.std.specs.Prelude.{◌≡◌, ℕ, Bool, true, false, if◌then◌else◌, List, [], ◌∷◌, ◌++◌, filter}
 use Rattle.std.specs.Prelude.{Option, Some, None}
 use Rattle.std.specs.Str.{bytes_eq}
 use Rattle.sector_disk.specs.declared.disk.Disk.{Ghosts}
 use Rattle.piece_ring.specs.Text.{Text}
 use Rattle.desktop_definitions.specs.Desktop.{Desktop, file_of}
+pub use Rattle.desktop_definitions.specs.Change.{bytes_of}
 use Rattle.desk_journal.specs.Device.{IsOnlyRead}
 use Rattle.desk_journal.specs.View.{StoreView}
 use Rattle.store_documents.specs.declared.sorting.Standing.{Standing}
 use Rattle.store_documents.specs.declared.sorting.Standing.TheVariants.{New, Same, Other}
 use Rattle.store_documents.specs.declared.sorting.Sorted.{Sorted}
-
--- the bytes of a text without its looks
-abbrev pub bytes_of : Text ℕ → List ℕ
-bytes_of text = map (λ character. character.0) text
 
 -- bytes beside the characters that a document has
 abbrev pub standing_beside : List ℕ → Text ℕ → Standing
@@ -50,13 +47,13 @@ pub record AreSorted (d : Desktop) (documents : List (List ℕ × List ℕ)) (so
   pub other : sorted.other.items ≡ filter (λ document. is_other (standing_of d document)) documents
 
 -- a document behind those that stand as it does
-pub record IsAdded (document : List ℕ × List ℕ) (standing : Standing) (old new : Sorted) : Type 0 where
+pub record IsPutBehind (document : List ℕ × List ℕ) (standing : Standing) (old new : Sorted) : Type 0 where
   pub fresh_is : new.fresh.items ≡ old.fresh.items ++ (if is_new standing then document ∷ [] else [])
   pub same_is : new.same.items ≡ old.same.items ++ (if is_same standing then document ∷ [] else [])
   pub other_is : new.other.items ≡ old.other.items ++ (if is_other standing then document ∷ [] else [])
 
 -- any number of looks: the store is as it was, and its disk was only read
-pub record OnlyLooked {D : Type 0} (d : Ghosts D) (old new : StoreView D) : Type 0 where
+pub record HasOnlyLooked {D : Type 0} (d : Ghosts D) (old new : StoreView D) : Type 0 where
   pub desktop : d.honest old.disk → new.desktop ≡ old.desktop
   pub kept : new.kept ≡ old.kept
   pub layout : new.layout ≡ old.layout

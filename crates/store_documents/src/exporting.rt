@@ -1,8 +1,8 @@
 //! A document on its way out.
 ghost use Rattle.std.specs.Prelude.{◌≡◌, Some, IfOk, IfErr};
 ghost use Rattle.desktop_definitions.specs.Desktop.{file_of};
-ghost use Rattle.store_documents.specs.Exporting.{IsExported, IsCutOff, text_of};
-ghost use Rattle.store_documents.specs.Standings.{OnlyLooked};
+ghost use Rattle.store_documents.specs.Exporting.{IsExported, IsExportCutOff, text_for_reader};
+ghost use Rattle.store_documents.specs.Standings.{HasOnlyLooked};
 
 use desk_journal::{Error, Store};
 use event_bytes::Name;
@@ -55,8 +55,8 @@ pub fn export<D: Disk, W: Write>(
     ensures done { IfOk result (λ found. D.honest store.old.disk
         → IsExported reader (file_of store.old.desktop name.now) found (W.contents output.old) (W.contents output.new)) }
     ensures stopped { IfErr result (λ fault. D.honest store.old.disk
-        → IsCutOff reader (file_of store.old.desktop name.now) fault (W.contents output.old) (W.contents output.new)) }
-    ensures looked { OnlyLooked D.Disk store.old store.new }
+        → IsExportCutOff reader (file_of store.old.desktop name.now) fault (W.contents output.old) (W.contents output.new)) }
+    ensures looked { HasOnlyLooked D.Disk store.old store.new }
 {
     match store.file(alloc, name)? {
         None => Ok(false),
@@ -73,7 +73,7 @@ fn write_text<W: Write>(
 ) -> Result<bool, ExportFault>
     ensures done { IfOk result (λ found. IsExported reader (Some characters.now) found
         (W.contents output.old) (W.contents output.new)) }
-    ensures stopped { IfErr result (λ fault. IsCutOff reader (Some characters.now) fault
+    ensures stopped { IfErr result (λ fault. IsExportCutOff reader (Some characters.now) fault
         (W.contents output.old) (W.contents output.new)) }
 {
     let Ok(text) = text_for(alloc, characters, reader) else {
@@ -90,7 +90,7 @@ fn write_text<W: Write>(
 
 /// The bytes of characters as a reader gets them.
 fn text_for(alloc: Global, characters: &[(u8, Look)], reader: Reader) -> Result<Vec<u8>, AllocError>
-    ensures { IfOk result (λ text. text.items ≡ text_of reader characters.now) }
+    ensures { IfOk result (λ text. text.items ≡ text_for_reader reader characters.now) }
 {
     match reader {
         Reader::Program => host_text(alloc, characters),

@@ -1,7 +1,7 @@
 //! How documents stand to those of a store.
 ghost use Rattle.std.specs.Prelude.{◌≡◌, IfOk, OnOk};
 ghost use Rattle.desk_journal.specs.Looking.{OnlyLooks};
-ghost use Rattle.store_documents.specs.Standings.{standing_of, standing_beside, bytes_of, AreSorted, IsAdded, OnlyLooked};
+ghost use Rattle.store_documents.specs.Standings.{standing_of, standing_beside, bytes_of, AreSorted, IsPutBehind, HasOnlyLooked};
 
 use desk_journal::{Document, Error, Store};
 use piece_ring::Look;
@@ -78,7 +78,7 @@ pub fn sort<D: Disk>(
 ) -> Result<Sorted, Error>
     ensures sorted { IfOk result (λ sorted. D.honest store.old.disk
         → AreSorted store.old.desktop documents.items sorted) }
-    ensures looked { OnlyLooked D.Disk store.old store.new }
+    ensures looked { HasOnlyLooked D.Disk store.old store.new }
 {
     let mut sorted = Sorted {
         fresh: Vec::new(alloc),
@@ -94,7 +94,7 @@ pub fn sort<D: Disk>(
 
 /// The document goes behind those that stand as it does.
 fn add(sorted: &mut Sorted, document: Document, standing: Standing) -> Result<(), AllocError>
-    ensures { OnOk result (IsAdded document standing sorted.old sorted.new) }
+    ensures { OnOk result (IsPutBehind document standing sorted.old sorted.new) }
 {
     match standing {
         Standing::New => sorted.fresh.push(document)?,

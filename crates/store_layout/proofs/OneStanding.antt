@@ -2,20 +2,20 @@
 use Rattle.std.proofs.Common.{◌≡◌, ℕ, ◌+◌, List, [], ◌∷◌, ◌++◌, length, take, drop, refl, sym, ◌∙◌, ap, subst}
 use Rattle.sector_disk.specs.Trail.{Content}
 use Rattle.event_bytes.specs.declared.event.Event.{Event}
-use Rattle.event_bytes.specs.Spelling.{Begins}
+use Rattle.event_bytes.specs.Spelling.{BeginsWithEvent}
 use Rattle.desktop_definitions.specs.Desktop.{Desktop}
 use Rattle.desktop_definitions.specs.Seen.{seen}
 use Rattle.desk_image.specs.Laws.{UniqueLaw}
 use Rattle.store_layout.specs.declared.head.Head.{Head}
 use Rattle.store_layout.specs.Bits.{clash}
 use Rattle.store_layout.specs.Layout.{head}
-use Rattle.store_layout.specs.Meaning.{IsJournal, Makes, HasImage, Standing, Stands, Means, Shows, desktop_of}
-use Rattle.store_layout.specs.Meaning.{image_bytes, area_bytes, left_over, full_sectors}
+use Rattle.store_layout.specs.Meaning.{IsJournal, MakesDesktop, HasImage, Standing, Stands, Means, Shows, desktop_of}
+use Rattle.store_layout.specs.Meaning.{slot_image_bytes, area_bytes, left_over, full_sectors}
 use Rattle.store_layout.specs.StandingLaws.{one_in_use, stands_in_use}
 
 -- bytes begin with one event at most
 abbrev pub BeginLaw : Type 0
-BeginLaw = (bytes : List ℕ) (e f : Event) → Begins bytes e → Begins bytes f → e ≡ f
+BeginLaw = (bytes : List ℕ) (e f : Event) → BeginsWithEvent bytes e → BeginsWithEvent bytes f → e ≡ f
 
 one_journal : BeginLaw → (events events' : List Event) (c : Content) (slot k : ℕ) → IsJournal c slot k events
     → IsJournal c slot k events' → events ≡ events'
@@ -26,8 +26,8 @@ one_journal law (e ∷ events) (e' ∷ events') c slot k one two =
     ap (λ first. first ∷ events) (law _ e e' one.2 two.2)
     ∙ ap (λ rest. e' ∷ rest) (one_journal law events events' c slot (k + 1) one.3 two.3)
 
-one_start : UniqueLaw → (h : Head) (image area : List ℕ) (start start' : Desktop) → Makes h image area start
-    → Makes h image area start' → start ≡ start'
+one_start : UniqueLaw → (h : Head) (image area : List ℕ) (start start' : Desktop) → MakesDesktop h image area start
+    → MakesDesktop h image area start' → start ≡ start'
 one_start law h image area start start' one two =
     sym one.is
     ∙ ap (seen (area ++ take (left_over h.written) image))
@@ -40,7 +40,7 @@ module _ (begins : BeginLaw) (unique : UniqueLaw) (size : ℕ) (c : Content) whe
     slot = slots i;
     version = (sym one.version ∙ ap (λ n. (head c n).version) slots ∙ two.version) i;
     epoch = (sym one.epoch ∙ ap (λ n. (head c n).epoch) slots ∙ two.epoch) i;
-    start = one_start unique (head c s'.slot) (image_bytes c s'.slot)
+    start = one_start unique (head c s'.slot) (slot_image_bytes c s'.slot)
         (area_bytes c (head c s'.slot).area (full_sectors (head c s'.slot).written)) s.start s'.start
         (subst (λ n. HasImage c n s.start) slots one.image) two.image i;
     events = one_journal begins s.events s'.events c s'.slot 0

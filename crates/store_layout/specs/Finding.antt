@@ -2,7 +2,7 @@
 use Rattle.std.specs.Prelude.{◌≡◌, ◌⊎◌, ◌<◌, ◌≤◌, ◌+◌, ℕ, true, false}
 use Rattle.sector_disk.specs.Trail.{Content}
 use Rattle.event_bytes.specs.declared.event.Event.{Event}
-use Rattle.event_bytes.specs.Spelling.{Begins}
+use Rattle.event_bytes.specs.Spelling.{BeginsWithEvent}
 use Rattle.desktop_definitions.specs.Desktop.{Desktop}
 use Rattle.store_layout.specs.declared.layout.TheConstants.{JOURNAL_EVENTS, LABEL, SLOTS, STORE_SECTORS}
 use Rattle.store_layout.specs.Layout.{is_label, is_open, slot_gate, slot_head, body, image_at, head, IsGoodHead}
@@ -42,8 +42,8 @@ pub record HasBadImage (c : Content) (slot : ℕ) : Type 0 where
 pub record IsNoEvent (c : Content) (slot k : ℕ) : Type 0 where
   pub within : k < JOURNAL_EVENTS
   pub led : IsLedTo c slot (k + 1)
-  pub events : (j : ℕ) → j < k → (event : Event) × Begins (c (body slot j)) event
-  pub none : (event : Event) → Begins (c (body slot k)) event → ⊥
+  pub events : (j : ℕ) → j < k → (event : Event) × BeginsWithEvent (c (body slot j)) event
+  pub none : (event : Event) → BeginsWithEvent (c (body slot k)) event → ⊥
 
 pub record HasBadBody (c : Content) (slot k : ℕ) : Type 0 where
   pub heads : AreHeadsGood c

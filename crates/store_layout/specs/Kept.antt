@@ -3,7 +3,7 @@ use Rattle.std.specs.Prelude.{◌≡◌, ◌⊎◌, ◌<◌, ◌≤◌, ◌+◌,
 use Rattle.std.specs.Prelude.{Bool, true, false}
 use Rattle.sector_disk.specs.Trail.{Content, Trail, now}
 use Rattle.event_bytes.specs.declared.event.Event.{Event}
-use Rattle.event_bytes.specs.Spelling.{Begins}
+use Rattle.event_bytes.specs.Spelling.{BeginsWithEvent}
 use Rattle.desktop_definitions.specs.Desktop.{Desktop}
 use Rattle.sector_disk.specs.declared.disk.TheConstants.{SECTOR_BYTES}
 use Rattle.store_layout.specs.declared.head.Head.{Head}
@@ -18,7 +18,7 @@ pub record IsSettled (size : ℕ) (disk : Trail) (s : Standing) : Type 0 where
   pub stands : Stands size (now disk).reads s
 
 -- the disk is settled and shows the desktop, by this slot, version and epoch and so many events
-pub record IsKept (size : ℕ) (disk : Trail) (live version number count : ℕ) (desktop : Desktop) : Type 0 where
+pub record ShowsSettled (size : ℕ) (disk : Trail) (live version number count : ℕ) (desktop : Desktop) : Type 0 where
   pub standing : Standing
   pub settled : IsSettled size disk standing
   pub slot : standing.slot ≡ live
@@ -46,8 +46,8 @@ chosen_area false area = area
 chosen_area true area = 1 - area
 
 -- from this sector of an area on the head names nothing
-abbrev pub Spares : Head → ℕ → ℕ → Type 0
-Spares h area from = h.area ≡ area → full_sectors h.written ≤ from
+abbrev pub SparesArea : Head → ℕ → ℕ → Type 0
+SparesArea h area from = h.area ≡ area → full_sectors h.written ≤ from
 
 -- ---- an event into the journal
 
@@ -58,7 +58,7 @@ NextRecord slot k n = (n ≡ body slot k) ⊎ ((n ≡ gate slot (k + 1)) × (k +
 -- event k stands behind its closed gate, and a closed gate behind it
 pub record IsStaged (size : ℕ) (disk : Trail) (s : Standing) (event : Event) (k : ℕ) : Type 0 where
   pub settled : IsSettled size disk s
-  pub begins : Begins ((now disk).reads (body s.slot k)) event
+  pub begins : BeginsWithEvent ((now disk).reads (body s.slot k)) event
   pub closed : k + 1 < JOURNAL_EVENTS → is_open ((now disk).reads (gate s.slot (k + 1))) ≡ false
 
 -- ---- a checkpoint into the other slot

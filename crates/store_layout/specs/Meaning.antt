@@ -4,7 +4,7 @@ use Rattle.std.specs.Prelude.{List, [], ◌∷◌, ◌++◌, length, take, drop}
 use Rattle.sector_disk.specs.Trail.{Content}
 use Rattle.sector_disk.specs.Stored.{stored}
 use Rattle.event_bytes.specs.declared.event.Event.{Event}
-use Rattle.event_bytes.specs.Spelling.{Begins}
+use Rattle.event_bytes.specs.Spelling.{BeginsWithEvent}
 use Rattle.desktop_definitions.specs.Desktop.{Desktop, KeptDesktop}
 use Rattle.desktop_definitions.specs.Seen.{seen}
 use Rattle.desktop_definitions.specs.Step.{steps_in}
@@ -22,7 +22,7 @@ use Rattle.store_layout.specs.Layout.{IsGoodHead}
 abbrev pub IsJournal : Content → ℕ → ℕ → List Event → Type 0
 IsJournal c slot k [] = k < JOURNAL_EVENTS → is_open (c (gate slot k)) ≡ false
 IsJournal c slot k (event ∷ events) = (k < JOURNAL_EVENTS) × (is_open (c (gate slot k)) ≡ true)
-    × Begins (c (body slot k)) event × IsJournal c slot (k + 1) events
+    × BeginsWithEvent (c (body slot k)) event × IsJournal c slot (k + 1) events
 
 -- ---- the image of a slot
 
@@ -34,8 +34,8 @@ abbrev pub left_over : ℕ → ℕ
 left_over written = written % SECTOR_BYTES
 
 -- the bytes of a slot's image: the characters that are left over, and then the image of the desktop
-abbrev pub image_bytes : Content → ℕ → List ℕ
-image_bytes c slot = stored c (image_at slot) (head c slot).extent
+abbrev pub slot_image_bytes : Content → ℕ → List ℕ
+slot_image_bytes c slot = stored c (image_at slot) (head c slot).extent
 
 -- the characters in the first n sectors of an area
 abbrev pub area_bytes : Content → ℕ → ℕ → List ℕ
@@ -43,7 +43,7 @@ area_bytes c area n = stored c (area_start area) (SECTOR_BYTES * n)
 
 -- A head, the bytes of an image and the characters of its area make a desktop: that of the image, in the version of the
 -- head, as it is seen among the characters of the area and those at the front of the image.
-pub record Makes (h : Head) (image area : List ℕ) (start : Desktop) : Type 0 where
+pub record MakesDesktop (h : Head) (image area : List ℕ) (start : Desktop) : Type 0 where
   pub kept : KeptDesktop
   pub tail : left_over h.written ≤ length image
   pub spells : Spells h.version h.written (drop (left_over h.written) image) kept
@@ -51,7 +51,7 @@ pub record Makes (h : Head) (image area : List ℕ) (start : Desktop) : Type 0 w
 
 -- a slot starts from this desktop
 abbrev pub HasImage : Content → ℕ → Desktop → Type 0
-HasImage c slot start = Makes (head c slot) (image_bytes c slot)
+HasImage c slot start = MakesDesktop (head c slot) (slot_image_bytes c slot)
     (area_bytes c (head c slot).area (full_sectors (head c slot).written)) start
 
 -- ---- which slot is in use

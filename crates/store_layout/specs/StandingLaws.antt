@@ -6,7 +6,7 @@ use Rattle.sector_disk.specs.Trail.{Content}
 use Rattle.sector_disk.specs.Stored.{stored}
 use Rattle.sector_disk.specs.StoredLaws.{stored_same}
 use Rattle.event_bytes.specs.declared.event.Event.{Event}
-use Rattle.event_bytes.specs.Spelling.{Begins}
+use Rattle.event_bytes.specs.Spelling.{BeginsWithEvent}
 use Rattle.desktop_definitions.specs.Desktop.{Desktop}
 use Rattle.desktop_definitions.specs.Limits.{most_written}
 use Rattle.sector_disk.specs.declared.disk.TheConstants.{SECTOR_BYTES}
@@ -16,10 +16,10 @@ use Rattle.store_layout.specs.Bits.{true_or_false, clash}
 use Rattle.store_layout.specs.Layout.{is_label, is_open, slot_gate, slot_head, gate, body, image_at, area_start}
 use Rattle.store_layout.specs.Layout.{area_at}
 use Rattle.store_layout.specs.Layout.{head, head_of, IsGoodHead}
-use Rattle.store_layout.specs.Meaning.{IsJournal, Standing, desktop_of, Stands, Means, Makes, HasImage, IsOlder}
+use Rattle.store_layout.specs.Meaning.{IsJournal, Standing, desktop_of, Stands, Means, MakesDesktop, HasImage, IsOlder}
 use Rattle.store_layout.specs.Meaning.{full_sectors}
 use Rattle.store_layout.specs.Footprint.{IsLedTo, IsInUse}
-use Rattle.store_layout.specs.Kept.{IsNewSlot, IsFront, HasFront, Spares, InSlot, InArea, InCheckpoint}
+use Rattle.store_layout.specs.Kept.{IsNewSlot, IsFront, HasFront, SparesArea, InSlot, InArea, InCheckpoint}
 
 -- a sector that the standing doesn't rest on
 pub record IsApart (c : Content) (s : Standing) (n : ℕ) : Type 0 where
@@ -40,9 +40,9 @@ pub image_stays : (c c' : Content) (slot : ℕ) (start : Desktop) → c' (slot_h
     → c' (area_at (head c slot).area k) ≡ c (area_at (head c slot).area k))
     → HasImage c slot start → HasImage c' slot start
 image_stays c c' slot start same_head same same_area was =
-    subst (λ x. Makes x (stored c' (image_at slot) x.extent) (area x) start) (sym (ap head_of same_head))
-    (subst (λ l. Makes h l (area h) start) (sym (stored_same c c' (image_at slot) h.extent same))
-    (subst (λ l. Makes h (stored c (image_at slot) h.extent) l start)
+    subst (λ x. MakesDesktop x (stored c' (image_at slot) x.extent) (area x) start) (sym (ap head_of same_head))
+    (subst (λ l. MakesDesktop h l (area h) start) (sym (stored_same c c' (image_at slot) h.extent same))
+    (subst (λ l. MakesDesktop h (stored c (image_at slot) h.extent) l start)
     (sym (stored_same c c' (area_start h.area) (SECTOR_BYTES * full_sectors h.written)
     (λ k low. same_area k (omega (arith, low)))))
     was))
@@ -79,7 +79,7 @@ journal_stays [] c c' slot k end is gates bodies journal =
 journal_stays (event ∷ events) c c' slot k end is gates bodies journal = (
   journal.0,
   ap is_open (gates k (omega arith) (omega arith) journal.0) ∙ journal.1,
-  subst (λ bytes. Begins bytes event) (sym (bodies k (omega arith) (omega arith))) journal.2,
+  subst (λ bytes. BeginsWithEvent bytes event) (sym (bodies k (omega arith) (omega arith))) journal.2,
   journal_stays events c c' slot (k + 1) end (omega arith) (λ i low high room. gates i (omega arith) high room)
       (λ i low high. bodies i (omega arith) high) journal.3,
 )
@@ -103,13 +103,13 @@ journal_leads (event ∷ events) c slot k j journal low high = elim (cases_lt k 
 
 -- where open gates lead on there is an event under the last of them
 pub journal_goes_on : (events : List Event) (c : Content) (slot k j : ℕ) → IsJournal c slot k events → k ≤ j
-    → j < JOURNAL_EVENTS → IsLedTo c slot (j + 1) → (event : Event) × Begins (c (body slot j)) event
+    → j < JOURNAL_EVENTS → IsLedTo c slot (j + 1) → (event : Event) × BeginsWithEvent (c (body slot j)) event
 journal_goes_on [] c slot k j journal low room led =
     absurd (clash (led k (omega (arith, low))) (journal (omega (arith, low, room))))
 journal_goes_on (event ∷ events) c slot k j journal low room led = elim (cases_lt k j) [
   | inl later ↦ journal_goes_on events c slot (k + 1) j journal.3 (omega (arith, later)) room led
   | inr here ↦ (let same : k ≡ j = omega (arith, low, here) in
-      (event, subst (λ n. Begins (c (body slot n)) event) same journal.2))
+      (event, subst (λ n. BeginsWithEvent (c (body slot n)) event) same journal.2))
 ]
 
 -- ---- which slot is in use
@@ -174,14 +174,14 @@ carried_on c c' s events was label live same_head other image area journal = rec
   journal = journal;
 }
 
-pub carried : {size : ℕ} (c c' : Content) (s : Standing) → Stands size c s
+pub standing_carried : {size : ℕ} (c c' : Content) (s : Standing) → Stands size c s
     → c' LABEL ≡ c LABEL → is_open (c' (slot_gate s.slot)) ≡ true → c' (slot_head s.slot) ≡ c (slot_head s.slot)
     → ((idle : ℕ) → s.slot + idle ≡ 1 → is_open (c' (slot_gate idle)) ≡ true → IsOlder c' s.epoch idle)
     → ((k : ℕ) → SECTOR_BYTES * k < (head c s.slot).extent → c' (image_at s.slot + k) ≡ c (image_at s.slot + k))
     → ((k : ℕ) → k < full_sectors (head c s.slot).written
     → c' (area_at (head c s.slot).area k) ≡ c (area_at (head c s.slot).area k))
     → IsJournal c' s.slot 0 s.events → Stands size c' s
-carried c c' s was label live same_head other image area journal =
+standing_carried c c' s was label live same_head other image area journal =
     carried_on c c' s s.events was label live same_head other image area journal
 
 -- the other slot stays older where its head stays
@@ -193,7 +193,7 @@ older_stays c c' epoch idle same was =
 -- What another content shows that is the same in all sectors but those that the standing doesn't rest on.
 pub footprint : {size : ℕ} (c c' : Content) (s : Standing) → Stands size c s
     → ((n : ℕ) → ¬ IsApart c s n → c' n ≡ c n) → Stands size c' s
-footprint c c' s was same = carried c c' s was
+footprint c c' s was same = standing_carried c c' s was
     (same LABEL (λ out. out.label refl))
     (ap is_open (same (slot_gate s.slot) (λ out. out.gates s.slot was.two refl)) ∙ was.live)
     (same (slot_head s.slot) (λ out. out.heads s.slot was.two was.live refl))
@@ -214,7 +214,7 @@ footprint c c' s was same = carried c c' s was
 -- The gate of the other slot may be open, closed or torn, where the other slot is older.
 pub other_gate : {size : ℕ} (c c' : Content) (s : Standing) (idle : ℕ) → s.slot + idle ≡ 1 → Stands size c s
     → IsOlder c s.epoch idle → ((n : ℕ) → n ≢ slot_gate idle → c' n ≡ c n) → Stands size c' s
-other_gate c c' s idle two was older same = carried c c' s was
+other_gate c c' s idle two was older same = standing_carried c c' s was
     (same LABEL (omega arith))
     (ap is_open (same (slot_gate s.slot) (omega arith)) ∙ was.live)
     (same (slot_head s.slot) (omega arith))
@@ -273,7 +273,7 @@ apart c s idle two was closed n within = record {
 
 -- Sector n of an area, from one on that a head names nothing of, is none that it names: of two areas the one ends
 -- before the other begins.
-area_differs : (h : Head) (area from k n : ℕ) → Spares h area from → h.written ≤ most_written
+area_differs : (h : Head) (area from k n : ℕ) → SparesArea h area from → h.written ≤ most_written
     → k < full_sectors h.written → InArea area from n → n ≢ area_at h.area k
 area_differs h area from k n spares few room within is = elim (cases_lt h.area area) [
   | inl before ↦ omega (arith, within.0, is, room, few, before)
@@ -286,7 +286,7 @@ area_differs h area from k n spares few room within is = elim (cases_lt h.area a
 
 -- So are the sectors of an area, from one on that the head of the slot in use names nothing of.
 pub area_apart : {size : ℕ} (c : Content) (s : Standing) (area from : ℕ) → Stands size c s
-    → Spares (head c s.slot) area from → (n : ℕ) → InArea area from n → IsApart c s n
+    → SparesArea (head c s.slot) area from → (n : ℕ) → InArea area from n → IsApart c s n
 area_apart c s area from was spares n within = record {
   label = λ is. omega (arith, within.0, is);
   gates = λ slot low is. omega (arith, within.0, is, low);
@@ -299,7 +299,7 @@ area_apart c s area from was spares n within = record {
 }
 
 pub behind_closed : {size : ℕ} (c c' : Content) (s : Standing) (idle area from : ℕ) → s.slot + idle ≡ 1
-    → Stands size c s → is_open (c (slot_gate idle)) ≡ false → Spares (head c s.slot) area from
+    → Stands size c s → is_open (c (slot_gate idle)) ≡ false → SparesArea (head c s.slot) area from
     → ((n : ℕ) → ¬ InCheckpoint idle area from n → c' n ≡ c n) → Stands size c' s
 behind_closed c c' s idle area from two was closed spares same = footprint c c' s was
     (λ n counts. same n (λ within. counts (elim within [
@@ -346,7 +346,7 @@ either_slot c c' s idle version two was closed new same = elim (true_or_false (i
   )
   | inr shut ↦ (
     s,
-    carried c c' s was
+    standing_carried c c' s was
         (same LABEL (omega arith))
         (ap is_open (same (slot_gate s.slot) (omega arith)) ∙ was.live)
         (same (slot_head s.slot) (omega arith))

@@ -1,7 +1,7 @@
 //! The sectors of a store as bytes.
 ghost use Rattle.std.specs.Prelude.{◌≡◌, ◌≤◌, ◌++◌, true, false, Some, IfSome, drop, length};
 ghost use Rattle.event_bytes.specs.declared.event.Event.{Event};
-ghost use Rattle.event_bytes.specs.Spelling.{Begins};
+ghost use Rattle.event_bytes.specs.Spelling.{BeginsWithEvent};
 ghost use Rattle.store_layout.specs.Layout.{is_open, is_label};
 
 use event_bytes::Event;
@@ -33,7 +33,7 @@ pub fn closed_gate() -> Sector
 
 /// The spelling of the event, and then zeros.
 pub fn body_of(event: &Event) -> Sector
-    ensures { Begins result event.now }
+    ensures { BeginsWithEvent result event.now }
 {
     beginning_with(event.encode().as_slice())
 }
@@ -66,8 +66,8 @@ pub fn is_open_gate(bytes: &Sector) -> bool
 
 /// The event that a body begins with, if it begins with one.
 pub fn event_of(body: &Sector) -> Option<Event>
-    ensures found { IfSome result (Begins body.now) }
-    ensures only { (event : Event) → Begins body.now event → result ≡ Some event }
+    ensures found { IfSome result (BeginsWithEvent body.now) }
+    ensures only { (event : Event) → BeginsWithEvent body.now event → result ≡ Some event }
 {
     let (event, _) = Event::decode(body)?;
     Some(event)

@@ -15,19 +15,19 @@ use Rattle.desk_journal.specs.Device.{IsSameDevice}
 use Rattle.desk_journal.specs.Errors.{OfPost, OfCheckpoint}
 use Rattle.desk_journal.specs.Posting.{IsPosted, IsAcknowledged}
 use Rattle.desk_journal.proofs.Passing.{shows_means}
-use Rattle.store_runs.specs.Run.{StoreAnswer, Post, Served, Serves, IsRun, ComposingLaw, SurvivalLaw, served_of}
+use Rattle.store_runs.specs.Run.{StoreAnswer, Post, Served, ServesCall, IsCallRun, ComposingLaw, SurvivalLaw, served_of}
 use Rattle.store_runs.specs.Run.{posts_in}
 use Rattle.desk_journal.specs.View.{StoreView}
 use Rattle.store_runs.proofs.Running.{IsRunning, Posted, Checkpointed, begins_running, runs_on, checkpoint_on}
 
 pub composed : {D : Type 0} (d : Ghosts D) → ComposingLaw d
-composed d [] more first mid last one two = subst (λ s. IsRun d more s last) one two
+composed d [] more first mid last one two = subst (λ s. IsCallRun d more s last) one two
 composed d (s ∷ served) more first mid last one two =
     (one.0, one.1, composed d served more one.0 mid last one.2 two)
 
 -- one call more
 pub one_call_more : {D : Type 0} (d : Ghosts D) (served : List Served) (s : Served) (old mid new : StoreView D)
-    → IsRun d served old mid → Serves d s.call s.answer mid new → IsRun d (served ++ s ∷ []) old new
+    → IsCallRun d served old mid → ServesCall d s.call s.answer mid new → IsCallRun d (served ++ s ∷ []) old new
 one_call_more d served s old mid new run serves = composed d served (s ∷ []) old mid new run (new, serves, refl)
 
 pub none_served : (calls : List StoreCall) → served_of calls [] ≡ []
@@ -47,7 +47,7 @@ served_grow (call ∷ calls) (a ∷ answers) answer d room = ap (λ ss. record {
 
 -- the device stays
 pub device_of : {D : Type 0} (d : Ghosts D) (call : StoreCall) (answer : StoreAnswer) (old new : StoreView D)
-    → Serves d call answer old new → IsSameDevice d old.disk new.disk
+    → ServesCall d call answer old new → IsSameDevice d old.disk new.disk
 device_of d (Posting event) answer old new serves = serves.behaves.device
 device_of d Checkpoint answer old new serves = serves.0.behaves.device
 
@@ -123,7 +123,7 @@ module _ {D : Type 0} (d : Ghosts D) (size : ℕ) (first : StoreView D) (from : 
 
   call_on : (done : List Post) (call : StoreCall) (answer : StoreAnswer) (store next : StoreView D)
       → d.honest store.disk
-      → d.size store.disk ≡ size → Running store done → Serves d call answer store next
+      → d.size store.disk ≡ size → Running store done → ServesCall d call answer store next
       → Running next (posts_then done call answer)
   call_on done (Posting event) answer store next honest as_large was serves =
       runs_on size first.desktop (d.trail store.disk) (d.trail next.disk) from store.desktop next.desktop
@@ -138,7 +138,7 @@ module _ {D : Type 0} (d : Ghosts D) (size : ℕ) (first : StoreView D) (from : 
 
   -- what is known between two calls is known after all of them
   goes_on : (done : List Post) (more : List Served) (store last : StoreView D) → d.honest store.disk
-      → d.size store.disk ≡ size → Running store done → IsRun d more store last → Running last (done ++ posts_in more)
+      → d.size store.disk ≡ size → Running store done → IsCallRun d more store last → Running last (done ++ posts_in more)
   goes_on done [] store last honest as_large was run = subst (λ posts. Running last posts) (sym (append-nil done))
       (subst (λ s. Running s done) (sym run) was)
   goes_on done (s ∷ more) store last honest as_large was run =

@@ -17,7 +17,7 @@ use Rattle.store_layout.specs.Finding.{FindingLaw, FindsOneThing}
 use Rattle.store_layout.specs.Meaning.{Means}
 use Rattle.store_runs.specs.declared.call.StoreCall.{StoreCall}
 use Rattle.store_runs.specs.declared.call.StoreCall.TheVariants.{Post as Posting, Checkpoint}
-use Rattle.desk_journal.specs.Device.{WritesNothing, IsSameDevice, outcome}
+use Rattle.desk_journal.specs.Device.{WritesNothing, IsSameDevice, result_of}
 use Rattle.desk_journal.specs.Errors.{Error, OfOpen}
 use Rattle.desk_journal.specs.Opening.{IsNoStore}
 use Rattle.desk_journal.specs.Posting.{IsAcknowledged}
@@ -25,8 +25,8 @@ use Rattle.desk_journal.specs.Session.{session_of}
 use Rattle.desk_journal.proofs.Due.{due_or_room, has_it, has_none}
 use Rattle.desk_journal.proofs.Passing.{shows_means}
 use Rattle.desk_journal.proofs.Prefixes.{steps_both}
-use Rattle.store_runs.specs.Run.{Counts, StoreAnswer, Serves, StopsAReopening, MeansSome, events_in}
-use Rattle.store_runs.specs.Run.{all_counted, counted, counts_of}
+use Rattle.store_runs.specs.Run.{StoreCounts, StoreAnswer, ServesCall, StopsAReopening, MeansSome, events_in}
+use Rattle.store_runs.specs.Run.{all_counted, counts_after, counts_of}
 use Rattle.desk_journal.specs.View.{StoreView, IsDurable}
 
 -- the same device, call after call
@@ -45,11 +45,11 @@ pub record GoesOn {D : Type 0} (d : Ghosts D) (call : StoreCall) (old new : Stor
   pub usable : new.must_reopen ≡ false
   pub durable : IsDurable d new
   pub desktop : d.honest old.disk → new.desktop ≡ steps old.desktop (events_in (call ∷ []))
-  pub counts : counts_of new ≡ counted call (counts_of old)
+  pub counts : counts_of new ≡ counts_after call (counts_of old)
 
 -- an event more, where the journal has room, or as the first one after a checkpoint
 counts_posted : {D : Type 0} (d : Ghosts D) (event : Event) (reply : Reply) (old new : StoreView D)
-    → IsAcknowledged d event reply old new → counts_of new ≡ counted (Posting event) (counts_of old)
+    → IsAcknowledged d event reply old new → counts_of new ≡ counts_after (Posting event) (counts_of old)
 counts_posted d event reply old new told = elim (due_or_room (session_of old)) [
   | inr room ↦
       let there = told.more room in
@@ -61,14 +61,14 @@ counts_posted d event reply old new told = elim (due_or_room (session_of old)) [
       ∙ sym (ap next (has_none (session_of old) due))
 ]
   where
-    next : Bool → Counts
+    next : Bool → StoreCounts
     next b =
         if b
         then record { layout = old.layout; epoch = old.epoch; events = old.events + 1 }
         else record { layout = LAYOUT; epoch = old.epoch + 1; events = 1 }
 
 pub went_on : {D : Type 0} (d : Ghosts D) (call : StoreCall) (reply : Reply) (old new : StoreView D)
-    → Serves d call (Ok reply) old new → GoesOn d call old new
+    → ServesCall d call (Ok reply) old new → GoesOn d call old new
 went_on d (Posting event) reply old new p = record {
   device = p.behaves.device;
   calm = p.behaves.faults.calm (λ wrong. absurd cc);
@@ -93,10 +93,10 @@ events_append [] b = refl
 events_append (Posting event ∷ a) b = ap (λ es. event ∷ es) (events_append a b)
 events_append (Checkpoint ∷ a) b = events_append a b
 
-counted_append : (a : List StoreCall) (call : StoreCall) (n : Counts)
-    → all_counted (a ++ call ∷ []) n ≡ counted call (all_counted a n)
+counted_append : (a : List StoreCall) (call : StoreCall) (n : StoreCounts)
+    → all_counted (a ++ call ∷ []) n ≡ counts_after call (all_counted a n)
 counted_append [] call n = refl
-counted_append (other ∷ a) call n = counted_append a call (counted other n)
+counted_append (other ∷ a) call n = counted_append a call (counts_after other n)
 
 -- the first calls, and one more
 module _ (calls : List StoreCall) (k : ℕ) (call : StoreCall) (room : k < length calls)
@@ -104,9 +104,9 @@ module _ (calls : List StoreCall) (k : ℕ) (call : StoreCall) (room : k < lengt
   calls_next : take (k + 1) calls ≡ take k calls ++ call ∷ []
   calls_next = take_more calls k call room ∙ ap (λ c. take k calls ++ c ∷ []) (sym here)
 
-  pub counts_next : (n m m' : Counts) → m ≡ all_counted (take k calls) n → m' ≡ counted call m
+  pub counts_next : (n m m' : StoreCounts) → m ≡ all_counted (take k calls) n → m' ≡ counts_after call m
       → m' ≡ all_counted (take (k + 1) calls) n
-  counts_next n m m' was is = is ∙ ap (counted call) was ∙ sym (counted_append (take k calls) call n)
+  counts_next n m m' was is = is ∙ ap (counts_after call) was ∙ sym (counted_append (take k calls) call n)
       ∙ sym (ap (λ cs. all_counted cs n) calls_next)
 
   pub desktop_next : (first desktop desktop' : Desktop) → desktop ≡ steps first (events_in (take k calls))
@@ -140,7 +140,7 @@ module _ (size : ℕ) (first : Desktop) (calls : List StoreCall) where
   pub call_more : {D : Type 0} (d : Ghosts D) (k : ℕ) (call : StoreCall) (answer : StoreAnswer) (start : Trail)
       (old new : StoreView D) → k < length calls → call ≡ get_or calls k call → old.must_reopen ≡ false
       → d.honest old.disk → d.size old.disk ≡ size → old.desktop ≡ steps first (events_in (take k calls))
-      → LeavesOnly start (d.trail old.disk) Some → Serves d call answer old new
+      → LeavesOnly start (d.trail old.disk) Some → ServesCall d call answer old new
       → LeavesOnly start (d.trail new.disk) Some
   call_more d k (Posting event) answer start old new room here usable honest as_large is before p =
       chained before (weakened (p.any_moment usable honest) (λ c either. elim either [
@@ -162,7 +162,7 @@ module _ (size : ℕ) (first : Desktop) (calls : List StoreCall) where
 
 -- a call of a store in use stops for want of memory, by a fault, or since it is worn
 pub call_stops : {D : Type 0} (d : Ghosts D) (call : StoreCall) (e : Error) (old new : StoreView D)
-    → old.must_reopen ≡ false → Serves d call (Err e) old new → StopsAReopening e
+    → old.must_reopen ≡ false → ServesCall d call (Err e) old new → StopsAReopening e
 call_stops d (Posting event) e old new usable p = elim p.behaves.faults.errors [
   | inl none ↦ inl none
   | inr (inl failed) ↦ inr (inl failed)
@@ -197,7 +197,7 @@ module _ {D : Type 0} (d : Ghosts D) (closed : StoreView D) (law : FindingLaw) (
       absurd (one_thing.not_damaged closed.desktop n meant (wrong.damaged n damaged honest))
 
   pub result_stops : {A : Type 0} (disk : D) → disk ≡ closed.disk → (r : Result A (Error × D))
-      → IfErr r (λ e. IsNoStore d disk e.0) → IfErr (outcome r) OfOpen → IfErr r (λ e. StopsAReopening e.0)
+      → IfErr r (λ e. IsNoStore d disk e.0) → IfErr (result_of r) OfOpen → IfErr r (λ e. StopsAReopening e.0)
   result_stops disk is (Ok opened) wrong named = tt
   result_stops disk is (Err e) wrong named =
       opening_stops e.0 named (subst (λ old. IsNoStore d old e.0) is wrong)

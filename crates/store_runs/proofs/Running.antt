@@ -16,47 +16,47 @@ use Rattle.store_layout.specs.Bits.{true_or_false, clash}
 use Rattle.store_layout.specs.Meaning.{Means, MeansEither}
 use Rattle.desk_journal.specs.Errors.{Error}
 use Rattle.desk_journal.specs.Errors.{NoMemory, Fault, MustReopen, Worn}
-use Rattle.store_runs.specs.Run.{StoreAnswer, Post, is_acknowledged, lets_in_at, accepted, events_of, MeansPrefix}
-use Rattle.store_runs.specs.Run.{Survives, none, one_more, renewed}
+use Rattle.store_runs.specs.Run.{StoreAnswer, Post, is_acknowledged, lets_in_at, accepted_posts, events_of_posts, MeansPostsPrefix}
+use Rattle.store_runs.specs.Run.{RunSurvives, none, one_more, renewed}
 use Rattle.desk_journal.proofs.Passing.{steps_on}
 
 abbrev pub led_to : Desktop → List Post → Desktop
-led_to first posts = steps first (events_of (accepted posts))
+led_to first posts = steps first (events_of_posts (accepted_posts posts))
 
 -- all the accepted events are there
 pub whole : (size : ℕ) (first : Desktop) (so_far all : List Post) (c : Content)
-    → length (accepted so_far) ≤ length (accepted all) → Means size (led_to first all) c
-    → MeansPrefix size first so_far all c
+    → length (accepted_posts so_far) ≤ length (accepted_posts all) → Means size (led_to first all) c
+    → MeansPostsPrefix size first so_far all c
 whole size first so_far all c more means = record {
-  count = length (accepted all);
+  count = length (accepted_posts all);
   within = omega arith;
-  none_lost = ap (list_any is_acknowledged) (drop_of_length-le (accepted so_far) more);
-  means = subst (λ ps. Means size (steps first (events_of ps)) c) (sym (take-length (accepted all))) means;
+  none_lost = ap (list_any is_acknowledged) (drop_of_length-le (accepted_posts so_far) more);
+  means = subst (λ ps. Means size (steps first (events_of_posts ps)) c) (sym (take-length (accepted_posts all))) means;
 }
 
 -- the moments up to some clock stayed
 pub carried : {size : ℕ} {first : Desktop} {old new : Trail} {from to : ℕ} {posts : List Post}
-    → Survives size first old from to posts → ((t : ℕ) → t ≤ to → new.at t ≡ old.at t)
-    → Survives size first new from to posts
+    → RunSurvives size first old from to posts → ((t : ℕ) → t ≤ to → new.at t ≡ old.at t)
+    → RunSurvives size first new from to posts
 carried none kept = none
 carried {size = size} {first = first} {old = old} {new = new} {to = to}
     (one_more {mid = mid} {posts = posts} post before later each last) kept = one_more post
     (carried before (λ t le. kept t (omega (arith, le, later)))) later
-    (λ t above below. subst (λ m. Leaves m (MeansPrefix size first posts (posts ++ post ∷ []))) (sym (kept t below))
+    (λ t above below. subst (λ m. Leaves m (MeansPostsPrefix size first posts (posts ++ post ∷ []))) (sym (kept t below))
     (each t above below))
-    (subst (λ m. Leaves m (MeansPrefix size first (posts ++ post ∷ []) (posts ++ post ∷ [])))
+    (subst (λ m. Leaves m (MeansPostsPrefix size first (posts ++ post ∷ []) (posts ++ post ∷ [])))
     (sym (kept to (omega arith))) last)
 carried {size = size} {first = first} {old = old} {new = new} {to = to}
     (renewed {mid = mid} {posts = posts} before later each) kept = renewed
     (carried before (λ t le. kept t (omega (arith, le, later)))) later
-    (λ t above below. subst (λ m. Leaves m (MeansPrefix size first posts posts)) (sym (kept t below))
+    (λ t above below. subst (λ m. Leaves m (MeansPostsPrefix size first posts posts)) (sym (kept t below))
     (each t above below))
 
 -- what is known between two calls
 pub record IsRunning (size : ℕ) (first : Desktop) (disk : Trail) (from : ℕ) (desktop : Desktop) (broken : Bool)
     (posts : List Post) : Type 0 where
-  pub survived : Survives size first disk from disk.clock posts
-  pub prefix : Leaves (now disk) (MeansPrefix size first posts posts)
+  pub survived : RunSurvives size first disk from disk.clock posts
+  pub prefix : Leaves (now disk) (MeansPostsPrefix size first posts posts)
   pub is : broken ≡ false → desktop ≡ led_to first posts
   pub shown : broken ≡ false → Leaves (now disk) (Means size desktop)
 
@@ -93,59 +93,59 @@ module _ (size : ℕ) (first : Desktop) (old new : Trail) (from : ℕ) (desktop 
   abbrev grown : StoreAnswer → List Post
   grown answer = posts ++ answered answer ∷ []
 
-  accepted-grown : (answer : StoreAnswer) → accepted (grown answer) ≡ accepted posts ++ accepted (answered answer ∷ [])
+  accepted-grown : (answer : StoreAnswer) → accepted_posts (grown answer) ≡ accepted_posts posts ++ accepted_posts (answered answer ∷ [])
   accepted-grown answer = filter-append (λ p. lets_in_at p.answer) posts (answered answer ∷ [])
 
-  longer : (answer : StoreAnswer) → length (accepted posts) ≤ length (accepted (grown answer))
+  longer : (answer : StoreAnswer) → length (accepted_posts posts) ≤ length (accepted_posts (grown answer))
   longer answer = omega (
     arith,
     ap length (accepted-grown answer),
-    length-append (accepted posts)
-        (accepted (answered answer ∷ [])),
+    length-append (accepted_posts posts)
+        (accepted_posts (answered answer ∷ [])),
   )
 
   -- the event isn't there; none that was acknowledged is missing, if this one wasn't
   without : (answer : StoreAnswer) (so_far : List Post) (c : Content) → Means size (led_to first posts) c
-      → list_any is_acknowledged (drop (length (accepted posts)) (accepted so_far)) ≡ false
-      → MeansPrefix size first so_far (grown answer) c
+      → list_any is_acknowledged (drop (length (accepted_posts posts)) (accepted_posts so_far)) ≡ false
+      → MeansPostsPrefix size first so_far (grown answer) c
   without answer so_far c means none_lost = record {
-    count = length (accepted posts);
+    count = length (accepted_posts posts);
     within = longer answer;
     none_lost = none_lost;
-    means = subst (λ ps. Means size (steps first (events_of ps)) c)
-        (sym (ap (take (length (accepted posts))) (accepted-grown answer)
-        ∙ take_at (accepted posts) (accepted (answered answer ∷ [])) (length (accepted posts)) refl)) means;
+    means = subst (λ ps. Means size (steps first (events_of_posts ps)) c)
+        (sym (ap (take (length (accepted_posts posts))) (accepted-grown answer)
+        ∙ take_at (accepted_posts posts) (accepted_posts (answered answer ∷ [])) (length (accepted_posts posts)) refl)) means;
   }
 
   without_before : (answer : StoreAnswer) (c : Content) → Means size (led_to first posts) c
-      → MeansPrefix size first posts (grown answer) c
+      → MeansPostsPrefix size first posts (grown answer) c
   without_before answer c means = without answer posts c means
-      (ap (list_any is_acknowledged) (drop-length (accepted posts)))
+      (ap (list_any is_acknowledged) (drop-length (accepted_posts posts)))
 
-  without_after : (answer : StoreAnswer) (c : Content) → list_any is_acknowledged (accepted (answered answer ∷ []))
+  without_after : (answer : StoreAnswer) (c : Content) → list_any is_acknowledged (accepted_posts (answered answer ∷ []))
       ≡ false
-      → Means size (led_to first posts) c → MeansPrefix size first (grown answer) (grown answer) c
+      → Means size (led_to first posts) c → MeansPostsPrefix size first (grown answer) (grown answer) c
   without_after answer c unanswered means = without answer (grown answer) c means
-      (ap (list_any is_acknowledged) (ap (drop (length (accepted posts))) (accepted-grown answer)
-      ∙ drop_at (accepted posts) (accepted (answered answer ∷ [])) (length (accepted posts)) refl) ∙ unanswered)
+      (ap (list_any is_acknowledged) (ap (drop (length (accepted_posts posts))) (accepted-grown answer)
+      ∙ drop_at (accepted_posts posts) (accepted_posts (answered answer ∷ [])) (length (accepted_posts posts)) refl) ∙ unanswered)
 
   -- where an accepted event leads
-  led_on : (answer : StoreAnswer) → accepted (answered answer ∷ []) ≡ answered answer ∷ []
+  led_on : (answer : StoreAnswer) → accepted_posts (answered answer ∷ []) ≡ answered answer ∷ []
       → (step (led_to first posts) event).desktop ≡ led_to first (grown answer)
   led_on answer taken = sym (
-      ap (λ ps. steps first (events_of ps)) (accepted-grown answer ∙ ap (λ ps. accepted posts ++ ps) taken)
-      ∙ ap (steps first) (map-append (λ (p : Post). p.event) (accepted posts) (answered answer ∷ []))
-      ∙ steps_on first (events_of (accepted posts)) event)
+      ap (λ ps. steps first (events_of_posts ps)) (accepted-grown answer ∙ ap (λ ps. accepted_posts posts ++ ps) taken)
+      ∙ ap (steps first) (map-append (λ (p : Post). p.event) (accepted_posts posts) (answered answer ∷ []))
+      ∙ steps_on first (events_of_posts (accepted_posts posts)) event)
 
-  led_nowhere : (answer : StoreAnswer) → accepted (answered answer ∷ []) ≡ [] → led_to first posts
+  led_nowhere : (answer : StoreAnswer) → accepted_posts (answered answer ∷ []) ≡ [] → led_to first posts
       ≡ led_to first (grown answer)
-  led_nowhere answer turned_away = ap (λ ps. steps first (events_of ps))
-      (sym (accepted-grown answer ∙ ap (λ ps. accepted posts ++ ps) turned_away ∙ append-nil (accepted posts)))
+  led_nowhere answer turned_away = ap (λ ps. steps first (events_of_posts ps))
+      (sym (accepted-grown answer ∙ ap (λ ps. accepted_posts posts ++ ps) turned_away ∙ append-nil (accepted_posts posts)))
 
   with_event : (answer : StoreAnswer) (so_far : List Post) (c : Content)
-      → length (accepted so_far) ≤ length (accepted (grown answer)) → accepted (answered answer ∷ [])
+      → length (accepted_posts so_far) ≤ length (accepted_posts (grown answer)) → accepted_posts (answered answer ∷ [])
       ≡ answered answer ∷ [] → Means size (step (led_to first posts) event).desktop c
-      → MeansPrefix size first so_far (grown answer) c
+      → MeansPostsPrefix size first so_far (grown answer) c
   with_event answer so_far c more taken means = whole size first so_far (grown answer) c more
       (subst (λ d. Means size d c) (led_on answer taken) means)
 
@@ -153,7 +153,7 @@ module _ (size : ℕ) (first : Desktop) (old new : Trail) (from : ℕ) (desktop 
   Goal answer = IsRunning size first new from desktop' broken' (grown answer)
 
   -- a post that was begun: each image means the desktop from before it or the one after the event
-  module _ (answer : StoreAnswer) (usable : broken ≡ false) (taken : accepted (answered answer ∷ [])
+  module _ (answer : StoreAnswer) (usable : broken ≡ false) (taken : accepted_posts (answered answer ∷ [])
       ≡ answered answer ∷ []) (run : LeavesOnly old new (MeansEither size desktop (step desktop event).desktop)) where
     before : (c : Content) → Means size desktop c → Means size (led_to first posts) c
     before c = subst (λ d. Means size d c) (was.is usable)
@@ -161,8 +161,8 @@ module _ (size : ℕ) (first : Desktop) (old new : Trail) (from : ℕ) (desktop 
     after : (c : Content) → Means size (step desktop event).desktop c → Means size (step (led_to first posts) event).desktop c
     after c = subst (λ d. Means size (step d event).desktop c) (was.is usable)
 
-    begun : Leaves (now new) (MeansPrefix size first (grown answer) (grown answer))
-        → Survives size first new from new.clock (grown answer)
+    begun : Leaves (now new) (MeansPostsPrefix size first (grown answer) (grown answer))
+        → RunSurvives size first new from new.clock (grown answer)
     begun last = one_more (answered answer) (carried was.survived run.kept) run.later
         (λ t above below c image. elim (run.each t above below c image) [
           | inl means ↦ without_before answer c (before c means)
@@ -176,7 +176,7 @@ module _ (size : ℕ) (first : Desktop) (old new : Trail) (from : ℕ) (desktop 
         let stepped : desktop' ≡ (step desktop event).desktop = ap (λ (o : Outcome). o.desktop) post.stepped in
         let is : desktop' ≡ led_to first (grown (Ok reply)) = stepped ∙ ap (λ d. (step d event).desktop) (was.is usable)
         ∙ led_on (Ok reply) refl in
-        let last : Leaves (now new) (MeansPrefix size first (grown (Ok reply)) (grown (Ok reply))) =
+        let last : Leaves (now new) (MeansPostsPrefix size first (grown (Ok reply)) (grown (Ok reply))) =
         λ c image. whole size first (grown (Ok reply)) (grown (Ok reply)) c (omega arith)
         (subst (λ d. Means size d c) is (post.acknowledged c image)) in
         record {
@@ -188,21 +188,21 @@ module _ (size : ℕ) (first : Desktop) (old new : Trail) (from : ℕ) (desktop 
   ]
 
   -- nothing of the store or its disk changed
-  unchanged : (answer : StoreAnswer) → accepted (answered answer ∷ []) ≡ [] → (new ≡ old) × (desktop' ≡ desktop)
+  unchanged : (answer : StoreAnswer) → accepted_posts (answered answer ∷ []) ≡ [] → (new ≡ old) × (desktop' ≡ desktop)
       × (broken' ≡ broken) → Goal answer
   unchanged answer turned_away same =
-      let fewer : accepted (grown answer) ≡ accepted posts = accepted-grown answer
-      ∙ ap (λ ps. accepted posts ++ ps) turned_away ∙ append-nil (accepted posts) in
-      let again : (so_far : List Post) (c : Content) → accepted so_far ≡ accepted posts
-      → MeansPrefix size first posts posts c → MeansPrefix size first so_far (grown answer) c =
+      let fewer : accepted_posts (grown answer) ≡ accepted_posts posts = accepted-grown answer
+      ∙ ap (λ ps. accepted_posts posts ++ ps) turned_away ∙ append-nil (accepted_posts posts) in
+      let again : (so_far : List Post) (c : Content) → accepted_posts so_far ≡ accepted_posts posts
+      → MeansPostsPrefix size first posts posts c → MeansPostsPrefix size first so_far (grown answer) c =
       λ so_far c as_far p. record {
         count = p.count;
         within = omega (arith, p.within, ap length fewer);
         none_lost = ap (λ ps. list_any is_acknowledged (drop p.count ps)) as_far ∙ p.none_lost;
-        means = subst (λ ps. Means size (steps first (events_of (take p.count ps))) c) (sym fewer) p.means;
+        means = subst (λ ps. Means size (steps first (events_of_posts (take p.count ps))) c) (sym fewer) p.means;
       } in
       let clocks : new.clock ≡ old.clock = ap (λ (d : Trail). d.clock) same.0 in
-      let last : Leaves (now new) (MeansPrefix size first (grown answer) (grown answer)) = λ c image. again
+      let last : Leaves (now new) (MeansPostsPrefix size first (grown answer) (grown answer)) = λ c image. again
       (grown answer) c fewer (was.prefix c (subst (λ (d : Trail). IsCrashImage (now d) c) same.0 image)) in
       record {
         survived = one_more (answered answer) (carried was.survived (λ t le. ap (λ (d : Trail). d.at t) same.0))
@@ -222,7 +222,7 @@ module _ (size : ℕ) (first : Desktop) (old new : Trail) (from : ℕ) (desktop 
     | inl must ↦ absurd (let never : IsErrOf {T = Reply} (Err Fault) MustReopen = post.must_reopen must in cc)
     | inr usable ↦
         let run = post.any_moment usable in
-        let last : Leaves (now new) (MeansPrefix size first (grown (Err Fault)) (grown (Err Fault))) =
+        let last : Leaves (now new) (MeansPostsPrefix size first (grown (Err Fault)) (grown (Err Fault))) =
         λ c image. elim (run.each new.clock run.later (omega arith) c image) [
           | inl means ↦ without_after (Err Fault) c refl (before (Err Fault) usable refl run c means)
           | inr means ↦ with_event (Err Fault) (grown (Err Fault)) c (omega arith) refl
@@ -243,7 +243,7 @@ module _ (size : ℕ) (first : Desktop) (old new : Trail) (from : ℕ) (desktop 
         let run = post.memory refl usable in
         let here : (c : Content) → Means size desktop c → Means size (led_to first (grown (Err NoMemory))) c =
         λ c. subst (λ d. Means size d c) (was.is usable ∙ led_nowhere (Err NoMemory) refl) in
-        let last : Leaves (now new) (MeansPrefix size first (grown (Err NoMemory)) (grown (Err NoMemory))) =
+        let last : Leaves (now new) (MeansPostsPrefix size first (grown (Err NoMemory)) (grown (Err NoMemory))) =
         λ c image. whole size first (grown (Err NoMemory)) (grown (Err NoMemory)) c (omega arith)
         (here c (run.each new.clock run.later (omega arith) c image)) in
         record {
@@ -263,9 +263,9 @@ module _ (size : ℕ) (first : Desktop) (old new : Trail) (from : ℕ) (desktop 
         (subst (λ x. Posted size event (Err x) old new desktop desktop' broken broken') is post))
     | inr (inl is) ↦ subst (λ x. Goal (Err x)) (sym is) (faulted
         (subst (λ x. Posted size event (Err x) old new desktop desktop' broken broken') is post))
-    | inr (inr (inl is)) ↦ unchanged (Err e) (ap (λ x. accepted (answered (Err x) ∷ [])) is)
+    | inr (inr (inl is)) ↦ unchanged (Err e) (ap (λ x. accepted_posts (answered (Err x) ∷ [])) is)
         (post.reopen (ap (λ x. Err x) is))
-    | inr (inr (inr is)) ↦ unchanged (Err e) (ap (λ x. accepted (answered (Err x) ∷ [])) is)
+    | inr (inr (inr is)) ↦ unchanged (Err e) (ap (λ x. accepted_posts (answered (Err x) ∷ [])) is)
         (post.worn (ap (λ x. Err x) is))
   ]
 
@@ -288,7 +288,7 @@ module _ (size : ℕ) (first : Desktop) (old new : Trail) (from : ℕ) (desktop 
   -- a checkpoint that was begun: each image means the desktop
   began : broken ≡ false → LeavesOnly old new (Means size desktop) → (broken' ≡ false → desktop' ≡ desktop) → Next
   began usable run same =
-      let each : (t : ℕ) → old.clock ≤ t → t ≤ new.clock → Leaves (new.at t) (MeansPrefix size first posts posts) =
+      let each : (t : ℕ) → old.clock ≤ t → t ≤ new.clock → Leaves (new.at t) (MeansPostsPrefix size first posts posts) =
       λ t above below c image. whole size first posts posts c (omega arith)
       (subst (λ d. Means size d c) (was.is usable) (run.each t above below c image)) in
       record {

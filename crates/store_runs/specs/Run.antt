@@ -53,32 +53,32 @@ lets_in_at (Ok reply) = true
 lets_in_at (Err e) = lets_in e
 
 -- the posts whose events were accepted, in order
-abbrev pub accepted : List Post → List Post
-accepted posts = filter (λ p. lets_in_at p.answer) posts
+abbrev pub accepted_posts : List Post → List Post
+accepted_posts posts = filter (λ p. lets_in_at p.answer) posts
 
-abbrev pub events_of : List Post → List Event
-events_of posts = map (λ p. p.event) posts
+abbrev pub events_of_posts : List Post → List Event
+events_of_posts posts = map (λ p. p.event) posts
 
 -- The content means the desktop after some of the accepted events of all these posts, the first of them and none left
 -- out, and among them every event of the posts so far that was acknowledged.
-pub record MeansPrefix (size : ℕ) (desktop : Desktop) (so_far all : List Post) (c : Content) : Type 0 where
+pub record MeansPostsPrefix (size : ℕ) (desktop : Desktop) (so_far all : List Post) (c : Content) : Type 0 where
   pub count : ℕ
-  pub within : count ≤ length (accepted all)
-  pub none_lost : list_any is_acknowledged (drop count (accepted so_far)) ≡ false
-  pub means : Means size (steps desktop (events_of (take count (accepted all)))) c
+  pub within : count ≤ length (accepted_posts all)
+  pub none_lost : list_any is_acknowledged (drop count (accepted_posts so_far)) ≡ false
+  pub means : Means size (steps desktop (events_of_posts (take count (accepted_posts all)))) c
 
 -- These posts came one after another between two moments, and checkpoints between them. At each moment of a post a
 -- crash leaves a prefix of the accepted events that holds every event acknowledged before it, and once it was answered,
 -- every event acknowledged so far; at each moment of a checkpoint, one that holds all of these.
-pub data Survives (size : ℕ) (desktop : Desktop) (trail : Trail) (from : ℕ) : ℕ → List Post → Type 0 where
-  none : Survives size desktop trail from from []
-  one_more : {mid to : ℕ} {posts : List Post} (post : Post) → Survives size desktop trail from mid posts → mid ≤ to
-      → ((t : ℕ) → mid ≤ t → t ≤ to → Leaves (trail.at t) (MeansPrefix size desktop posts (posts ++ post ∷ [])))
-      → Leaves (trail.at to) (MeansPrefix size desktop (posts ++ post ∷ []) (posts ++ post ∷ []))
-      → Survives size desktop trail from to (posts ++ post ∷ [])
-  renewed : {mid to : ℕ} {posts : List Post} → Survives size desktop trail from mid posts → mid ≤ to
-      → ((t : ℕ) → mid ≤ t → t ≤ to → Leaves (trail.at t) (MeansPrefix size desktop posts posts))
-      → Survives size desktop trail from to posts
+pub data RunSurvives (size : ℕ) (desktop : Desktop) (trail : Trail) (from : ℕ) : ℕ → List Post → Type 0 where
+  none : RunSurvives size desktop trail from from []
+  one_more : {mid to : ℕ} {posts : List Post} (post : Post) → RunSurvives size desktop trail from mid posts → mid ≤ to
+      → ((t : ℕ) → mid ≤ t → t ≤ to → Leaves (trail.at t) (MeansPostsPrefix size desktop posts (posts ++ post ∷ [])))
+      → Leaves (trail.at to) (MeansPostsPrefix size desktop (posts ++ post ∷ []) (posts ++ post ∷ []))
+      → RunSurvives size desktop trail from to (posts ++ post ∷ [])
+  renewed : {mid to : ℕ} {posts : List Post} → RunSurvives size desktop trail from mid posts → mid ≤ to
+      → ((t : ℕ) → mid ≤ t → t ≤ to → Leaves (trail.at t) (MeansPostsPrefix size desktop posts posts))
+      → RunSurvives size desktop trail from to posts
 
 -- a call that was made, and what it returned
 pub record Served : Type 0 where
@@ -101,29 +101,29 @@ posts_in (s ∷ served) = before s.call s.answer (posts_in served)
     before Checkpoint answer later = later
 
 -- What the call promises of the states before and after it. A checkpoint that succeeds is answered Done.
-abbrev pub Serves : {D : Type 0} → Ghosts D → StoreCall → StoreAnswer → StoreView D → StoreView D → Type 0
-Serves d (Posting event) answer old new = IsPosted d event answer old new
-Serves d Checkpoint answer old new = IsCheckpointed d answer old new × IfOk answer (λ reply. reply ≡ Done)
+abbrev pub ServesCall : {D : Type 0} → Ghosts D → StoreCall → StoreAnswer → StoreView D → StoreView D → Type 0
+ServesCall d (Posting event) answer old new = IsPosted d event answer old new
+ServesCall d Checkpoint answer old new = IsCheckpointed d answer old new × IfOk answer (λ reply. reply ≡ Done)
 
 -- These calls led from the one state of a store to the other: each promises what such a call does, from where those
 -- before it led.
-abbrev pub IsRun : {D : Type 0} → Ghosts D → List Served → StoreView D → StoreView D → Type 0
-IsRun d [] old new = new ≡ old
-IsRun {D = D} d (s ∷ served) old new = (mid : StoreView D) × Serves d s.call s.answer old mid × IsRun d served mid new
+abbrev pub IsCallRun : {D : Type 0} → Ghosts D → List Served → StoreView D → StoreView D → Type 0
+IsCallRun d [] old new = new ≡ old
+IsCallRun {D = D} d (s ∷ served) old new = (mid : StoreView D) × ServesCall d s.call s.answer old mid × IsCallRun d served mid new
 
 -- one run after another is a run
 abbrev pub ComposingLaw : {D : Type 0} → Ghosts D → Type 0
-ComposingLaw {D = D} d = (served more : List Served) (first mid last : StoreView D) → IsRun d served first mid
-    → IsRun d more mid last → IsRun d (served ++ more) first last
+ComposingLaw {D = D} d = (served more : List Served) (first mid last : StoreView D) → IsCallRun d served first mid
+    → IsCallRun d more mid last → IsCallRun d (served ++ more) first last
 
 -- what a crash leaves of a run, wherever it cuts it off
 abbrev pub SurvivesRun : {D : Type 0} → Ghosts D → List Served → StoreView D → StoreView D → Type 0
-SurvivesRun d served old new = d.honest old.disk → Survives (d.size old.disk) old.desktop (d.trail new.disk)
+SurvivesRun d served old new = d.honest old.disk → RunSurvives (d.size old.disk) old.desktop (d.trail new.disk)
     (d.trail old.disk).clock (d.trail new.disk).clock (posts_in served)
 
 -- a run from a usable store survives
 abbrev pub SurvivalLaw : {D : Type 0} → Ghosts D → Type 0
-SurvivalLaw {D = D} d = (served : List Served) (old new : StoreView D) → IsRun d served old new
+SurvivalLaw {D = D} d = (served : List Served) (old new : StoreView D) → IsCallRun d served old new
     → old.must_reopen ≡ false → IsDurable d old → SurvivesRun d served old new
 
 -- ---- closing and opening again
@@ -144,25 +144,25 @@ events_in (Posting event ∷ calls) = event ∷ events_in calls
 events_in (Checkpoint ∷ calls) = events_in calls
 
 -- the version of a store's layout, its epoch, and how many events are in its journal
-pub record Counts : Type 0 where
+pub record StoreCounts : Type 0 where
   pub layout : ℕ
   pub epoch : ℕ
   pub events : ℕ
 
-abbrev pub counts_of : {D : Type 0} → StoreView D → Counts
+abbrev pub counts_of : {D : Type 0} → StoreView D → StoreCounts
 counts_of store = record { layout = store.layout; epoch = store.epoch; events = store.events }
 
 -- these numbers after a call
-abbrev pub counted : StoreCall → Counts → Counts
-counted (Posting event) n =
+abbrev pub counts_after : StoreCall → StoreCounts → StoreCounts
+counts_after (Posting event) n =
     if nat_lt n.events JOURNAL_EVENTS && n.layout == LAYOUT
     then record { layout = n.layout; epoch = n.epoch; events = n.events + 1 }
     else record { layout = LAYOUT; epoch = n.epoch + 1; events = 1 }
-counted Checkpoint n = record { layout = LAYOUT; epoch = n.epoch + 1; events = 0 }
+counts_after Checkpoint n = record { layout = LAYOUT; epoch = n.epoch + 1; events = 0 }
 
-abbrev pub all_counted : List StoreCall → Counts → Counts
+abbrev pub all_counted : List StoreCall → StoreCounts → StoreCounts
 all_counted [] n = n
-all_counted (call ∷ calls) n = all_counted calls (counted call n)
+all_counted (call ∷ calls) n = all_counted calls (counts_after call n)
 
 -- the content means the desktop after some of the events, the first of them and none left out
 pub record MeansSome (size : ℕ) (desktop : Desktop) (events : List Event) (c : Content) : Type 0 where

@@ -2,9 +2,9 @@
 ghost use Rattle.std.specs.Prelude.{◌≡◌, false, length, IfOk, IfErr, IsErr};
 ghost use Rattle.sector_disk.specs.Trail.{LeavesOnly};
 ghost use Rattle.sector_disk.specs.Faults.{FailsAs};
-ghost use Rattle.desk_journal.specs.Device.{IsSameDevice, disk_after, outcome};
+ghost use Rattle.desk_journal.specs.Device.{IsSameDevice, disk_after, result_of};
 ghost use Rattle.desk_journal.specs.Errors.{OfReopen};
-ghost use Rattle.store_runs.specs.Run.{IsRun, SurvivesRun, Serves, MeansSome, IsReopened, served_of, events_in};
+ghost use Rattle.store_runs.specs.Run.{IsCallRun, SurvivesRun, ServesCall, MeansSome, IsReopened, served_of, events_in};
 ghost use Rattle.store_runs.specs.Run.{StopsAReopening};
 
 use crate::call::{StoreAnswer, StoreCall};
@@ -18,7 +18,7 @@ use std::alloc::Global;
 ///
 /// Errors: those of `Store::post` and `Store::checkpoint`.
 pub fn serve<D: Disk>(alloc: Global, store: &mut Store<D>, call: &StoreCall) -> StoreAnswer
-    ensures { Serves D.Disk call.now result store.old store.new }
+    ensures { ServesCall D.Disk call.now result store.old store.new }
 {
     match call {
         StoreCall::Post(event) => store.post(alloc, event),
@@ -40,7 +40,7 @@ pub fn serve_all<D: Disk>(
 ) -> Result<Vec<StoreAnswer>, NoMemory>
     requires { store.old.must_reopen ≡ false }
     ensures each { IfOk result (λ answers. length answers.items ≡ length calls.now) }
-    ensures run { IfOk result (λ answers. IsRun D.Disk (served_of calls.now answers.items) store.old store.new) }
+    ensures run { IfOk result (λ answers. IsCallRun D.Disk (served_of calls.now answers.items) store.old store.new) }
     // However the calls ended, and wherever a crash cuts them off.
     ensures any_moment { IfOk result (λ answers. SurvivesRun D.Disk
         (served_of calls.now answers.items) store.old store.new) }
@@ -74,7 +74,7 @@ pub fn serve_and_reopen<D: Disk>(
         (MeansSome (D.size store.disk) store.desktop (events_in calls.now)) }
     ensures stops { D.honest store.disk → IfErr result (λ e. StopsAReopening e.0) }
     ensures device { IsSameDevice D.Disk store.disk (disk_after (λ reopened. reopened.disk) result) }
-    ensures faults { FailsAs Error.Fault OfReopen (outcome result) (D.failures store.disk) (D.failures (disk_after
+    ensures faults { FailsAs Error.Fault OfReopen (result_of result) (D.failures store.disk) (D.failures (disk_after
         (λ reopened. reopened.disk) result)) }
 {
     let mut store = store;

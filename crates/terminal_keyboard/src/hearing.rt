@@ -1,7 +1,7 @@
 //! What is heard at one time.
 ghost use Rattle.std.specs.Prelude.{◌≡◌, ◌≤◌, ◌<◌, [], ◌∷◌, ◌++◌, length, take, position, IfSome};
 ghost use Rattle.terminal_presses.specs.declared.press.Heard.TheVariants.{Quiet};
-ghost use Rattle.terminal_presses.specs.Spelling.{bytes};
+ghost use Rattle.terminal_presses.specs.Spelling.{bytes_heard};
 ghost use Rattle.terminal_keyboard.specs.Hearings.{IsWithinLine, is_line_end as ends_line, kept_for_later};
 ghost use Rattle.terminal_keyboard.specs.Hearings.{line_length as first_line};
 
@@ -53,7 +53,7 @@ impl Hearing {
     pub fn of_bytes(heard: &[u8]) -> Hearing
         requires least { 1 ≤ length heard.now }
         requires most { length heard.now ≤ MOST_HEARD }
-        ensures { result ≡ bytes heard.now }
+        ensures { result ≡ bytes_heard heard.now }
     {
         let mut room = [Heard::Quiet; MOST_HEARD];
         for i in 0..heard.len() {

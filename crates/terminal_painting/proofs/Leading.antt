@@ -20,13 +20,13 @@ use Rattle.terminal_painting.specs.declared.operation.Operation.TheVariants.{Hid
 use Rattle.terminal_painting.specs.declared.pen.Pen.{Pen}
 use Rattle.terminal_painting.specs.declared.pen.TheConstants.{WHITE}
 use Rattle.terminal_painting.specs.Changes.{changes}
-use Rattle.terminal_painting.specs.Scene.{IsCaret, scene_row, scene_rows, height_of}
+use Rattle.terminal_painting.specs.Scene.{IsCaretCell, scene_row, scene_rows, height_of}
 use Rattle.terminal_painting.specs.Grid.{Grid, done}
-use Rattle.terminal_painting.specs.Painting.{HasRoom, IsPainted, IsShown, Leads, Paints, PaintsFront}
+use Rattle.terminal_painting.specs.Painting.{HasGridRoom, IsPainted, IsShown, Leads, Paints, PaintsFront}
 use Rattle.terminal_painting.specs.Painting.{beginning, begun_rows, ending, painting, rows_changes}
-use Rattle.terminal_painting.specs.Pen.{blank, plain}
-use Rattle.terminal_painting.specs.Shows.{Shows, ShowsFrom}
-use Rattle.terminal_painting.specs.Spelling.{AreSendable, spelled, spelled_all}
+use Rattle.terminal_painting.specs.Pen.{blank_face, plain_pen}
+use Rattle.terminal_painting.specs.Shows.{ShowsRows, ShowsFrom}
+use Rattle.terminal_painting.specs.Spelling.{AreSendable, operation_bytes, spelled_all}
 use Rattle.terminal_painting.proofs.Sendable.{ArePrintable, both_sendable, changes_sendable, row_long}
 use Rattle.terminal_painting.proofs.Showing.{done_both, least, moves, row_kept, row_shown, same_height, same_width}
 
@@ -34,7 +34,7 @@ use Rattle.terminal_painting.proofs.Showing.{done_both, least, moves, row_kept, 
 both_spelled : (a b : List Operation) → spelled_all (a ++ b) ≡ spelled_all a ++ spelled_all b
 both_spelled [] b = refl
 both_spelled (o ∷ os) b =
-    ap (λ l. spelled o ++ l) (both_spelled os b) ∙ sym (append_assoc (spelled o) (spelled_all os) (spelled_all b))
+    ap (λ l. operation_bytes o ++ l) (both_spelled os b) ∙ sym (append_assoc (operation_bytes o) (spelled_all os) (spelled_all b))
 
 pub nothing_sent : (old : Option (List ℕ)) (operations : List Operation) → length operations ≡ 0
     → Appends old old (spelled_all operations)
@@ -70,14 +70,14 @@ leads_weaker a old new P Q R first weaker = record {
 }
 
 -- rooms and rows of grids that differ in cursor and pen alone
-pub room_after : (rows : ℕ) (operations : List Operation) (g : Grid) → HasRoom rows g → HasRoom rows (done operations g)
+pub room_after : (rows : ℕ) (operations : List Operation) (g : Grid) → HasGridRoom rows g → HasGridRoom rows (done operations g)
 room_after rows operations g room =
     let wide : (done operations g).width ≡ g.width = same_width operations g in
     let high : (done operations g).height ≡ g.height = same_height operations g in
     record { wide = omega (arith, room.wide); high = omega (arith, room.high) }
 
-pub shows_moved : (rows : List (List Face)) (g h : Grid) → ((x y : ℕ) → h.cells x y ≡ g.cells x y) → Shows rows g
-    → Shows rows h
+pub shows_moved : (rows : List (List Face)) (g h : Grid) → ((x y : ℕ) → h.cells x y ≡ g.cells x y) → ShowsRows rows g
+    → ShowsRows rows h
 shows_moved rows g h same s = λ y within. moves (y + 1) 1 (get_or rows y []) g h (λ x l. same x (y + 1)) (s y within)
 
 -- the beginning of a painting
@@ -88,17 +88,17 @@ begun rows known g s = record {
   shows = shows_moved known g (done (beginning true) g) (λ x y. refl) s.shows;
 }
 
-blank_from : (n row column : ℕ) (g : Grid) → ((x y : ℕ) → g.cells x y ≡ blank WHITE)
-    → ShowsFrom row column (replicate n (blank WHITE)) g
+blank_from : (n row column : ℕ) (g : Grid) → ((x y : ℕ) → g.cells x y ≡ blank_face WHITE)
+    → ShowsFrom row column (replicate n (blank_face WHITE)) g
 blank_from zero row column g all = tt
 blank_from (suc n) row column g all = (all column row, blank_from n row (column + 1) g all)
 
 pub wiped : (rows : ℕ) (known : List (List Face)) (g : Grid) → IsShown rows known g
-    → IsShown rows (replicate rows (replicate COLUMNS (blank WHITE))) (done (beginning false) g)
+    → IsShown rows (replicate rows (replicate COLUMNS (blank_face WHITE))) (done (beginning false) g)
 wiped rows known g s = record {
   room = room_after rows (beginning false) g s.room;
   shows = λ y within.
-      let blank_row : List Face = replicate COLUMNS (blank WHITE) in
+      let blank_row : List Face = replicate COLUMNS (blank_face WHITE) in
       let inside : y < rows = omega (arith, within, length-replicate rows blank_row) in
       subst (λ row. ShowsFrom (y + 1) 1 row (done (beginning false) g))
       (sym (get_or-replicate rows y blank_row [] inside))
@@ -106,7 +106,7 @@ wiped rows known g s = record {
 }
 
 abbrev blank_rows : ℕ → List (List Face)
-blank_rows rows = replicate rows (replicate COLUMNS (blank WHITE))
+blank_rows rows = replicate rows (replicate COLUMNS (blank_face WHITE))
 
 known_test : (rows : ℕ) (known : List (List Face)) → length known ≡ rows → (length known == rows) ≡ true
 known_test rows known same = grind (arith, nat_tests)
@@ -130,7 +130,7 @@ begun_known old new rows known same sent =
     (record { sendable = (tt, (tt, tt)); sent = sent; led = begun rows known })
 
 pub begun_blank : (old new : Option (List ℕ)) (rows : ℕ) (known : List (List Face)) (pen : Pen)
-    → (length known ≡ rows → ⊥) → pen ≡ plain WHITE
+    → (length known ≡ rows → ⊥) → pen ≡ plain_pen WHITE
     → Appends old new (spelled_all (Hold ∷ Hide ∷ Take pen ∷ Wipe ∷ []))
     → Leads (beginning (length known == rows)) old new (IsShown rows known) (IsShown rows (begun_rows known rows))
 begun_blank old new rows known pen other pen_is sent =
@@ -149,7 +149,7 @@ begun_known_front old new rows known same now =
     subst (λ b. AppendsFront old new (spelled_all (beginning b))) (sym (known_test rows known same)) now
 
 pub begun_blank_front : (old new : Option (List ℕ)) (rows : ℕ) (known : List (List Face)) (pen : Pen)
-    → (length known ≡ rows → ⊥) → pen ≡ plain WHITE
+    → (length known ≡ rows → ⊥) → pen ≡ plain_pen WHITE
     → AppendsFront old new (spelled_all (Hold ∷ Hide ∷ Take pen ∷ Wipe ∷ []))
     → AppendsFront old new (spelled_all (beginning (length known == rows)))
 begun_blank_front old new rows known pen other pen_is now =
@@ -158,7 +158,7 @@ begun_blank_front old new rows known pen other pen_is now =
 
 -- the first y rows are new and the others old
 pub record IsBetween (rows y : ℕ) (new old : ℕ → List Face) (g : Grid) : Type 0 where
-  pub room : HasRoom rows g
+  pub room : HasGridRoom rows g
   pub above : (k : ℕ) → k < y → ShowsFrom (k + 1) 1 (new k) g
   pub below : (k : ℕ) → y ≤ k → k < rows → ShowsFrom (k + 1) 1 (old k) g
 
@@ -273,7 +273,7 @@ row_led old mid new P rows y news olds row old_row sent few within row_is old_is
     (IsBetween rows (y + 1) news olds) before this)
 
 -- the end of a painting
-pub ended : (scene : Scene) (caret : Option (ℕ × ℕ)) (g : Grid) → scene.rows ≤ height_of scene → IsCaret scene caret
+pub ended : (scene : Scene) (caret : Option (ℕ × ℕ)) (g : Grid) → scene.rows ≤ height_of scene → IsCaretCell scene caret
     → IsShown (height_of scene) (scene_rows scene) g → IsPainted scene (done (ending caret) g)
 ended scene None g higher stands s = record {
   room = room_after (height_of scene) (ending None) g s.room;
@@ -298,7 +298,7 @@ ended scene (Some place) g higher stands s =
     }
 
 ending_leads : (old new : Option (List ℕ)) (scene : Scene) (caret : Option (ℕ × ℕ)) → scene.rows ≤ height_of scene
-    → scene.rows ≤ 32 → IsCaret scene caret → Appends old new (spelled_all (ending caret))
+    → scene.rows ≤ 32 → IsCaretCell scene caret → Appends old new (spelled_all (ending caret))
     → Leads (ending caret) old new (IsShown (height_of scene) (scene_rows scene)) (IsPainted scene)
 ending_leads old new scene caret higher few stands sent = record {
   sendable = sendable caret stands;
@@ -306,7 +306,7 @@ ending_leads old new scene caret higher few stands sent = record {
   led = λ g shown. ended scene caret g higher stands shown;
 }
   where
-    sendable : (place : Option (ℕ × ℕ)) → IsCaret scene place → AreSendable (ending place)
+    sendable : (place : Option (ℕ × ℕ)) → IsCaretCell scene place → AreSendable (ending place)
     sendable None is = (tt, (tt, tt))
     sendable (Some place) is = ((omega (arith, is.0), omega (arith, is.1, few)), (tt, (tt, tt)))
 
@@ -357,7 +357,7 @@ row_front old mid new rows y news olds row old_row sent within row_is old_is is 
 
 -- a painting in parts
 module _ (old : Option (List ℕ)) (height : ℕ) (scene : Scene) (known all : List (List Face)) (caret : Option (ℕ × ℕ))
-    (high : height ≡ height_of scene) (is : known ≡ all) (stands : IsCaret scene caret) where
+    (high : height ≡ height_of scene) (is : known ≡ all) (stands : IsCaretCell scene caret) where
   abbrev rows : ℕ
   rows = height_of scene
 
@@ -464,7 +464,7 @@ same_ending None g x y = refl
 same_ending (Some place) g x y = refl
 
 pub rest_kept : (known : List (List Face)) (scene : Scene) (caret : Option (ℕ × ℕ)) (g : Grid) (x y : ℕ)
-    → HasRoom (height_of scene) g → length known ≡ height_of scene → height_of scene < y
+    → HasGridRoom (height_of scene) g → length known ≡ height_of scene → height_of scene < y
     → (done (painting known scene caret) g).cells x y ≡ g.cells x y
 rest_kept known scene caret g x y room long below =
     let rows : ℕ = height_of scene in

@@ -10,10 +10,10 @@ use Rattle.terminal_painting.specs.declared.face.Face.{Face}
 use Rattle.terminal_painting.specs.declared.scene.Scene.{Scene}
 use Rattle.terminal_painting.specs.declared.pen.TheConstants.{WHITE}
 use Rattle.terminal_painting.specs.Scene.{scene_row, scene_rows, height_of, letter_face, row_of_cells, row_of_text}
-use Rattle.terminal_painting.specs.Scene.{seen_row, text_of}
+use Rattle.terminal_painting.specs.Scene.{seen_row, text_below}
 use Rattle.terminal_painting.specs.Grid.{Grid}
-use Rattle.terminal_painting.specs.Pen.{blank, face_of}
-use Rattle.terminal_painting.specs.Shows.{Shows, ShowsFrom}
+use Rattle.terminal_painting.specs.Pen.{blank_face, face_of}
+use Rattle.terminal_painting.specs.Shows.{ShowsRows, ShowsFrom}
 
 -- the cell at an index of a row that is shown
 read : (row column k u : ℕ) (fs : List Face) (g : Grid) (d : Face) → ShowsFrom row column fs g → k < length fs
@@ -39,9 +39,9 @@ read_value : (row x : ℕ) (f : ℕ → Face) (g : Grid) → ShowsFrom row 1 (va
     → g.cells (x + 1) row ≡ f x
 read_value row x f g s h =
     let inside : x < length (values COLUMNS f) = omega (arith, h, long COLUMNS f) in
-    read row 1 x (x + 1) (values COLUMNS f) g (blank WHITE) s inside (omega arith) ∙ at COLUMNS f x (blank WHITE) h
+    read row 1 x (x + 1) (values COLUMNS f) g (blank_face WHITE) s inside (omega arith) ∙ at COLUMNS f x (blank_face WHITE) h
 
-scene_row_shown : (scene : Scene) (g : Grid) (y : ℕ) → Shows (scene_rows scene) g → y < height_of scene
+scene_row_shown : (scene : Scene) (g : Grid) (y : ℕ) → ShowsRows (scene_rows scene) g → y < height_of scene
     → ShowsFrom (y + 1) 1 (scene_row scene y) g
 unfolding scene_rows
 scene_row_shown scene g y s h =
@@ -58,23 +58,23 @@ not_above y n h = grind (arith, nat_tests)
 seen : (scene : Scene) (y : ℕ) → y < scene.rows → scene_row scene y ≡ row_of_cells (seen_row scene y)
 unfolding scene_row
 seen scene y h =
-    ap (λ b. cond b (row_of_cells (seen_row scene y)) (row_of_text (text_of scene.below))) (above y scene.rows h)
+    ap (λ b. cond b (row_of_cells (seen_row scene y)) (row_of_text (text_below scene.below))) (above y scene.rows h)
 
-told_below : (scene : Scene) (y : ℕ) → scene.rows ≤ y → scene_row scene y ≡ row_of_text (text_of scene.below)
+told_below : (scene : Scene) (y : ℕ) → scene.rows ≤ y → scene_row scene y ≡ row_of_text (text_below scene.below)
 unfolding scene_row
 told_below scene y h =
-    ap (λ b. cond b (row_of_cells (seen_row scene y)) (row_of_text (text_of scene.below))) (not_above y scene.rows h)
+    ap (λ b. cond b (row_of_cells (seen_row scene y)) (row_of_text (text_below scene.below))) (not_above y scene.rows h)
 
-pub cell_shown : (scene : Scene) (g : Grid) (x y : ℕ) → Shows (scene_rows scene) g → x < COLUMNS → y < scene.rows
+pub cell_shown : (scene : Scene) (g : Grid) (x y : ℕ) → ShowsRows (scene_rows scene) g → x < COLUMNS → y < scene.rows
     → g.cells (x + 1) (y + 1) ≡ face_of x (column_at (seen_row scene y) x)
 cell_shown scene g x y s inside within =
     let up : y < height_of scene = omega arith in
     read_value (y + 1) x (λ k. face_of k (column_at (seen_row scene y) k)) g
     (subst (λ l. ShowsFrom (y + 1) 1 l g) (seen scene y within) (scene_row_shown scene g y s up)) inside
 
-pub letter_shown : (scene : Scene) (g : Grid) (x : ℕ) → Shows (scene_rows scene) g → x < COLUMNS
-    → scene.rows < height_of scene → g.cells (x + 1) (scene.rows + 1) ≡ letter_face (text_of scene.below) x
+pub letter_shown : (scene : Scene) (g : Grid) (x : ℕ) → ShowsRows (scene_rows scene) g → x < COLUMNS
+    → scene.rows < height_of scene → g.cells (x + 1) (scene.rows + 1) ≡ letter_face (text_below scene.below) x
 letter_shown scene g x s inside line =
-    read_value (scene.rows + 1) x (letter_face (text_of scene.below)) g
+    read_value (scene.rows + 1) x (letter_face (text_below scene.below)) g
     (subst (λ l. ShowsFrom (scene.rows + 1) 1 l g) (told_below scene scene.rows (omega arith))
     (scene_row_shown scene g scene.rows s line)) inside

@@ -14,9 +14,9 @@ use Rattle.terminal_painting.specs.declared.scene.Scene.{Scene}
 use Rattle.terminal_painting.specs.declared.operation.Operation.{Operation}
 use Rattle.terminal_painting.specs.declared.operation.Operation.TheVariants.{Go, Take, Put, Clear}
 use Rattle.terminal_painting.specs.declared.changes.Brush.{Brush}
-use Rattle.terminal_painting.specs.Changes.{brush_at, changes, is_blank, reach, strokes}
-use Rattle.terminal_painting.specs.Scene.{scene_row, letter_face, row_of_cells, row_of_text, seen_row, text_of}
-use Rattle.terminal_painting.specs.Pen.{face_of, plain, same_face, same_pen, sent_byte}
+use Rattle.terminal_painting.specs.Changes.{brush_at, changes, is_blank_face, operations_to_reach, strokes}
+use Rattle.terminal_painting.specs.Scene.{scene_row, letter_face, row_of_cells, row_of_text, seen_row, text_below}
+use Rattle.terminal_painting.specs.Pen.{face_of, plain_pen, same_face, same_pen, sent_byte}
 use Rattle.terminal_painting.specs.Spelling.{AreSendable}
 use Rattle.terminal_painting.proofs.Showing.{by_cases}
 
@@ -50,25 +50,25 @@ values_long f n = length-map-range_with_len f 0 n
 pub row_printable : (scene : Scene) (y : ℕ) → ArePrintable (scene_row scene y)
 unfolding scene_row
 row_printable scene y =
-    by_cases (λ b. ArePrintable (cond b (row_of_cells (seen_row scene y)) (row_of_text (text_of scene.below))))
+    by_cases (λ b. ArePrintable (cond b (row_of_cells (seen_row scene y)) (row_of_text (text_below scene.below))))
     (nat_lt y scene.rows)
     (λ _. printable_values (λ x. face_of x (column_at (seen_row scene y) x)) COLUMNS (λ x. (at_least _, at_most _)))
-    (λ _. printable_values (letter_face (text_of scene.below)) COLUMNS (λ x. (at_least _, at_most _)))
+    (λ _. printable_values (letter_face (text_below scene.below)) COLUMNS (λ x. (at_least _, at_most _)))
 
 pub row_long : (scene : Scene) (y : ℕ) → length (scene_row scene y) ≡ COLUMNS
 unfolding scene_row
 row_long scene y =
-    by_cases (λ b. length (cond b (row_of_cells (seen_row scene y)) (row_of_text (text_of scene.below))) ≡ COLUMNS)
+    by_cases (λ b. length (cond b (row_of_cells (seen_row scene y)) (row_of_text (text_below scene.below))) ≡ COLUMNS)
     (nat_lt y scene.rows)
     (λ _. values_long (λ x. face_of x (column_at (seen_row scene y) x)) COLUMNS)
-    (λ _. values_long (letter_face (text_of scene.below)) COLUMNS)
+    (λ _. values_long (letter_face (text_below scene.below)) COLUMNS)
 
 pub both_sendable : (a b : List Operation) → AreSendable a → AreSendable b → AreSendable (a ++ b)
 both_sendable [] b first second = second
 both_sendable (o ∷ os) b first second = (first.0, both_sendable os b first.1 second)
 
 reach_sendable : (brush : Option Brush) (row column : ℕ) (pen : Pen) → row < 256 → column < 256
-    → AreSendable (reach brush row column pen)
+    → AreSendable (operations_to_reach brush row column pen)
 reach_sendable None row column pen low left = ((left, low), (tt, tt))
 reach_sendable (Some b) row column pen low left =
     both_sendable (cond (nat_eq b.column column) [] (Go column row ∷ [])) (cond (same_pen b.pen pen) [] (Take pen ∷ []))
@@ -83,16 +83,16 @@ strokes_sendable brush row column (o ∷ os) [] low fits all = tt
 strokes_sendable brush row column (o ∷ os) (n ∷ ns) low fits all =
     let left : column < 256 = omega arith in
     let less : column + 1 + length ns ≤ 256 = omega arith in
-    let cleared : List Operation = reach brush row column (plain WHITE) ++ Clear ∷ [] in
+    let cleared : List Operation = operations_to_reach brush row column (plain_pen WHITE) ++ Clear ∷ [] in
     let rest : List Operation = strokes (brush_at (column + 1) n.pen) row (column + 1) os ns in
-    let stroke : List Operation = reach brush row column n.pen ++ Put n.byte ∷ rest in
+    let stroke : List Operation = operations_to_reach brush row column n.pen ++ Put n.byte ∷ rest in
     by_cases (λ b. AreSendable (cond b (strokes brush row (column + 1) os ns)
-    (cond (list_all is_blank (n ∷ ns)) cleared stroke))) (same_face o n)
+    (cond (list_all is_blank_face (n ∷ ns)) cleared stroke))) (same_face o n)
     (λ _. strokes_sendable brush row (column + 1) os ns low less all.1)
-    (λ _. by_cases (λ b. AreSendable (cond b cleared stroke)) (list_all is_blank (n ∷ ns))
-    (λ _. both_sendable (reach brush row column (plain WHITE)) (Clear ∷ [])
-    (reach_sendable brush row column (plain WHITE) low left) (tt, tt))
-    (λ _. both_sendable (reach brush row column n.pen) (Put n.byte ∷ rest)
+    (λ _. by_cases (λ b. AreSendable (cond b cleared stroke)) (list_all is_blank_face (n ∷ ns))
+    (λ _. both_sendable (operations_to_reach brush row column (plain_pen WHITE)) (Clear ∷ [])
+    (reach_sendable brush row column (plain_pen WHITE) low left) (tt, tt))
+    (λ _. both_sendable (operations_to_reach brush row column n.pen) (Put n.byte ∷ rest)
     (reach_sendable brush row column n.pen low left)
     (all.0, strokes_sendable (brush_at (column + 1) n.pen) row (column + 1) os ns low less all.1)))
 

@@ -17,9 +17,9 @@ use Rattle.terminal_painting.specs.declared.operation.Operation.{Operation}
 use Rattle.terminal_painting.specs.declared.operation.Operation.TheVariants.{Go, Take, Put, Clear}
 use Rattle.terminal_painting.specs.declared.operation.Operation.TheVariants.{Hold, Release, Hide, Show, Ring, Wipe}
 use Rattle.terminal_painting.specs.declared.changes.Brush.{Brush}
-use Rattle.terminal_painting.specs.Pen.{blank, plain, same_face, same_pen, weight_code, slant_code, rule_code}
-use Rattle.terminal_painting.specs.Grid.{Grid, act, done, drawn, lost}
-use Rattle.terminal_painting.specs.Changes.{brush_at, changes, is_blank, reach, strokes}
+use Rattle.terminal_painting.specs.Pen.{blank_face, plain_pen, same_face, same_pen, weight_code, slant_code, rule_code}
+use Rattle.terminal_painting.specs.Grid.{Grid, act, done, drawn_face, lost}
+use Rattle.terminal_painting.specs.Changes.{brush_at, changes, is_blank_face, operations_to_reach, strokes}
 use Rattle.terminal_painting.specs.Shows.{ShowsFrom}
 
 pub by_cases : (P : Bool → Type 0) (b : Bool) → (b ≡ true → P true) → (b ≡ false → P false) → P b
@@ -103,7 +103,7 @@ pub least : (a b : ℕ) → a ≤ b → min a b ≡ a
 least a b h = grind (arith)
 
 reached : (brush : Option Brush) (row column : ℕ) (pen : Pen) (g : Grid) → column ≤ g.width → row ≤ g.height
-    → IsHeld brush row g → done (reach brush row column pen) g ≡ ready row column pen g
+    → IsHeld brush row g → done (operations_to_reach brush row column pen) g ≡ ready row column pen g
 reached None row column pen g wide high held =
     λ i. record g { column = least column g.width wide i; row = least row g.height high i; pen = pen }
 reached (Some b) row column pen g wide high held =
@@ -178,42 +178,42 @@ abbrev put_at : ℕ → ℕ → Face → Grid → Grid
 put_at row column n g = act (Put n.byte) (ready row column n.pen g)
 
 abbrev cleared_at : ℕ → ℕ → Grid → Grid
-cleared_at row column g = act Clear (ready row column (plain WHITE) g)
+cleared_at row column g = act Clear (ready row column (plain_pen WHITE) g)
 
 module _ (row column : ℕ) (g : Grid) (wide : column ≤ g.width) where
   put_elsewhere : (n : Face) (x y : ℕ) → nat_eq x column && nat_eq y row ≡ false
       → (put_at row column n g).cells x y ≡ g.cells x y
   put_elsewhere n x y h =
-      ap (λ b. cond b (lost n.pen) (cond (nat_eq x column && nat_eq y row) (drawn n.byte n.pen) (g.cells x y)))
+      ap (λ b. cond b (lost n.pen) (cond (nat_eq x column && nat_eq y row) (drawn_face n.byte n.pen) (g.cells x y)))
       (inside g.width column wide)
-      ∙ ap (λ b. cond b (drawn n.byte n.pen) (g.cells x y)) h
+      ∙ ap (λ b. cond b (drawn_face n.byte n.pen) (g.cells x y)) h
 
   put_here : (n : Face) → (put_at row column n g).cells column row ≡ n
   put_here n =
       ap (λ b. cond b (lost n.pen)
-      (cond (nat_eq column column && nat_eq row row) (drawn n.byte n.pen) (g.cells column row)))
+      (cond (nat_eq column column && nat_eq row row) (drawn_face n.byte n.pen) (g.cells column row)))
       (inside g.width column wide)
-      ∙ (λ i. cond (self column i && self row i) (drawn n.byte n.pen) (g.cells column row))
+      ∙ (λ i. cond (self column i && self row i) (drawn_face n.byte n.pen) (g.cells column row))
 
   cleared_elsewhere : (x y : ℕ) → nat_le column x && nat_eq y row ≡ false
       → (cleared_at row column g).cells x y ≡ g.cells x y
   cleared_elsewhere x y h =
-      ap (λ b. cond b (lost (plain WHITE)) (cond (nat_le column x && nat_eq y row) (blank WHITE) (g.cells x y)))
+      ap (λ b. cond b (lost (plain_pen WHITE)) (cond (nat_le column x && nat_eq y row) (blank_face WHITE) (g.cells x y)))
       (inside g.width column wide)
-      ∙ ap (λ b. cond b (blank WHITE) (g.cells x y)) h
+      ∙ ap (λ b. cond b (blank_face WHITE) (g.cells x y)) h
 
-  cleared_here : (x : ℕ) → column ≤ x → (cleared_at row column g).cells x row ≡ blank WHITE
+  cleared_here : (x : ℕ) → column ≤ x → (cleared_at row column g).cells x row ≡ blank_face WHITE
   cleared_here x h =
-      ap (λ b. cond b (lost (plain WHITE)) (cond (nat_le column x && nat_eq row row) (blank WHITE) (g.cells x row)))
+      ap (λ b. cond b (lost (plain_pen WHITE)) (cond (nat_le column x && nat_eq row row) (blank_face WHITE) (g.cells x row)))
       (inside g.width column wide)
-      ∙ (λ i. cond (from_on x column h i && self row i) (blank WHITE) (g.cells x row))
+      ∙ (λ i. cond (from_on x column h i && self row i) (blank_face WHITE) (g.cells x row))
 
-  blank_shown : (fs : List Face) (x : ℕ) → column ≤ x → list_all is_blank fs ≡ true
+  blank_shown : (fs : List Face) (x : ℕ) → column ≤ x → list_all is_blank_face fs ≡ true
       → ShowsFrom row x fs (cleared_at row column g)
   blank_shown [] x h all = tt
   blank_shown (f ∷ fs) x h all =
-      let (this, others) = both (is_blank f) (list_all is_blank fs) all in
-      (cleared_here x h ∙ sym (faces f (blank WHITE) this), blank_shown fs (x + 1) (omega arith) others)
+      let (this, others) = both (is_blank_face f) (list_all is_blank_face fs) all in
+      (cleared_here x h ∙ sym (faces f (blank_face WHITE) this), blank_shown fs (x + 1) (omega arith) others)
 
 pub moves : (row column : ℕ) (fs : List Face) (g h : Grid) → ((x : ℕ) → column ≤ x → h.cells x row ≡ g.cells x row)
     → ShowsFrom row column fs g → ShowsFrom row column fs h
@@ -224,9 +224,9 @@ moves row column (f ∷ fs) g h same s =
 -- the operations of a stroke lead to what follows from a grid that stands ready
 ready_first : (brush : Option Brush) (row column : ℕ) (pen : Pen) (more : List Operation) (g : Grid)
     → column ≤ g.width → row ≤ g.height → IsHeld brush row g
-    → done (reach brush row column pen ++ more) g ≡ done more (ready row column pen g)
+    → done (operations_to_reach brush row column pen ++ more) g ≡ done more (ready row column pen g)
 ready_first brush row column pen more g wide high held =
-    done_both (reach brush row column pen) more g ∙ ap (done more) (reached brush row column pen g wide high held)
+    done_both (operations_to_reach brush row column pen) more g ∙ ap (done more) (reached brush row column pen g wide high held)
 
 module _ (row : ℕ) where
   pub kept : (brush : Option Brush) (column : ℕ) (olds news : List Face) (g : Grid) (x y : ℕ)
@@ -238,14 +238,14 @@ module _ (row : ℕ) where
       let later : y ≡ row → x < column + 1 = λ e. omega (arith, h e) in
       let fits : column ≤ g.width = omega arith in
       let less : column + 1 + length ns ≤ g.width + 1 = omega arith in
-      let cleared : List Operation = reach brush row column (plain WHITE) ++ Clear ∷ [] in
+      let cleared : List Operation = operations_to_reach brush row column (plain_pen WHITE) ++ Clear ∷ [] in
       let rest : List Operation = strokes (brush_at (column + 1) n.pen) row (column + 1) os ns in
-      let stroke : List Operation = reach brush row column n.pen ++ Put n.byte ∷ rest in
+      let stroke : List Operation = operations_to_reach brush row column n.pen ++ Put n.byte ∷ rest in
       by_cases (λ b. (done (cond b (strokes brush row (column + 1) os ns)
-      (cond (list_all is_blank (n ∷ ns)) cleared stroke)) g).cells x y ≡ g.cells x y) (same_face o n)
+      (cond (list_all is_blank_face (n ∷ ns)) cleared stroke)) g).cells x y ≡ g.cells x y) (same_face o n)
       (λ e. kept brush (column + 1) os ns g x y less high held later)
-      (λ e. by_cases (λ b. (done (cond b cleared stroke) g).cells x y ≡ g.cells x y) (list_all is_blank (n ∷ ns))
-      (λ all. ap (λ (k : Grid). k.cells x y) (ready_first brush row column (plain WHITE) (Clear ∷ []) g fits high held)
+      (λ e. by_cases (λ b. (done (cond b cleared stroke) g).cells x y ≡ g.cells x y) (list_all is_blank_face (n ∷ ns))
+      (λ all. ap (λ (k : Grid). k.cells x y) (ready_first brush row column (plain_pen WHITE) (Clear ∷ []) g fits high held)
       ∙ cleared_elsewhere row column g fits x y (before x y column row h))
       (λ some. ap (λ (k : Grid). k.cells x y) (ready_first brush row column n.pen (Put n.byte ∷ rest) g fits high held)
       ∙ kept (brush_at (column + 1) n.pen) (column + 1) os ns (put_at row column n g) x y less high (refl, refl, refl)
@@ -263,18 +263,18 @@ module _ (row : ℕ) where
       let here : row ≡ row → column < column + 1 = λ e. omega arith in
       let fits : column ≤ g.width = omega arith in
       let less : column + 1 + length ns ≤ g.width + 1 = omega arith in
-      let cleared : List Operation = reach brush row column (plain WHITE) ++ Clear ∷ [] in
+      let cleared : List Operation = operations_to_reach brush row column (plain_pen WHITE) ++ Clear ∷ [] in
       let rest : List Operation = strokes (brush_at (column + 1) n.pen) row (column + 1) os ns in
-      let stroke : List Operation = reach brush row column n.pen ++ Put n.byte ∷ rest in
+      let stroke : List Operation = operations_to_reach brush row column n.pen ++ Put n.byte ∷ rest in
       by_cases (λ b. ShowsFrom row column (n ∷ ns) (done (cond b (strokes brush row (column + 1) os ns)
-      (cond (list_all is_blank (n ∷ ns)) cleared stroke)) g)) (same_face o n)
+      (cond (list_all is_blank_face (n ∷ ns)) cleared stroke)) g)) (same_face o n)
       (λ e. (
         kept brush (column + 1) os ns g column row less high held here ∙ s.0 ∙ faces o n e,
         shown brush (column + 1) os ns g others less high held s.1,
       ))
-      (λ e. by_cases (λ b. ShowsFrom row column (n ∷ ns) (done (cond b cleared stroke) g)) (list_all is_blank (n ∷ ns))
+      (λ e. by_cases (λ b. ShowsFrom row column (n ∷ ns) (done (cond b cleared stroke) g)) (list_all is_blank_face (n ∷ ns))
       (λ all. subst (ShowsFrom row column (n ∷ ns))
-      (sym (ready_first brush row column (plain WHITE) (Clear ∷ []) g fits high held))
+      (sym (ready_first brush row column (plain_pen WHITE) (Clear ∷ []) g fits high held))
       (blank_shown row column g fits (n ∷ ns) column (omega arith) all))
       (λ some. subst (ShowsFrom row column (n ∷ ns))
       (sym (ready_first brush row column n.pen (Put n.byte ∷ rest) g fits high held)) (
@@ -314,8 +314,8 @@ no_strokes : (brush : Option Brush) (row column : ℕ) (faces : List Face) → s
 no_strokes brush row column [] = refl
 no_strokes brush row column (f ∷ fs) =
     ap (λ b. cond b (strokes brush row (column + 1) fs fs)
-    (cond (list_all is_blank (f ∷ fs)) (reach brush row column (plain WHITE) ++ Clear ∷ [])
-    (reach brush row column f.pen ++ Put f.byte ∷ strokes (brush_at (column + 1) f.pen) row (column + 1) fs fs)))
+    (cond (list_all is_blank_face (f ∷ fs)) (operations_to_reach brush row column (plain_pen WHITE) ++ Clear ∷ [])
+    (operations_to_reach brush row column f.pen ++ Put f.byte ∷ strokes (brush_at (column + 1) f.pen) row (column + 1) fs fs)))
     (same_itself f)
     ∙ no_strokes brush row (column + 1) fs
 

@@ -11,8 +11,8 @@ use Rattle.terminal_painting.specs.declared.face.Face.{Face}
 use Rattle.terminal_painting.specs.declared.operation.Operation.{Operation}
 use Rattle.terminal_painting.specs.declared.operation.Operation.TheVariants.{Put, Clear}
 use Rattle.terminal_painting.specs.declared.changes.Brush.{Brush}
-use Rattle.terminal_painting.specs.Pen.{plain, same_face}
-use Rattle.terminal_painting.specs.Changes.{brush_at, changes, is_blank, reach, strokes}
+use Rattle.terminal_painting.specs.Pen.{plain_pen, same_face}
+use Rattle.terminal_painting.specs.Changes.{brush_at, changes, is_blank_face, operations_to_reach, strokes}
 
 -- what changes a row after its first x cells
 abbrev pub left : Option Brush → ℕ → ℕ → List Face → List Face → List Operation
@@ -47,38 +47,38 @@ module _ (brush : Option Brush) (row x at : ℕ) (olds news : List Face) (d : Fa
     abbrev after : Bool → Bool → List Operation
     after same ends =
         cond same (strokes brush row (x + 1 + 1) (drop (x + 1) olds) (drop (x + 1) news))
-        (cond ends (reach brush row (x + 1) (plain WHITE) ++ Clear ∷ [])
-        (reach brush row (x + 1) new.pen ++ Put new.byte
+        (cond ends (operations_to_reach brush row (x + 1) (plain_pen WHITE) ++ Clear ∷ [])
+        (operations_to_reach brush row (x + 1) new.pen ++ Put new.byte
         ∷ strokes (brush_at (x + 1 + 1) new.pen) row (x + 1 + 1) (drop (x + 1) olds) (drop (x + 1) news)))
 
-    stepped : left brush row x olds news ≡ after (same_face old new) (list_all is_blank (drop at news))
+    stepped : left brush row x olds news ≡ after (same_face old new) (list_all is_blank_face (drop at news))
     stepped =
         (λ i. strokes brush row (x + 1) (dropped olds in_olds i) (dropped news in_news i))
-        ∙ ap (λ l. after (same_face old new) (list_all is_blank l)) (sym (dropped news in_news))
-        ∙ ap (λ k. after (same_face old new) (list_all is_blank (drop k news))) (sym here)
+        ∙ ap (λ l. after (same_face old new) (list_all is_blank_face l)) (sym (dropped news in_news))
+        ∙ ap (λ k. after (same_face old new) (list_all is_blank_face (drop k news))) (sym here)
 
     -- a cell that shows what it did
     pub kept_step : same_face old new ≡ true → out ++ left brush row (x + 1) olds news ≡ all
     kept_step same =
-        sym (ap (λ l. out ++ l) (stepped ∙ ap (λ b. after b (list_all is_blank (drop at news))) same)) ∙ before
+        sym (ap (λ l. out ++ l) (stepped ∙ ap (λ b. after b (list_all is_blank_face (drop at news))) same)) ∙ before
 
     module _ (other : same_face old new ≡ false) where
       -- the rest of the row was cleared
-      pub cleared_step : (mid result : List Operation) (pen : Pen) → list_all is_blank (drop at news) ≡ true
-          → pen ≡ plain WHITE → mid ≡ out ++ reach brush row (x + 1) pen → result ≡ mid ++ Clear ∷ [] → result ≡ all
+      pub cleared_step : (mid result : List Operation) (pen : Pen) → list_all is_blank_face (drop at news) ≡ true
+          → pen ≡ plain_pen WHITE → mid ≡ out ++ operations_to_reach brush row (x + 1) pen → result ≡ mid ++ Clear ∷ [] → result ≡ all
       cleared_step mid result pen ends pen_is reached is =
-          is ∙ ap (λ l. l ++ Clear ∷ []) (reached ∙ ap (λ p. out ++ reach brush row (x + 1) p) pen_is)
-          ∙ append_assoc out (reach brush row (x + 1) (plain WHITE)) (Clear ∷ [])
+          is ∙ ap (λ l. l ++ Clear ∷ []) (reached ∙ ap (λ p. out ++ operations_to_reach brush row (x + 1) p) pen_is)
+          ∙ append_assoc out (operations_to_reach brush row (x + 1) (plain_pen WHITE)) (Clear ∷ [])
           ∙ sym (ap (λ l. out ++ l) (stepped ∙ (λ i. after (other i) (ends i)))) ∙ before
 
       -- a cell was put
-      pub put_step : (mid result : List Operation) → list_all is_blank (drop at news) ≡ false
-          → mid ≡ out ++ reach brush row (x + 1) new.pen → result ≡ mid ++ Put new.byte ∷ []
+      pub put_step : (mid result : List Operation) → list_all is_blank_face (drop at news) ≡ false
+          → mid ≡ out ++ operations_to_reach brush row (x + 1) new.pen → result ≡ mid ++ Put new.byte ∷ []
           → result ++ left (brush_at (x + 1 + 1) new.pen) row (x + 1) olds news ≡ all
       put_step mid result ends reached is =
           let rest : List Operation =
           strokes (brush_at (x + 1 + 1) new.pen) row (x + 1 + 1) (drop (x + 1) olds) (drop (x + 1) news) in
           ap (λ l. l ++ rest) (is ∙ ap (λ l. l ++ Put new.byte ∷ []) reached)
-          ∙ append_assoc (out ++ reach brush row (x + 1) new.pen) (Put new.byte ∷ []) rest
-          ∙ append_assoc out (reach brush row (x + 1) new.pen) (Put new.byte ∷ rest)
+          ∙ append_assoc (out ++ operations_to_reach brush row (x + 1) new.pen) (Put new.byte ∷ []) rest
+          ∙ append_assoc out (operations_to_reach brush row (x + 1) new.pen) (Put new.byte ∷ rest)
           ∙ sym (ap (λ l. out ++ l) (stepped ∙ (λ i. after (other i) (ends i)))) ∙ before

@@ -12,7 +12,7 @@ use Rattle.terminal_painting.specs.declared.operation.Operation.TheVariants.{Hol
 use Rattle.terminal_painting.specs.declared.operation.Operation.TheVariants.{Take, Put}
 use Rattle.terminal_painting.specs.declared.operation.Operation.TheVariants.{Clear, Wipe}
 use Rattle.terminal_painting.specs.Pen.{weight_code, slant_code, rule_code}
-use Rattle.terminal_painting.specs.Spelling.{AreSendable, IsSendable, spelled, spelled_all, told, number_of_three}
+use Rattle.terminal_painting.specs.Spelling.{AreSendable, IsSendable, operation_bytes, spelled_all, operation_told, number_of_three}
 use Rattle.terminal_painting.specs.Spelling.{pen_told, spelled_pen, weight_told, rule_told, number_of_two}
 
 same_number : (n : ℕ) → number_of_three (48 + n / 100) (48 + n / 10 % 10) (48 + n % 10) ≡ n
@@ -60,7 +60,7 @@ no_bell : (b : ℕ) → 32 ≤ b → nat_eq b 7 ≡ false
 no_bell b h = grind (arith, h)
 
 pub again : (operation : Operation) (rest : List ℕ) → IsSendable operation
-    → told (spelled operation ++ rest) ≡ Some (operation, rest)
+    → operation_told (operation_bytes operation ++ rest) ≡ Some (operation, rest)
 again Hold rest fits = refl
 again Release rest fits = refl
 again Hide rest fits = refl
@@ -85,10 +85,10 @@ none_some x e = absurd cc
 
 pub one : (a b : List Operation) → AreSendable a → AreSendable b → spelled_all a ≡ spelled_all b → a ≡ b
 one [] [] fa fb e = refl
-one [] (o ∷ os) fa fb e = absurd (none_some _ (ap told e ∙ again o (spelled_all os) fb.0))
-one (o ∷ os) [] fa fb e = absurd (none_some _ (ap told (sym e) ∙ again o (spelled_all os) fa.0))
+one [] (o ∷ os) fa fb e = absurd (none_some _ (ap operation_told e ∙ again o (spelled_all os) fb.0))
+one (o ∷ os) [] fa fb e = absurd (none_some _ (ap operation_told (sym e) ∙ again o (spelled_all os) fa.0))
 one (o ∷ os) (p ∷ ps) fa fb e =
     let same = some_is (o, spelled_all os) (p, spelled_all ps)
-    (sym (again o (spelled_all os) fa.0) ∙ (ap told e ∙ again p (spelled_all ps) fb.0)) in
+    (sym (again o (spelled_all os) fa.0) ∙ (ap operation_told e ∙ again p (spelled_all ps) fb.0)) in
     let rest : os ≡ ps = one os ps fa.1 fb.1 (ap (λ (x : Operation × List ℕ). x.1) same) in
     ap (λ x. x ∷ os) (ap (λ (x : Operation × List ℕ). x.0) same) ∙ ap (λ l. p ∷ l) rest

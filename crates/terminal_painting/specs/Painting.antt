@@ -12,14 +12,14 @@ use Rattle.terminal_painting.specs.declared.operation.Operation.{Operation}
 use Rattle.terminal_painting.specs.declared.operation.Operation.TheVariants.{Hold, Release, Hide, Show, Go, Take}
 use Rattle.terminal_painting.specs.declared.operation.Operation.TheVariants.{Wipe}
 use Rattle.terminal_painting.specs.Changes.{changes}
-use Rattle.terminal_painting.specs.Scene.{IsCaret, scene_row, scene_rows, height_of}
+use Rattle.terminal_painting.specs.Scene.{IsCaretCell, scene_row, scene_rows, height_of}
 use Rattle.terminal_painting.specs.Grid.{Grid, done}
-use Rattle.terminal_painting.specs.Pen.{blank, plain}
-use Rattle.terminal_painting.specs.Shows.{Shows}
+use Rattle.terminal_painting.specs.Pen.{blank_face, plain_pen}
+use Rattle.terminal_painting.specs.Shows.{ShowsRows}
 use Rattle.terminal_painting.specs.Spelling.{AreSendable, spelled_all}
 
 -- a grid has room for so many rows of a screen
-pub record HasRoom (rows : ℕ) (g : Grid) : Type 0 where
+pub record HasGridRoom (rows : ℕ) (g : Grid) : Type 0 where
   pub wide : COLUMNS ≤ g.width
   pub high : rows ≤ g.height
 
@@ -30,9 +30,9 @@ HasCursor (Some place) g = (g.has_cursor ≡ true) × (g.column ≡ place.0 + 1)
 
 -- a grid shows a scene: its rows, and by the cursor a caret in sight
 pub record ShowsScene (scene : Scene) (g : Grid) : Type 0 where
-  pub rows : Shows (scene_rows scene) g
+  pub rows : ShowsRows (scene_rows scene) g
   pub caret : Option (ℕ × ℕ)
-  pub stands : IsCaret scene caret
+  pub stands : IsCaretCell scene caret
   pub cursor : HasCursor caret g
 
 -- a writer took the bytes of these operations, by which a grid of which the one holds becomes one of which the other
@@ -44,18 +44,18 @@ pub record Leads (operations : List Operation) (old new : Option (List ℕ)) (be
 
 -- a grid with room for so many rows that shows these
 pub record IsShown (rows : ℕ) (faces : List (List Face)) (g : Grid) : Type 0 where
-  pub room : HasRoom rows g
-  pub shows : Shows faces g
+  pub room : HasGridRoom rows g
+  pub shows : ShowsRows faces g
 
 -- a grid with room for a scene that shows it
 pub record IsPainted (scene : Scene) (g : Grid) : Type 0 where
-  pub room : HasRoom (height_of scene) g
+  pub room : HasGridRoom (height_of scene) g
   pub shows : ShowsScene scene g
 
 -- how a painting begins, where the rows are known or else all cells are made blank, and how it ends
 abbrev pub beginning : Bool → List Operation
 beginning true = Hold ∷ Hide ∷ []
-beginning false = Hold ∷ Hide ∷ Take (plain WHITE) ∷ Wipe ∷ []
+beginning false = Hold ∷ Hide ∷ Take (plain_pen WHITE) ∷ Wipe ∷ []
 
 abbrev pub ending : Option (ℕ × ℕ) → List Operation
 ending None = Hide ∷ Release ∷ []
@@ -63,7 +63,7 @@ ending (Some place) = Go (place.0 + 1) (place.1 + 1) ∷ Show ∷ Release ∷ []
 
 -- the rows that are shown after the beginning
 abbrev pub begun_rows : List (List Face) → ℕ → List (List Face)
-begun_rows known rows = if length known == rows then known else replicate rows (replicate COLUMNS (blank WHITE))
+begun_rows known rows = if length known == rows then known else replicate rows (replicate COLUMNS (blank_face WHITE))
 
 -- what changes the first n rows
 unfoldable pub rows_changes : ℕ → (ℕ → List Face) → (ℕ → List Face) → List Operation
@@ -81,11 +81,11 @@ painting known scene caret =
 -- a writer took what makes every grid with room for a scene that shows the known rows show the scene
 pub record Paints (old new : Option (List ℕ)) (known : List (List Face)) (scene : Scene) : Type 0 where
   pub caret : Option (ℕ × ℕ)
-  pub stands : IsCaret scene caret
+  pub stands : IsCaretCell scene caret
   pub leads : Leads (painting known scene caret) old new (IsShown (height_of scene) known) (IsPainted scene)
 
 -- a writer took a front of that
 pub record PaintsFront (old new : Option (List ℕ)) (known : List (List Face)) (scene : Scene) : Type 0 where
   pub caret : Option (ℕ × ℕ)
-  pub stands : IsCaret scene caret
+  pub stands : IsCaretCell scene caret
   pub taken : AppendsFront old new (spelled_all (painting known scene caret))

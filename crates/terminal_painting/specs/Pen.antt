@@ -73,11 +73,11 @@ abbrev pub face_of : ℕ → Cell → Face
 face_of column cell = record { byte = sent_byte cell.ch; pen = pen_of column cell }
 
 -- the pen of nothing but a paper
-abbrev pub plain : ℕ → Pen
-plain paper = record { ink = BLACK; paper = paper; weight = Regular; is_italic = false; rule = Plain }
+abbrev pub plain_pen : ℕ → Pen
+plain_pen paper = record { ink = BLACK; paper = paper; weight = Regular; is_italic = false; rule = Plain }
 
-abbrev pub blank : ℕ → Face
-blank paper = record { byte = space; pen = plain paper }
+abbrev pub blank_face : ℕ → Face
+blank_face paper = record { byte = space; pen = plain_pen paper }
 
 -- the numbers by which a terminal knows styles
 abbrev pub weight_code : Weight → ℕ

@@ -9,5 +9,5 @@ ShowsFrom row column [] g = Unit {0}
 ShowsFrom row column (f ∷ fs) g = (g.cells column row ≡ f) × ShowsFrom row (column + 1) fs g
 
 -- its rows show these, from the top
-abbrev pub Shows : List (List Face) → Grid → Type 0
-Shows rows g = (y : ℕ) → y < length rows → ShowsFrom (y + 1) 1 (slice_index_or rows y []) g
+abbrev pub ShowsRows : List (List Face) → Grid → Type 0
+ShowsRows rows g = (y : ℕ) → y < length rows → ShowsFrom (y + 1) 1 (slice_index_or rows y []) g

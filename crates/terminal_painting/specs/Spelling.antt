@@ -31,8 +31,8 @@ abbrev pub three_digits : ℕ → List ℕ
 three_digits n = (48 + n / 100) ∷ (48 + n / 10 % 10) ∷ (48 + n % 10) ∷ []
 
 -- what begins by `ESC [`
-abbrev pub sequence : List ℕ → List ℕ
-sequence rest = escape ∷ 91 ∷ rest
+abbrev pub control_sequence : List ℕ → List ℕ
+control_sequence rest = escape ∷ 91 ∷ rest
 
 abbrev pub spelled_pen : Pen → List ℕ
 spelled_pen pen =
@@ -40,17 +40,17 @@ spelled_pen pen =
     ++ two_digits (rule_code pen.rule) ++ codes ";38;5;" ++ three_digits pen.ink ++ codes ";48;5;"
     ++ three_digits pen.paper ++ codes "m"
 
-abbrev pub spelled : Operation → List ℕ
-spelled Hold = sequence (codes "?2026h")
-spelled Release = sequence (codes "?2026l")
-spelled Hide = sequence (codes "?25l")
-spelled Show = sequence (codes "?25h")
-spelled Ring = bell ∷ []
-spelled (Go column row) = sequence (three_digits row ++ codes ";" ++ three_digits column ++ codes "H")
-spelled (Take pen) = sequence (spelled_pen pen)
-spelled (Put byte) = byte ∷ []
-spelled Clear = sequence (codes "K")
-spelled Wipe = sequence (codes "2J")
+abbrev pub operation_bytes : Operation → List ℕ
+operation_bytes Hold = control_sequence (codes "?2026h")
+operation_bytes Release = control_sequence (codes "?2026l")
+operation_bytes Hide = control_sequence (codes "?25l")
+operation_bytes Show = control_sequence (codes "?25h")
+operation_bytes Ring = bell ∷ []
+operation_bytes (Go column row) = control_sequence (three_digits row ++ codes ";" ++ three_digits column ++ codes "H")
+operation_bytes (Take pen) = control_sequence (spelled_pen pen)
+operation_bytes (Put byte) = byte ∷ []
+operation_bytes Clear = control_sequence (codes "K")
+operation_bytes Wipe = control_sequence (codes "2J")
 
 -- an operation that can be sent: a place of three digits, a byte that is printable
 abbrev pub IsSendable : Operation → Type 0
@@ -76,8 +76,8 @@ number_of_three a b c = 100 * (a - 48) + (10 * (b - 48) + (c - 48))
 abbrev pub two_at : List ℕ → ℕ → ℕ
 two_at bytes i = number_of_two (slice_index bytes i) (slice_index bytes (i + 1))
 
-abbrev pub three_at : List ℕ → ℕ → ℕ
-three_at bytes i = number_of_three (slice_index bytes i) (slice_index bytes (i + 1)) (slice_index bytes (i + 2))
+abbrev pub number_of_three_at : List ℕ → ℕ → ℕ
+number_of_three_at bytes i = number_of_three (slice_index bytes i) (slice_index bytes (i + 1)) (slice_index bytes (i + 2))
 
 abbrev pub weight_told : ℕ → Weight
 weight_told code = if code == 1 then Bold else (if code == 2 then Faint else Regular)
@@ -88,8 +88,8 @@ rule_told code = if code == 4 then Under else (if code == 53 then Over else Plai
 -- the pen with which bytes begin after `ESC [`
 abbrev pub pen_told : List ℕ → Pen
 pen_told bytes = record {
-  ink = three_at bytes 16;
-  paper = three_at bytes 25;
+  ink = number_of_three_at bytes 16;
+  paper = number_of_three_at bytes 25;
   weight = weight_told (two_at bytes 2);
   is_italic = two_at bytes 5 == 3;
   rule = rule_told (two_at bytes 8);
@@ -108,19 +108,19 @@ sequence_told bytes =
     else (if slice_index bytes 0 == 63 then private_told (drop 1 bytes)
     else (if slice_index bytes 1 == 74 then (Wipe, drop 2 bytes)
     else (if slice_index bytes 1 == semicolon then (Take (pen_told bytes), drop 29 bytes)
-    else (Go (three_at bytes 4) (three_at bytes 0), drop 8 bytes))))
+    else (Go (number_of_three_at bytes 4) (number_of_three_at bytes 0), drop 8 bytes))))
 
 -- the operation with which bytes begin, and the bytes after it
-abbrev pub told : List ℕ → Option (Operation × List ℕ)
-told [] = None
-told (b ∷ rest) =
+abbrev pub operation_told : List ℕ → Option (Operation × List ℕ)
+operation_told [] = None
+operation_told (b ∷ rest) =
     if b == escape then Some (sequence_told (drop 1 rest))
     else Some (if b == bell then Ring else Put b, rest)
 
 -- the bytes of operations, one after another
 abbrev pub spelled_all : List Operation → List ℕ
 spelled_all [] = []
-spelled_all (o ∷ os) = spelled o ++ spelled_all os
+spelled_all (o ∷ os) = operation_bytes o ++ spelled_all os
 
 abbrev pub AreSendable : List Operation → Type 0
 AreSendable [] = Unit {0}

@@ -3,7 +3,7 @@ ghost use Rattle.std.specs.Prelude.{◌≡◌, ◌++◌, ◌+◌, ◌≤◌, len
 ghost use Rattle.std.specs.List.{list_all};
 ghost use Rattle.arrayvec.specs.ArrayVec.{array_vec_len};
 ghost use Rattle.viewer_tracks.specs.declared.display.TheConstants.{COLUMNS as columns};
-ghost use Rattle.terminal_painting.specs.Changes.{changes, is_blank, reach};
+ghost use Rattle.terminal_painting.specs.Changes.{changes, is_blank_face, operations_to_reach};
 
 use crate::face::{Face, WIDTH};
 use crate::operation::Operation;
@@ -56,7 +56,7 @@ pub fn row_changes(row: u8, olds: &[Face; WIDTH], news: &[Face; WIDTH]) -> Chang
 
 /// Whether all of the faces are blank, on white paper.
 fn is_blank(faces: &[Face]) -> bool
-    ensures { result ≡ list_all is_blank faces.now }
+    ensures { result ≡ list_all is_blank_face faces.now }
 {
     faces.iter().all(|face| face.is_same(Face::blank(WHITE)))
 }
@@ -64,7 +64,7 @@ fn is_blank(faces: &[Face]) -> bool
 /// Adds what brings the cursor to a cell and the pen into its hand.
 fn reach(operations: &mut Changes, brush: Option<Brush>, row: u8, column: u8, pen: Pen)
     requires { array_vec_len operations.old + 2 ≤ MOST }
-    ensures value { operations.new.items ≡ operations.old.items ++ reach brush row column pen }
+    ensures value { operations.new.items ≡ operations.old.items ++ operations_to_reach brush row column pen }
     ensures few { array_vec_len operations.new ≤ array_vec_len operations.old + 2 }
 {
     let Some(brush) = brush else {

@@ -1,6 +1,6 @@
 //! What a cell of a terminal shows.
 ghost use Rattle.std.specs.Prelude.{◌≡◌, ◌<◌, ◌≤◌};
-ghost use Rattle.terminal_painting.specs.Pen.{blank, face_of, same_face, sent_byte};
+ghost use Rattle.terminal_painting.specs.Pen.{blank_face, face_of, same_face, sent_byte};
 
 use crate::pen::{Pen, WHITE};
 use screen_pictures::Cell;
@@ -29,7 +29,7 @@ impl Face {
 
     /// Nothing but a paper.
     pub fn blank(paper: u8) -> Self
-        ensures { result ≡ blank paper }
+        ensures { result ≡ blank_face paper }
     {
         Face {
             byte: b' ',

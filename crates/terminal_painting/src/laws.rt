@@ -7,16 +7,16 @@ ghost use Rattle.screen_pictures.specs.Screen.{column_at};
 ghost use Rattle.viewer_tracks.specs.declared.display.TheConstants.{COLUMNS as columns};
 ghost use Rattle.terminal_painting.specs.Changes.{changes};
 ghost use Rattle.terminal_painting.specs.Grid.{Grid, done};
-ghost use Rattle.terminal_painting.specs.Scene.{scene_rows, height_of, letter_face, seen_row, text_of};
-ghost use Rattle.terminal_painting.specs.Painting.{HasRoom, painting};
+ghost use Rattle.terminal_painting.specs.Scene.{scene_rows, height_of, letter_face, seen_row, text_below};
+ghost use Rattle.terminal_painting.specs.Painting.{HasGridRoom, painting};
 ghost use Rattle.terminal_painting.specs.Pen.{face_of};
-ghost use Rattle.terminal_painting.specs.Shows.{Shows, ShowsFrom};
-ghost use Rattle.terminal_painting.specs.Spelling.{AreSendable, IsSendable, spelled, spelled_all, told};
+ghost use Rattle.terminal_painting.specs.Shows.{ShowsRows, ShowsFrom};
+ghost use Rattle.terminal_painting.specs.Spelling.{AreSendable, IsSendable, operation_bytes, spelled_all, operation_told};
 
 /// Bytes that begin with the spelling of an operation are told as that operation, whatever follows.
 pub fn spelled_is_told()
     ensures { (operation : AnOperation) (rest : List ℕ) → IsSendable operation
-        → told (spelled operation ++ rest) ≡ Some (operation, rest) }
+        → operation_told (operation_bytes operation ++ rest) ≡ Some (operation, rest) }
 {}
 
 /// Bytes are the spelling of at most one list of operations.
@@ -40,19 +40,19 @@ pub fn same_rows_change_nothing()
 /// After a painting over known rows, what a grid shows below the scene is as before.
 pub fn rest_is_kept()
     ensures { (known : List (List AFace)) (scene : AScene) (caret : Option (ℕ × ℕ)) (g : Grid) (x y : ℕ)
-        → HasRoom (height_of scene) g → length known ≡ height_of scene → height_of scene < y
+        → HasGridRoom (height_of scene) g → length known ≡ height_of scene → height_of scene < y
         → (done (painting known scene caret) g).cells x y ≡ g.cells x y }
 {}
 
 /// A grid that shows the rows of a scene shows each cell in sight, and the text of the line below.
 pub fn cells_are_shown()
-    ensures cells { (scene : AScene) (g : Grid) (x y : ℕ) → Shows (scene_rows scene) g → x < columns → y < scene.rows
+    ensures cells { (scene : AScene) (g : Grid) (x y : ℕ) → ShowsRows (scene_rows scene) g → x < columns → y < scene.rows
         → g.cells (x + 1) (y + 1) ≡ face_of x (column_at (seen_row scene y) x) }
-    ensures below { (scene : AScene) (g : Grid) (x : ℕ) → Shows (scene_rows scene) g → x < columns
-        → scene.rows < height_of scene → g.cells (x + 1) (scene.rows + 1) ≡ letter_face (text_of scene.below) x }
+    ensures below { (scene : AScene) (g : Grid) (x : ℕ) → ShowsRows (scene_rows scene) g → x < columns
+        → scene.rows < height_of scene → g.cells (x + 1) (scene.rows + 1) ≡ letter_face (text_below scene.below) x }
 {}
 
 /// Where no row is known, every grid shows the known rows.
 pub fn nothing_is_shown()
-    ensures { (g : Grid) → Shows [] g }
+    ensures { (g : Grid) → ShowsRows [] g }
 {}

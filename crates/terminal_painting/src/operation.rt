@@ -1,7 +1,7 @@
 //! Operations of a terminal, and the bytes that spell them.
 ghost use Rattle.std.specs.Prelude.{◌≡◌, ◌++◌, ◌+◌, ◌<◌, ◌≤◌, length};
 ghost use Rattle.arrayvec.specs.ArrayVec.{array_vec_len};
-ghost use Rattle.terminal_painting.specs.Spelling.{spelled, spelled_pen, three_digits, two_digits};
+ghost use Rattle.terminal_painting.specs.Spelling.{operation_bytes, spelled_pen, three_digits, two_digits};
 
 use crate::pen::Pen;
 use arrayvec::ArrayVec;
@@ -40,7 +40,7 @@ type Bytes = ArrayVec<u8, LONGEST>;
 impl Operation {
     /// Its bytes.
     pub fn spell(self) -> Bytes
-        ensures bytes { result.items ≡ spelled self }
+        ensures bytes { result.items ≡ operation_bytes self }
     {
         let mut bytes = Bytes::new();
         match self {
@@ -68,7 +68,7 @@ impl Operation {
 /// The bytes by which a pen is taken. They begin by taking all styles away.
 fn put_pen(bytes: &mut Bytes, pen: Pen)
     requires { array_vec_len bytes.old ≡ 0 }
-    ensures { bytes.new.items ≡ spelled (Operation.Take pen) }
+    ensures { bytes.new.items ≡ operation_bytes (Operation.Take pen) }
 {
     let (weight, slant, rule) = pen.style_codes();
     put(bytes, b"\x1b[0;");

@@ -6,8 +6,8 @@ ghost use Rattle.viewer_tracks.specs.declared.display.TheConstants.{COLUMNS as c
 ghost use Rattle.terminal_painting.specs.Scene.{scene_row, scene_rows, height_of, IsInSight};
 ghost use Rattle.terminal_painting.specs.Painting.{IsShown, Leads, Paints, PaintsFront};
 ghost use Rattle.terminal_painting.specs.Painting.{beginning, begun_rows, ending, rows_changes};
-ghost use Rattle.terminal_painting.specs.Pen.{blank};
-ghost use Rattle.terminal_painting.specs.Spelling.{spelled, spelled_all};
+ghost use Rattle.terminal_painting.specs.Pen.{blank_face};
+ghost use Rattle.terminal_painting.specs.Spelling.{operation_bytes, spelled_all};
 
 use crate::changes::{MOST, row_changes};
 use crate::face::{Face, WIDTH};
@@ -82,7 +82,7 @@ impl Painter {
 
 /// Rings the terminal's bell.
 pub fn ring<W: Write>(writer: &mut W) -> Result<(), OutputFault>
-    ensures { Sends result (W.contents writer.old) (W.contents writer.new) (spelled Operation.Ring) }
+    ensures { Sends result (W.contents writer.old) (W.contents writer.new) (operation_bytes Operation.Ring) }
 {
     send_last(writer, &[Operation::Ring])
 }
@@ -117,7 +117,7 @@ fn begin<W: Write>(writer: &mut W, known: Rows, height: u8) -> Result<Rows, Outp
 /// So many blank rows.
 fn blank_rows(height: u8) -> Rows
     requires { height ≤ MOST_ROWS }
-    ensures { result.items ≡ replicate height (replicate columns (blank WHITE)) }
+    ensures { result.items ≡ replicate height (replicate columns (blank_face WHITE)) }
 {
     let mut rows = Rows::new();
     for _ in 0..height {

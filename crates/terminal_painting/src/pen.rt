@@ -1,6 +1,6 @@
 //! How a cell looks on a terminal: ink, paper and style.
 ghost use Rattle.std.specs.Prelude.{◌≡◌};
-ghost use Rattle.terminal_painting.specs.Pen.{IsCode, ink_of, is_slanted, marked_ink, paper_of, pen_of, plain, rule_of};
+ghost use Rattle.terminal_painting.specs.Pen.{IsCode, ink_of, is_slanted, marked_ink, paper_of, pen_of, plain_pen, rule_of};
 ghost use Rattle.terminal_painting.specs.Pen.{rule_code, same_pen, slant_code, weight_code, weight_of};
 
 use screen_pictures::{Cell, Mark};
@@ -106,7 +106,7 @@ impl Pen {
 
     /// The pen of nothing but a paper.
     pub fn plain(paper: u8) -> Self
-        ensures { result ≡ plain paper }
+        ensures { result ≡ plain_pen paper }
     {
         Pen {
             ink: BLACK,

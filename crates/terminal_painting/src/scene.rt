@@ -3,8 +3,8 @@ ghost use Rattle.std.specs.Prelude.{◌≡◌, ◌+◌, ◌-◌, ◌<◌, ◌≤
 ghost use Rattle.viewer_tracks.specs.declared.display.TheConstants.{COLUMNS as columns, ROWS as rows};
 ghost use Rattle.screen_pictures.specs.declared.cell.Mark.{Mark as AMark};
 ghost use Rattle.screen_pictures.specs.Screen.{column_at};
-ghost use Rattle.terminal_painting.specs.Scene.{IsCaret, scene_row, height_of, IsInSight};
-ghost use Rattle.terminal_painting.specs.Scene.{row_of_cells, row_of_text, text_of};
+ghost use Rattle.terminal_painting.specs.Scene.{IsCaretCell, scene_row, height_of, IsInSight};
+ghost use Rattle.terminal_painting.specs.Scene.{row_of_cells, row_of_text, text_below};
 ghost use Rattle.terminal_painting.specs.Scene.{letter_face};
 
 use crate::face::{Face, WIDTH, sent_byte};
@@ -59,7 +59,7 @@ impl Scene<'_> {
 
     /// The text of the line below.
     fn text(&self) -> &[u8]
-        ensures { result.now ≡ text_of self.now.below }
+        ensures { result.now ≡ text_below self.now.below }
     {
         match self.below {
             Some(text) => text,
@@ -70,7 +70,7 @@ impl Scene<'_> {
     /// The column and the row, from the top, of a caret in sight.
     pub(crate) fn caret(&self) -> Option<(u8, u8)>
         requires { IsInSight self.now }
-        ensures stands { IsCaret self.now result }
+        ensures stands { IsCaretCell self.now result }
         ensures within { IfSome result (λ place. (place.0 < columns) × (place.1 < rows)) }
     {
         for y in 0..self.rows {

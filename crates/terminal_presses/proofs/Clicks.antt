@@ -15,18 +15,18 @@ use Rattle.terminal_presses.specs.declared.action.Click.TheVariants.{Mark, Keys}
 use Rattle.terminal_presses.specs.declared.action.Action.{Action}
 use Rattle.terminal_presses.specs.declared.action.Action.TheVariants.{Nothing}
 use Rattle.terminal_presses.specs.declared.hand.Hand.{Hand}
-use Rattle.terminal_presses.specs.Gestures.{no_buttons, with_button, joined, called, pressed_more, released, released_at}
-use Rattle.terminal_presses.specs.Hands.{new_hand, idle, by_function, meant, begun, gone_down, rested, gone_up, reported}
+use Rattle.terminal_presses.specs.Gestures.{no_buttons, with_button, keys_with_button, click_called, pressed_more, released, released_at}
+use Rattle.terminal_presses.specs.Hands.{new_hand, idle, by_function, click_meant, begun, gone_down, rested, gone_up, hand_after_report}
 use Rattle.terminal_presses.specs.Hands.{fresh, by_question, handled}
-use Rattle.terminal_presses.specs.Runs.{events_of, hand_after, posted, Makes, Corner, is_seen, down_with, down, up, alone, together}
-use Rattle.terminal_presses.specs.Runs.{clicked, says, spot_at, AreThree}
+use Rattle.terminal_presses.specs.Runs.{events_of_action, hand_after, posted_events, MakesEvents, Corner, is_seen, down_with, down, up, button_alone, together}
+use Rattle.terminal_presses.specs.Runs.{click_event, says, spot_at, AreThree}
 use Rattle.terminal_presses.proofs.Pieces.{posted_of_both}
 use Rattle.terminal_presses.proofs.Found.{is_not}
 use Rattle.terminal_presses.proofs.Typing.{by_test}
 
 -- presses make the hand and the events that their definitions say
 made : {sight : Sight} {hand : Hand} {presses : List Press}
-    → Makes sight hand presses (hand_after sight hand presses) (posted sight hand presses)
+    → MakesEvents sight hand presses (hand_after sight hand presses) (posted_events sight hand presses)
 made = record { hand_is = refl; events_are = refl }
 
 -- the hand that has pressed a button, whose click is that
@@ -39,37 +39,37 @@ held click sight button start = record {
 }
 
 seen_down : (sight : Sight) (button : Button) (start : Corner) → is_seen sight start ≡ true
-    → handled sight (down button start) new_hand ≡ (held (Some (Keys (alone button))) sight button start, Nothing)
-unfolding handled by_question fresh reported gone_down begun meant
+    → handled sight (down button start) new_hand ≡ (held (Some (Keys (button_alone button))) sight button start, Nothing)
+unfolding handled by_question fresh hand_after_report gone_down begun click_meant
 seen_down sight Left start seen = rw seen refl
 seen_down sight Middle start seen = rw seen refl
 seen_down sight Right start seen = rw seen refl
 
 unseen_down : (sight : Sight) (button : Button) (start : Corner) → is_seen sight start ≡ false
     → handled sight (down button start) new_hand ≡ (held None sight button start, Nothing)
-unfolding handled by_question fresh reported gone_down begun meant
+unfolding handled by_question fresh hand_after_report gone_down begun click_meant
 unseen_down sight button start unseen = rw unseen refl
 
 -- a press that makes no event, and then others
 after_one : {sight : Sight} {press : Press} {presses : List Press} {hand next last : Hand} {events : List Event}
-    → handled sight press hand ≡ (next, Nothing) → Makes sight next presses last events
-    → Makes sight hand (press ∷ presses) last events
+    → handled sight press hand ≡ (next, Nothing) → MakesEvents sight next presses last events
+    → MakesEvents sight hand (press ∷ presses) last events
 after_one {sight} {press} {presses} is more = record {
   hand_is = ap (λ (x : Hand × Action). hand_after sight x.0 presses) is ∙ more.hand_is;
-  events_are = ap (λ (x : Hand × Action). events_of x.1 ++ posted sight x.0 presses) is ∙ more.events_are;
+  events_are = ap (λ (x : Hand × Action). events_of_action x.1 ++ posted_events sight x.0 presses) is ∙ more.events_are;
 }
 
 one_up : (sight : Sight) (button : Button) (start end : Corner)
-    → Makes sight (held (Some (Keys (alone button))) sight button start) (up button end ∷ []) new_hand
-    (clicked (Keys (alone button)) sight start end ∷ [])
-unfolding handled by_question fresh reported gone_up rested released released_at
+    → MakesEvents sight (held (Some (Keys (button_alone button))) sight button start) (up button end ∷ []) new_hand
+    (click_event (Keys (button_alone button)) sight start end ∷ [])
+unfolding handled by_question fresh hand_after_report gone_up rested released released_at
 one_up sight Left start end = made
 one_up sight Middle start end = made
 one_up sight Right start end = made
 
 pub one_button : (sight : Sight) (button : Button) (start end : Corner) → is_seen sight start ≡ true
-    → Makes sight new_hand (down button start ∷ up button end ∷ []) new_hand
-    (clicked (Keys (alone button)) sight start end ∷ [])
+    → MakesEvents sight new_hand (down button start ∷ up button end ∷ []) new_hand
+    (click_event (Keys (button_alone button)) sight start end ∷ [])
 one_button sight button start end seen = after_one (seen_down sight button start seen) (one_up sight button start end)
 
 -- the same of a hand that has begun outside the display
@@ -83,12 +83,12 @@ held_outside sight button start hand = record hand {
 outside_down : (sight : Sight) (button : Button) (hand : Hand) (start : Corner) → hand.gesture ≡ None
     → is_seen sight start ≡ false
     → handled sight (down button start) (idle hand) ≡ (held_outside sight button start hand, Nothing)
-unfolding handled by_question fresh reported gone_down begun
+unfolding handled by_question fresh hand_after_report gone_down begun
 outside_down sight button hand start none unseen = rw (none, unseen) refl
 
 outside_up : (sight : Sight) (button : Button) (hand : Hand) (start end : Corner)
-    → Makes sight (held_outside sight button start hand) (up button end ∷ []) (record (idle hand) { gesture = None }) []
-unfolding handled by_question fresh reported gone_up rested released released_at
+    → MakesEvents sight (held_outside sight button start hand) (up button end ∷ []) (record (idle hand) { gesture = None }) []
+unfolding handled by_question fresh hand_after_report gone_up rested released released_at
 outside_up sight Left hand start end = made
 outside_up sight Middle hand start end = made
 outside_up sight Right hand start end = made
@@ -98,10 +98,10 @@ still_idle hand none = rw none refl
 
 pub none_outside : (sight : Sight) (button : Button) (hand : Hand) (start end : Corner) → hand.gesture ≡ None
     → not (is_seen sight start) ≡ true
-    → Makes sight (idle hand) (down button start ∷ up button end ∷ []) (idle hand) []
+    → MakesEvents sight (idle hand) (down button start ∷ up button end ∷ []) (idle hand) []
 none_outside sight button hand start end none outside =
     let unseen = is_not (is_seen sight start) outside in
-    subst (λ h. Makes sight (idle hand) (down button start ∷ up button end ∷ []) h []) (still_idle hand none)
+    subst (λ h. MakesEvents sight (idle hand) (down button start ∷ up button end ∷ []) h []) (still_idle hand none)
     (after_one (outside_down sight button hand start none unseen) (outside_up sight button hand start end))
 
 -- what two buttons that differ have, each pair of them has
@@ -119,24 +119,24 @@ by_pairs P s t u v w x Right Right other = absurd (other refl)
 
 -- what two buttons come to, whichever goes up first
 pub record Both (sight : Sight) (first second : Button) (start p q end : Corner) : Type 0 where
-  pub in_turn : Makes sight new_hand (down first start ∷ down second p ∷ up first q ∷ up second end ∷ []) new_hand
-      (clicked (Keys (together first second)) sight start end ∷ [])
-  pub turned : Makes sight new_hand (down first start ∷ down second p ∷ up second q ∷ up first end ∷ []) new_hand
-      (clicked (Keys (together first second)) sight start end ∷ [])
+  pub in_turn : MakesEvents sight new_hand (down first start ∷ down second p ∷ up first q ∷ up second end ∷ []) new_hand
+      (click_event (Keys (together first second)) sight start end ∷ [])
+  pub turned : MakesEvents sight new_hand (down first start ∷ down second p ∷ up second q ∷ up first end ∷ []) new_hand
+      (click_event (Keys (together first second)) sight start end ∷ [])
 
 -- what comes after the first of them is down
 record Rest (sight : Sight) (first second : Button) (start p q end : Corner) : Type 0 where
-  in_turn : Makes sight (held (Some (Keys (alone first))) sight first start)
+  in_turn : MakesEvents sight (held (Some (Keys (button_alone first))) sight first start)
       (down second p ∷ up first q ∷ up second end ∷ []) new_hand
-      (clicked (Keys (together first second)) sight start end ∷ [])
-  turned : Makes sight (held (Some (Keys (alone first))) sight first start)
+      (click_event (Keys (together first second)) sight start end ∷ [])
+  turned : MakesEvents sight (held (Some (Keys (button_alone first))) sight first start)
       (down second p ∷ up second q ∷ up first end ∷ []) new_hand
-      (clicked (Keys (together first second)) sight start end ∷ [])
+      (click_event (Keys (together first second)) sight start end ∷ [])
 
 rest_of_two : (sight : Sight) (first second : Button) (start p q end : Corner) → (first ≡ second → ⊥)
     → Rest sight first second start p q end
-unfolding handled by_question fresh reported gone_down meant gone_up rested released released_at pressed_more called
-    joined
+unfolding handled by_question fresh hand_after_report gone_down click_meant gone_up rested released released_at pressed_more click_called
+    keys_with_button
 rest_of_two sight first second start p q end other =
     by_pairs (λ a b. Rest sight a b start p q end) (record { in_turn = made; turned = made })
     (record { in_turn = made; turned = made }) (record { in_turn = made; turned = made })
@@ -186,38 +186,38 @@ off sight start = record {
 
 abbrev Falls : (Button → Option Click) → Sight → Corner → Corner → Corner → Button → Button → Button → Type 0
 Falls click sight start p q a b c =
-    Makes sight (held (click a) sight a start) (down b p ∷ down c q ∷ []) (off sight start) []
+    MakesEvents sight (held (click a) sight a start) (down b p ∷ down c q ∷ []) (off sight start) []
 
 fallen_seen : (sight : Sight) (start p q : Corner) (a b c : Button) → AreThree a b c
-    → Falls (λ button. Some (Keys (alone button))) sight start p q a b c
-unfolding handled by_question fresh reported gone_down meant pressed_more called joined
+    → Falls (λ button. Some (Keys (button_alone button))) sight start p q a b c
+unfolding handled by_question fresh hand_after_report gone_down click_meant pressed_more click_called keys_with_button
 fallen_seen sight start p q a b c are =
-    by_orders (Falls (λ button. Some (Keys (alone button))) sight start p q) made made made made made made a b c are
+    by_orders (Falls (λ button. Some (Keys (button_alone button))) sight start p q) made made made made made made a b c are
 
 fallen_unseen : (sight : Sight) (start p q : Corner) (a b c : Button) → AreThree a b c
     → Falls (λ button. None) sight start p q a b c
-unfolding handled by_question fresh reported gone_down meant pressed_more called joined
+unfolding handled by_question fresh hand_after_report gone_down click_meant pressed_more click_called keys_with_button
 fallen_unseen sight start p q a b c are =
     by_orders (Falls (λ button. None) sight start p q) made made made made made made a b c are
 
 fallen : (sight : Sight) (start p q : Corner) (a b c : Button) → AreThree a b c
-    → Makes sight new_hand (down a start ∷ down b p ∷ down c q ∷ []) (off sight start) []
+    → MakesEvents sight new_hand (down a start ∷ down b p ∷ down c q ∷ []) (off sight start) []
 fallen sight start p q a b c are =
     by_test (is_seen sight start)
     (λ seen. after_one (seen_down sight a start seen) (fallen_seen sight start p q a b c are))
     (λ unseen. after_one (unseen_down sight a start unseen) (fallen_unseen sight start p q a b c are))
 
 abbrev Rises : Sight → Corner → Corner → Corner → Corner → Button → Button → Button → Type 0
-Rises sight start p q r x y z = Makes sight (off sight start) (up x p ∷ up y q ∷ up z r ∷ []) new_hand []
+Rises sight start p q r x y z = MakesEvents sight (off sight start) (up x p ∷ up y q ∷ up z r ∷ []) new_hand []
 
 risen : (sight : Sight) (start p q r : Corner) (x y z : Button) → AreThree x y z → Rises sight start p q r x y z
-unfolding handled by_question fresh reported gone_up rested released released_at
+unfolding handled by_question fresh hand_after_report gone_up rested released released_at
 risen sight start p q r x y z are =
     by_orders (Rises sight start p q r) made made made made made made x y z are
 
 pub three_buttons : (sight : Sight) (a b c x y z : Button) (start p q r s end : Corner)
     → AreThree a b c → AreThree x y z
-    → Makes sight new_hand (down a start ∷ down b p ∷ down c q ∷ up x r ∷ up y s ∷ up z end ∷ []) new_hand []
+    → MakesEvents sight new_hand (down a start ∷ down b p ∷ down c q ∷ up x r ∷ up y s ∷ up z end ∷ []) new_hand []
 three_buttons sight a b c x y z start p q r s end falls rises =
     let f = fallen sight start p q a b c falls in
     let g = risen sight start r s end x y z rises in
@@ -226,8 +226,8 @@ three_buttons sight a b c x y z start p q r s end falls rises =
     record {
       hand_is = ap (λ h. hand_after sight h ups) f.hand_is ∙ g.hand_is;
       events_are = posted_of_both sight new_hand downs ups
-          ∙ ap (λ l. l ++ posted sight (hand_after sight new_hand downs) ups) f.events_are
-          ∙ ap (λ h. posted sight h ups) f.hand_is ∙ g.events_are;
+          ∙ ap (λ l. l ++ posted_events sight (hand_after sight new_hand downs) ups) f.events_are
+          ∙ ap (λ h. posted_events sight h ups) f.hand_is ∙ g.events_are;
     }
 
 -- ---- one button and a key
@@ -256,19 +256,19 @@ each_says sight F10 start end = tt
 
 armed_down : (sight : Sight) (click : Click) (start : Corner) → is_seen sight start ≡ true
     → handled sight (down Left start) (armed click) ≡ (held (Some click) sight Left start, Nothing)
-unfolding handled by_question fresh reported gone_down begun meant
+unfolding handled by_question fresh hand_after_report gone_down begun click_meant
 armed_down sight click start seen = rw seen refl
 
 left_up : (sight : Sight) (click : Click) (start end : Corner)
-    → Makes sight (held (Some click) sight Left start) (up Left end ∷ []) new_hand (clicked click sight start end ∷ [])
-unfolding handled by_question fresh reported gone_up rested released released_at
+    → MakesEvents sight (held (Some click) sight Left start) (up Left end ∷ []) new_hand (click_event click sight start end ∷ [])
+unfolding handled by_question fresh hand_after_report gone_up rested released released_at
 left_up sight Mark start end = made
 left_up sight (Keys keys) start end = made
 
 pub said_click : (sight : Sight) (key : FunctionKey) (click : Click) (start end : Corner) → says key ≡ Some click
     → is_seen sight start ≡ true
-    → Makes sight new_hand (Function key ∷ down Left start ∷ up Left end ∷ []) new_hand
-    (clicked click sight start end ∷ [])
+    → MakesEvents sight new_hand (Function key ∷ down Left start ∷ up Left end ∷ []) new_hand
+    (click_event click sight start end ∷ [])
 said_click sight key click start end is seen =
     let first = subst (λ (o : Option Click). Says sight key start end o) is (each_says sight key start end) in
     after_one first (after_one (armed_down sight click start seen) (left_up sight click start end))
@@ -276,24 +276,24 @@ said_click sight key click start end is seen =
 alt_down : (sight : Sight) (control : Bool) (start : Corner) → is_seen sight start ≡ true
     → handled sight (down_with true control Left start) new_hand
     ≡ (held (Some (Keys keys.Middle)) sight Left start, Nothing)
-unfolding handled by_question fresh reported gone_down begun meant
+unfolding handled by_question fresh hand_after_report gone_down begun click_meant
 alt_down sight control start seen = rw seen refl
 
 pub held_click : (sight : Sight) (control : Bool) (start end : Corner) → is_seen sight start ≡ true
-    → Makes sight new_hand (down_with true control Left start ∷ up Left end ∷ []) new_hand
-    (clicked (Keys keys.Middle) sight start end ∷ [])
+    → MakesEvents sight new_hand (down_with true control Left start ∷ up Left end ∷ []) new_hand
+    (click_event (Keys keys.Middle) sight start end ∷ [])
 held_click sight control start end seen =
     after_one (alt_down sight control start seen) (left_up sight (Keys keys.Middle) start end)
 
 control_down : (sight : Sight) (start : Corner) → is_seen sight start ≡ true
     → handled sight (down_with false true Left start) new_hand
     ≡ (held (Some (Keys keys.Right)) sight Left start, Nothing)
-unfolding handled by_question fresh reported gone_down begun meant
+unfolding handled by_question fresh hand_after_report gone_down begun click_meant
 control_down sight start seen = rw seen refl
 
 pub control_click : (sight : Sight) (start end : Corner) → is_seen sight start ≡ true
-    → Makes sight new_hand (down_with false true Left start ∷ up Left end ∷ []) new_hand
-    (clicked (Keys keys.Right) sight start end ∷ [])
+    → MakesEvents sight new_hand (down_with false true Left start ∷ up Left end ∷ []) new_hand
+    (click_event (Keys keys.Right) sight start end ∷ [])
 control_click sight start end seen =
     after_one (control_down sight start seen) (left_up sight (Keys keys.Right) start end)
 

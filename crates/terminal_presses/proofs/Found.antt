@@ -28,22 +28,22 @@ use Rattle.terminal_presses.specs.declared.place.Numbers.{Numbers}
 use Rattle.terminal_presses.specs.declared.place.SequencePlace.{SequencePlace}
 use Rattle.terminal_presses.specs.declared.place.SequencePlace.TheVariants as place
 use Rattle.terminal_presses.specs.declared.parser.Parser.{Parser}
-use Rattle.terminal_presses.specs.Presses.{single, grounded, preceded, alone, function_at, arrow_at, lettered, numbered}
-use Rattle.terminal_presses.specs.Presses.{longer, with_digit, with_number, mouse_mark, reported, moused, sized, plain}
-use Rattle.terminal_presses.specs.Presses.{ended, after_ground, after_escape, after_shift, after_console}
-use Rattle.terminal_presses.specs.Presses.{after_sequence, after_byte, after_quiet, after, at_rest, heard_by, in_order}
-use Rattle.terminal_presses.specs.Presses.{parser_after, pressed}
+use Rattle.terminal_presses.specs.Presses.{single, grounded, preceded, press_alone, function_at, arrow_at, lettered, numbered_key}
+use Rattle.terminal_presses.specs.Presses.{longer, with_digit, with_number, mouse_mark, reported_press, moused, sized, unmarked_press}
+use Rattle.terminal_presses.specs.Presses.{sequence_end, after_ground, after_escape, after_shift, after_console}
+use Rattle.terminal_presses.specs.Presses.{after_sequence, after_byte, after_quiet, sequence_after, at_rest, heard_by, in_order}
+use Rattle.terminal_presses.specs.Presses.{parser_after, presses_heard}
 use Rattle.terminal_presses.specs.Spelling.{value_from, IsNumeral, report_number, report_end, IsReport, IsSize}
-use Rattle.terminal_presses.specs.Spelling.{IsForeign}
-use Rattle.terminal_presses.specs.Spelling.{is_control, letter_alone, shifted, arrow_letter, page_spelling}
-use Rattle.terminal_presses.specs.Spelling.{function_spellings, sequence, IsOneOf, Spells, bytes, IsHeard}
+use Rattle.terminal_presses.specs.Spelling.{IsLongCharacter}
+use Rattle.terminal_presses.specs.Spelling.{is_control, letter_alone, shifted_sequence, arrow_letter, page_spelling}
+use Rattle.terminal_presses.specs.Spelling.{function_spellings, key_sequence, IsOneOf, SpellsPress, bytes_heard, IsPressHeard}
 use Rattle.terminal_presses.specs.Spelling.{AreHeard}
 use Rattle.terminal_presses.specs.Runs.{Corner, moved_with, report_with}
 use Rattle.terminal_presses.proofs.Pieces.{parser_of_both, pressed_of_both}
 
 -- that press is found in what is heard, and nothing is left of it
 abbrev Finds : Press → List Heard → Type 0
-Finds press heard = (parser_after at_rest heard ≡ at_rest) × (pressed at_rest heard ≡ press ∷ [])
+Finds press heard = (parser_after at_rest heard ≡ at_rest) × (presses_heard at_rest heard ≡ press ∷ [])
 
 -- ---- tests
 
@@ -67,19 +67,19 @@ in_some None = []
 in_some (Some press) = press ∷ []
 
 alone_in_order : (o : Option Press)
-    → ((alone (place.Ground, o)).0 ≡ place.Ground) × (in_order (alone (place.Ground, o)).1 ≡ in_some o)
+    → ((press_alone (place.Ground, o)).0 ≡ place.Ground) × (in_order (press_alone (place.Ground, o)).1 ≡ in_some o)
 alone_in_order None = (refl, refl)
 alone_in_order (Some press) = (refl, refl)
 
 byte_heard : (b : ℕ) (o : Option Press) → grounded b ≡ (place.Ground, o)
     → ((heard_by at_rest (Byte b)).0 ≡ at_rest) × (in_order (heard_by at_rest (Byte b)).1 ≡ in_some o)
-unfolding heard_by after after_byte after_ground
+unfolding heard_by sequence_after after_byte after_ground
 byte_heard b o is =
     let (at, said) = alone_in_order o in
     (rw (is, at) refl, rw is said)
 
-found_by : (b : ℕ) (press : Press) → grounded b ≡ (place.Ground, Some press) → Finds press (bytes (b ∷ []))
-unfolding heard_by after after_byte after_ground
+found_by : (b : ℕ) (press : Press) → grounded b ≡ (place.Ground, Some press) → Finds press (bytes_heard (b ∷ []))
+unfolding heard_by sequence_after after_byte after_ground
 found_by b press is = (rw is refl, rw is refl)
 
 not_escape : (b : ℕ) → is_text_byte b ≡ true → nat_eq b 27 ≡ false
@@ -132,71 +132,71 @@ follower_grounded b is =
 -- a byte between two spellings, and then others
 byte_before : (b : ℕ) (o : Option Press) (more : List Heard) → grounded b ≡ (place.Ground, o)
     → (parser_after at_rest (Byte b ∷ more) ≡ parser_after at_rest more)
-    × (pressed at_rest (Byte b ∷ more) ≡ in_some o ++ pressed at_rest more)
+    × (presses_heard at_rest (Byte b ∷ more) ≡ in_some o ++ presses_heard at_rest more)
 byte_before b o more is =
     let (at, said) = byte_heard b o is in (
       ap (λ p. parser_after p more) at,
-      ap (λ l. l ++ pressed (heard_by at_rest (Byte b)).0 more) said ∙ ap (λ p. in_some o ++ pressed p more) at,
+      ap (λ l. l ++ presses_heard (heard_by at_rest (Byte b)).0 more) said ∙ ap (λ p. in_some o ++ presses_heard p more) at,
     )
 
 followers_found : (rest : List ℕ) → list_all (lies_within 128 191) rest ≡ true
-    → (parser_after at_rest (bytes rest) ≡ at_rest) × (pressed at_rest (bytes rest) ≡ [])
+    → (parser_after at_rest (bytes_heard rest) ≡ at_rest) × (presses_heard at_rest (bytes_heard rest) ≡ [])
 followers_found [] all = (refl, refl)
 followers_found (b ∷ rest) all =
     let (one, others) = both (lies_within 128 191 b) (list_all (lies_within 128 191) rest) all in
     let (parser, presses) = followers_found rest others in
-    let first = byte_before b None (bytes rest) (follower_grounded b one) in
+    let first = byte_before b None (bytes_heard rest) (follower_grounded b one) in
     (first.0 ∙ parser, first.1 ∙ presses)
 
 foreign_first : (first : ℕ) (rest : List ℕ) → 192 ≤ first → list_all (lies_within 128 191) rest ≡ true
-    → Finds Foreign (bytes (first ∷ rest))
+    → Finds Foreign (bytes_heard (first ∷ rest))
 foreign_first first rest high all =
     let (parser, presses) = followers_found rest all in
-    let one = byte_before first (Some Foreign) (bytes rest) (foreign_grounded first high) in
+    let one = byte_before first (Some Foreign) (bytes_heard rest) (foreign_grounded first high) in
     (one.0 ∙ parser, one.1 ∙ ap (λ l. Foreign ∷ l) presses)
 
-foreign_found : (text : List ℕ) → IsForeign text → Finds Foreign (bytes text)
+foreign_found : (text : List ℕ) → IsLongCharacter text → Finds Foreign (bytes_heard text)
 foreign_found text is =
-    subst (λ t. Finds Foreign (bytes t)) (sym is.parts) (foreign_first is.first is.rest is.high is.goes_on)
+    subst (λ t. Finds Foreign (bytes_heard t)) (sym is.parts) (foreign_first is.first is.rest is.high is.goes_on)
 
 -- ---- spellings as they stand
 
 abbrev AllFound : Press → List (List ℕ) → Type 0
 AllFound press [] = Unit {0}
-AllFound press (one ∷ others) = Finds press (bytes one) × AllFound press others
+AllFound press (one ∷ others) = Finds press (bytes_heard one) × AllFound press others
 
 one_found : (press : Press) (texts : List (List ℕ)) (text : List ℕ) → AllFound press texts → IsOneOf texts text
-    → Finds press (bytes text)
+    → Finds press (bytes_heard text)
 one_found press [] text all is = absurd is
-one_found press (one ∷ others) text all (inl same) = subst (λ t. Finds press (bytes t)) (sym same) all.0
+one_found press (one ∷ others) text all (inl same) = subst (λ t. Finds press (bytes_heard t)) (sym same) all.0
 one_found press (one ∷ others) text all (inr is) = one_found press others text all.1 is
 
 back_found : AllFound Back ((8 ∷ []) ∷ (127 ∷ []) ∷ [])
-unfolding heard_by after after_byte after_ground grounded single is_text_byte
+unfolding heard_by sequence_after after_byte after_ground grounded single is_text_byte
 back_found = ((refl, refl), ((refl, refl), tt))
 
 escape_found : Finds Escape (Byte 27 ∷ Quiet ∷ [])
-unfolding heard_by after after_byte after_quiet after_ground grounded
+unfolding heard_by sequence_after after_byte after_quiet after_ground grounded
 escape_found = (refl, refl)
 
 arrow_found : (key : ArrowKey)
-    → AllFound (Arrow key) (letter_alone (arrow_letter key) ∷ shifted (arrow_letter key) ∷ [])
-unfolding heard_by after after_byte after_ground grounded after_escape after_shift after_sequence is_digit ended
-    plain lettered arrow_at
+    → AllFound (Arrow key) (letter_alone (arrow_letter key) ∷ shifted_sequence (arrow_letter key) ∷ [])
+unfolding heard_by sequence_after after_byte after_ground grounded after_escape after_shift after_sequence is_digit sequence_end
+    unmarked_press lettered arrow_at
 arrow_found arrow.Up = ((refl, refl), ((refl, refl), tt))
 arrow_found arrow.Down = ((refl, refl), ((refl, refl), tt))
 arrow_found arrow.Right = ((refl, refl), ((refl, refl), tt))
 arrow_found arrow.Left = ((refl, refl), ((refl, refl), tt))
 
-page_found : (key : PageKey) → Finds (Page key) (bytes (page_spelling key))
-unfolding heard_by after after_byte after_ground grounded after_escape after_sequence is_digit with_digit longer
-    ended plain numbered
+page_found : (key : PageKey) → Finds (Page key) (bytes_heard (page_spelling key))
+unfolding heard_by sequence_after after_byte after_ground grounded after_escape after_sequence is_digit with_digit longer
+    sequence_end unmarked_press numbered_key
 page_found page.Up = (refl, refl)
 page_found page.Down = (refl, refl)
 
 function_found : (key : FunctionKey) → AllFound (Function key) (function_spellings key)
-unfolding heard_by after after_byte after_ground grounded after_escape after_shift after_sequence after_console
-    is_digit with_digit longer ended plain lettered numbered function_at
+unfolding heard_by sequence_after after_byte after_ground grounded after_escape after_shift after_sequence after_console
+    is_digit with_digit longer sequence_end unmarked_press lettered numbered_key function_at
 function_found F1 = ((refl, refl), ((refl, refl), ((refl, refl), ((refl, refl), tt))))
 function_found F2 = ((refl, refl), ((refl, refl), ((refl, refl), ((refl, refl), tt))))
 function_found F3 = ((refl, refl), ((refl, refl), ((refl, refl), ((refl, refl), tt))))
@@ -208,22 +208,22 @@ function_found F8 = ((refl, refl), tt)
 function_found F9 = ((refl, refl), tt)
 function_found F10 = ((refl, refl), tt)
 
-pub paste_found : Finds PasteBegins (bytes (sequence (50 ∷ 48 ∷ 48 ∷ 126 ∷ [])))
-    × Finds PasteEnds (bytes (sequence (50 ∷ 48 ∷ 49 ∷ 126 ∷ [])))
-unfolding heard_by after after_byte after_ground grounded after_escape after_sequence is_digit with_digit longer
-    ended plain numbered
+pub paste_found : Finds PasteBegins (bytes_heard (key_sequence (50 ∷ 48 ∷ 48 ∷ 126 ∷ [])))
+    × Finds PasteEnds (bytes_heard (key_sequence (50 ∷ 48 ∷ 49 ∷ 126 ∷ [])))
+unfolding heard_by sequence_after after_byte after_ground grounded after_escape after_sequence is_digit with_digit longer
+    sequence_end unmarked_press numbered_key
 paste_found = ((refl, refl), (refl, refl))
 
-failure_found : Finds FileFails (bytes (sequence (50 ∷ 48 ∷ 50 ∷ 126 ∷ [])))
-unfolding heard_by after after_byte after_ground grounded after_escape after_sequence is_digit with_digit longer
-    ended plain numbered
+failure_found : Finds FileFails (bytes_heard (key_sequence (50 ∷ 48 ∷ 50 ∷ 126 ∷ [])))
+unfolding heard_by sequence_after after_byte after_ground grounded after_escape after_sequence is_digit with_digit longer
+    sequence_end unmarked_press numbered_key
 failure_found = (refl, refl)
 
 -- ---- numbers
 
 -- what is heard by one parser goes on as what is heard by another
 abbrev Goes : Parser → List Heard → Parser → List Heard → Type 0
-Goes p heard q more = (parser_after p heard ≡ parser_after q more) × (pressed p heard ≡ pressed q more)
+Goes p heard q more = (parser_after p heard ≡ parser_after q more) × (presses_heard p heard ≡ presses_heard q more)
 
 goes_on : (p : Parser) (a : List Heard) (q : Parser) (b : List Heard) (r : Parser) (c : List Heard)
     → Goes p a q b → Goes q b r c → Goes p a r c
@@ -248,18 +248,18 @@ with_digits s (b ∷ bs) = with_digits (with_digit s (b - 48)) bs
 
 digit_heard : (s : Numbers) (b : ℕ) → is_digit b ≡ true
     → heard_by (amid s) (Byte b) ≡ (amid (with_digit s (b - 48)), Nothing)
-unfolding heard_by after after_byte after_sequence
+unfolding heard_by sequence_after after_byte after_sequence
 digit_heard s b is = rw is refl
 
 digits_go : (s : Numbers) (digits text : List ℕ) → list_all is_digit digits ≡ true
-    → Goes (amid s) (bytes (digits ++ text)) (amid (with_digits s digits)) (bytes text)
+    → Goes (amid s) (bytes_heard (digits ++ text)) (amid (with_digits s digits)) (bytes_heard text)
 digits_go s [] text all = (refl, refl)
 digits_go s (b ∷ bs) text all =
     let (one, others) = both (is_digit b) (list_all is_digit bs) all in
     let (parser, presses) = digits_go (with_digit s (b - 48)) bs text others in
     let first = digit_heard s b one in (
-      ap (λ (x : Parser × Presses). parser_after x.0 (bytes (bs ++ text))) first ∙ parser,
-      ap (λ (x : Parser × Presses). in_order x.1 ++ pressed x.0 (bytes (bs ++ text))) first ∙ presses,
+      ap (λ (x : Parser × Presses). parser_after x.0 (bytes_heard (bs ++ text))) first ∙ parser,
+      ap (λ (x : Parser × Presses). in_order x.1 ++ presses_heard x.0 (bytes_heard (bs ++ text))) first ∙ presses,
     )
 
 -- the number that they make of one in front of them, as far as it is told apart
@@ -303,26 +303,26 @@ third_digits m x y v [] = refl
 third_digits m x y v (b ∷ bs) = third_digits m x y (longer v (b - 48)) bs
 
 numeral_goes : (s t : Numbers) (n : ℕ) (digits text : List ℕ) → IsNumeral n digits → with_digits s digits ≡ t
-    → Goes (amid s) (bytes (digits ++ text)) (amid t) (bytes text)
+    → Goes (amid s) (bytes_heard (digits ++ text)) (amid t) (bytes_heard text)
 numeral_goes s t n digits text is so =
-    subst (λ u. Goes (amid s) (bytes (digits ++ text)) (amid u) (bytes text)) so (digits_go s digits text is.digits_all)
+    subst (λ u. Goes (amid s) (bytes_heard (digits ++ text)) (amid u) (bytes_heard text)) so (digits_go s digits text is.digits_all)
 
 first_goes : (m : Mark) (n : ℕ) (digits text : List ℕ) → IsNumeral n digits
-    → Goes (amid (numbers m 0 0 0 0)) (bytes (digits ++ 59 ∷ text)) (amid (numbers m 1 n 0 0)) (bytes text)
-unfolding heard_by after after_byte after_sequence is_digit with_number
+    → Goes (amid (numbers m 0 0 0 0)) (bytes_heard (digits ++ 59 ∷ text)) (amid (numbers m 1 n 0 0)) (bytes_heard text)
+unfolding heard_by sequence_after after_byte after_sequence is_digit with_number
 first_goes m n digits text is =
     numeral_goes (numbers m 0 0 0 0) (numbers m 0 n 0 0) n digits (59 ∷ text) is
     (first_digits m 0 0 0 digits ∙ ap (λ v. numbers m 0 v 0 0) (numeral_value n digits is))
 
 second_goes : (m : Mark) (x n : ℕ) (digits text : List ℕ) → IsNumeral n digits
-    → Goes (amid (numbers m 1 x 0 0)) (bytes (digits ++ 59 ∷ text)) (amid (numbers m 2 x n 0)) (bytes text)
-unfolding heard_by after after_byte after_sequence is_digit with_number
+    → Goes (amid (numbers m 1 x 0 0)) (bytes_heard (digits ++ 59 ∷ text)) (amid (numbers m 2 x n 0)) (bytes_heard text)
+unfolding heard_by sequence_after after_byte after_sequence is_digit with_number
 second_goes m x n digits text is =
     numeral_goes (numbers m 1 x 0 0) (numbers m 1 x n 0) n digits (59 ∷ text) is
     (second_digits m x 0 0 digits ∙ ap (λ v. numbers m 1 x v 0) (numeral_value n digits is))
 
 third_goes : (m : Mark) (x y n : ℕ) (digits text : List ℕ) → IsNumeral n digits
-    → Goes (amid (numbers m 2 x y 0)) (bytes (digits ++ text)) (amid (numbers m 2 x y n)) (bytes text)
+    → Goes (amid (numbers m 2 x y 0)) (bytes_heard (digits ++ text)) (amid (numbers m 2 x y n)) (bytes_heard text)
 third_goes m x y n digits text is =
     numeral_goes (numbers m 2 x y 0) (numbers m 2 x y n) n digits text is
     (third_digits m x y 0 digits ∙ ap (λ v. numbers m 2 x y v) (numeral_value n digits is))
@@ -334,7 +334,7 @@ corner column row = record { column = column; row = row }
 
 abbrev Again : Button → Bool → ℕ → ℕ → Bool → Bool → Bool → Type 0
 Again button down column row alt control shift =
-    reported (numbers mark.Mouse 2 (report_number (report_with down alt control button (corner column row)) shift) column
+    reported_press (numbers mark.Mouse 2 (report_number (report_with down alt control button (corner column row)) shift) column
     row) down ≡ moved_with down alt control button (corner column row)
 
 by_bools : (P : Bool → Bool → Bool → Type 0) → P true true true → P true true false → P true false true
@@ -351,7 +351,7 @@ by_bools P s t u v w x y z false false false = z
 
 reported_again : (button : Button) (down alt control shift : Bool) (column row : ℕ)
     → Again button down column row alt control shift
-unfolding reported
+unfolding reported_press
 reported_again Left down alt control shift column row =
     by_bools (Again Left down column row) refl refl refl refl refl refl refl refl alt control shift
 reported_again Middle down alt control shift column row =
@@ -364,23 +364,23 @@ reporting report shift = amid (numbers mark.Mouse 2 (report_number report shift)
 
 abbrev ReportEnds : MouseReport → Bool → ℕ → Type 0
 ReportEnds report shift last =
-    (parser_after (reporting report shift) (bytes (last ∷ [])) ≡ at_rest)
-    × (pressed (reporting report shift) (bytes (last ∷ [])) ≡ Mouse report ∷ [])
+    (parser_after (reporting report shift) (bytes_heard (last ∷ [])) ≡ at_rest)
+    × (presses_heard (reporting report shift) (bytes_heard (last ∷ [])) ≡ Mouse report ∷ [])
 
 report_ends : (button : Button) (down alt control shift : Bool) (column row : ℕ)
     → ReportEnds (report_with down alt control button (corner column row)) shift (report_end down)
-unfolding heard_by after after_byte after_sequence is_digit ended moused
+unfolding heard_by sequence_after after_byte after_sequence is_digit sequence_end moused
 report_ends button true alt control shift column row =
     (refl, rw (reported_again button true alt control shift column row) refl)
 report_ends button false alt control shift column row =
     (refl, rw (reported_again button false alt control shift column row) refl)
 
 report_begins : (text : List ℕ)
-    → Goes at_rest (bytes (27 ∷ 91 ∷ 60 ∷ text)) (amid (numbers mark.Mouse 0 0 0 0)) (bytes text)
-unfolding heard_by after after_byte after_ground grounded after_escape after_sequence is_digit mouse_mark
+    → Goes at_rest (bytes_heard (27 ∷ 91 ∷ 60 ∷ text)) (amid (numbers mark.Mouse 0 0 0 0)) (bytes_heard text)
+unfolding heard_by sequence_after after_byte after_ground grounded after_escape after_sequence is_digit mouse_mark
 report_begins text = (refl, refl)
 
-report_found : (report : MouseReport) (text : List ℕ) → IsReport report text → Finds (Mouse report) (bytes text)
+report_found : (report : MouseReport) (text : List ℕ) → IsReport report text → Finds (Mouse report) (bytes_heard text)
 report_found report text is =
     let n = report_number report is.shift in
     let end = report_end report.is_down ∷ [] in
@@ -390,77 +390,77 @@ report_found report text is =
     let d = third_goes mark.Mouse n report.column report.row is.row end is.row_is in
     let e = report_ends report.button report.is_down report.with_alt report.with_control is.shift report.column
     report.row in
-    subst (λ t. Finds (Mouse report) (bytes t)) (sym is.parts)
+    subst (λ t. Finds (Mouse report) (bytes_heard t)) (sym is.parts)
     (a.0 ∙ b.0 ∙ c.0 ∙ d.0 ∙ e.0, a.1 ∙ b.1 ∙ c.1 ∙ d.1 ∙ e.1)
 
 -- ---- sizes
 
 size_begins : (text : List ℕ)
-    → Goes at_rest (bytes (27 ∷ 91 ∷ 56 ∷ 59 ∷ text)) (amid (numbers mark.Plain 1 8 0 0)) (bytes text)
-unfolding heard_by after after_byte after_ground grounded after_escape after_sequence is_digit with_digit longer
+    → Goes at_rest (bytes_heard (27 ∷ 91 ∷ 56 ∷ 59 ∷ text)) (amid (numbers mark.Plain 1 8 0 0)) (bytes_heard text)
+unfolding heard_by sequence_after after_byte after_ground grounded after_escape after_sequence is_digit with_digit longer
     with_number
 size_begins text = (refl, refl)
 
 size_ends : (rows columns : ℕ)
-    → (parser_after (amid (numbers mark.Plain 2 8 rows columns)) (bytes (116 ∷ [])) ≡ at_rest)
-    × (pressed (amid (numbers mark.Plain 2 8 rows columns)) (bytes (116 ∷ [])) ≡ Size rows columns ∷ [])
-unfolding heard_by after after_byte after_sequence is_digit ended plain sized
+    → (parser_after (amid (numbers mark.Plain 2 8 rows columns)) (bytes_heard (116 ∷ [])) ≡ at_rest)
+    × (presses_heard (amid (numbers mark.Plain 2 8 rows columns)) (bytes_heard (116 ∷ [])) ≡ Size rows columns ∷ [])
+unfolding heard_by sequence_after after_byte after_sequence is_digit sequence_end unmarked_press sized
 size_ends rows columns = (refl, refl)
 
-size_found : (rows columns : ℕ) (text : List ℕ) → IsSize rows columns text → Finds (Size rows columns) (bytes text)
+size_found : (rows columns : ℕ) (text : List ℕ) → IsSize rows columns text → Finds (Size rows columns) (bytes_heard text)
 size_found rows columns text is =
     let a = size_begins (is.high ++ 59 ∷ (is.wide ++ 116 ∷ [])) in
     let b = second_goes mark.Plain 8 rows is.high (is.wide ++ 116 ∷ []) is.rows_are in
     let c = third_goes mark.Plain 8 rows columns is.wide (116 ∷ []) is.columns_are in
     let d = size_ends rows columns in
-    subst (λ t. Finds (Size rows columns) (bytes t)) (sym is.parts)
+    subst (λ t. Finds (Size rows columns) (bytes_heard t)) (sym is.parts)
     (a.0 ∙ b.0 ∙ c.0 ∙ d.0, a.1 ∙ b.1 ∙ c.1 ∙ d.1)
 
 -- ---- presses
 
-spelled_found : (press : Press) (text : List ℕ) → Spells press text → Finds press (bytes text)
+spelled_found : (press : Press) (text : List ℕ) → SpellsPress press text → Finds press (bytes_heard text)
 spelled_found (Character b) text is =
-    subst (λ t. Finds (Character b) (bytes t)) (sym is.1) (found_by b (Character b) (character_grounded b is.0))
+    subst (λ t. Finds (Character b) (bytes_heard t)) (sym is.1) (found_by b (Character b) (character_grounded b is.0))
 spelled_found Foreign text is = foreign_found text is
 spelled_found (Control b) text is =
-    subst (λ t. Finds (Control b) (bytes t)) (sym is.1) (found_by b (Control b) (control_grounded b is.0))
+    subst (λ t. Finds (Control b) (bytes_heard t)) (sym is.1) (found_by b (Control b) (control_grounded b is.0))
 spelled_found Back text is = one_found Back ((8 ∷ []) ∷ (127 ∷ []) ∷ []) text back_found is
 spelled_found Escape text is = absurd is
 spelled_found (Arrow key) text is =
-    one_found (Arrow key) (letter_alone (arrow_letter key) ∷ shifted (arrow_letter key) ∷ []) text (arrow_found key) is
-spelled_found (Page key) text is = subst (λ t. Finds (Page key) (bytes t)) (sym is) (page_found key)
+    one_found (Arrow key) (letter_alone (arrow_letter key) ∷ shifted_sequence (arrow_letter key) ∷ []) text (arrow_found key) is
+spelled_found (Page key) text is = subst (λ t. Finds (Page key) (bytes_heard t)) (sym is) (page_found key)
 spelled_found (Function key) text is = one_found (Function key) (function_spellings key) text (function_found key) is
 spelled_found (Mouse report) text is = report_found report text is
-spelled_found PasteBegins text is = subst (λ t. Finds PasteBegins (bytes t)) (sym is) paste_found.0
-spelled_found PasteEnds text is = subst (λ t. Finds PasteEnds (bytes t)) (sym is) paste_found.1
+spelled_found PasteBegins text is = subst (λ t. Finds PasteBegins (bytes_heard t)) (sym is) paste_found.0
+spelled_found PasteEnds text is = subst (λ t. Finds PasteEnds (bytes_heard t)) (sym is) paste_found.1
 spelled_found (Size rows columns) text is = size_found rows columns text is
-spelled_found FileFails text is = subst (λ t. Finds FileFails (bytes t)) (sym is) failure_found
+spelled_found FileFails text is = subst (λ t. Finds FileFails (bytes_heard t)) (sym is) failure_found
 spelled_found Unknown text is = absurd is
 
-heard_found : (press : Press) (heard : List Heard) → IsHeard press heard → Finds press heard
+heard_found : (press : Press) (heard : List Heard) → IsPressHeard press heard → Finds press heard
 heard_found press heard (inl s) = subst (λ h. Finds press h) (sym s.is) (spelled_found press s.text s.spells)
 heard_found press heard (inr e) =
     subst (λ p. Finds p heard) (sym e.0) (subst (λ h. Finds Escape h) (sym e.1) escape_found)
 
 pub all_found : (presses : List Press) (heard : List Heard) → AreHeard presses heard
-    → (parser_after at_rest heard ≡ at_rest) × (pressed at_rest heard ≡ presses)
-all_found [] heard is = (ap (λ h. parser_after at_rest h) is, ap (λ h. pressed at_rest h) is)
+    → (parser_after at_rest heard ≡ at_rest) × (presses_heard at_rest heard ≡ presses)
+all_found [] heard is = (ap (λ h. parser_after at_rest h) is, ap (λ h. presses_heard at_rest h) is)
 all_found (press ∷ presses) heard is =
     let (front, rest, one, others, parts) = is in
     let first = heard_found press front one in
     let more = all_found presses rest others in (
       ap (λ h. parser_after at_rest h) parts ∙ parser_of_both at_rest front rest
           ∙ ap (λ p. parser_after p rest) first.0 ∙ more.0,
-      ap (λ h. pressed at_rest h) parts ∙ pressed_of_both at_rest front rest
-          ∙ ap (λ l. l ++ pressed (parser_after at_rest front) rest) first.1
-          ∙ ap (λ p. press ∷ pressed p rest) first.0 ∙ ap (λ l. press ∷ l) more.1,
+      ap (λ h. presses_heard at_rest h) parts ∙ pressed_of_both at_rest front rest
+          ∙ ap (λ l. l ++ presses_heard (parser_after at_rest front) rest) first.1
+          ∙ ap (λ p. press ∷ presses_heard p rest) first.0 ∙ ap (λ l. press ∷ l) more.1,
     )
 
 -- ---- an escape byte that begins no other spelling
 
 preceded_is : (next : SequencePlace × Option Press)
-    → ((preceded Escape next).0 ≡ (alone next).0)
-    × (in_order (preceded Escape next).1 ≡ Escape ∷ in_order (alone next).1)
+    → ((preceded Escape next).0 ≡ (press_alone next).0)
+    × (in_order (preceded Escape next).1 ≡ Escape ∷ in_order (press_alone next).1)
 unfolding preceded
 preceded_is (at, None) = (refl, refl)
 preceded_is (at, Some press) = (refl, refl)
@@ -469,8 +469,8 @@ abbrev standing : SequencePlace → Parser
 standing at = record { place = at }
 
 pub escape_alone : (b : ℕ) (more : List Heard) → (b ≡ 91 → ⊥) → (b ≡ 79 → ⊥)
-    → pressed at_rest (Byte 27 ∷ Byte b ∷ more) ≡ Escape ∷ pressed at_rest (Byte b ∷ more)
-unfolding heard_by after after_byte after_ground grounded after_escape
+    → presses_heard at_rest (Byte 27 ∷ Byte b ∷ more) ≡ Escape ∷ presses_heard at_rest (Byte b ∷ more)
+unfolding heard_by sequence_after after_byte after_ground grounded after_escape
 escape_alone b more no_bracket no_letter =
     let p : nat_eq b 91 ≡ false = grind (arith, nat_tests) in
     let q : nat_eq b 79 ≡ false = grind (arith, nat_tests) in
@@ -493,12 +493,12 @@ is_not false is = refl
 
 -- bytes among which no escape byte is are what each says by itself
 pub bytes_found : (text : List ℕ) → list_all (λ b. not (b == 27)) text ≡ true
-    → (parser_after at_rest (bytes text) ≡ at_rest) × (pressed at_rest (bytes text) ≡ filter_map single text)
+    → (parser_after at_rest (bytes_heard text) ≡ at_rest) × (presses_heard at_rest (bytes_heard text) ≡ filter_map single text)
 bytes_found [] all = (refl, refl)
 bytes_found (b ∷ text) all =
     let (one, others) = both (not (b == 27)) (list_all (λ b. not (b == 27)) text) all in
     let (parser, presses) = bytes_found text others in
-    let first = byte_before b (single b) (bytes text) (single_grounded b (is_not (nat_eq b 27) one)) in (
+    let first = byte_before b (single b) (bytes_heard text) (single_grounded b (is_not (nat_eq b 27) one)) in (
       first.0 ∙ parser,
       first.1 ∙ ap (λ l. in_some (single b) ++ l) presses ∙ some_first (single b) (filter_map single text),
     )

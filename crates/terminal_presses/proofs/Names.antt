@@ -14,11 +14,11 @@ use Rattle.terminal_presses.specs.declared.action.Action.TheVariants.{Nothing, T
 use Rattle.terminal_presses.specs.declared.hand.Hand.{Hand}
 use Rattle.terminal_presses.specs.Sights.{Sight}
 use Rattle.terminal_presses.specs.HostNames.{is_host_byte, is_host_name}
-use Rattle.terminal_presses.specs.Asking.{entered, lengthened, spelled, answered, pasted_name}
+use Rattle.terminal_presses.specs.Asking.{entered, lengthened, name_after_byte, answered, pasted_name}
 use Rattle.terminal_presses.specs.Hands.{idle, asking, answering, pasting_name, by_question, handled}
 use Rattle.terminal_presses.specs.Pastes.{new_paste}
 use Rattle.terminal_presses.specs.Presses.{single}
-use Rattle.terminal_presses.specs.Runs.{events_of, hand_after, posted, Makes, name_byte, name_with, paste_of}
+use Rattle.terminal_presses.specs.Runs.{events_of_action, hand_after, posted_events, MakesEvents, name_byte, name_with, paste_of}
 use Rattle.terminal_presses.proofs.Found.{both}
 use Rattle.terminal_presses.proofs.Typing.{by_test}
 
@@ -28,13 +28,13 @@ no_return b is = grind (arith, nat_tests)
 byte_typed : (sight : Sight) (hand : Hand) (b : ℕ) (name : List ℕ) → is_host_byte b ≡ true
     → nat_lt (length name) 255 ≡ true
     → handled sight (Character b) (asking name hand) ≡ (asking (name ++ b ∷ []) hand, Nothing)
-unfolding handled by_question answering answered spelled lengthened
+unfolding handled by_question answering answered name_after_byte lengthened
 byte_typed sight hand b name is room = rw (no_return b is, is, room) refl
 
 -- what is typed of a name, and then the rest of it
 rest_typed : (sight : Sight) (hand : Hand) (name rest : List ℕ) → list_all is_host_byte rest ≡ true
     → length name + length rest ≤ 255
-    → Makes sight (asking name hand) (map Character rest) (asking (name ++ rest) hand) []
+    → MakesEvents sight (asking name hand) (map Character rest) (asking (name ++ rest) hand) []
 rest_typed sight hand name [] all most = record {
   hand_is = ap (λ n. asking n hand) (sym (append-nil name));
   events_are = refl;
@@ -49,11 +49,11 @@ rest_typed sight hand name (b ∷ rest) all most =
       hand_is = ap (λ (x : Hand × Action). hand_after sight x.0 (map Character rest)) first ∙ more.hand_is
           ∙ ap (λ n. asking n hand) (append_assoc name (b ∷ []) rest);
       events_are =
-          ap (λ (x : Hand × Action). events_of x.1 ++ posted sight x.0 (map Character rest)) first ∙ more.events_are;
+          ap (λ (x : Hand × Action). events_of_action x.1 ++ posted_events sight x.0 (map Character rest)) first ∙ more.events_are;
     }
 
 pub name_typed : (sight : Sight) (hand : Hand) (name : List ℕ) → is_host_name name ≡ true
-    → Makes sight (asking [] hand) (map Character name) (asking name hand) []
+    → MakesEvents sight (asking [] hand) (map Character name) (asking name hand) []
 name_typed sight hand name is =
     let (short, all) = both (nat_le (length name) 255) (list_all is_host_byte name) is in
     let most : length name ≤ 255 = grind (arith, nat_tests) in
@@ -61,7 +61,7 @@ name_typed sight hand name is =
 
 pub name_entered : (sight : Sight) (hand : Hand) (name : List ℕ) → 1 ≤ length name
     → handled sight (Character 13) (asking name hand) ≡ (idle hand, TypeFile name)
-unfolding handled by_question answering answered spelled entered
+unfolding handled by_question answering answered name_after_byte entered
 name_entered sight hand [] least = absurd (omega arith)
 name_entered sight hand (b ∷ name) least = refl
 
@@ -86,7 +86,7 @@ cons_before (Some press) xs ys = refl
 
 abbrev IsNamed : Sight → Hand → List ℕ → ℕ → Type 0
 IsNamed sight hand name b =
-    Makes sight (naming name hand) (in_some (single b)) (naming (name_byte name b) hand) []
+    MakesEvents sight (naming name hand) (in_some (single b)) (naming (name_byte name b) hand) []
 
 -- a byte that can't stand in a name leaves it as it is
 no_name_byte : (name : List ℕ) (b : ℕ) → is_host_byte b ≡ false → name_byte name b ≡ name
@@ -157,33 +157,33 @@ byte_named sight hand name b =
 
 -- what a byte may say, and then others
 after_byte : {sight : Sight} {hand next last : Hand} (o : Option Press) (presses : List Press)
-    → Makes sight hand (in_some o) next [] → Makes sight next presses last []
-    → Makes sight hand (cons_option o presses) last []
+    → MakesEvents sight hand (in_some o) next [] → MakesEvents sight next presses last []
+    → MakesEvents sight hand (cons_option o presses) last []
 after_byte {sight} None presses one more = record {
   hand_is = ap (λ h. hand_after sight h presses) one.hand_is ∙ more.hand_is;
-  events_are = ap (λ h. posted sight h presses) one.hand_is ∙ more.events_are;
+  events_are = ap (λ h. posted_events sight h presses) one.hand_is ∙ more.events_are;
 }
 after_byte {sight} {hand} {next} (Some press) presses one more =
-    let none : events_of (handled sight press hand).1 ≡ [] =
-    sym (append-nil (events_of (handled sight press hand).1)) ∙ one.events_are in
+    let none : events_of_action (handled sight press hand).1 ≡ [] =
+    sym (append-nil (events_of_action (handled sight press hand).1)) ∙ one.events_are in
     record {
       hand_is = ap (λ h. hand_after sight h presses) one.hand_is ∙ more.hand_is;
-      events_are = ap (λ h. events_of (handled sight press hand).1 ++ posted sight h presses) one.hand_is
-          ∙ ap (λ l. l ++ posted sight next presses) none ∙ more.events_are;
+      events_are = ap (λ h. events_of_action (handled sight press hand).1 ++ posted_events sight h presses) one.hand_is
+          ∙ ap (λ l. l ++ posted_events sight next presses) none ∙ more.events_are;
     }
 
 text_pasted : (sight : Sight) (hand : Hand) (name text : List ℕ)
-    → Makes sight (naming name hand) (filter_map single text ++ PasteEnds ∷ []) (asking (name_with name text) hand) []
+    → MakesEvents sight (naming name hand) (filter_map single text ++ PasteEnds ∷ []) (asking (name_with name text) hand) []
 unfolding handled by_question pasting_name
 text_pasted sight hand name [] = record { hand_is = refl; events_are = refl }
 text_pasted sight hand name (b ∷ text) =
     let more = text_pasted sight hand (name_byte name b) text in
     let all = after_byte (single b) (filter_map single text ++ PasteEnds ∷ []) (byte_named sight hand name b) more in
-    subst (λ l. Makes sight (naming name hand) l (asking (name_with name (b ∷ text)) hand) [])
+    subst (λ l. MakesEvents sight (naming name hand) l (asking (name_with name (b ∷ text)) hand) [])
     (sym (cons_before (single b) (filter_map single text) (PasteEnds ∷ []))) all
 
 pub name_pasted : (sight : Sight) (hand : Hand) (name text : List ℕ)
-    → Makes sight (asking name hand) (paste_of text) (asking (name_with name text) hand) []
+    → MakesEvents sight (asking name hand) (paste_of text) (asking (name_with name text) hand) []
 unfolding handled by_question answering
 name_pasted sight hand name text =
     let rest = text_pasted sight hand name text in

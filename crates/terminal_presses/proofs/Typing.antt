@@ -19,12 +19,12 @@ use Rattle.terminal_presses.specs.declared.action.Action.{Action}
 use Rattle.terminal_presses.specs.declared.action.Action.TheVariants.{Nothing, Post}
 use Rattle.terminal_presses.specs.declared.paste.Paste.{Paste}
 use Rattle.terminal_presses.specs.declared.hand.Hand.{Hand}
-use Rattle.terminal_presses.specs.Presses.{single, at_rest, parser_after, pressed}
-use Rattle.terminal_presses.specs.Pastes.{typed, added, in_profile, pasted_byte, with_byte, fed, pasted_more}
+use Rattle.terminal_presses.specs.Presses.{single, at_rest, parser_after, presses_heard}
+use Rattle.terminal_presses.specs.Pastes.{typing_action, added, in_profile, pasted_byte, with_byte, after_line_feed, pasted_more}
 use Rattle.terminal_presses.specs.Pastes.{pasted_if_any, pasted_on}
 use Rattle.terminal_presses.specs.Hands.{idle, ends_paste, pasting, fresh, by_question, handled}
-use Rattle.terminal_presses.specs.Spelling.{bytes, sequence}
-use Rattle.terminal_presses.specs.Runs.{events_of, hand_after, posted, Makes, typed_byte, line_ends, pasted_text}
+use Rattle.terminal_presses.specs.Spelling.{bytes_heard, key_sequence}
+use Rattle.terminal_presses.specs.Runs.{events_of_action, hand_after, posted_events, MakesEvents, typed_byte, line_ends, pasted_text}
 use Rattle.terminal_presses.specs.Runs.{pasted, paste_of, Types}
 use Rattle.terminal_presses.proofs.Pieces.{parser_of_both, pressed_of_both}
 use Rattle.terminal_presses.proofs.Found.{both, is_not, bytes_found, paste_found}
@@ -45,8 +45,8 @@ paste after_return waiting = record { after_return = after_return; bytes = waiti
 
 -- the events of bytes that are pasted, until the paste ends
 abbrev typed_events : List ℕ → Paste → List Event
-typed_events [] p = events_of (typed p.bytes)
-typed_events (c ∷ cs) p = events_of (pasted_more c p).1 ++ typed_events cs (pasted_more c p).0
+typed_events [] p = events_of_action (typing_action p.bytes)
+typed_events (c ∷ cs) p = events_of_action (pasted_more c p).1 ++ typed_events cs (pasted_more c p).0
 
 -- a byte that is pasted, as it is typed: a line feed is told apart still
 abbrev as_typed : ℕ → ℕ
@@ -57,8 +57,8 @@ one_more : (waiting : List ℕ) (b : ℕ) → list_all is_text_byte waiting ≡ 
 one_more waiting b all one = list_all-append is_text_byte waiting (b ∷ []) ∙ rw (all, one) refl
 
 can_type : (waiting : List ℕ) → list_all is_text_byte waiting ≡ true → 1 ≤ length waiting → length waiting ≤ 900
-    → typed waiting ≡ Post (Typed waiting)
-unfolding typed
+    → typing_action waiting ≡ Post (Typed waiting)
+unfolding typing_action
 can_type waiting all least most =
     let l : nat_le 1 (length waiting) ≡ true = grind (arith, nat_tests) in
     let m : nat_le (length waiting) 900 ≡ true = grind (arith, nat_tests) in
@@ -73,13 +73,13 @@ types_more front rest [] len is =
 types_more front rest (event ∷ events) len is = (front, rest, refl, len, refl, is)
 
 -- what is left is typed where the paste ends
-types_left : (waiting : List ℕ) → Waits waiting → Types (events_of (typed waiting)) waiting
-unfolding typed
+types_left : (waiting : List ℕ) → Waits waiting → Types (events_of_action (typing_action waiting)) waiting
+unfolding typing_action
 types_left [] is = refl
 types_left (b ∷ waiting) is =
     let short = is.short in
     let e = can_type (b ∷ waiting) is.text (omega arith) (omega arith) in
-    subst (λ a. Types (events_of a) (b ∷ waiting)) (sym e) (refl, omega arith, omega arith)
+    subst (λ a. Types (events_of_action a) (b ∷ waiting)) (sym e) (refl, omega arith, omega arith)
 
 -- the events of these bytes type what waits and then them, whatever waits
 abbrev AreTyped : List ℕ → Type 0
@@ -88,7 +88,7 @@ AreTyped cs = (after_return : Bool) (waiting : List ℕ) → Waits waiting
 
 -- what was added is what happens next, and then the events of these bytes
 abbrev Continues : Bool → List ℕ → List ℕ → List ℕ × Action → Type 0
-Continues after_return cs text next = Types (events_of next.1 ++ typed_events cs (paste after_return next.0)) text
+Continues after_return cs text next = Types (events_of_action next.1 ++ typed_events cs (paste after_return next.0)) text
 
 added_short : (b : ℕ) (waiting : List ℕ) → nat_lt (length waiting + 1) 900 ≡ true
     → added b waiting ≡ (waiting ++ b ∷ [], Nothing)
@@ -96,7 +96,7 @@ unfolding added
 added_short b waiting short = rw short refl
 
 added_whole : (b : ℕ) (waiting : List ℕ) → nat_lt (length waiting + 1) 900 ≡ false
-    → added b waiting ≡ ([], typed (waiting ++ b ∷ []))
+    → added b waiting ≡ ([], typing_action (waiting ++ b ∷ []))
 unfolding added
 added_whole b waiting whole = rw whole refl
 
@@ -114,7 +114,7 @@ continues_short b after_return waiting cs is waits are short =
 continues_whole : (b : ℕ) (after_return : Bool) (waiting cs : List ℕ) → is_text_byte b ≡ true → Waits waiting
     → AreTyped cs → nat_lt (length waiting + 1) 900 ≡ false
     → Continues after_return cs (waiting ++ b ∷ line_ends after_return (map as_typed cs))
-    ([], typed (waiting ++ b ∷ []))
+    ([], typing_action (waiting ++ b ∷ []))
 continues_whole b after_return waiting cs is waits are full =
     let more = length-append waiting (b ∷ []) in
     let least = ltb-false _ _ full in
@@ -132,7 +132,7 @@ continues_whole b after_return waiting cs is waits are full =
 -- a byte that can be typed, and then others
 types_byte : (b : ℕ) (before after_return : Bool) (waiting cs : List ℕ) → is_text_byte b ≡ true → Waits waiting
     → AreTyped cs
-    → Types (events_of (with_byte b after_return (paste before waiting)).1
+    → Types (events_of_action (with_byte b after_return (paste before waiting)).1
     ++ typed_events cs (with_byte b after_return (paste before waiting)).0)
     (waiting ++ b ∷ line_ends after_return (map as_typed cs))
 unfolding with_byte
@@ -151,9 +151,9 @@ unfolding is_text_byte
 return_typed = refl
 
 types_feed : (before : Bool) (waiting cs : List ℕ) → Waits waiting → AreTyped cs
-    → Types (events_of (fed (paste before waiting)).1 ++ typed_events cs (fed (paste before waiting)).0)
+    → Types (events_of_action (after_line_feed (paste before waiting)).1 ++ typed_events cs (after_line_feed (paste before waiting)).0)
     (waiting ++ line_ends before (10 ∷ map as_typed cs))
-unfolding fed
+unfolding after_line_feed
 types_feed true waiting cs waits are = are false waiting waits
 types_feed false waiting cs waits are = types_byte 13 false false waiting cs return_typed waits are
 
@@ -190,7 +190,7 @@ profile_is b =
 typed_types : (cs : List ℕ) → AreTyped cs
 unfolding pasted_more
 typed_types [] after_return waiting waits =
-    subst (λ t. Types (events_of (typed waiting)) t) (sym (append-nil waiting)) (types_left waiting waits)
+    subst (λ t. Types (events_of_action (typing_action waiting)) t) (sym (append-nil waiting)) (types_left waiting waits)
 typed_types (c ∷ cs) after_return waiting waits =
     let (text, no_feed, same) = profile_is c in
     (elim (nat_eq c 10) as (λ v. nat_eq c 10 ≡ v → Types (typed_events (c ∷ cs) (paste after_return waiting)) (waiting
@@ -208,7 +208,7 @@ amid hand p = record hand { paste = Some p; asked = None }
 -- the terminal's size doesn't count, where nothing is dropped
 record GoesOn (press : Press) (p : Paste) : Type 0 where
   paste_is : (pasted_on press p).0 ≡ (pasted_if_any (pasted_byte press) p).0
-  events_are : events_of (pasted_on press p).1 ≡ events_of (pasted_if_any (pasted_byte press) p).1
+  events_are : events_of_action (pasted_on press p).1 ≡ events_of_action (pasted_if_any (pasted_byte press) p).1
 
 goes_on_with : (press : Press) (p : Paste) → p.drops ≡ false → GoesOn press p
 unfolding pasted_on pasted_byte
@@ -227,8 +227,8 @@ goes_on_with (Size rows columns) p is = record { paste_is = refl; events_are = r
 goes_on_with FileFails p is = record { paste_is = rw is refl; events_are = rw is refl }
 goes_on_with Unknown p is = record { paste_is = rw is refl; events_are = rw is refl }
 
-feed_keeps : (p : Paste) → (fed p).0.drops ≡ p.drops
-unfolding fed with_byte
+feed_keeps : (p : Paste) → (after_line_feed p).0.drops ≡ p.drops
+unfolding after_line_feed with_byte
 feed_keeps p = by_test p.after_return (λ e. rw e refl) (λ e. rw e refl)
 
 -- nothing that is pasted has the rest dropped
@@ -244,18 +244,18 @@ amid_handled sight press hand p is = rw (is_not (ends_paste press) is) refl
 
 next_events : (o : Option ℕ) (cs : List ℕ) (p : Paste)
     → typed_events (cons_option o cs) p
-    ≡ events_of (pasted_if_any o p).1 ++ typed_events cs (pasted_if_any o p).0
+    ≡ events_of_action (pasted_if_any o p).1 ++ typed_events cs (pasted_if_any o p).0
 next_events None cs p = refl
 next_events (Some c) cs p = refl
 
 presses_make : (sight : Sight) (hand : Hand) (p : Paste) (presses : List Press)
     → p.drops ≡ false → list_all (λ q. not (ends_paste q)) presses ≡ true
-    → Makes sight (amid hand p) (presses ++ PasteEnds ∷ []) (idle hand)
+    → MakesEvents sight (amid hand p) (presses ++ PasteEnds ∷ []) (idle hand)
     (typed_events (filter_map pasted_byte presses) p)
 unfolding handled by_question pasting
 presses_make sight hand p [] whole all = record {
   hand_is = refl;
-  events_are = append-nil (events_of (typed p.bytes));
+  events_are = append-nil (events_of_action (typing_action p.bytes));
 }
 presses_make sight hand p (press ∷ presses) whole all =
     let (one, others) = both _ _ all in
@@ -267,10 +267,10 @@ presses_make sight hand p (press ∷ presses) whole all =
     record {
       hand_is = ap (λ (x : Hand × Action). hand_after sight x.0 rest) h
           ∙ ap (λ q. hand_after sight (amid hand q) rest) on.paste_is ∙ more.hand_is;
-      events_are = ap (λ (x : Hand × Action). events_of x.1 ++ posted sight x.0 rest) h
-          ∙ ap (λ l. l ++ posted sight (amid hand (pasted_on press p).0) rest) on.events_are
-          ∙ ap (λ q. events_of next.1 ++ posted sight (amid hand q) rest) on.paste_is
-          ∙ ap (λ l. events_of next.1 ++ l) more.events_are
+      events_are = ap (λ (x : Hand × Action). events_of_action x.1 ++ posted_events sight x.0 rest) h
+          ∙ ap (λ l. l ++ posted_events sight (amid hand (pasted_on press p).0) rest) on.events_are
+          ∙ ap (λ q. events_of_action next.1 ++ posted_events sight (amid hand q) rest) on.paste_is
+          ∙ ap (λ l. events_of_action next.1 ++ l) more.events_are
           ∙ sym (next_events (pasted_byte press) (filter_map pasted_byte presses) p);
     }
 
@@ -410,7 +410,7 @@ text_is (b ∷ text) =
 -- ---- whole pastes
 
 pub paste_typed : (sight : Sight) (hand : Hand) (text : List ℕ)
-    → Types (posted sight (idle hand) (paste_of text)) (pasted_text text)
+    → Types (posted_events sight (idle hand) (paste_of text)) (pasted_text text)
 unfolding handled by_question fresh
 paste_typed sight hand text =
     let (are, all) = text_is text in
@@ -428,27 +428,27 @@ paste_leaves sight hand text =
     (presses_make sight (idle hand) (paste false []) (filter_map single text) refl (text_is text).1).hand_is
 
 pub paste_pressed : (text : List ℕ) → list_all (λ b. not (b == 27)) text ≡ true
-    → (parser_after at_rest (pasted text) ≡ at_rest) × (pressed at_rest (pasted text) ≡ paste_of text)
+    → (parser_after at_rest (pasted text) ≡ at_rest) × (presses_heard at_rest (pasted text) ≡ paste_of text)
 paste_pressed text all =
-    let begin = bytes (sequence (50 ∷ 48 ∷ 48 ∷ 126 ∷ [])) in
-    let end = bytes (sequence (50 ∷ 48 ∷ 49 ∷ 126 ∷ [])) in
+    let begin = bytes_heard (key_sequence (50 ∷ 48 ∷ 48 ∷ 126 ∷ [])) in
+    let end = bytes_heard (key_sequence (50 ∷ 48 ∷ 49 ∷ 126 ∷ [])) in
     let (first, last) = paste_found in
     let (parser, presses) = bytes_found text all in (
-      parser_of_both at_rest begin (bytes text ++ end)
-          ∙ ap (λ p. parser_after p (bytes text ++ end)) first.0
-          ∙ parser_of_both at_rest (bytes text) end
+      parser_of_both at_rest begin (bytes_heard text ++ end)
+          ∙ ap (λ p. parser_after p (bytes_heard text ++ end)) first.0
+          ∙ parser_of_both at_rest (bytes_heard text) end
           ∙ ap (λ p. parser_after p end) parser ∙ last.0,
-      pressed_of_both at_rest begin (bytes text ++ end)
-          ∙ ap (λ p. pressed at_rest begin ++ pressed p (bytes text ++ end)) first.0
-          ∙ ap (λ l. l ++ pressed at_rest (bytes text ++ end)) first.1
-          ∙ ap (λ l. PasteBegins ∷ l) (pressed_of_both at_rest (bytes text) end
-          ∙ ap (λ p. pressed at_rest (bytes text) ++ pressed p end) parser
-          ∙ ap (λ l. l ++ pressed at_rest end) presses
+      pressed_of_both at_rest begin (bytes_heard text ++ end)
+          ∙ ap (λ p. presses_heard at_rest begin ++ presses_heard p (bytes_heard text ++ end)) first.0
+          ∙ ap (λ l. l ++ presses_heard at_rest (bytes_heard text ++ end)) first.1
+          ∙ ap (λ l. PasteBegins ∷ l) (pressed_of_both at_rest (bytes_heard text) end
+          ∙ ap (λ p. presses_heard at_rest (bytes_heard text) ++ presses_heard p end) parser
+          ∙ ap (λ l. l ++ presses_heard at_rest end) presses
           ∙ ap (λ l. filter_map single text ++ l) last.1),
     )
 
 pub pasted_typed : (sight : Sight) (hand : Hand) (text : List ℕ) → list_all (λ b. not (b == 27)) text ≡ true
-    → Types (posted sight (idle hand) (pressed at_rest (pasted text))) (pasted_text text)
+    → Types (posted_events sight (idle hand) (presses_heard at_rest (pasted text))) (pasted_text text)
 pasted_typed sight hand text all =
-    subst (λ l. Types (posted sight (idle hand) l) (pasted_text text)) (sym (paste_pressed text all).1)
+    subst (λ l. Types (posted_events sight (idle hand) l) (pasted_text text)) (sym (paste_pressed text all).1)
     (paste_typed sight hand text)

@@ -26,13 +26,13 @@ lengthened b name =
     if is_host_byte b && nat_lt (length name) 255 then (Some (name ++ b ∷ []), Nothing) else (Some name, Ring)
 
 -- a carriage return ends the name
-unfoldable pub spelled : ℕ → List ℕ → Asked
-spelled b name = if b == 13 then entered name else lengthened b name
+unfoldable pub name_after_byte : ℕ → List ℕ → Asked
+name_after_byte b name = if b == 13 then entered name else lengthened b name
 
 -- the last byte is taken off
-unfoldable pub shortened : List ℕ → Asked
-shortened [] = (Some [], Ring)
-shortened (b ∷ name) = (Some (but_last (b ∷ name)), Nothing)
+unfoldable pub shortened_name : List ℕ → Asked
+shortened_name [] = (Some [], Ring)
+shortened_name (b ∷ name) = (Some (but_last (b ∷ name)), Nothing)
 
 -- what Ctrl comes to with G, J, L and Q; another letter rings
 unfoldable pub controlled_name : ℕ → List ℕ → Asked
@@ -49,10 +49,10 @@ by_function_amid key = Ring
 
 -- what a press comes to while a name is asked for
 unfoldable pub answered : Press → List ℕ → Asked
-answered (Character b) name = spelled b name
+answered (Character b) name = name_after_byte b name
 answered Foreign name = (Some name, Ring)
 answered (Control b) name = controlled_name b name
-answered Back name = shortened name
+answered Back name = shortened_name name
 answered Escape name = (None, Nothing)
 answered (Arrow arrow) name = (Some name, Ring)
 answered (Page page) name = (Some name, Move page)

@@ -39,32 +39,32 @@ with_button button.Right is down = record down { right = is }
 -- ---- the keys of a gesture
 
 -- with a button more, in the order in which they went down; a third one calls the gesture off
-unfoldable pub joined : Button → MouseKeys → Option MouseKeys
-joined another Left = Some (by_button another Left LeftMiddle LeftRight)
-joined another Middle = Some (by_button another MiddleLeft Middle MiddleRight)
-joined another Right = Some (by_button another RightLeft RightMiddle Right)
-joined another LeftMiddle = by_button another (Some LeftMiddle) (Some LeftMiddle) None
-joined another MiddleLeft = by_button another (Some MiddleLeft) (Some MiddleLeft) None
-joined another LeftRight = by_button another (Some LeftRight) None (Some LeftRight)
-joined another RightLeft = by_button another (Some RightLeft) None (Some RightLeft)
-joined another MiddleRight = by_button another None (Some MiddleRight) (Some MiddleRight)
-joined another RightMiddle = by_button another None (Some RightMiddle) (Some RightMiddle)
+unfoldable pub keys_with_button : Button → MouseKeys → Option MouseKeys
+keys_with_button another Left = Some (by_button another Left LeftMiddle LeftRight)
+keys_with_button another Middle = Some (by_button another MiddleLeft Middle MiddleRight)
+keys_with_button another Right = Some (by_button another RightLeft RightMiddle Right)
+keys_with_button another LeftMiddle = by_button another (Some LeftMiddle) (Some LeftMiddle) None
+keys_with_button another MiddleLeft = by_button another (Some MiddleLeft) (Some MiddleLeft) None
+keys_with_button another LeftRight = by_button another (Some LeftRight) None (Some LeftRight)
+keys_with_button another RightLeft = by_button another (Some RightLeft) None (Some RightLeft)
+keys_with_button another MiddleRight = by_button another None (Some MiddleRight) (Some MiddleRight)
+keys_with_button another RightMiddle = by_button another None (Some RightMiddle) (Some RightMiddle)
 
 abbrev pub as_click : Option MouseKeys → Option Click
 as_click None = None
 as_click (Some keys) = Some (Keys keys)
 
 -- what a gesture comes to in which another button goes down; none sets the marker and has two buttons
-unfoldable pub called : Button → Option Click → Option Click
-called another None = None
-called another (Some Mark) = None
-called another (Some (Keys keys)) = as_click (joined another keys)
+unfoldable pub click_called : Button → Option Click → Option Click
+click_called another None = None
+click_called another (Some Mark) = None
+click_called another (Some (Keys keys)) = as_click (keys_with_button another keys)
 
 -- ---- gestures
 
 unfoldable pub pressed_more : Button → Gesture → Gesture
 pressed_more another gesture = record {
-  click = called another gesture.click;
+  click = click_called another gesture.click;
   start = gesture.start;
   down = with_button another true gesture.down;
 }

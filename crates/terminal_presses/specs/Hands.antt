@@ -13,7 +13,7 @@ use Rattle.terminal_presses.specs.declared.press.Press.{Press}
 use Rattle.terminal_presses.specs.declared.press.Press.TheVariants.{Character, Foreign, Control, Back, Escape, Arrow}
 use Rattle.terminal_presses.specs.declared.press.Press.TheVariants.{Page, Function, Mouse, PasteBegins, PasteEnds, Size}
 use Rattle.terminal_presses.specs.declared.press.Press.TheVariants.{FileFails, Unknown}
-use Rattle.terminal_presses.specs.Sights.{Sight, is_inside, spot_in}
+use Rattle.terminal_presses.specs.Sights.{Sight, is_in_sight, spot_in}
 use Rattle.terminal_presses.specs.declared.spot.Spot.{Spot}
 use Rattle.terminal_presses.specs.declared.action.Click.{Click}
 use Rattle.terminal_presses.specs.declared.action.Click.TheVariants.{Mark, Keys}
@@ -26,7 +26,7 @@ use Rattle.terminal_presses.specs.declared.hand.Hand.{Hand}
 use Rattle.terminal_presses.specs.Gestures.{no_buttons, is_none_down, is_down, with_button, pressed_more, released}
 use Rattle.terminal_presses.specs.Gestures.{released_at}
 use Rattle.terminal_presses.specs.Asking.{Asked, answered, pasted_name}
-use Rattle.terminal_presses.specs.Pastes.{return, typed, new_paste, dropped, pasted_on}
+use Rattle.terminal_presses.specs.Pastes.{return, typing_action, new_paste, dropped, pasted_on}
 
 -- the hand that has pressed nothing
 abbrev pub new_hand : Hand
@@ -46,7 +46,7 @@ asking name hand = record hand { paste = None; asked = Some name }
 unfoldable pub control : ℕ → Action
 control b =
     if b == 3 then Post (Key key.Copy) else
-    (if b == 10 then typed (return ∷ []) else
+    (if b == 10 then typing_action (return ∷ []) else
     (if b == 12 then LookAnew else
     (if b == 17 then Leave else
     (if b == 22 then Post (Key key.Paste) else
@@ -55,8 +55,8 @@ control b =
     (if b == 26 then Undo else Ring)))))))
 
 -- the next click is what it says by itself
-unfoldable pub escaped : Hand → Hand × Action
-escaped hand = (record hand { armed = None }, Post (Key key.Escape))
+unfoldable pub hand_after_escape : Hand → Hand × Action
+hand_after_escape hand = (record hand { armed = None }, Post (Key key.Escape))
 
 -- the name of a host file is asked for
 abbrev pub asks : Hand → Hand × Action
@@ -64,7 +64,7 @@ asks hand = (record hand { asked = Some [] }, Nothing)
 
 -- Ctrl-G is Escape too, and Ctrl-O asks for a name
 unfoldable pub controlled : ℕ → Hand → Hand × Action
-controlled b hand = if b == 7 then escaped hand else (if b == 15 then asks hand else (hand, control b))
+controlled b hand = if b == 7 then hand_after_escape hand else (if b == 15 then asks hand else (hand, control b))
 
 abbrev pub armed_with : Click → Hand → Hand × Action
 armed_with click hand = (record hand { armed = Some click }, Nothing)
@@ -86,12 +86,12 @@ by_function F10 hand = (hand, Leave)
 
 -- what a click is that begins with a button: the left one is the middle one with Alt and the right one with Ctrl, and
 -- is without them what a function key has said
-unfoldable pub meant : Button → MouseReport → Option Click → Click
-meant Left report armed =
+unfoldable pub click_meant : Button → MouseReport → Option Click → Click
+click_meant Left report armed =
     if report.with_alt then Keys keys.Middle else
     (if report.with_control then Keys keys.Right else unwrap_or armed (Keys keys.Left))
-meant Middle report armed = Keys keys.Middle
-meant Right report armed = Keys keys.Right
+click_meant Middle report armed = Keys keys.Middle
+click_meant Right report armed = Keys keys.Right
 
 abbrev pub spot_of : Sight → MouseReport → Spot
 spot_of sight report = spot_in sight report.column report.row
@@ -106,10 +106,10 @@ gesture_of click sight report = record {
 -- A gesture begins. One that begins outside the display comes to nothing, and what a function key has said waits on.
 unfoldable pub begun : Sight → MouseReport → Hand → Hand
 begun sight report hand =
-    if is_inside sight report.column report.row then
+    if is_in_sight sight report.column report.row then
     record hand {
       armed = None;
-      gesture = Some (gesture_of (Some (meant report.button report hand.armed)) sight report);
+      gesture = Some (gesture_of (Some (click_meant report.button report hand.armed)) sight report);
     }
     else record hand { gesture = Some (gesture_of None sight report) }
 
@@ -131,8 +131,8 @@ unfoldable pub gone_up : Option Gesture → Button → Spot → Hand → Hand ×
 gone_up None button spot hand = (hand, Nothing)
 gone_up (Some gesture) button spot hand = rested (released button gesture) spot hand
 
-unfoldable pub reported : Sight → MouseReport → Hand → Hand × Action
-reported sight report hand =
+unfoldable pub hand_after_report : Sight → MouseReport → Hand → Hand × Action
+hand_after_report sight report hand =
     if report.is_down then (gone_down hand.gesture sight report hand, Nothing) else
     gone_up hand.gesture report.button (spot_of sight report) hand
 
@@ -140,15 +140,15 @@ reported sight report hand =
 
 -- what a press comes to while nothing is pasted
 unfoldable pub fresh : Sight → Press → Hand → Hand × Action
-fresh sight (Character b) hand = (hand, typed (b ∷ []))
+fresh sight (Character b) hand = (hand, typing_action (b ∷ []))
 fresh sight Foreign hand = (hand, Ring)
 fresh sight (Control b) hand = controlled b hand
 fresh sight Back hand = (hand, Post (Key key.Back))
-fresh sight Escape hand = escaped hand
+fresh sight Escape hand = hand_after_escape hand
 fresh sight (Arrow arrow) hand = (hand, Step arrow)
 fresh sight (Page page) hand = (hand, Move page)
 fresh sight (Function function) hand = by_function function hand
-fresh sight (Mouse report) hand = reported sight report hand
+fresh sight (Mouse report) hand = hand_after_report sight report hand
 fresh sight PasteBegins hand = (record hand { paste = Some new_paste }, Nothing)
 fresh sight PasteEnds hand = (hand, Nothing)
 fresh sight (Size rows columns) hand = (hand, Fit rows columns)
@@ -174,7 +174,7 @@ after_paste hand = record hand { paste = None }
 unfoldable pub pasting : Option Paste → Press → Hand → Hand × Action
 pasting None press hand = (hand, Nothing)
 pasting (Some paste) press hand =
-    if ends_paste press then (after_paste hand, typed paste.bytes) else with_paste (pasted_on press paste) hand
+    if ends_paste press then (after_paste hand, typing_action paste.bytes) else with_paste (pasted_on press paste) hand
 
 abbrev pub is_pasting : Option Paste → Bool
 is_pasting None = false

@@ -3,6 +3,7 @@ use Rattle.std.specs.Prelude.{ℕ, ◌+◌, Bool, true, false, ◌==◌, nat_lt,
 use Rattle.std.specs.Prelude.{length}
 use Rattle.std.specs.Prelude.{Option, Some, None}
 use Rattle.event_bytes.specs.Bytes.{is_text_byte, is_typed_bytes}
+pub use Rattle.event_bytes.specs.Bytes.{line_feed, question_mark}
 use Rattle.event_bytes.specs.declared.event.Event.TheVariants.{Typed}
 use Rattle.terminal_presses.specs.declared.press.Press.{Press}
 use Rattle.terminal_presses.specs.declared.press.Press.TheVariants.{Character, Foreign, Control, Back, Escape, Arrow}
@@ -12,23 +13,17 @@ use Rattle.terminal_presses.specs.declared.action.Action.{Action}
 use Rattle.terminal_presses.specs.declared.action.Action.TheVariants.{Nothing, Post, Fit}
 use Rattle.terminal_presses.specs.declared.paste.Paste.{Paste}
 
-abbrev pub line_feed : ℕ
-line_feed = 10
-
 abbrev pub return : ℕ
 return = 13
 
-abbrev pub question_mark : ℕ
-question_mark = 63
-
 -- the event that types the bytes; nothing where there are none, or they can't be typed
-unfoldable pub typed : List ℕ → Action
-typed bytes = if is_typed_bytes bytes then Post (Typed bytes) else Nothing
+unfoldable pub typing_action : List ℕ → Action
+typing_action bytes = if is_typed_bytes bytes then Post (Typed bytes) else Nothing
 
 -- with a byte more 900 of them are an event, and none are left
 unfoldable pub added : ℕ → List ℕ → List ℕ × Action
 added b bytes =
-    if nat_lt (length bytes + 1) 900 then (bytes ++ b ∷ [], Nothing) else ([], typed (bytes ++ b ∷ []))
+    if nat_lt (length bytes + 1) 900 then (bytes ++ b ∷ [], Nothing) else ([], typing_action (bytes ++ b ∷ []))
 
 -- a byte that can't be typed is a question mark
 unfoldable pub in_profile : ℕ → ℕ
@@ -65,12 +60,12 @@ with_byte b is_return paste = let next = added b paste.bytes in
     (record { after_return = is_return; bytes = next.0; drops = paste.drops }, next.1)
 
 -- a line feed right after a carriage return is nothing, and another one is a carriage return
-unfoldable pub fed : Paste → Paste × Action
-fed paste =
+unfoldable pub after_line_feed : Paste → Paste × Action
+after_line_feed paste =
     if paste.after_return then (record paste { after_return = false }, Nothing) else with_byte return false paste
 
 unfoldable pub pasted_more : ℕ → Paste → Paste × Action
-pasted_more b paste = if b == line_feed then fed paste else with_byte (in_profile b) (b == return) paste
+pasted_more b paste = if b == line_feed then after_line_feed paste else with_byte (in_profile b) (b == return) paste
 
 abbrev pub pasted_if_any : Option ℕ → Paste → Paste × Action
 pasted_if_any None paste = (paste, Nothing)

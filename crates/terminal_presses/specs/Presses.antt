@@ -60,16 +60,16 @@ abbrev pub buttons : List Button
 buttons = Left ∷ Middle ∷ Right ∷ []
 
 -- what a table has at a place, as a press
-abbrev pub listed : {A : Type 0} → (A → Press) → Option A → Press
-listed press None = Unknown
-listed press (Some a) = press a
+abbrev pub press_listed : {A : Type 0} → (A → Press) → Option A → Press
+press_listed press None = Unknown
+press_listed press (Some a) = press a
 
 -- the function key at a place, counted from 0
 unfoldable pub function_at : ℕ → Press
-function_at n = listed Function (slice_get function_keys n)
+function_at n = press_listed Function (slice_get function_keys n)
 
 unfoldable pub arrow_at : ℕ → Press
-arrow_at n = listed Arrow (slice_get arrows n)
+arrow_at n = press_listed Arrow (slice_get arrows n)
 
 -- A to D are the arrows, P to S the first four function keys
 unfoldable pub lettered : ℕ → Press
@@ -78,8 +78,8 @@ lettered b =
     (if lies_within 80 83 b then function_at (b - 80) else Unknown)
 
 -- keys that are spelled by a number
-unfoldable pub numbered : ℕ → Press
-numbered n =
+unfoldable pub numbered_key : ℕ → Press
+numbered_key n =
     if lies_within 11 15 n then function_at (n - 11) else
     (if lies_within 17 21 n then function_at (n - 12) else
     (if n == 5 then Page page.Up else
@@ -91,12 +91,12 @@ numbered n =
 -- ---- numbers of a sequence
 
 -- the greatest number that is told apart
-abbrev pub greatest : ℕ
-greatest = 65535
+abbrev pub greatest_number : ℕ
+greatest_number = 65535
 
 -- a number with a digit more
 unfoldable pub longer : ℕ → ℕ → ℕ
-longer n digit = min (n * 10 + digit) greatest
+longer n digit = min (n * 10 + digit) greatest_number
 
 abbrev pub no_numbers : Numbers
 no_numbers = record { mark = mark.Plain; last = 0; first = 0; second = 0; third = 0 }
@@ -121,10 +121,10 @@ mouse_mark s mark.Odd = record s { mark = mark.Odd }
 -- ---- what a whole sequence says
 
 -- a button's number has 8 more with Alt and 16 more with Ctrl; from 32 on it is a motion, a wheel or a further button
-unfoldable pub reported : Numbers → Bool → Press
-reported s is_down =
+unfoldable pub reported_press : Numbers → Bool → Press
+reported_press s is_down =
     if nat_le 32 s.first then Unknown else
-    listed (λ button. Mouse (record {
+    press_listed (λ button. Mouse (record {
       button = button;
       is_down = is_down;
       with_alt = s.first / 8 % 2 == 1;
@@ -135,21 +135,21 @@ reported s is_down =
 
 -- a mouse report ends with M for down and m for up
 unfoldable pub moused : Numbers → ℕ → Press
-moused s b = if b == 77 then reported s true else (if b == 109 then reported s false else Unknown)
+moused s b = if b == 77 then reported_press s true else (if b == 109 then reported_press s false else Unknown)
 
 -- a size, as an answer or as news
 unfoldable pub sized : Numbers → Press
 sized s = if (s.first == 8) || (s.first == 48) then Size s.second s.third else Unknown
 
 -- a sequence with no mark ends with ~ after a key's number, with t after a size, or else with a key's letter
-unfoldable pub plain : Numbers → ℕ → Press
-plain s b = if b == 126 then numbered s.first else (if b == 116 then sized s else lettered b)
+unfoldable pub unmarked_press : Numbers → ℕ → Press
+unmarked_press s b = if b == 126 then numbered_key s.first else (if b == 116 then sized s else lettered b)
 
 -- a sequence ends with this byte. M with no mark begins a mouse report of the older form: three bytes follow
-unfoldable pub ended : Numbers → Mark → ℕ → SequencePlace × Presses
-ended s mark.Plain b = if b == 77 then (place.Report 3, Nothing) else (place.Ground, One (plain s b))
-ended s mark.Mouse b = (place.Ground, One (moused s b))
-ended s mark.Odd b = (place.Ground, One Unknown)
+unfoldable pub sequence_end : Numbers → Mark → ℕ → SequencePlace × Presses
+sequence_end s mark.Plain b = if b == 77 then (place.Report 3, Nothing) else (place.Ground, One (unmarked_press s b))
+sequence_end s mark.Mouse b = (place.Ground, One (moused s b))
+sequence_end s mark.Odd b = (place.Ground, One Unknown)
 
 -- ---- one byte more
 
@@ -157,12 +157,12 @@ ended s mark.Odd b = (place.Ground, One Unknown)
 unfoldable pub cut_off : ℕ → SequencePlace × Presses
 cut_off b = preceded Unknown (grounded b)
 
-abbrev pub alone : SequencePlace × Option Press → SequencePlace × Presses
-alone (at, None) = (at, Nothing)
-alone (at, Some press) = (at, One press)
+abbrev pub press_alone : SequencePlace × Option Press → SequencePlace × Presses
+press_alone (at, None) = (at, Nothing)
+press_alone (at, Some press) = (at, One press)
 
 unfoldable pub after_ground : ℕ → SequencePlace × Presses
-after_ground b = alone (grounded b)
+after_ground b = press_alone (grounded b)
 
 -- the escape byte was a key of its own, unless [ or O follows
 unfoldable pub after_escape : ℕ → SequencePlace × Presses
@@ -191,7 +191,7 @@ after_sequence s b =
     (if b == 59 then (place.Sequence (with_number s), Nothing) else
     (if b == 60 then (place.Sequence (mouse_mark s s.mark), Nothing) else
     (if b == 91 then (place.Console, Nothing) else
-    (if lies_within 64 126 b then ended s s.mark b else
+    (if lies_within 64 126 b then sequence_end s s.mark b else
     (if lies_within 32 63 b then (place.Sequence (record s { mark = mark.Odd }), Nothing) else cut_off b)))))
 
 unfoldable pub after_byte : SequencePlace → ℕ → SequencePlace × Presses
@@ -208,8 +208,8 @@ is_plain mark.Mouse = false
 is_plain mark.Odd = false
 
 -- whether nothing is heard of a sequence but its beginning
-unfoldable pub is_bare : Numbers → Bool
-is_bare s = is_plain s.mark && ((s.last == 0) && (s.first == 0))
+unfoldable pub is_bare_sequence : Numbers → Bool
+is_bare_sequence s = is_plain s.mark && ((s.last == 0) && (s.first == 0))
 
 -- An escape byte after which no byte comes for a while was the key. No terminal ends a sequence so late that has only
 -- begun: it is the key Alt with O or [, and means nothing. All else waits for its next byte.
@@ -217,13 +217,13 @@ unfoldable pub after_quiet : SequencePlace → SequencePlace × Presses
 after_quiet place.Escape = (place.Ground, One Escape)
 after_quiet place.Ground = (place.Ground, Nothing)
 after_quiet place.Shift = (place.Ground, One Unknown)
-after_quiet (place.Sequence s) = if is_bare s then (place.Ground, One Unknown) else (place.Sequence s, Nothing)
+after_quiet (place.Sequence s) = if is_bare_sequence s then (place.Ground, One Unknown) else (place.Sequence s, Nothing)
 after_quiet place.Console = (place.Console, Nothing)
 after_quiet (place.Report missing) = (place.Report missing, Nothing)
 
-unfoldable pub after : SequencePlace → Heard → SequencePlace × Presses
-after at (Byte b) = after_byte at b
-after at Quiet = after_quiet at
+unfoldable pub sequence_after : SequencePlace → Heard → SequencePlace × Presses
+sequence_after at (Byte b) = after_byte at b
+sequence_after at Quiet = after_quiet at
 
 -- ---- a run
 
@@ -233,7 +233,7 @@ at_rest = record { place = place.Ground }
 
 -- the parser after one thing more that it heard, and what that completes
 unfoldable pub heard_by : Parser → Heard → Parser × Presses
-heard_by parser heard = let next = after parser.place heard in (record { place = next.0 }, next.1)
+heard_by parser heard = let next = sequence_after parser.place heard in (record { place = next.0 }, next.1)
 
 abbrev pub in_order : Presses → List Press
 in_order Nothing = []
@@ -246,6 +246,6 @@ parser_after parser [] = parser
 parser_after parser (heard ∷ more) = parser_after (heard_by parser heard).0 more
 
 -- what was pressed, by all that was heard
-abbrev pub pressed : Parser → List Heard → List Press
-pressed parser [] = []
-pressed parser (heard ∷ more) = in_order (heard_by parser heard).1 ++ pressed (heard_by parser heard).0 more
+abbrev pub presses_heard : Parser → List Heard → List Press
+presses_heard parser [] = []
+presses_heard parser (heard ∷ more) = in_order (heard_by parser heard).1 ++ presses_heard (heard_by parser heard).0 more

@@ -16,7 +16,7 @@ use Rattle.terminal_presses.specs.declared.press.FunctionKey.TheVariants.{F1, F2
 use Rattle.terminal_presses.specs.declared.press.MouseReport.{MouseReport}
 use Rattle.terminal_presses.specs.declared.press.Press.{Press}
 use Rattle.terminal_presses.specs.declared.press.Press.TheVariants.{Mouse, PasteBegins, PasteEnds}
-use Rattle.terminal_presses.specs.Sights.{Sight, is_inside, spot_in}
+use Rattle.terminal_presses.specs.Sights.{Sight, is_in_sight, spot_in}
 use Rattle.terminal_presses.specs.declared.action.Click.{Click}
 use Rattle.terminal_presses.specs.declared.action.Click.TheVariants.{Mark, Keys}
 use Rattle.terminal_presses.specs.declared.action.Action.{Action}
@@ -26,7 +26,7 @@ use Rattle.terminal_presses.specs.declared.spot.Spot.{Spot}
 use Rattle.terminal_presses.specs.Presses.{single}
 use Rattle.terminal_presses.specs.Hands.{handled}
 use Rattle.terminal_presses.specs.HostNames.{is_host_byte}
-use Rattle.terminal_presses.specs.Spelling.{sequence, bytes}
+use Rattle.terminal_presses.specs.Spelling.{key_sequence, bytes_heard}
 
 -- ---- runs of presses
 
@@ -35,20 +35,20 @@ abbrev pub hand_after : Sight → Hand → List Press → Hand
 hand_after sight hand [] = hand
 hand_after sight hand (press ∷ more) = hand_after sight (handled sight press hand).0 more
 
-abbrev pub events_of : Action → List Event
-events_of (Post event) = event ∷ []
-events_of _ = []
+abbrev pub events_of_action : Action → List Event
+events_of_action (Post event) = event ∷ []
+events_of_action _ = []
 
 -- the events that presses make
-abbrev pub posted : Sight → Hand → List Press → List Event
-posted sight hand [] = []
-posted sight hand (press ∷ more) =
-    events_of (handled sight press hand).1 ++ posted sight (handled sight press hand).0 more
+abbrev pub posted_events : Sight → Hand → List Press → List Event
+posted_events sight hand [] = []
+posted_events sight hand (press ∷ more) =
+    events_of_action (handled sight press hand).1 ++ posted_events sight (handled sight press hand).0 more
 
 -- the presses lead from one hand to the other, and make these events
-pub record Makes (sight : Sight) (hand : Hand) (presses : List Press) (next : Hand) (events : List Event) : Type 0 where
+pub record MakesEvents (sight : Sight) (hand : Hand) (presses : List Press) (next : Hand) (events : List Event) : Type 0 where
   pub hand_is : hand_after sight hand presses ≡ next
-  pub events_are : posted sight hand presses ≡ events
+  pub events_are : posted_events sight hand presses ≡ events
 
 -- ---- buttons
 
@@ -59,7 +59,7 @@ pub record Corner : Type 0 where
 
 -- whether they show a cell of the display
 abbrev pub is_seen : Sight → Corner → Bool
-is_seen sight at = is_inside sight at.column at.row
+is_seen sight at = is_in_sight sight at.column at.row
 
 -- the cell of the display that they mean
 abbrev pub spot_at : Sight → Corner → Spot
@@ -88,10 +88,10 @@ down button at = down_with false false button at
 abbrev pub up : Button → Corner → Press
 up button at = moved_with false false false button at
 
-abbrev pub alone : Button → MouseKeys
-alone button.Left = Left
-alone button.Middle = Middle
-alone button.Right = Right
+abbrev pub button_alone : Button → MouseKeys
+button_alone button.Left = Left
+button_alone button.Middle = Middle
+button_alone button.Right = Right
 
 -- a button and another one, in the order in which they go down
 abbrev pub together : Button → Button → MouseKeys
@@ -106,9 +106,9 @@ together button.Right button.Middle = RightMiddle
 together button.Right button.Right = Right
 
 -- the event of a click that begins and ends at these cells of the terminal
-abbrev pub clicked : Click → Sight → Corner → Corner → Event
-clicked Mark sight start end = MarkAt (spot_at sight start).x (spot_at sight start).y
-clicked (Keys keys) sight start end =
+abbrev pub click_event : Click → Sight → Corner → Corner → Event
+click_event Mark sight start end = MarkAt (spot_at sight start).x (spot_at sight start).y
+click_event (Keys keys) sight start end =
     Point keys (spot_at sight start).x (spot_at sight start).y (spot_at sight end).x (spot_at sight end).y
 
 -- the click that a function key says
@@ -151,7 +151,7 @@ pasted_text text = line_ends false (filter_map typed_byte text)
 
 -- what is heard of it
 abbrev pub pasted : List ℕ → List Heard
-pasted text = bytes (sequence (50 ∷ 48 ∷ 48 ∷ 126 ∷ [])) ++ (bytes text ++ bytes (sequence (50 ∷ 48 ∷ 49 ∷ 126 ∷ [])))
+pasted text = bytes_heard (key_sequence (50 ∷ 48 ∷ 48 ∷ 126 ∷ [])) ++ (bytes_heard text ++ bytes_heard (key_sequence (50 ∷ 48 ∷ 49 ∷ 126 ∷ [])))
 
 -- what is pressed for it: each of its bytes as it is by itself
 abbrev pub paste_of : List ℕ → List Press

@@ -16,8 +16,8 @@ pub record IsSight (sight : Sight) : Type 0 where
   pub rows_in : sight.rows ≤ sight.top + 1
 
 -- whether a column and a row of the terminal show a cell of the display
-unfoldable pub is_inside : Sight → ℕ → ℕ → Bool
-is_inside sight column row = lies_within 1 COLUMNS column && lies_within 1 sight.rows row
+unfoldable pub is_in_sight : Sight → ℕ → ℕ → Bool
+is_in_sight sight column row = lies_within 1 COLUMNS column && lies_within 1 sight.rows row
 
 -- The cell in sight that is nearest to a column and a row of the terminal. Those count from 1 at the upper left, and
 -- the display's own from 0 at the lower left.

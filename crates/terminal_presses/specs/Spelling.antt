@@ -70,7 +70,7 @@ pub record IsSize (rows columns : ℕ) (text : List ℕ) : Type 0 where
   pub parts : text ≡ 27 ∷ 91 ∷ 56 ∷ 59 ∷ high ++ 59 ∷ (wide ++ 116 ∷ [])
 
 -- a character of several bytes: the first is from 192 on, and those that go on with it are from 128 to 191
-pub record IsForeign (text : List ℕ) : Type 0 where
+pub record IsLongCharacter (text : List ℕ) : Type 0 where
   pub first : ℕ
   pub rest : List ℕ
   pub high : 192 ≤ first
@@ -84,16 +84,16 @@ abbrev pub is_control : ℕ → Bool
 is_control b = nat_lt b 32 && not (is_text_byte b || ((b == 8) || (b == 27)))
 
 -- an escape byte and [, and those bytes
-abbrev pub sequence : List ℕ → List ℕ
-sequence bytes = 27 ∷ 91 ∷ bytes
+abbrev pub key_sequence : List ℕ → List ℕ
+key_sequence bytes = 27 ∷ 91 ∷ bytes
 
 -- an escape byte and O, and that letter
-abbrev pub shifted : ℕ → List ℕ
-shifted letter = 27 ∷ 79 ∷ letter ∷ []
+abbrev pub shifted_sequence : ℕ → List ℕ
+shifted_sequence letter = 27 ∷ 79 ∷ letter ∷ []
 
 -- an escape byte and [, and that letter
 abbrev pub letter_alone : ℕ → List ℕ
-letter_alone letter = sequence (letter ∷ [])
+letter_alone letter = key_sequence (letter ∷ [])
 
 abbrev pub arrow_letter : ArrowKey → ℕ
 arrow_letter arrow.Up = 65
@@ -102,20 +102,20 @@ arrow_letter arrow.Right = 67
 arrow_letter arrow.Left = 68
 
 abbrev pub page_spelling : PageKey → List ℕ
-page_spelling page.Up = sequence (53 ∷ 126 ∷ [])
-page_spelling page.Down = sequence (54 ∷ 126 ∷ [])
+page_spelling page.Up = key_sequence (53 ∷ 126 ∷ [])
+page_spelling page.Down = key_sequence (54 ∷ 126 ∷ [])
 
 -- the first four keys have a letter, which terminals spell in two ways
 abbrev pub by_letter : ℕ → List (List ℕ) → List (List ℕ)
-by_letter letter others = shifted letter ∷ letter_alone letter ∷ others
+by_letter letter others = shifted_sequence letter ∷ letter_alone letter ∷ others
 
 -- a number of two digits
 abbrev pub by_number : ℕ → ℕ → List ℕ
-by_number ten one = sequence (ten ∷ one ∷ 126 ∷ [])
+by_number ten one = key_sequence (ten ∷ one ∷ 126 ∷ [])
 
 -- the console of Linux has letters of its own for the first five
 abbrev pub by_console : ℕ → List ℕ
-by_console letter = sequence (91 ∷ letter ∷ [])
+by_console letter = key_sequence (91 ∷ letter ∷ [])
 
 abbrev pub function_spellings : FunctionKey → List (List ℕ)
 function_spellings F1 = by_letter 80 (by_number 49 49 ∷ by_console 65 ∷ [])
@@ -136,38 +136,38 @@ IsOneOf [] text = ⊥
 IsOneOf (one ∷ others) text = (text ≡ one) ⊎ IsOneOf others text
 
 -- the bytes that spell a press; those of the key Escape are told apart by what comes after them
-abbrev pub Spells : Press → List ℕ → Type 0
-Spells (Character b) text = IsTrue (is_text_byte b) × (text ≡ b ∷ [])
-Spells Foreign text = IsForeign text
-Spells (Control b) text = IsTrue (is_control b) × (text ≡ b ∷ [])
-Spells Back text = IsOneOf ((8 ∷ []) ∷ (127 ∷ []) ∷ []) text
-Spells Escape text = ⊥
-Spells (Arrow key) text = IsOneOf (letter_alone (arrow_letter key) ∷ shifted (arrow_letter key) ∷ []) text
-Spells (Page key) text = text ≡ page_spelling key
-Spells (Function key) text = IsOneOf (function_spellings key) text
-Spells (Mouse report) text = IsReport report text
-Spells PasteBegins text = text ≡ sequence (50 ∷ 48 ∷ 48 ∷ 126 ∷ [])
-Spells PasteEnds text = text ≡ sequence (50 ∷ 48 ∷ 49 ∷ 126 ∷ [])
-Spells (Size rows columns) text = IsSize rows columns text
-Spells FileFails text = text ≡ sequence (50 ∷ 48 ∷ 50 ∷ 126 ∷ [])
-Spells Unknown text = ⊥
+abbrev pub SpellsPress : Press → List ℕ → Type 0
+SpellsPress (Character b) text = IsTrue (is_text_byte b) × (text ≡ b ∷ [])
+SpellsPress Foreign text = IsLongCharacter text
+SpellsPress (Control b) text = IsTrue (is_control b) × (text ≡ b ∷ [])
+SpellsPress Back text = IsOneOf ((8 ∷ []) ∷ (127 ∷ []) ∷ []) text
+SpellsPress Escape text = ⊥
+SpellsPress (Arrow key) text = IsOneOf (letter_alone (arrow_letter key) ∷ shifted_sequence (arrow_letter key) ∷ []) text
+SpellsPress (Page key) text = text ≡ page_spelling key
+SpellsPress (Function key) text = IsOneOf (function_spellings key) text
+SpellsPress (Mouse report) text = IsReport report text
+SpellsPress PasteBegins text = text ≡ key_sequence (50 ∷ 48 ∷ 48 ∷ 126 ∷ [])
+SpellsPress PasteEnds text = text ≡ key_sequence (50 ∷ 48 ∷ 49 ∷ 126 ∷ [])
+SpellsPress (Size rows columns) text = IsSize rows columns text
+SpellsPress FileFails text = text ≡ key_sequence (50 ∷ 48 ∷ 50 ∷ 126 ∷ [])
+SpellsPress Unknown text = ⊥
 
 -- bytes, as they are heard one after another
-abbrev pub bytes : List ℕ → List Heard
-bytes [] = []
-bytes (b ∷ bs) = Byte b ∷ bytes bs
+abbrev pub bytes_heard : List ℕ → List Heard
+bytes_heard [] = []
+bytes_heard (b ∷ bs) = Byte b ∷ bytes_heard bs
 
 -- What is heard of one press: the bytes that spell it, or of the key Escape its byte before a quiet while.
 pub record IsSpelled (press : Press) (heard : List Heard) : Type 0 where
   pub text : List ℕ
-  pub spells : Spells press text
-  pub is : heard ≡ bytes text
+  pub spells : SpellsPress press text
+  pub is : heard ≡ bytes_heard text
 
-abbrev pub IsHeard : Press → List Heard → Type 0
-IsHeard press heard = IsSpelled press heard ⊎ ((press ≡ Escape) × (heard ≡ Byte 27 ∷ Quiet ∷ []))
+abbrev pub IsPressHeard : Press → List Heard → Type 0
+IsPressHeard press heard = IsSpelled press heard ⊎ ((press ≡ Escape) × (heard ≡ Byte 27 ∷ Quiet ∷ []))
 
 -- what is heard of presses, one after another
 abbrev pub AreHeard : List Press → List Heard → Type 0
 AreHeard [] heard = heard ≡ []
 AreHeard (press ∷ presses) heard =
-    (front : List Heard) × (rest : List Heard) × IsHeard press front × AreHeard presses rest × (heard ≡ front ++ rest)
+    (front : List Heard) × (rest : List Heard) × IsPressHeard press front × AreHeard presses rest × (heard ≡ front ++ rest)

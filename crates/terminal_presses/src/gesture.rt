@@ -1,7 +1,7 @@
 //! Gestures of the mouse: from the first button that goes down to the last that goes up.
 ghost use Rattle.std.specs.Prelude.{◌≡◌};
 ghost use Rattle.terminal_presses.specs.Gestures.{no_buttons, is_none_down as none_down, is_down as down, with_button};
-ghost use Rattle.terminal_presses.specs.Gestures.{by_button as of_button, joined as joined_keys, called};
+ghost use Rattle.terminal_presses.specs.Gestures.{by_button as of_button, keys_with_button as joined_keys, click_called};
 ghost use Rattle.terminal_presses.specs.Gestures.{pressed_more, released, released_at};
 
 use crate::action::{Action, Click};
@@ -122,9 +122,9 @@ impl Gesture {
 }
 
 /// What a gesture comes to in which another button goes down.
-#[tactic(auto, unfolding(crate::specs::Gestures::called))]
+#[tactic(auto, unfolding(crate::specs::Gestures::click_called))]
 fn called(click: Option<Click>, button: Button) -> Option<Click>
-    ensures { result ≡ called button click }
+    ensures { result ≡ click_called button click }
 {
     match click {
         None => None,
@@ -137,7 +137,7 @@ fn called(click: Option<Click>, button: Button) -> Option<Click>
 }
 
 /// The keys with a button more. None with a third one.
-#[tactic(auto, unfolding(crate::specs::Gestures::joined))]
+#[tactic(auto, unfolding(crate::specs::Gestures::keys_with_button))]
 fn joined(keys: Keys, button: Button) -> Option<Keys>
     ensures { result ≡ joined_keys button keys }
 {

@@ -1,12 +1,12 @@
 //! The events that presses make.
 ghost use Rattle.std.specs.Prelude.{◌≡◌, ◌↔◌, Some, None, IsNone, IfSome};
-ghost use Rattle.terminal_presses.specs.Hands.{new_hand, handled, pasting as pasting_by, fresh, escaped as escaped_by};
+ghost use Rattle.terminal_presses.specs.Hands.{new_hand, handled, pasting as pasting_by, fresh, hand_after_escape as escaped_by};
 ghost use Rattle.terminal_presses.specs.Hands.{answering as answering_by, pasting_name as pasting_name_by, dropping};
 ghost use Rattle.terminal_presses.specs.Hands.{by_question as question_says, pastes_text};
 ghost use Rattle.terminal_presses.specs.Hands.{controlled as controlled_by, control as control_says, by_function};
-ghost use Rattle.terminal_presses.specs.Hands.{reported as reported_by, gone_down, gone_up, begun};
-ghost use Rattle.terminal_presses.specs.Hands.{meant as click_meant, with_asked, asks};
-ghost use Rattle.terminal_presses.specs.Asking.{answered, entered, lengthened, spelled, shortened, controlled_name};
+ghost use Rattle.terminal_presses.specs.Hands.{hand_after_report as reported_by, gone_down, gone_up, begun};
+ghost use Rattle.terminal_presses.specs.Hands.{click_meant as click_meant, with_asked, asks};
+ghost use Rattle.terminal_presses.specs.Asking.{answered, entered, lengthened, name_after_byte, shortened_name, controlled_name};
 ghost use Rattle.terminal_presses.specs.Asking.{by_function_amid, pasted_name};
 ghost use Rattle.terminal_presses.specs.Outcomes.{ComesTo};
 
@@ -186,9 +186,9 @@ impl Hand {
     }
 
     /// A byte of the name, or a carriage return, which ends it.
-    #[tactic(auto, unfolding(crate::specs::Asking::spelled))]
+    #[tactic(auto, unfolding(crate::specs::Asking::name_after_byte))]
     fn spelled(&mut self, name: HostName, byte: u8) -> Action
-        ensures { ComesTo (with_asked (spelled byte name) self.old) self.new result }
+        ensures { ComesTo (with_asked (name_after_byte byte name) self.old) self.new result }
     {
         if byte == CARRIAGE_RETURN {
             self.entered(name)
@@ -244,9 +244,9 @@ impl Hand {
     }
 
     /// The last byte of the name is taken off.
-    #[tactic(auto, unfolding(crate::specs::Asking::shortened))]
+    #[tactic(auto, unfolding(crate::specs::Asking::shortened_name))]
     fn shortened(&mut self, name: HostName) -> Action
-        ensures { ComesTo (with_asked (shortened name) self.old) self.new result }
+        ensures { ComesTo (with_asked (shortened_name name) self.old) self.new result }
     {
         let mut name = name;
         if name.as_bytes().is_empty() {
@@ -306,7 +306,7 @@ impl Hand {
     }
 
     /// The key Escape. The next click is what it says by itself.
-    #[tactic(auto, unfolding(crate::specs::Hands::escaped))]
+    #[tactic(auto, unfolding(crate::specs::Hands::hand_after_escape))]
     fn escaped(&mut self) -> Action
         ensures { ComesTo (escaped_by self.old) self.new result }
     {
@@ -350,7 +350,7 @@ impl Hand {
     }
 
     /// What a report of the mouse comes to.
-    #[tactic(auto, unfolding(crate::specs::Hands::reported))]
+    #[tactic(auto, unfolding(crate::specs::Hands::hand_after_report))]
     fn reported(&mut self, sight: Sight, report: MouseReport) -> Action
         ensures { ComesTo (reported_by sight report self.old) self.new result }
     {
@@ -418,7 +418,7 @@ impl Hand {
 
 /// What a click is that begins so: the left button is the middle one with Alt and the right one with Ctrl, and is
 /// without them what a function key has said.
-#[tactic(auto, unfolding(crate::specs::Hands::meant))]
+#[tactic(auto, unfolding(crate::specs::Hands::click_meant))]
 fn meant(armed: Option<Click>, report: MouseReport) -> Click
     ensures { result ≡ click_meant report.button report armed }
 {

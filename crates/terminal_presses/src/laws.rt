@@ -17,25 +17,25 @@ ghost use Rattle.terminal_presses.specs.Sights.{Sight, IsSight, spot_in};
 ghost use Rattle.terminal_presses.specs.declared.parser.Parser.{Parser};
 ghost use Rattle.terminal_presses.specs.declared.hand.Hand.{Hand};
 ghost use Rattle.viewer_tracks.specs.declared.display.TheConstants.{COLUMNS};
-ghost use Rattle.terminal_presses.specs.Presses.{at_rest, parser_after, pressed};
+ghost use Rattle.terminal_presses.specs.Presses.{at_rest, parser_after, presses_heard};
 ghost use Rattle.terminal_presses.specs.Spelling.{AreHeard};
 ghost use Rattle.terminal_presses.specs.Hands.{new_hand, idle, asking, handled};
 ghost use Rattle.terminal_presses.specs.HostNames.{is_host_name};
 ghost use Rattle.terminal_presses.specs.Pastes.{return};
-ghost use Rattle.terminal_presses.specs.Runs.{hand_after, posted, Makes, Corner, is_seen, down_with, down, up, alone};
-ghost use Rattle.terminal_presses.specs.Runs.{name_with, together, clicked, says, AreThree, paste_of, pasted_text, pasted, Types};
+ghost use Rattle.terminal_presses.specs.Runs.{hand_after, posted_events, MakesEvents, Corner, is_seen, down_with, down, up, button_alone};
+ghost use Rattle.terminal_presses.specs.Runs.{name_with, together, click_event, says, AreThree, paste_of, pasted_text, pasted, Types};
 
 /// It is one whether what is heard comes in one piece or in two, and so in many: what is pressed of both is what is
 /// pressed of the first, and then what the parser that has heard it makes of the second. So are the events of presses.
 #[tactic(auto, using(crate::proofs::Pieces::of_both))]
 pub fn pieces_do_not_matter()
     ensures presses { (parser : Parser) (first second : List Heard)
-        → pressed parser (first ++ second) ≡ pressed parser first ++ pressed (parser_after parser first) second }
+        → presses_heard parser (first ++ second) ≡ presses_heard parser first ++ presses_heard (parser_after parser first) second }
     ensures parser { (parser : Parser) (first second : List Heard)
         → parser_after parser (first ++ second) ≡ parser_after (parser_after parser first) second }
     ensures events { (sight : Sight) (hand : Hand) (first second : List Press)
-        → posted sight hand (first ++ second)
-        ≡ posted sight hand first ++ posted sight (hand_after sight hand first) second }
+        → posted_events sight hand (first ++ second)
+        ≡ posted_events sight hand first ++ posted_events sight (hand_after sight hand first) second }
     ensures hand { (sight : Sight) (hand : Hand) (first second : List Press)
         → hand_after sight hand (first ++ second) ≡ hand_after sight (hand_after sight hand first) second }
 {}
@@ -44,11 +44,11 @@ pub fn pieces_do_not_matter()
 /// Escape is found without a quiet while too, where neither `[` nor `O` follows.
 pub fn spelled_presses_are_found()
     ensures presses { (presses : List Press) (heard : List Heard) → AreHeard presses heard
-        → pressed at_rest heard ≡ presses }
+        → presses_heard at_rest heard ≡ presses }
     ensures parser { (presses : List Press) (heard : List Heard) → AreHeard presses heard
         → parser_after at_rest heard ≡ at_rest }
     ensures escape { (b : ℕ) (more : List Heard) → (b ≡ 91 → ⊥) → (b ≡ 79 → ⊥)
-        → pressed at_rest (Byte 27 ∷ Byte b ∷ more) ≡ Escape ∷ pressed at_rest (Byte b ∷ more) }
+        → presses_heard at_rest (Byte 27 ∷ Byte b ∷ more) ≡ Escape ∷ presses_heard at_rest (Byte b ∷ more) }
 {}
 
 /// The cell that a terminal's column and row mean is in sight; where they show a cell, it is that one.
@@ -68,22 +68,22 @@ pub fn spots_are_in_sight()
 /// no cell is shown, as on the line below. The hand is then as it was.
 pub fn buttons_make_one_point()
     ensures one { (sight : Sight) (button : Button) (start end : Corner) → IsTrue (is_seen sight start)
-        → Makes sight new_hand (down button start ∷ up button end ∷ []) new_hand
-        (clicked (Keys (alone button)) sight start end ∷ []) }
+        → MakesEvents sight new_hand (down button start ∷ up button end ∷ []) new_hand
+        (click_event (Keys (button_alone button)) sight start end ∷ []) }
     ensures two { (sight : Sight) (first second : Button) (start p q end : Corner) → (first ≡ second → ⊥)
         → IsTrue (is_seen sight start)
-        → Makes sight new_hand (down first start ∷ down second p ∷ up first q ∷ up second end ∷ []) new_hand
-        (clicked (Keys (together first second)) sight start end ∷ []) }
+        → MakesEvents sight new_hand (down first start ∷ down second p ∷ up first q ∷ up second end ∷ []) new_hand
+        (click_event (Keys (together first second)) sight start end ∷ []) }
     ensures two_turned { (sight : Sight) (first second : Button) (start p q end : Corner) → (first ≡ second → ⊥)
         → IsTrue (is_seen sight start)
-        → Makes sight new_hand (down first start ∷ down second p ∷ up second q ∷ up first end ∷ []) new_hand
-        (clicked (Keys (together first second)) sight start end ∷ []) }
+        → MakesEvents sight new_hand (down first start ∷ down second p ∷ up second q ∷ up first end ∷ []) new_hand
+        (click_event (Keys (together first second)) sight start end ∷ []) }
     ensures three { (sight : Sight) (a b c x y z : Button) (start p q r s end : Corner)
         → AreThree a b c → AreThree x y z
-        → Makes sight new_hand (down a start ∷ down b p ∷ down c q ∷ up x r ∷ up y s ∷ up z end ∷ []) new_hand [] }
+        → MakesEvents sight new_hand (down a start ∷ down b p ∷ down c q ∷ up x r ∷ up y s ∷ up z end ∷ []) new_hand [] }
     ensures outside { (sight : Sight) (button : Button) (hand : Hand) (start end : Corner) → hand.gesture ≡ None
         → IsTrue (not (is_seen sight start))
-        → Makes sight (idle hand) (down button start ∷ up button end ∷ []) (idle hand) [] }
+        → MakesEvents sight (idle hand) (down button start ∷ up button end ∷ []) (idle hand) [] }
 {}
 
 /// With the left button alone there is every click: with Alt it is the middle one, with Ctrl the right one, and after a
@@ -91,28 +91,28 @@ pub fn buttons_make_one_point()
 #[tactic(auto, using(crate::proofs::Clicks::clicks_of_one))]
 pub fn one_button_is_enough()
     ensures alt { (sight : Sight) (control : Bool) (start end : Corner) → IsTrue (is_seen sight start)
-        → Makes sight new_hand (down_with true control Left start ∷ up Left end ∷ []) new_hand
-        (clicked (Keys keys.Middle) sight start end ∷ []) }
+        → MakesEvents sight new_hand (down_with true control Left start ∷ up Left end ∷ []) new_hand
+        (click_event (Keys keys.Middle) sight start end ∷ []) }
     ensures control { (sight : Sight) (start end : Corner) → IsTrue (is_seen sight start)
-        → Makes sight new_hand (down_with false true Left start ∷ up Left end ∷ []) new_hand
-        (clicked (Keys keys.Right) sight start end ∷ []) }
+        → MakesEvents sight new_hand (down_with false true Left start ∷ up Left end ∷ []) new_hand
+        (click_event (Keys keys.Right) sight start end ∷ []) }
     ensures function { (sight : Sight) (key : FunctionKey) (click : Click) (start end : Corner)
         → says key ≡ Some click → IsTrue (is_seen sight start)
-        → Makes sight new_hand (Function key ∷ down Left start ∷ up Left end ∷ []) new_hand
-        (clicked click sight start end ∷ []) }
+        → MakesEvents sight new_hand (Function key ∷ down Left start ∷ up Left end ∷ []) new_hand
+        (click_event click sight start end ∷ []) }
 {}
 
 /// The events of a paste type the pasted text, each 900 bytes of it, but the last. So do those of a host file, whose
 /// bytes are what each says by itself. Nothing of the text is left, and the hand is as it was.
 pub fn pastes_are_typed()
     ensures paste { (sight : Sight) (hand : Hand) (text : List ℕ) → IsTrue (list_all (λ b. not (b == 27)) text)
-        → Types (posted sight (idle hand) (pressed at_rest (pasted text))) (pasted_text text) }
+        → Types (posted_events sight (idle hand) (presses_heard at_rest (pasted text))) (pasted_text text) }
     ensures presses { (text : List ℕ) → IsTrue (list_all (λ b. not (b == 27)) text)
-        → pressed at_rest (pasted text) ≡ paste_of text }
+        → presses_heard at_rest (pasted text) ≡ paste_of text }
     ensures parser { (text : List ℕ) → IsTrue (list_all (λ b. not (b == 27)) text)
         → parser_after at_rest (pasted text) ≡ at_rest }
     ensures file { (sight : Sight) (hand : Hand) (text : List ℕ)
-        → Types (posted sight (idle hand) (paste_of text)) (pasted_text text) }
+        → Types (posted_events sight (idle hand) (paste_of text)) (pasted_text text) }
     ensures hand { (sight : Sight) (hand : Hand) (text : List ℕ)
         → hand_after sight (idle hand) (paste_of text) ≡ idle hand }
 {}
@@ -123,11 +123,11 @@ pub fn pastes_are_typed()
 #[tactic(auto, using(crate::proofs::Names::names_said))]
 pub fn names_are_typed()
     ensures typed { (sight : Sight) (hand : Hand) (name : List ℕ) → IsTrue (is_host_name name)
-        → Makes sight (asking [] hand) (map Character name) (asking name hand) [] }
+        → MakesEvents sight (asking [] hand) (map Character name) (asking name hand) [] }
     ensures entered { (sight : Sight) (hand : Hand) (name : List ℕ) → 1 ≤ length name
         → handled sight (Character return) (asking name hand) ≡ (idle hand, TypeFile name) }
     ensures called_off { (sight : Sight) (hand : Hand) (name : List ℕ)
         → handled sight Escape (asking name hand) ≡ (idle hand, Nothing) }
     ensures pasted { (sight : Sight) (hand : Hand) (name text : List ℕ)
-        → Makes sight (asking name hand) (paste_of text) (asking (name_with name text) hand) [] }
+        → MakesEvents sight (asking name hand) (paste_of text) (asking (name_with name text) hand) [] }
 {}

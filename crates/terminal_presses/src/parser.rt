@@ -28,7 +28,7 @@ impl Parser {
     }
 
     /// Hears a byte, or that none came for a while. Returns what that completes.
-    #[tactic(auto, unfolding(crate::specs::Presses::heard_by, crate::specs::Presses::after))]
+    #[tactic(auto, unfolding(crate::specs::Presses::heard_by, crate::specs::Presses::sequence_after))]
     pub fn take(&mut self, heard: Heard) -> Presses
         ensures { ComesTo (heard_by self.old heard) self.new result }
     {

@@ -2,8 +2,8 @@
 ghost use Rattle.std.specs.Prelude.{◌≡◌, [], IsTrue};
 ghost use Rattle.event_bytes.specs.Bytes.{is_text_byte as text_byte};
 ghost use Rattle.terminal_presses.specs.Outcomes.{ComesTo};
-ghost use Rattle.terminal_presses.specs.Pastes.{typed as typed_by, added, in_profile as profile_byte, pasted_byte};
-ghost use Rattle.terminal_presses.specs.Pastes.{new_paste, dropped, with_byte, fed as line_fed, pasted_more};
+ghost use Rattle.terminal_presses.specs.Pastes.{typing_action as typed_by, added, in_profile as profile_byte, pasted_byte};
+ghost use Rattle.terminal_presses.specs.Pastes.{new_paste, dropped, with_byte, after_line_feed as line_fed, pasted_more};
 ghost use Rattle.terminal_presses.specs.Pastes.{pasted_on, pasted_if_any};
 
 use crate::action::Action;
@@ -138,7 +138,7 @@ impl Paste {
     }
 
     /// A line feed is a carriage return, but nothing right after one.
-    #[tactic(auto, unfolding(crate::specs::Pastes::fed, event_bytes::specs::Bytes::is_text_byte))]
+    #[tactic(auto, unfolding(crate::specs::Pastes::after_line_feed, event_bytes::specs::Bytes::is_text_byte))]
     fn feed(&mut self) -> Action
         ensures { ComesTo (line_fed self.old) self.new result }
     {
@@ -168,7 +168,7 @@ impl Paste {
 }
 
 /// The event that types the bytes; nothing where there are none, or they can't be typed.
-#[tactic(auto, unfolding(crate::specs::Pastes::typed))]
+#[tactic(auto, unfolding(crate::specs::Pastes::typing_action))]
 pub(crate) fn typed(bytes: &[u8]) -> Action
     ensures { result ≡ typed_by bytes.now }
 {

@@ -1,9 +1,9 @@
 //! Sequences: an escape byte, `[`, numbers, and a last byte.
 ghost use Rattle.std.specs.Prelude.{◌≡◌, ◌<◌};
 ghost use Rattle.terminal_presses.specs.Presses.{function_at, arrow_at, lettered as letter_says};
-ghost use Rattle.terminal_presses.specs.Presses.{numbered as number_says, longer as longer_number, no_numbers};
-ghost use Rattle.terminal_presses.specs.Presses.{with_digit, with_number, mouse_mark, reported, moused, sized, plain};
-ghost use Rattle.terminal_presses.specs.Presses.{ended, is_bare};
+ghost use Rattle.terminal_presses.specs.Presses.{numbered_key as number_says, longer as longer_number, no_numbers};
+ghost use Rattle.terminal_presses.specs.Presses.{with_digit, with_number, mouse_mark, reported_press, moused, sized, unmarked_press};
+ghost use Rattle.terminal_presses.specs.Presses.{sequence_end, is_bare_sequence};
 
 use crate::place::{Mark, Numbers, SequencePlace};
 use crate::press::{Arrow, Button, FunctionKey, MouseReport, Page, Press, Presses};
@@ -58,7 +58,7 @@ pub(crate) fn lettered(letter: u8) -> Press
 }
 
 /// The key that is spelled by a number.
-#[tactic(auto, unfolding(crate::specs::Presses::numbered))]
+#[tactic(auto, unfolding(crate::specs::Presses::numbered_key))]
 fn numbered(number: u16) -> Press
     ensures { result ≡ number_says number }
 {
@@ -144,17 +144,17 @@ impl Numbers {
     }
 
     /// Whether nothing is heard of them yet.
-    #[tactic(auto, unfolding(crate::specs::Presses::is_bare))]
+    #[tactic(auto, unfolding(crate::specs::Presses::is_bare_sequence))]
     pub fn is_bare(self) -> bool
-        ensures { result ≡ is_bare self }
+        ensures { result ≡ is_bare_sequence self }
     {
         matches!(self.mark, Mark::Plain) && self.last == 0 && self.first == 0
     }
 
     /// What a sequence of these numbers says that ends with this byte.
-    #[tactic(auto, unfolding(crate::specs::Presses::ended))]
+    #[tactic(auto, unfolding(crate::specs::Presses::sequence_end))]
     pub fn ended(self, last: u8) -> (SequencePlace, Presses)
-        ensures { result ≡ ended self self.mark last }
+        ensures { result ≡ sequence_end self self.mark last }
     {
         match self.mark {
             Mark::Plain => {
@@ -170,9 +170,9 @@ impl Numbers {
     }
 
     /// What a sequence with no mark says.
-    #[tactic(auto, unfolding(crate::specs::Presses::plain))]
+    #[tactic(auto, unfolding(crate::specs::Presses::unmarked_press))]
     fn plain(self, last: u8) -> Press
-        ensures { result ≡ plain self last }
+        ensures { result ≡ unmarked_press self last }
     {
         if last == b'~' {
             numbered(self.first)
@@ -210,9 +210,9 @@ impl Numbers {
     }
 
     /// What is reported of a button that goes down or up.
-    #[tactic(auto, unfolding(crate::specs::Presses::reported))]
+    #[tactic(auto, unfolding(crate::specs::Presses::reported_press))]
     fn reported(self, is_down: bool) -> Press
-        ensures { result ≡ reported self is_down }
+        ensures { result ≡ reported_press self is_down }
     {
         if self.first >= 32 {
             return Press::Unknown;

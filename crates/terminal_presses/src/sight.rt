@@ -1,7 +1,7 @@
 //! The part of the display that a terminal shows.
 ghost use Rattle.std.specs.Prelude.{◌≡◌, ◌+◌, ◌-◌, ◌<◌, ◌≤◌};
 ghost use Rattle.viewer_tracks.specs.declared.display.TheConstants.{ROWS};
-ghost use Rattle.terminal_presses.specs.Sights.{IsSight, is_inside};
+ghost use Rattle.terminal_presses.specs.Sights.{IsSight, is_in_sight};
 
 use std::marker::Model;
 use viewer_tracks::{COLUMNS, ROWS};
@@ -53,9 +53,9 @@ impl Sight {
     }
 
     /// Whether a column and a row of the terminal, which are counted from 1, show a cell of the display.
-    #[tactic(auto, unfolding(crate::specs::Sights::is_inside))]
+    #[tactic(auto, unfolding(crate::specs::Sights::is_in_sight))]
     pub(crate) fn shows(self, column: u16, row: u16) -> bool
-        ensures { result ≡ is_inside self column row }
+        ensures { result ≡ is_in_sight self column row }
     {
         1 <= column && column <= u16::from(COLUMNS) && 1 <= row && row <= u16::from(self.rows)
     }

@@ -6,7 +6,7 @@ use Rattle.std.proofs.lemmas.List.Sums.{sum_by-append}
 use Rattle.char_file.specs.Source.{OnlyReads}
 use Rattle.char_file.proofs.Reading.{read_on}
 use Rattle.piece_ring.specs.Text.{Text}
-use Rattle.readers_scanners.specs.Reading.{bytes, Reading, IsCounted}
+use Rattle.readers_scanners.specs.Reading.{bytes_of_text, Reading, IsCounted}
 use Rattle.readers_scanners.specs.Walking.{IsAt}
 use Rattle.readers_scanners.proofs.Upcoming.{drop_more}
 use Rattle.event_bytes.specs.Bytes.{carriage_return}
@@ -48,11 +48,11 @@ module _ {S : Type 0} (characters : S → List ℕ) (failures : S → ℕ) (hone
   -- and the lines that end there
   pub ends_by : (org limit n count ends new p : ℕ) → org ≤ at
       → IsCounted (honest now) (characters now) reader carriage_return limit (n, count) → p ≡ at + n
-      → (honest start → ends ≡ ends_between (bytes (characters start) text) org at) → new ≡ ends + count
-      → honest start → new ≡ ends_between (bytes (characters start) text) org p
+      → (honest start → ends ≡ ends_between (bytes_of_text (characters start) text) org at) → new ≡ ends + count
+      → honest start → new ≡ ends_between (bytes_of_text (characters start) text) org p
   ends_by org limit n count ends new p from counted e so_far sum h =
-      let here : count ≡ count_by is_return (slice_range (bytes (characters start) text) at (at + n)) =
+      let here : count ≡ count_by is_return (slice_range (bytes_of_text (characters start) text) at (at + n)) =
       counted.exact (is.reads.still h)
-      ∙ (λ k. count_by is_return (slice_range (bytes (is.reads.same h k) (is.same k)) (is.place k) (is.place k + n))) in
-      sum ∙ (λ k. so_far h k + here k) ∙ sym (ends_on (bytes (characters start) text) org at n from)
-      ∙ ap (ends_between (bytes (characters start) text) org) (sym e)
+      ∙ (λ k. count_by is_return (slice_range (bytes_of_text (is.reads.same h k) (is.same k)) (is.place k) (is.place k + n))) in
+      sum ∙ (λ k. so_far h k + here k) ∙ sym (ends_on (bytes_of_text (characters start) text) org at n from)
+      ∙ ap (ends_between (bytes_of_text (characters start) text) org) (sym e)

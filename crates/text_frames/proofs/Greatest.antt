@@ -4,10 +4,10 @@ use Rattle.std.proofs.Common.{refl, sym, ap, ◌∙◌, inl, inr, arith, add-one
 use Rattle.std.proofs.lemmas.Bool.{cases_eq}
 use Rattle.std.proofs.lemmas.Bool.Decides.{eqb_tells}
 use Rattle.event_bytes.specs.Bytes.{carriage_return}
-use Rattle.text_frames.specs.Lines.{greatest, IsGreatest, ends_line, begins_line, line_start, line_above, is_return}
+use Rattle.text_frames.specs.Lines.{greatest_where, IsGreatest, ends_line, begins_line, line_start, line_above, is_return}
 
-by : (test : ℕ → Bool) (n : ℕ) (b : Bool) → test (suc n) ≡ b → IsGreatest test n (greatest test n)
-    → IsGreatest test (suc n) (cond b (suc n) (greatest test n))
+by : (test : ℕ → Bool) (n : ℕ) (b : Bool) → test (suc n) ≡ b → IsGreatest test n (greatest_where test n)
+    → IsGreatest test (suc n) (cond b (suc n) (greatest_where test n))
 by test n true is rec =
     record {
       within = omega arith;
@@ -15,13 +15,13 @@ by test n true is rec =
       none_above = λ k low high. absurd (let no : ⊥ = omega (arith, low, high) in no);
     }
 by test n false is rec = record {
-  within = (let le : greatest test n ≤ suc n = omega (arith, rec.within) in le);
+  within = (let le : greatest_where test n ≤ suc n = omega (arith, rec.within) in le);
   passes = rec.passes;
   none_above = λ k low high. elim
       (cases_eq k (suc n)) [ inl same ↦ rw same is | inr other ↦ rec.none_above k low (omega (arith, high, other)) ];
 }
 
-pub is_greatest : (test : ℕ → Bool) (n : ℕ) → IsGreatest test n (greatest test n)
+pub is_greatest : (test : ℕ → Bool) (n : ℕ) → IsGreatest test n (greatest_where test n)
 is_greatest test zero =
     record {
       within = omega arith;
@@ -30,15 +30,15 @@ is_greatest test zero =
     }
 is_greatest test (suc n) = by test n (test (suc n)) refl (is_greatest test n)
 
-pub greatest_within : (test : ℕ → Bool) (n : ℕ) → greatest test n ≤ n
+pub greatest_within : (test : ℕ → Bool) (n : ℕ) → greatest_where test n ≤ n
 greatest_within test n = (is_greatest test n).within
 
-greatest_more : (test : ℕ → Bool) (n : ℕ) → greatest test (n + 1) ≡ cond (test (n + 1)) (n + 1) (greatest test n)
+greatest_more : (test : ℕ → Bool) (n : ℕ) → greatest_where test (n + 1) ≡ cond (test (n + 1)) (n + 1) (greatest_where test n)
 greatest_more test n = rw add-one refl
 
 -- one number more
-pub greatest_next : (test : ℕ → Bool) (n s : ℕ) (b : Bool) → b ≡ test (n + 1) → s ≡ greatest test n
-    → cond b (n + 1) s ≡ greatest test (n + 1)
+pub greatest_next : (test : ℕ → Bool) (n s : ℕ) (b : Bool) → b ≡ test (n + 1) → s ≡ greatest_where test n
+    → cond b (n + 1) s ≡ greatest_where test (n + 1)
 greatest_next test n s b at is = ap (λ (c : Bool). cond c (n + 1) s) at
     ∙ ap (λ (t : ℕ). cond (test (n + 1)) (n + 1) t) is ∙ sym (greatest_more test n)
 

@@ -9,11 +9,11 @@ use Rattle.std.proofs.lemmas.List.Elements.{All-same, All-nil}
 use Rattle.char_file.specs.Source.{OnlyReads}
 use Rattle.piece_ring.specs.declared.piece.Look.{Look}
 use Rattle.piece_ring.specs.Text.{Text}
-use Rattle.readers_scanners.specs.Reading.{contents, bytes, Reading}
+use Rattle.readers_scanners.specs.Reading.{contents, bytes_of_text, Reading}
 use Rattle.readers_scanners.specs.Walking.{at_first, seen_character, byte_there}
 use Rattle.text_frames.specs.Lines.{is_return}
 use Rattle.text_frames.specs.Cells.{column_after, row_of, column_of}
-use Rattle.text_frames.specs.Row.{ShownCell, cells_taken, cells_at, IsOfText, IsRow}
+use Rattle.text_frames.specs.Row.{ShownCell, cells_taken, cells_at, IsOfText, AreRowCells}
 use Rattle.text_frames.specs.Reading.{IsReadTo}
 use Rattle.text_frames.proofs.Filling.{all_filled}
 use Rattle.text_frames.proofs.Placing.{IsPlaced, placed_on, row_first, column_first}
@@ -30,9 +30,9 @@ read_none honest characters text org reader inside place same = record {
   few = omega arith;
   short = omega arith;
   high = omega arith;
-  in_row = λ h. sym (row_first (bytes characters text) org) ∙ ap (row_of (bytes characters text) org) (sym place);
-  in_column = λ h. sym (column_first (bytes characters text) org)
-      ∙ ap (column_of (bytes characters text) org) (sym place);
+  in_row = λ h. sym (row_first (bytes_of_text characters text) org) ∙ ap (row_of (bytes_of_text characters text) org) (sym place);
+  in_column = λ h. sym (column_first (bytes_of_text characters text) org)
+      ∙ ap (column_of (bytes_of_text characters text) org) (sym place);
   passed = λ h p low high. absurd (let bad : ⊥ = omega (arith, low, high, place) in bad);
 }
 
@@ -74,7 +74,7 @@ module _ {S : Type 0} (characters : S → List ℕ) (failures : S → ℕ) (hone
     pub from : org ≤ at
     pub within : at ≤ length text
     pub high : r ≤ next
-    pub passed : honest start → (p : ℕ) → org ≤ p → p < at → row_of (bytes (characters start) text) org p < next
+    pub passed : honest start → (p : ℕ) → org ≤ p → p < at → row_of (bytes_of_text (characters start) text) org p < next
 
   pub skipped : (start now : S) (text : Text ℕ) (reader : Reading) (org next at r column : ℕ)
       → IsSkipped start now text reader org next at r column
@@ -115,13 +115,13 @@ module _ {S : Type 0} (characters : S → List ℕ) (failures : S → ℕ) (hone
       }
 
   -- a character more that is in a row above
-  passed_on : (start : S) (text : Text ℕ) (org next at r : ℕ) → row_of (bytes (characters start) text) org at ≡ r
-      → r < next → ((p : ℕ) → org ≤ p → p < at → row_of (bytes (characters start) text) org p < next)
-      → (p : ℕ) → org ≤ p → p < at + 1 → row_of (bytes (characters start) text) org p < next
+  passed_on : (start : S) (text : Text ℕ) (org next at r : ℕ) → row_of (bytes_of_text (characters start) text) org at ≡ r
+      → r < next → ((p : ℕ) → org ≤ p → p < at → row_of (bytes_of_text (characters start) text) org p < next)
+      → (p : ℕ) → org ≤ p → p < at + 1 → row_of (bytes_of_text (characters start) text) org p < next
   passed_on start text org next at r in_row high before p under over = elim (cases_eq p at) [
     | inl same ↦
-        let at_row : row_of (bytes (characters start) text) org p ≡ r =
-        ap (row_of (bytes (characters start) text) org) same ∙ in_row in
+        let at_row : row_of (bytes_of_text (characters start) text) org p ≡ r =
+        ap (row_of (bytes_of_text (characters start) text) org) same ∙ in_row in
         omega (arith, at_row, high)
     | inr other ↦ before p under (omega (arith, over, other))
   ]
@@ -132,7 +132,7 @@ module _ {S : Type 0} (characters : S → List ℕ) (failures : S → ℕ) (hone
     pub placed : IsPlaced characters failures honest same_ground start now text reader org at r column
     pub from : org ≤ at
     pub within : at ≤ length text
-    pub passed : honest start → (p : ℕ) → org ≤ p → p < at → row_of (bytes (characters start) text) org p < row + 1
+    pub passed : honest start → (p : ℕ) → org ≤ p → p < at → row_of (bytes_of_text (characters start) text) org p < row + 1
     pub most : length line ≤ w
     pub range : All (IsOfText text org) line
     pub cells : honest start
@@ -141,7 +141,7 @@ module _ {S : Type 0} (characters : S → List ℕ) (failures : S → ℕ) (hone
   -- where the row is done, and where the text ends
   pub row_done : (start now : S) (text : Text ℕ) (reader : Reading) (org w row at r column : ℕ) (line : List ShownCell)
       → IsRowSoFar start now text reader org w row at r column line → (nat_lt row r || (length line == w)) ≡ true
-      → IsRow (honest start) (characters start) text w org row line
+      → AreRowCells (honest start) (characters start) text w org row line
   row_done start now text reader org w row at r column line is done = record {
     exact = λ h. cells_done (contents (characters start) text) org row w at r line is.from
         (let inside = is.within in let long = length-read (characters start) text in omega (arith, inside, long))
@@ -152,7 +152,7 @@ module _ {S : Type 0} (characters : S → List ℕ) (failures : S → ℕ) (hone
 
   pub row_last : (start now : S) (text : Text ℕ) (reader : Reading) (org w row at r column : ℕ) (line : List ShownCell)
       → IsRowSoFar start now text reader org w row at r column line → length text ≤ at
-      → IsRow (honest start) (characters start) text w org row line
+      → AreRowCells (honest start) (characters start) text w org row line
   row_last start now text reader org w row at r column line is end = record {
     exact = λ h. cells_last (contents (characters start) text) org row w at (length text) line
         (let inside = is.within in omega (arith, inside, end)) (sym (length-read (characters start) text)) (is.cells h);
@@ -182,7 +182,7 @@ module _ {S : Type 0} (characters : S → List ℕ) (failures : S → ℕ) (hone
           from = before.from;
           within = before.within;
           passed = λ h p low high. let lt = before.passed h p low high in
-              let more : row_of (bytes (characters start) text) org p < row + 1 = omega (arith, lt) in more;
+              let more : row_of (bytes_of_text (characters start) text) org p < row + 1 = omega (arith, lt) in more;
           most = omega (arith, ap length none);
           range = All-same (IsOfText text org) _ _ none (All-nil (IsOfText text org));
           cells = λ h. none ∙ cells_none (contents (characters start) text) org row w at (before.passed h);
@@ -232,7 +232,7 @@ module _ {S : Type 0} (characters : S → List ℕ) (failures : S → ℕ) (hone
     pub skip_on : (start now later : S) (text : Text ℕ) (reader next : Reading)
         (org row at r column byte r' column' : ℕ)
         → IsSkipped start now text reader org row at r column → r < row → at < length text
-        → (honest now → slice_get (bytes (characters now) reader.text) reader.position ≡ Some byte)
+        → (honest now → slice_get (bytes_of_text (characters now) reader.text) reader.position ≡ Some byte)
         → next.position ≡ reader.position + 1 → next.text ≡ reader.text
         → OnlyReads characters failures honest same_ground now later → failures later ≡ failures now
         → r' ≡ cond (is_return byte) (r + 1) r → column' ≡ cond (is_return byte) 0 (column_after column byte)

@@ -2,7 +2,7 @@
 use Rattle.std.specs.Prelude.{◌≡◌, ℕ, List}
 use Rattle.std.proofs.Common.{sym, ◌∙◌}
 use Rattle.piece_ring.specs.Text.{Text}
-use Rattle.readers_scanners.specs.Reading.{bytes, Reading}
+use Rattle.readers_scanners.specs.Reading.{bytes_of_text, Reading}
 use Rattle.text_frames.specs.declared.rows.FrameRows.{FrameRows}
 use Rattle.text_frames.specs.Cells.{row_of, column_of}
 use Rattle.text_frames.specs.Reading.{IsReadTo}
@@ -21,9 +21,9 @@ read_still honest later characters rest text org next reader r column already sa
   short = is.short;
   high = is.high;
   in_row = λ h. is.in_row (already h)
-      ∙ (λ k. row_of (bytes (sym (same (already h)) k) text) org reader.position);
+      ∙ (λ k. row_of (bytes_of_text (sym (same (already h)) k) text) org reader.position);
   in_column = λ h. is.in_column (already h)
-      ∙ (λ k. column_of (bytes (sym (same (already h)) k) text) org reader.position);
+      ∙ (λ k. column_of (bytes_of_text (sym (same (already h)) k) text) org reader.position);
   passed = λ h p low high. rw (same (already h)) (is.passed (already h) p low high);
 }
 

@@ -1,9 +1,9 @@
 //! A frame, and the rules by which it follows its text.
 ghost use Rattle.std.specs.Prelude.{◌≡◌, ◌⊎◌, ◌+◌, ◌<◌, ◌≤◌, Some, length, IfOk, OnOk, OnErr};
-ghost use Rattle.readers_scanners.specs.Words.{ReadsOrFails, flat, AreWithin, bytes};
+ghost use Rattle.readers_scanners.specs.Words.{ReadsOrFails, flat, AreWithin, bytes_of_text};
 ghost use Rattle.text_frames.specs.Cells.{IsPositionAt, IsCellOf};
-ghost use Rattle.text_frames.specs.Rules.{moved, changed_org, shown_org, IsFollowed, IsBrought};
-ghost use Rattle.text_frames.specs.Row.{IsRow};
+ghost use Rattle.text_frames.specs.Rules.{moved_position, changed_org, shown_org, IsFollowed, IsScrolledTo};
+ghost use Rattle.text_frames.specs.Row.{AreRowCells};
 
 use crate::lines::{ends_between, line_above, line_start};
 use crate::place::{self, cell_in, column_below};
@@ -103,7 +103,7 @@ impl Frame {
         requires place { p ≤ length (flat text.now) }
         requires org { self.old.org ≤ length (flat text.now) }
         requires offsets { AreWithin (length (S.characters source.old)) (flat text.now) }
-        ensures brought { OnOk result (IsBrought (S.honest source.old) (S.characters source.old) (flat text.now)
+        ensures brought { OnOk result (IsScrolledTo (S.honest source.old) (S.characters source.old) (flat text.now)
             h p self.old self.new) }
         ensures refused { OnErr result (self.new ≡ self.old) }
         ensures source { ReadsOrFails S.CharSource result source.old source.new }
@@ -127,7 +127,7 @@ impl Frame {
         requires columns { w ≤ 50 }
         requires org { self.now.org ≤ length (flat text.now) }
         requires offsets { AreWithin (length (S.characters source.old)) (flat text.now) }
-        ensures cells { IfOk result (λ line. IsRow (S.honest source.old) (S.characters source.old) (flat text.now)
+        ensures cells { IfOk result (λ line. AreRowCells (S.honest source.old) (S.characters source.old) (flat text.now)
             w self.now.org row line.items) }
         ensures source { ReadsOrFails S.CharSource result source.old source.new }
     {
@@ -201,7 +201,7 @@ pub fn org_after<S: CharSource>(
     requires org { org + inserted ≤ length (flat text.now) + deleted }
     requires offsets { AreWithin (length (S.characters source.old)) (flat text.now) }
     ensures exact { IfOk result (λ new. S.honest source.old
-        → new ≡ changed_org (bytes (S.characters source.old) (flat text.now)) p inserted deleted org) }
+        → new ≡ changed_org (bytes_of_text (S.characters source.old) (flat text.now)) p inserted deleted org) }
     ensures range { IfOk result (λ new. new ≤ length (flat text.now)) }
     ensures source { ReadsOrFails S.CharSource result source.old source.new }
 {
@@ -220,7 +220,7 @@ fn place_after(org: u32, p: u32, inserted: u32, deleted: u32, len: u32) -> u32
     requires after { p < org }
     requires place { p + inserted ≤ len }
     requires org { org + inserted ≤ len + deleted }
-    ensures place { result ≡ moved p inserted deleted org }
+    ensures place { result ≡ moved_position p inserted deleted org }
     ensures within { result ≤ len }
 {
     if deleted == 0 {
@@ -247,7 +247,7 @@ pub fn org_to_show<S: CharSource>(
     requires org { org ≤ length (flat text.now) }
     requires offsets { AreWithin (length (S.characters source.old)) (flat text.now) }
     ensures exact { IfOk result (λ new. S.honest source.old
-        → new ≡ shown_org (bytes (S.characters source.old) (flat text.now)) h p org) }
+        → new ≡ shown_org (bytes_of_text (S.characters source.old) (flat text.now)) h p org) }
     ensures range { IfOk result (λ new. new ≤ length (flat text.now)) }
     ensures source { ReadsOrFails S.CharSource result source.old source.new }
 {

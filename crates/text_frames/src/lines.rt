@@ -1,6 +1,6 @@
 //! Where lines start, read from a position backwards, and how many end on the way to one.
 ghost use Rattle.std.specs.Prelude.{◌≡◌, ◌+◌, ◌-◌, ◌<◌, ◌≤◌, nat_lt, length, IfOk, IfSome, MatchOption, OnOk};
-ghost use Rattle.readers_scanners.specs.Words.{ReadsOrFails, flat, AreWithin, bytes};
+ghost use Rattle.readers_scanners.specs.Words.{ReadsOrFails, flat, AreWithin, bytes_of_text};
 ghost use Rattle.text_frames.specs.Walks.{CanWalk};
 ghost use Rattle.text_frames.specs.Lines.{line_start, line_above, ends_between};
 ghost use Rattle.text_frames.specs.Cells.{row_start};
@@ -18,7 +18,7 @@ pub fn line_start<S: CharSource>(text: &Text, pos: u32, source: &mut S) -> Resul
     requires within { pos ≤ length (flat text.now) }
     requires offsets { AreWithin (length (S.characters source.old)) (flat text.now) }
     ensures start { IfOk result (λ start. S.honest source.old
-        → start ≡ line_start (bytes (S.characters source.old) (flat text.now)) pos) }
+        → start ≡ line_start (bytes_of_text (S.characters source.old) (flat text.now)) pos) }
     ensures range { IfOk result (λ start. start ≤ pos) }
     ensures source { ReadsOrFails S.CharSource result source.old source.new }
 {
@@ -32,7 +32,7 @@ pub fn line_start<S: CharSource>(text: &Text, pos: u32, source: &mut S) -> Resul
 fn to_line_start<S: CharSource>(reader: &mut BackReader<'_>, source: &mut S) -> Result<u32, Fault>
     requires offsets { AreWithin (length (S.characters source.old)) reader.old.text }
     ensures start { IfOk result (λ start. S.honest source.old
-        → start ≡ line_start (bytes (S.characters source.old) reader.old.text) reader.old.position) }
+        → start ≡ line_start (bytes_of_text (S.characters source.old) reader.old.text) reader.old.position) }
     ensures range { IfOk result (λ start. start ≤ reader.old.position) }
     ensures moves { IfOk result (λ start. reader.new.position ≡ start - 1) }
     ensures text { OnOk result (reader.new.text ≡ reader.old.text) }
@@ -57,7 +57,7 @@ pub(crate) fn line_above<S: CharSource>(
 ) -> Result<u32, Fault>
     requires { CanWalk (S.characters source.old) (flat text.now) 0 pos }
     ensures start { IfOk result (λ start. S.honest source.old
-        → start ≡ line_above (bytes (S.characters source.old) (flat text.now)) lines pos) }
+        → start ≡ line_above (bytes_of_text (S.characters source.old) (flat text.now)) lines pos) }
     ensures range { IfOk result (λ start. start ≤ pos) }
     ensures source { ReadsOrFails S.CharSource result source.old source.new }
 {
@@ -81,9 +81,9 @@ pub(crate) fn ends_between<S: CharSource>(
 ) -> Result<u32, Fault>
     requires { CanWalk (S.characters source.old) (flat text.now) org pos }
     ensures exact { IfOk result (λ ends. S.honest source.old → ends < h
-        → ends ≡ ends_between (bytes (S.characters source.old) (flat text.now)) org pos) }
+        → ends ≡ ends_between (bytes_of_text (S.characters source.old) (flat text.now)) org pos) }
     ensures few { IfOk result (λ ends. S.honest source.old
-        → nat_lt ends h ≡ nat_lt (ends_between (bytes (S.characters source.old) (flat text.now)) org pos) h) }
+        → nat_lt ends h ≡ nat_lt (ends_between (bytes_of_text (S.characters source.old) (flat text.now)) org pos) h) }
     ensures source { ReadsOrFails S.CharSource result source.old source.new }
 {
     let mut reader = Reader::open(text, org);
@@ -111,9 +111,9 @@ pub(crate) fn row_start<S: CharSource>(
     requires order { org ≤ reader.old.position }
     requires offsets { AreWithin (length (S.characters source.old)) reader.old.text }
     ensures start { IfOk result (λ start. S.honest source.old → MatchOption start
-        (row_start (bytes (S.characters source.old) reader.old.text) org reader.old.position + most
+        (row_start (bytes_of_text (S.characters source.old) reader.old.text) org reader.old.position + most
         ≤ reader.old.position)
-        (λ start. start ≡ row_start (bytes (S.characters source.old) reader.old.text) org reader.old.position)) }
+        (λ start. start ≡ row_start (bytes_of_text (S.characters source.old) reader.old.text) org reader.old.position)) }
     ensures range { IfOk result (λ start. IfSome start (λ start. start ≤ reader.old.position)) }
     ensures source { ReadsOrFails S.CharSource result source.old source.new }
 {

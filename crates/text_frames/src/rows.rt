@@ -1,7 +1,7 @@
 //! The rows of a frame, read one after another.
 ghost use Rattle.std.specs.Prelude.{◌≡◌, ◌≤◌, ◌<◌, ℕ, List, ⊤, length, IfOk, OnOk};
 ghost use Rattle.readers_scanners.specs.Words.{ReadsOrFails, flat, AreWithin};
-ghost use Rattle.text_frames.specs.Row.{IsRow};
+ghost use Rattle.text_frames.specs.Row.{AreRowCells};
 ghost use Rattle.text_frames.specs.Rows.{AreRows};
 
 use crate::place::RowPlace;
@@ -52,7 +52,7 @@ impl Frame {
         requires offsets { AreWithin (length (S.characters source.old)) (flat text.now) }
         requires so_far { AreRows (S.honest source.old) (S.characters source.old) (flat text.now) self.now.org
             rows.old }
-        ensures cells { IfOk result (λ line. IsRow (S.honest source.old) (S.characters source.old) (flat text.now)
+        ensures cells { IfOk result (λ line. AreRowCells (S.honest source.old) (S.characters source.old) (flat text.now)
             w self.now.org row line.items) }
         ensures read { OnOk result (AreRows (S.honest source.new) (S.characters source.new) (flat text.now)
             self.now.org rows.new) }

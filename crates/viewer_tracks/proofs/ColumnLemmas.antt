@@ -11,9 +11,9 @@ use Rattle.viewer_tracks.specs.Display.{track_at}
 use Rattle.viewer_tracks.specs.Viewers.{Entry, IsTrack, times_in, entry_of}
 use Rattle.viewer_tracks.specs.Edits.{opened, changed, closed}
 use Rattle.viewer_tracks.specs.Columns.{Columns, IsColumns, IsStack, IsPlaced, IsOnTop, stack_of, with_stack, topmost}
-use Rattle.viewer_tracks.specs.Columns.{with_topmost, under_topmost, shown, with_shown, times_on, times_placed}
+use Rattle.viewer_tracks.specs.Columns.{with_topmost, under_topmost, shown_track, with_shown, times_on, times_placed}
 use Rattle.viewer_tracks.specs.Columns.{whole_track, laid_on, closed_on, covered_of, track_of, track_with, placed_in}
-use Rattle.viewer_tracks.specs.Columns.{after_open, after_open_track, after_change, after_close}
+use Rattle.viewer_tracks.specs.Columns.{after_open, after_open_track, columns_changed, after_close}
 use Rattle.viewer_tracks.proofs.Positions.{counted}
 use Rattle.viewer_tracks.proofs.Once.{one_if, times_in-cons, times_in-opened, times_in-changed, once_opened}
 use Rattle.viewer_tracks.proofs.TrackLemmas.{IsTrack-opened, IsTrack-changed}
@@ -54,44 +54,44 @@ in_its_column : (c : Columns) (v : ℕ) (k : Track) → IsColumns c → 0 < time
 in_its_column c v User sound some = track_of_user c.user c.system v some
 in_its_column c v System sound some = track_of_system c.user c.system v (omega (arith, sound.once v, some))
 
-pub shown_in : (c : Columns) (v : ℕ) (k : Track) → IsColumns c → 0 < times_in v (shown c k) → track_of c v ≡ k
+pub shown_in : (c : Columns) (v : ℕ) (k : Track) → IsColumns c → 0 < times_in v (shown_track c k) → track_of c v ≡ k
 shown_in c v k sound some = in_its_column c v k sound (omega (arith, some, topmost_times v (stack_of c k)))
 
-pub on_top : (c : Columns) (v : ℕ) → IsColumns c → IsOnTop v c → 0 < times_in v (shown c (track_of c v))
+pub on_top : (c : Columns) (v : ℕ) → IsColumns c → IsOnTop v c → 0 < times_in v (shown_track c (track_of c v))
 on_top c v sound top =
     ⊎_elim
-    (λ some. subst (λ (k : Track). 0 < times_in v (shown c k)) (sym (shown_in c v User sound some)) some)
+    (λ some. subst (λ (k : Track). 0 < times_in v (shown_track c k)) (sym (shown_in c v User sound some)) some)
     (λ none.
-    let some : 0 < times_in v (shown c System) = omega (arith, top, none) in
-    subst (λ (k : Track). 0 < times_in v (shown c k)) (sym (shown_in c v System sound some)) some)
-    (cases_lt 0 (times_in v (shown c User)))
+    let some : 0 < times_in v (shown_track c System) = omega (arith, top, none) in
+    subst (λ (k : Track). 0 < times_in v (shown_track c k)) (sym (shown_in c v System sound some)) some)
+    (cases_lt 0 (times_in v (shown_track c User)))
 
-pub placed_on_top : (c : Columns) (v : ℕ) (k : Track) → IsColumns c → 0 < times_in v (shown c k)
-    → placed_in c v ≡ shown c k
+pub placed_on_top : (c : Columns) (v : ℕ) (k : Track) → IsColumns c → 0 < times_in v (shown_track c k)
+    → placed_in c v ≡ shown_track c k
 placed_on_top c v k sound some =
     ap (λ (k : Track). track_with v (stack_of c k)) (shown_in c v k sound some)
     ∙ with_topmost_there v (stack_of c k) some
 
 -- for `column_of`
-pub found_user : (c d : Columns) (v : ℕ) → IsColumns c → c ≡ d → 0 < times_in v (shown c User)
-    → (User ≡ track_of d v) × (0 < times_in v (shown d User))
+pub found_user : (c d : Columns) (v : ℕ) → IsColumns c → c ≡ d → 0 < times_in v (shown_track c User)
+    → (User ≡ track_of d v) × (0 < times_in v (shown_track d User))
 found_user c d v sound whole some =
     (sym (shown_in d v User (subst IsColumns whole sound) here), here) where
-      here : 0 < times_in v (shown d User)
-      here = subst (λ (c : Columns). 0 < times_in v (shown c User)) whole some
+      here : 0 < times_in v (shown_track d User)
+      here = subst (λ (c : Columns). 0 < times_in v (shown_track c User)) whole some
 
 pub found_system : (c d : Columns) (v : ℕ) → IsColumns c → c ≡ d → IsOnTop v d
-    → (0 < times_in v (shown c User) → false ≡ true)
-    → (System ≡ track_of d v) × (0 < times_in v (shown d System))
+    → (0 < times_in v (shown_track c User) → false ≡ true)
+    → (System ≡ track_of d v) × (0 < times_in v (shown_track d System))
 found_system c d v sound whole top other =
     (sym (shown_in d v System (subst IsColumns whole sound) here), here) where
-      none : times_in v (shown d User) ≤ 0
+      none : times_in v (shown_track d User) ≤ 0
       none =
           ⊎_elim
-          (λ some. absurd (false≢true (other (subst (λ (c : Columns). 0 < times_in v (shown c User)) (sym whole) some))))
-          (λ low. low) (cases_lt 0 (times_in v (shown d User)))
+          (λ some. absurd (false≢true (other (subst (λ (c : Columns). 0 < times_in v (shown_track c User)) (sym whole) some))))
+          (λ low. low) (cases_lt 0 (times_in v (shown_track d User)))
 
-      here : 0 < times_in v (shown d System)
+      here : 0 < times_in v (shown_track d System)
       here = omega (arith, top, none)
 
 nowhere : (c : Columns) (v : ℕ) → ¬ IsPlaced v c → times_placed v c ≡ 0
@@ -99,7 +99,7 @@ nowhere c v fresh = ⊎_elim (λ here. absurd (fresh here)) (λ none. omega (ari
 
 -- an edit on one side
 pub opened_in : (c : Columns) (k : Track) (v y : ℕ) → IsColumns c → ¬ IsPlaced v c
-    → IsColumns (with_shown c k (opened (shown c k) v y))
+    → IsColumns (with_shown c k (opened (shown_track c k) v y))
 opened_in c k v y sound fresh =
     let s = stack_of c k in
     let t = opened (topmost s) v y in
@@ -138,8 +138,8 @@ covered_in c k v sound fresh room =
       once_opened v w (λ x. times_placed x c) (nowhere c v fresh) (sound.once w),
     ))
 
-pub changed_in : (c : Columns) (k : Track) (v y : ℕ) → IsColumns c → 0 < times_in v (shown c k)
-    → IsColumns (with_shown c k (changed (shown c k) (entry_of (shown c k) v) y))
+pub changed_in : (c : Columns) (k : Track) (v y : ℕ) → IsColumns c → 0 < times_in v (shown_track c k)
+    → IsColumns (with_shown c k (changed (shown_track c k) (entry_of (shown_track c k) v) y))
 changed_in c k v y sound here =
     let s = stack_of c k in
     let i = entry_of (topmost s) v in
@@ -157,7 +157,7 @@ changed_in c k v y sound here =
       sound.once w,
     ))
 
-pub closed_in : (c : Columns) (k : Track) (v : ℕ) → IsColumns c → 0 < times_in v (shown c k)
+pub closed_in : (c : Columns) (k : Track) (v : ℕ) → IsColumns c → 0 < times_in v (shown_track c k)
     → IsColumns (with_stack c k (closed_on (stack_of c k) v))
 closed_in c k v sound here =
     let s = stack_of c k in
@@ -168,12 +168,12 @@ closed_in c k v sound here =
 pub after_open_user : (u s : List (List Entry)) (v x y : ℕ) → track_at x ≡ User
     → after_open (columns u s) v x y ≡ columns (with_topmost u (opened (topmost u) v y)) s
 unfolding after_open
-after_open_user u s v x y at = ap (λ (k : Track). with_shown (columns u s) k (opened (shown (columns u s) k) v y)) at
+after_open_user u s v x y at = ap (λ (k : Track). with_shown (columns u s) k (opened (shown_track (columns u s) k) v y)) at
 
 pub after_open_system : (u s : List (List Entry)) (v x y : ℕ) → track_at x ≡ System
     → after_open (columns u s) v x y ≡ columns u (with_topmost s (opened (topmost s) v y))
 unfolding after_open
-after_open_system u s v x y at = ap (λ (k : Track). with_shown (columns u s) k (opened (shown (columns u s) k) v y)) at
+after_open_system u s v x y at = ap (λ (k : Track). with_shown (columns u s) k (opened (shown_track (columns u s) k) v y)) at
 
 pub after_cover_user : (u s : List (List Entry)) (v x : ℕ) → track_at x ≡ User
     → after_open_track (columns u s) v x ≡ columns (whole_track v ∷ u) s
@@ -188,18 +188,18 @@ after_cover_system u s v x at =
     ap (λ (k : Track). with_stack (columns u s) k (whole_track v ∷ stack_of (columns u s) k)) at
 
 pub after_change_user : (u s : List (List Entry)) (v y : ℕ) → track_of (columns u s) v ≡ User
-    → after_change (columns u s) v y ≡ columns (with_topmost u (changed (topmost u) (entry_of (topmost u) v) y)) s
-unfolding after_change
+    → columns_changed (columns u s) v y ≡ columns (with_topmost u (changed (topmost u) (entry_of (topmost u) v) y)) s
+unfolding columns_changed
 after_change_user u s v y at =
     ap (λ (k : Track).
-    with_shown (columns u s) k (changed (shown (columns u s) k) (entry_of (shown (columns u s) k) v) y)) at
+    with_shown (columns u s) k (changed (shown_track (columns u s) k) (entry_of (shown_track (columns u s) k) v) y)) at
 
 pub after_change_system : (u s : List (List Entry)) (v y : ℕ) → track_of (columns u s) v ≡ System
-    → after_change (columns u s) v y ≡ columns u (with_topmost s (changed (topmost s) (entry_of (topmost s) v) y))
-unfolding after_change
+    → columns_changed (columns u s) v y ≡ columns u (with_topmost s (changed (topmost s) (entry_of (topmost s) v) y))
+unfolding columns_changed
 after_change_system u s v y at =
     ap (λ (k : Track).
-    with_shown (columns u s) k (changed (shown (columns u s) k) (entry_of (shown (columns u s) k) v) y)) at
+    with_shown (columns u s) k (changed (shown_track (columns u s) k) (entry_of (shown_track (columns u s) k) v) y)) at
 
 pub after_close_user : (u s : List (List Entry)) (v : ℕ) → track_of (columns u s) v ≡ User
     → after_close (columns u s) v ≡ columns (closed_on u v) s
@@ -218,11 +218,11 @@ room_in c d k j whole at room =
     subst (λ (k : Track). length (stack_of c k) < DEPTH) (sym at)
     (subst (λ (c : Columns). length (stack_of c j) < DEPTH) (sym whole) room)
 
-pub there_in : (c d : Columns) (k j : Track) (v : ℕ) → c ≡ d → k ≡ j → 0 < times_in v (shown d j)
-    → 0 < times_in v (shown c k)
+pub there_in : (c d : Columns) (k j : Track) (v : ℕ) → c ≡ d → k ≡ j → 0 < times_in v (shown_track d j)
+    → 0 < times_in v (shown_track c k)
 there_in c d k j v whole at some =
-    subst (λ (k : Track). 0 < times_in v (shown c k)) (sym at)
-    (subst (λ (c : Columns). 0 < times_in v (shown c j)) (sym whole) some)
+    subst (λ (k : Track). 0 < times_in v (shown_track c k)) (sym at)
+    (subst (λ (c : Columns). 0 < times_in v (shown_track c j)) (sym whole) some)
 
 -- what closes the goals of Tracks::open, open_track, change and close
 pub ruleset after_opens = (after_open_user, after_open_system)
@@ -235,7 +235,7 @@ pub ruleset after_closes = (after_close_user, after_close_system)
 
 -- for their invariants: columns of which one stack was made new
 pub opens : (c d : Columns) (k : Track) (v y : ℕ) (new : List (List Entry)) → IsColumns c → c ≡ d → ¬ IsPlaced v d
-    → new ≡ with_topmost (stack_of c k) (opened (shown c k) v y) → IsColumns (with_stack c k new)
+    → new ≡ with_topmost (stack_of c k) (opened (shown_track c k) v y) → IsColumns (with_stack c k new)
 opens c d k v y new sound whole fresh is =
     subst (λ (s : List (List Entry)). IsColumns (with_stack c k s)) (sym is)
     (opened_in c k v y sound (subst (λ (c : Columns). ¬ IsPlaced v c) (sym whole) fresh))
@@ -247,15 +247,15 @@ covers c d k j v new sound whole fresh at room is =
     (covered_in c k v sound (subst (λ (c : Columns). ¬ IsPlaced v c) (sym whole) fresh) (room_in c d k j whole at room))
 
 pub changes : (c d : Columns) (k j : Track) (v y : ℕ) (new : List (List Entry)) → IsColumns c → c ≡ d → k ≡ j
-    → 0 < times_in v (shown d j)
-    → new ≡ with_topmost (stack_of c k) (changed (shown c k) (entry_of (shown c k) v) y)
+    → 0 < times_in v (shown_track d j)
+    → new ≡ with_topmost (stack_of c k) (changed (shown_track c k) (entry_of (shown_track c k) v) y)
     → IsColumns (with_stack c k new)
 changes c d k j v y new sound whole at some is =
     subst (λ (s : List (List Entry)). IsColumns (with_stack c k s)) (sym is)
     (changed_in c k v y sound (there_in c d k j v whole at some))
 
 pub closes : (c d : Columns) (k j : Track) (v : ℕ) (new : List (List Entry)) → IsColumns c → c ≡ d → k ≡ j
-    → 0 < times_in v (shown d j) → new ≡ closed_on (stack_of c k) v → IsColumns (with_stack c k new)
+    → 0 < times_in v (shown_track d j) → new ≡ closed_on (stack_of c k) v → IsColumns (with_stack c k new)
 closes c d k j v new sound whole at some is =
     subst (λ (s : List (List Entry)). IsColumns (with_stack c k s)) (sym is)
     (closed_in c k v sound (there_in c d k j v whole at some))
@@ -270,8 +270,8 @@ pub cover_keeps : (c : Columns) (v x : ℕ) → IsColumns c → ¬ IsPlaced v c 
 unfolding after_open_track
 cover_keeps c v x sound fresh room = covered_in c (track_at x) v sound fresh room
 
-pub change_keeps : (c : Columns) (v y : ℕ) → IsColumns c → IsOnTop v c → IsColumns (after_change c v y)
-unfolding after_change
+pub change_keeps : (c : Columns) (v y : ℕ) → IsColumns c → IsOnTop v c → IsColumns (columns_changed c v y)
+unfolding columns_changed
 change_keeps c v y sound top = changed_in c (track_of c v) v y sound (on_top c v sound top)
 
 pub close_keeps : (c : Columns) (v : ℕ) → IsColumns c → IsOnTop v c → IsColumns (after_close c v)
@@ -285,12 +285,12 @@ leaves c System t = ap (λ (s : List (List Entry)). columns (under_topmost c.use
 
 pub open_leaves : (c : Columns) (v x y : ℕ) → covered_of (after_open c v x y) ≡ covered_of c
 unfolding after_open
-open_leaves c v x y = leaves c (track_at x) (opened (shown c (track_at x)) v y)
+open_leaves c v x y = leaves c (track_at x) (opened (shown_track c (track_at x)) v y)
 
-pub change_leaves : (c : Columns) (v y : ℕ) → covered_of (after_change c v y) ≡ covered_of c
-unfolding after_change
+pub change_leaves : (c : Columns) (v y : ℕ) → covered_of (columns_changed c v y) ≡ covered_of c
+unfolding columns_changed
 change_leaves c v y =
-    leaves c (track_of c v) (changed (shown c (track_of c v)) (entry_of (shown c (track_of c v)) v) y)
+    leaves c (track_of c v) (changed (shown_track c (track_of c v)) (entry_of (shown_track c (track_of c v)) v) y)
 
 -- a viewer in a track of its own: it stands first there, it can be changed, and it can be closed
 first_there : (v : ℕ) → entry_of (whole_track v) v ≡ 0
@@ -299,7 +299,7 @@ first_there v = ap (λ b. cond (not b) (1 + 0) 0) (eq-eqb v v refl)
 unfoldable over : (c : Columns) (k : Track) (v : ℕ) → Columns
 over c k v = with_stack c k (whole_track v ∷ stack_of c k)
 
-on_its_own : (c : Columns) (k : Track) (v : ℕ) → 0 < times_in v (shown (over c k v) k)
+on_its_own : (c : Columns) (k : Track) (v : ℕ) → 0 < times_in v (shown_track (over c k v) k)
 unfolding over
 on_its_own c User v = omega (arith, times-whole_track v v, ap {B = ℕ} (λ b. cond b 1 0) (eq-eqb v v refl))
 on_its_own c System v = omega (arith, times-whole_track v v, ap {B = ℕ} (λ b. cond b 1 0) (eq-eqb v v refl))
@@ -323,7 +323,7 @@ uncovered v [] some = absurd (omega (arith, some))
 uncovered v (t ∷ s) some = ap (laid_on (t ∷ s)) (closed_away v)
 
 lowered_in : (c : Columns) (k : Track) (v y : ℕ) → 0 < y → y ≤ ROWS
-    → with_shown (over c k v) k (changed (shown (over c k v) k) (entry_of (shown (over c k v) k) v) y)
+    → with_shown (over c k v) k (changed (shown_track (over c k v) k) (entry_of (shown_track (over c k v) k) v) y)
     ≡ with_stack c k ((record { viewer = v; height = y } ∷ []) ∷ stack_of c k)
 unfolding over
 lowered_in c User v y some within =
@@ -341,13 +341,13 @@ uncovered_in c System v sound =
     let stack = sound.system in
     ap (λ (s : List (List Entry)). columns c.user s) (uncovered v c.system stack.some)
 
-after_change_in : (c : Columns) (v y : ℕ) (k : Track) → IsColumns c → 0 < times_in v (shown c k)
-    → after_change c v y ≡ with_shown c k (changed (shown c k) (entry_of (shown c k) v) y)
-unfolding after_change
+after_change_in : (c : Columns) (v y : ℕ) (k : Track) → IsColumns c → 0 < times_in v (shown_track c k)
+    → columns_changed c v y ≡ with_shown c k (changed (shown_track c k) (entry_of (shown_track c k) v) y)
+unfolding columns_changed
 after_change_in c v y k sound some =
-    ap (λ (k : Track). with_shown c k (changed (shown c k) (entry_of (shown c k) v) y)) (shown_in c v k sound some)
+    ap (λ (k : Track). with_shown c k (changed (shown_track c k) (entry_of (shown_track c k) v) y)) (shown_in c v k sound some)
 
-after_close_in : (c : Columns) (v : ℕ) (k : Track) → IsColumns c → 0 < times_in v (shown c k)
+after_close_in : (c : Columns) (v : ℕ) (k : Track) → IsColumns c → 0 < times_in v (shown_track c k)
     → after_close c v ≡ with_stack c k (closed_on (stack_of c k) v)
 unfolding after_close
 after_close_in c v k sound some =
@@ -355,7 +355,7 @@ after_close_in c v k sound some =
 
 pub change_lowers : (c : Columns) (v x y : ℕ) → IsColumns c → ¬ IsPlaced v c → length (stack_of c (track_at x)) < DEPTH
     → 0 < y → y ≤ ROWS
-    → after_change (after_open_track c v x) v y
+    → columns_changed (after_open_track c v x) v y
     ≡ with_stack c (track_at x) ((record { viewer = v; height = y } ∷ []) ∷ stack_of c (track_at x))
 unfolding after_open_track over
 change_lowers c v x y sound fresh room some within =

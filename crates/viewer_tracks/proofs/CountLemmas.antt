@@ -8,7 +8,7 @@ use Rattle.std.proofs.lemmas.Bool.{le-ltb, cases_lt, eqb-true, eq-eqb, false≢t
 use Rattle.viewer_tracks.specs.declared.edges.Edge.{Edge}
 use Rattle.viewer_tracks.specs.Viewers.{Entry, IsTrack, bottom_of, top_of, lowest_reaching, entry_viewer, viewer_at}
 use Rattle.viewer_tracks.specs.Viewers.{times_in, entry_of}
-use Rattle.viewer_tracks.specs.Edits.{with_entry, with_height, with_viewer, open_entry, open_top, takes_place, opened}
+use Rattle.viewer_tracks.specs.Edits.{with_entry, with_height, entry_with_viewer, open_entry, open_top, takes_place, opened}
 use Rattle.viewer_tracks.specs.Edits.{replaced, changed, closed}
 use Rattle.viewer_tracks.specs.Columns.{times_meant}
 use Rattle.viewer_tracks.specs.Edges.{entries_from, Rises}
@@ -35,15 +35,15 @@ viewer_of-with_height h (e ∷ t) (suc i) zero = refl
 viewer_of-with_height h (e ∷ t) (suc i) (suc j) = viewer_of-with_height h t i j
 
 renamed : (v w : ℕ) (t : List Entry) (i : ℕ) → i < length t
-    → times_in w (with_entry (with_viewer v) t i) + times_meant w (entry_viewer t i) ≡ times_in w t + times_meant w
+    → times_in w (with_entry (entry_with_viewer v) t i) + times_meant w (entry_viewer t i) ≡ times_in w t + times_meant w
     (Some v)
 renamed v w [] i within = absurd (omega arith)
 renamed v w (e ∷ t) zero within =
-    let after = times_in-cons w (with_viewer v e) t in
+    let after = times_in-cons w (entry_with_viewer v e) t in
     let before = times_in-cons w e t in
     omega arith
 renamed v w (e ∷ t) (suc i) within =
-    let after = times_in-cons w e (with_entry (with_viewer v) t i) in
+    let after = times_in-cons w e (with_entry (entry_with_viewer v) t i) in
     let before = times_in-cons w e t in
     let rest = renamed v w t i (omega arith) in
     omega arith
@@ -71,7 +71,7 @@ unfolding opened replaced
 opened_counts v w t y true whole =
     let i = open_entry t y in
     let h = open_top t y - bottom_of t i in
-    let named = with_entry (with_viewer v) t i in
+    let named = with_entry (entry_with_viewer v) t i in
     let lower = insert (with_entry (λ e. with_height (e.height - h) e) t i) i (record { viewer = v; height = h }) in
     let track : opened t v y ≡ named = ap (λ b. cond b named lower) whole in
     let gone : replaced t y ≡ entry_viewer t i = ap (λ b. cond b (entry_viewer t i) None) whole in
@@ -84,7 +84,7 @@ opened_counts v w t y true whole =
 opened_counts v w t y false part =
     let i = open_entry t y in
     let h = open_top t y - bottom_of t i in
-    let named = with_entry (with_viewer v) t i in
+    let named = with_entry (entry_with_viewer v) t i in
     let divided = with_entry (λ e. with_height (e.height - h) e) t i in
     let lower = insert divided i (record { viewer = v; height = h }) in
     let track : opened t v y ≡ lower = ap (λ b. cond b named lower) part in

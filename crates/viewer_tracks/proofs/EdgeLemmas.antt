@@ -10,7 +10,7 @@ use Rattle.viewer_tracks.specs.declared.viewer_id.ViewerId.{ViewerId}
 use Rattle.viewer_tracks.specs.declared.edges.Edge.{Edge}
 use Rattle.viewer_tracks.specs.declared.display.TheConstants.{ROWS}
 use Rattle.viewer_tracks.specs.Viewers.{Entry, IsTrack, bottom_of, tops, lowest_reaching}
-use Rattle.viewer_tracks.specs.Edits.{with_entry, with_height, with_viewer}
+use Rattle.viewer_tracks.specs.Edits.{with_entry, with_height, entry_with_viewer}
 use Rattle.viewer_tracks.specs.Edges.{entries_from, Rises}
 use Rattle.viewer_tracks.proofs.Positions.{position_or_len_map}
 
@@ -104,7 +104,7 @@ Rises-insert b (e ∷ es) (suc i) v top d within above below fits rising =
 
 -- another viewer at an edge
 pub entries_from-with_viewer : (b : ℕ) (es : List Edge) (i : ℕ) (v : ViewerId) (d : Edge)
-    → entries_from b (set es i (record { viewer = v; top = (get_or es i d).top })) ≡ with_entry (with_viewer v.0)
+    → entries_from b (set es i (record { viewer = v; top = (get_or es i d).top })) ≡ with_entry (entry_with_viewer v.0)
     (entries_from b es) i
 entries_from-with_viewer b [] i v d = refl
 entries_from-with_viewer b (e ∷ es) zero v d = refl

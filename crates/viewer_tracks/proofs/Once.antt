@@ -5,7 +5,7 @@ use Rattle.std.specs.Prelude.{insert, remove}
 use Rattle.std.proofs.lemmas.List.Sums.{sum_by-cons, sum_by-insert}
 use Rattle.std.proofs.lemmas.Bool.{eqb-true}
 use Rattle.viewer_tracks.specs.Viewers.{Entry, bottom_of, top_of, times_in}
-use Rattle.viewer_tracks.specs.Edits.{with_entry, with_height, with_viewer, takes_place, open_entry, open_top, opened}
+use Rattle.viewer_tracks.specs.Edits.{with_entry, with_height, entry_with_viewer, takes_place, open_entry, open_top, opened}
 use Rattle.viewer_tracks.specs.Edits.{change_top, changed, closed}
 
 -- one more where the viewers are the same
@@ -25,14 +25,14 @@ times_in-with_height w h (e ∷ t) (suc i) =
     ∙ ap (λ n. one_if e.viewer w + n) (times_in-with_height w h t i) ∙ sym (times_in-cons w e t)
 
 times_in-with_viewer : (v w : ℕ) (t : List Entry) (i : ℕ)
-    → times_in w (with_entry (with_viewer v) t i) ≤ times_in w t + one_if v w
+    → times_in w (with_entry (entry_with_viewer v) t i) ≤ times_in w t + one_if v w
 times_in-with_viewer v w [] i = omega arith
 times_in-with_viewer v w (e ∷ t) zero =
-    let after = times_in-cons w (with_viewer v e) t in
+    let after = times_in-cons w (entry_with_viewer v e) t in
     let before = times_in-cons w e t in
     omega arith
 times_in-with_viewer v w (e ∷ t) (suc i) =
-    let after = times_in-cons w e (with_entry (with_viewer v) t i) in
+    let after = times_in-cons w e (with_entry (entry_with_viewer v) t i) in
     let before = times_in-cons w e t in
     let rest = times_in-with_viewer v w t i in
     omega arith
@@ -55,7 +55,7 @@ times_in-opened v w t y =
     let lower = with_entry (λ e. with_height (e.height - h) e) t i in
     let at : Entry = record { viewer = v; height = h } in
     elim (takes_place t i (open_top t y)) as
-    (λ b. times_in w (cond b (with_entry (with_viewer v) t i) (insert lower i at)) ≤ times_in w t + one_if v w) [
+    (λ b. times_in w (cond b (with_entry (entry_with_viewer v) t i) (insert lower i at)) ≤ times_in w t + one_if v w) [
       | true ↦ times_in-with_viewer v w t i
       | false ↦ (
           let more = sum_by-insert (λ (x : Entry). one_if x.viewer w) lower i at in

@@ -12,7 +12,7 @@ use Rattle.viewer_tracks.specs.declared.viewer_id.ViewerId.{ViewerId}
 use Rattle.viewer_tracks.specs.declared.edges.Edge.{Edge}
 use Rattle.viewer_tracks.specs.declared.display.TheConstants.{ROWS}
 use Rattle.viewer_tracks.specs.Viewers.{bottom_of, entry_viewer}
-use Rattle.viewer_tracks.specs.Edits.{with_entry, with_height, with_viewer, open_entry, open_top, takes_place, put_into}
+use Rattle.viewer_tracks.specs.Edits.{with_entry, with_height, entry_with_viewer, open_entry, open_top, takes_place, put_into}
 use Rattle.viewer_tracks.specs.Edits.{opened, replaced}
 use Rattle.viewer_tracks.specs.Edges.{entries_from, Rises}
 use Rattle.viewer_tracks.proofs.EdgeLemmas.{length-entries_from, bottom_of-cons, bottom_of-entries_from, bottom_of_edge}
@@ -125,7 +125,7 @@ opened-taking es y i top v d o within same =
     let lower = insert (with_entry (λ e. with_height (e.height - h) e) t i) i (record { viewer = v.0; height = h }) in
     let yes = takes es y i top d o within same in (
       entries_from-with_viewer 0 es i v d
-          ∙ sym (ap (λ b. cond b (with_entry (with_viewer v.0) t i) lower) yes)
+          ∙ sym (ap (λ b. cond b (with_entry (entry_with_viewer v.0) t i) lower) yes)
           ∙ (λ k. put_into t v.0 (o.entry k) (o.raised k)),
       sym (viewer_of-entries_from 0 es i d within)
           ∙ sym (ap (λ b. cond b (entry_viewer t i) None) yes)
@@ -144,7 +144,7 @@ opened-inserting es y i top v d o other =
     let no = leaves es y i top d o other in
     let above = o.above in (
       entries_from-insert 0 es i h v top o.within (omega arith) o.rising
-          ∙ sym (ap (λ b. cond b (with_entry (with_viewer v.0) t i)
+          ∙ sym (ap (λ b. cond b (with_entry (entry_with_viewer v.0) t i)
           (insert (with_entry (λ e. with_height (e.height - h) e) t i) i (record { viewer = v.0; height = h }))) no)
           ∙ (λ k. put_into t v.0 (o.entry k) (o.raised k)),
       sym (ap (λ b. cond b (entry_viewer t i) None) no)

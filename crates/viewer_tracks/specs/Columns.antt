@@ -66,8 +66,8 @@ abbrev pub closed_on : List (List Entry) → ℕ → List (List Entry)
 closed_on s v = laid_on (under_topmost s) (closed (topmost s) (entry_of (topmost s) v))
 
 -- the track that a column shows, and the columns with another one shown
-abbrev pub shown : Columns → Track → List Entry
-shown c k = topmost (stack_of c k)
+abbrev pub shown_track : Columns → Track → List Entry
+shown_track c k = topmost (stack_of c k)
 
 abbrev pub with_shown : Columns → Track → List Entry → Columns
 with_shown c k t = with_stack c k (with_topmost (stack_of c k) t)
@@ -90,7 +90,7 @@ IsPlaced v c = 0 < times_placed v c
 
 -- how often a viewer stands in the tracks that are shown
 abbrev pub times_shown : ℕ → Columns → ℕ
-times_shown v c = times_in v (shown c User) + times_in v (shown c System)
+times_shown v c = times_in v (shown_track c User) + times_in v (shown_track c System)
 
 -- a viewer stands in a track that is shown
 abbrev pub IsOnTop : ℕ → Columns → Type 0
@@ -139,7 +139,7 @@ pub record StandsAt (c : Columns) (v x y : ℕ) : Type 0 where
 
 -- the viewer that is seen at a cell of the display
 abbrev pub seen_at : Columns → ℕ → ℕ → Option ℕ
-seen_at c x y = viewer_at (shown c (track_at x)) y
+seen_at c x y = viewer_at (shown_track c (track_at x)) y
 
 -- the viewer that the track of a level has at a cell, be that seen or covered
 abbrev pub at_level : Columns → ℕ → ℕ → ℕ → Option ℕ
@@ -147,19 +147,19 @@ at_level c level x y = viewer_at (track_on (stack_of c (track_at x)) level) y
 
 -- the columns after a viewer opened at a cell, and the viewer that it replaced
 unfoldable pub after_open : Columns → ℕ → ℕ → ℕ → Columns
-after_open c v x y = with_shown c (track_at x) (opened (shown c (track_at x)) v y)
+after_open c v x y = with_shown c (track_at x) (opened (shown_track c (track_at x)) v y)
 
 abbrev pub replaced_at : Columns → ℕ → ℕ → Option ℕ
-replaced_at c x y = replaced (shown c (track_at x)) y
+replaced_at c x y = replaced (shown_track c (track_at x)) y
 
 -- the columns after a viewer opened in a track of its own over the one that column x showed
 unfoldable pub after_open_track : Columns → ℕ → ℕ → Columns
 after_open_track c v x = with_stack c (track_at x) (whole_track v ∷ stack_of c (track_at x))
 
 -- the columns after the top of a shown viewer was moved to row y
-unfoldable pub after_change : Columns → ℕ → ℕ → Columns
-after_change c v y =
-    let t = shown c (track_of c v) in
+unfoldable pub columns_changed : Columns → ℕ → ℕ → Columns
+columns_changed c v y =
+    let t = shown_track c (track_of c v) in
     with_shown c (track_of c v) (changed t (entry_of t v) y)
 
 -- the columns after a shown viewer was closed
@@ -169,4 +169,4 @@ after_close c v = with_stack c (track_of c v) (closed_on (stack_of c (track_of c
 -- the cell at which to open a new viewer: above the marker, wherever that is, or else where the track has room
 abbrev pub allocated : Columns → Track → Option (ℕ × ℕ) → ℕ × ℕ
 allocated c k (Some marker) = (marker.0, marker.1 + 1)
-allocated c k None = (left_of k, free_row (shown c k))
+allocated c k None = (left_of k, free_row (shown_track c k))

@@ -21,8 +21,8 @@ with_entry f (e ∷ t) (suc i) = e ∷ with_entry f t i
 abbrev pub with_height : ℕ → Entry → Entry
 with_height h e = record e { height = h }
 
-abbrev pub with_viewer : ℕ → Entry → Entry
-with_viewer v e = record e { viewer = v }
+abbrev pub entry_with_viewer : ℕ → Entry → Entry
+entry_with_viewer v e = record e { viewer = v }
 
 -- the entry in which a viewer opens at row y, and the row before which it ends there
 abbrev pub open_entry : List Entry → ℕ → ℕ
@@ -40,7 +40,7 @@ abbrev pub put_into : List Entry → ℕ → ℕ → ℕ → List Entry
 put_into t v i top =
     let h = top - bottom_of t i in
     if takes_place t i top
-    then with_entry (with_viewer v) t i
+    then with_entry (entry_with_viewer v) t i
     else insert (with_entry (λ e. with_height (e.height - h) e) t i) i (record { viewer = v; height = h })
 
 -- the track after v opened at row y

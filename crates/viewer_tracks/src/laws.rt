@@ -4,10 +4,10 @@ ghost use Rattle.viewer_tracks.specs.declared.display.TheConstants.{ROWS, DEPTH}
 ghost use Rattle.viewer_tracks.specs.Display.{track_at};
 ghost use Rattle.viewer_tracks.specs.Viewers.{Entry, IsTrack, bottom_of, times_in};
 ghost use Rattle.viewer_tracks.specs.Edits.{change_top};
-ghost use Rattle.viewer_tracks.specs.Columns.{Columns, IsColumns, IsPlaced, IsOnTop, StandsAt, seen_at, shown};
+ghost use Rattle.viewer_tracks.specs.Columns.{Columns, IsColumns, IsPlaced, IsOnTop, StandsAt, seen_at, shown_track};
 ghost use Rattle.viewer_tracks.specs.Columns.{times_placed, times_shown, times_meant, stack_of, with_stack};
 ghost use Rattle.viewer_tracks.specs.Columns.{covered_of, placed_in, track_of};
-ghost use Rattle.viewer_tracks.specs.Columns.{replaced_at, after_open, after_open_track, after_change, after_close};
+ghost use Rattle.viewer_tracks.specs.Columns.{replaced_at, after_open, after_open_track, columns_changed, after_close};
 ghost use Rattle.viewer_tracks.specs.Rows.{OpensRows, ChangesRows, ClosesRows};
 
 /// A viewer that opens takes rows of one viewer or of the filler alone, and no other row changes hands.
@@ -31,7 +31,7 @@ pub fn edits_keep_columns()
     ensures opened { (c : Columns) (v x y : ℕ) → IsColumns c → ¬ IsPlaced v c → IsColumns (after_open c v x y) }
     ensures covered { (c : Columns) (v x : ℕ) → IsColumns c → ¬ IsPlaced v c
         → length (stack_of c (track_at x)) < DEPTH → IsColumns (after_open_track c v x) }
-    ensures changed { (c : Columns) (v y : ℕ) → IsColumns c → IsOnTop v c → IsColumns (after_change c v y) }
+    ensures changed { (c : Columns) (v y : ℕ) → IsColumns c → IsOnTop v c → IsColumns (columns_changed c v y) }
     ensures closed { (c : Columns) (v : ℕ) → IsColumns c → IsOnTop v c → IsColumns (after_close c v) }
 {}
 
@@ -43,7 +43,7 @@ pub fn edits_place_viewers()
     ensures covered { (c : Columns) (v x w : ℕ) →
         times_placed w (after_open_track c v x) ≡ times_placed w c + times_meant w (Some v) }
     ensures changed { (c : Columns) (v y w : ℕ) → IsColumns c → IsOnTop v c →
-        times_placed w (after_change c v y) ≡ times_placed w c }
+        times_placed w (columns_changed c v y) ≡ times_placed w c }
     ensures closed { (c : Columns) (v w : ℕ) → IsColumns c → IsOnTop v c →
         times_placed w (after_close c v) + times_meant w (Some v) ≡ times_placed w c }
 {}
@@ -55,10 +55,10 @@ pub fn edits_show_viewers()
         times_shown w (after_open c v x y) + times_meant w (replaced_at c x y)
         ≡ times_shown w c + times_meant w (Some v) }
     ensures covered { (c : Columns) (v x w : ℕ) →
-        times_shown w (after_open_track c v x) + times_in w (shown c (track_at x))
+        times_shown w (after_open_track c v x) + times_in w (shown_track c (track_at x))
         ≡ times_shown w c + times_meant w (Some v) }
     ensures changed { (c : Columns) (v y w : ℕ) → IsColumns c → IsOnTop v c →
-        times_shown w (after_change c v y) ≡ times_shown w c }
+        times_shown w (columns_changed c v y) ≡ times_shown w c }
     ensures closed { (c : Columns) (v w : ℕ) → IsColumns c → IsOnTop v c →
         times_shown w c ≤ times_shown w (after_close c v) + times_meant w (Some v) }
 {}
@@ -67,7 +67,7 @@ pub fn edits_show_viewers()
 /// track under it from them.
 pub fn edits_leave_the_covered()
     ensures opened { (c : Columns) (v x y : ℕ) → covered_of (after_open c v x y) ≡ covered_of c }
-    ensures changed { (c : Columns) (v y : ℕ) → covered_of (after_change c v y) ≡ covered_of c }
+    ensures changed { (c : Columns) (v y : ℕ) → covered_of (columns_changed c v y) ≡ covered_of c }
 {}
 
 /// A viewer that opened in a track of its own and is closed leaves the columns as they were.
@@ -80,7 +80,7 @@ pub fn close_uncovers()
 pub fn change_lowers_a_new_track()
     ensures { (c : Columns) (v x y : ℕ) → IsColumns c → ¬ IsPlaced v c → length (stack_of c (track_at x)) < DEPTH
         → 0 < y → y ≤ ROWS
-        → after_change (after_open_track c v x) v y
+        → columns_changed (after_open_track c v x) v y
         ≡ with_stack c (track_at x) ((record { viewer = v; height = y } ∷ []) ∷ stack_of c (track_at x)) }
 {}
 
@@ -91,7 +91,7 @@ pub fn shown_viewers_are_placed()
 
 /// The track in which a shown viewer stands is the one that its column shows.
 pub fn shown_viewers_stand_on_top()
-    ensures { (c : Columns) (v : ℕ) → IsColumns c → IsOnTop v c → placed_in c v ≡ shown c (track_of c v) }
+    ensures { (c : Columns) (v : ℕ) → IsColumns c → IsOnTop v c → placed_in c v ≡ shown_track c (track_of c v) }
 {}
 
 /// A viewer that is seen at a cell is shown and has that cell.

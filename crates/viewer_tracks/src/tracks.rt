@@ -41,9 +41,9 @@ pub struct Place {
 
 impl Tracks {
     ghost use Rattle.viewer_tracks.specs.Columns.{Columns, IsColumns, IsPlaced, IsOnTop, no_viewers, track_of};
-    ghost use Rattle.viewer_tracks.specs.Columns.{placed_bottom, placed_top, StandsAt, stack_of, shown, track_on};
+    ghost use Rattle.viewer_tracks.specs.Columns.{placed_bottom, placed_top, StandsAt, stack_of, shown_track, track_on};
     ghost use Rattle.viewer_tracks.specs.Columns.{seen_at, at_level, replaced_at, allocated};
-    ghost use Rattle.viewer_tracks.specs.Columns.{after_open, after_open_track, after_change, after_close};
+    ghost use Rattle.viewer_tracks.specs.Columns.{after_open, after_open_track, columns_changed, after_close};
 
     /// Two tracks that are all filler.
     pub fn new() -> Self
@@ -75,7 +75,7 @@ impl Tracks {
 
     /// Whether a viewer stands in the track that a column shows.
     pub fn is_shown_in(&self, track: Track, viewer: ViewerId) -> bool
-        ensures { IsTrue result ↔ (0 < times_in viewer.0 (shown self.now track)) }
+        ensures { IsTrue result ↔ (0 < times_in viewer.0 (shown_track self.now track)) }
     {
         self.stack(track).shown().contains(viewer)
     }
@@ -153,7 +153,7 @@ impl Tracks {
     /// would leave the viewer no row, nothing changes.
     pub fn change(&mut self, viewer: ViewerId, y: u8)
         requires { IsOnTop viewer.0 self.old }
-        ensures changed { self.new ≡ after_change self.old viewer.0 y }
+        ensures changed { self.new ≡ columns_changed self.old viewer.0 y }
         ensures sound { IsColumns self.new }
     {
         match self.column_of(viewer) {
@@ -180,7 +180,7 @@ impl Tracks {
     fn column_of(&self, viewer: ViewerId) -> Track
         requires { IsOnTop viewer.0 self.now }
         ensures column { result ≡ track_of self.now viewer.0 }
-        ensures shown { 0 < times_in viewer.0 (shown self.now result) }
+        ensures shown { 0 < times_in viewer.0 (shown_track self.now result) }
     {
         if self.user.shown().contains(viewer) {
             Track::User
@@ -236,7 +236,7 @@ impl Tracks {
 
     /// The viewer of that place in the track that a column shows, counted from 0 at the bottom. None past the topmost.
     pub fn viewer_in(&self, track: Track, index: u8) -> Option<ViewerId>
-        ensures viewer { id_number result ≡ entry_viewer (shown self.now track) index }
+        ensures viewer { id_number result ≡ entry_viewer (shown_track self.now track) index }
         ensures shown { IfSome result (λ v. IsOnTop v.0 self.now) }
     {
         self.stack(track).shown().nth(index)

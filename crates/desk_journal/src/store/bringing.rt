@@ -1,7 +1,7 @@
 //! Documents that come into a store.
 ghost use Rattle.std.specs.Prelude.{◌≡◌, ◌≤◌, IfOk, IsErrOf};
 ghost use Rattle.desk_slots.specs.Errors.{OfPost};
-ghost use Rattle.desk_journal.specs.Bringing.{LeavesAllOrNone, IsBrought, IsUnwritten};
+ghost use Rattle.desk_journal.specs.Bringing.{LeavesAllOrNone, AreBrought, IsUnwritten};
 ghost use Rattle.desk_journal.specs.Posting.{Behaves, IsBroken, IsLast, TurnsAway};
 
 use super::Store;
@@ -24,7 +24,7 @@ impl<D: Disk> Store<D> {
     /// the store must be opened again.
     pub fn bring(&mut self, alloc: Global, documents: &[Document]) -> Result<Reply, Error>
         ensures any_moment { LeavesAllOrNone D.Disk documents.now self.old self.new }
-        ensures ok { IfOk result (λ reply. IsBrought D.Disk documents.now reply self.old self.new) }
+        ensures ok { IfOk result (λ reply. AreBrought D.Disk documents.now reply self.old self.new) }
         ensures memory { IsErrOf result Error.NoMemory → IsUnwritten D.Disk self.old self.new }
         ensures fault { IsErrOf result Error.Fault → IsBroken self.new }
         ensures worn { TurnsAway (IsErrOf result Error.Worn) (IsLast self.old) self.old self.new }

@@ -1,7 +1,7 @@
 use Rattle.std.proofs.Common.{◌≡◌, ◌-◌, length, arith, sym, ◌∙◌, rules}
 use Rattle.std.specs.Prelude.{min}
 use Rattle.piece_ring.specs.Flat.{flat}
-use Rattle.readers_scanners.specs.Reading.{bytes}
+use Rattle.readers_scanners.specs.Reading.{bytes_of_text}
 use Rattle.readers_scanners.proofs.Running.{length-bytes}
 use Rattle.readers_scanners.specs.Walking.{onward, seen}
 use Rattle.command_table.proofs.Window.{one_more, one_count, all_there}
@@ -10,7 +10,7 @@ use Rattle.command_table.proofs.calling.bytes_from.Goals as goal
 pub loop-at-preserved : goal.loop-at-preserved
 loop-at-preserved g c =
     let s = g.S.CharSource in let laws = g.met.S.CharSource in let before = c.loop-at.invariant in
-    let bs = bytes (s.characters c.args.source.now) (flat c.args.text.now) in
+    let bs = bytes_of_text (s.characters c.args.source.now) (flat c.args.text.now) in
     record {
       way = onward s.characters s.failures s.honest s.same_ground laws.ground_self laws.ground_through _ _ _ _ _
           before.way _ _ c.in_ok-byte.ensures.moves c.in_ok-byte.ensures.text c.in_ok-byte.ensures.reads
@@ -29,7 +29,7 @@ pub returns-clause-bytes : goal.returns-clause-bytes
 returns-clause-bytes g c h =
     let s = g.S.CharSource in let before = c.loop-at.invariant in
     let count : length c.loop-at.window.items ≡ min 37 (length (flat c.args.text.now) - c.args.start) = search rules in
-    all_there 37 (bytes (s.characters c.args.source.now)
+    all_there 37 (bytes_of_text (s.characters c.args.source.now)
     (flat c.args.text.now)) c.loop-at.window.items c.args.start c.loop-at.at (length (flat c.args.text.now))
     (before.exact h)
     (sym (length-bytes (s.characters c.args.source.now) (flat c.args.text.now))) (omega (arith, before.count, count))

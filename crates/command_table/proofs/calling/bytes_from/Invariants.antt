@@ -1,6 +1,6 @@
 use Rattle.std.proofs.Common.{◌≡◌, ◌-◌, ◌+◌, length, take, drop}
 use Rattle.piece_ring.specs.Flat.{flat}
-use Rattle.readers_scanners.specs.Reading.{bytes}
+use Rattle.readers_scanners.specs.Reading.{bytes_of_text}
 use Rattle.readers_scanners.specs.Walking.{IsAt}
 use Rattle.command_table.proofs.calling.bytes_from.Given as goal
 
@@ -11,5 +11,5 @@ invariant-loop-at g l =
       way : IsAt s.characters s.failures s.honest s.same_ground l.fn.source l.source (flat l.text) l.reader l.at;
       count : l.start + length l.window.items ≡ l.at;
       exact : s.honest l.fn.source
-          → l.window.items ≡ take (l.at - l.start) (drop l.start (bytes (s.characters l.fn.source) (flat l.text)));
+          → l.window.items ≡ take (l.at - l.start) (drop l.start (bytes_of_text (s.characters l.fn.source) (flat l.text)));
     }

@@ -2,7 +2,7 @@ use Rattle.std.proofs.Common.{List, ℕ, sym, rules}
 use Rattle.desktop_definitions.specs.Limits.{full, too_many_files}
 use Rattle.desktop_definitions.specs.Seen.{seen}
 use Rattle.desktop_laws.specs.OutcomeLaws.{refused}
-use Rattle.desk_core.specs.Words.{kept}
+use Rattle.desk_core.specs.Words.{kept_desktop}
 use Rattle.desk_bringing.specs.Bringing.{all_filed}
 use Rattle.desk_bringing.specs.BringingLaws.{brought_many, brought_full, all_filed_shown}
 use Rattle.desk_bringing.specs.Gathering.{gathered_done, gathered_unread}
@@ -13,7 +13,7 @@ use Rattle.desk_bringing.proofs.bringing.bring.Goals as goal
 
 pub returns-then-len-clause-does : goal.returns-then-len-clause-does
 returns-then-len-clause-does g c =
-    let d = kept c.args.desk.now in
+    let d = kept_desktop c.args.desk.now in
     let documents = c.args.documents.now in
     let none = λ (all : List ℕ). brought_many (seen all d) documents
     (many_told c.in_ok-sizes.sizes.entries (all_filed (seen all d) documents) c.len.result
@@ -26,7 +26,7 @@ returns-then-len-clause-does g c =
 
 pub returns-then-not-all_fit-clause-does : goal.returns-then-not-all_fit-clause-does
 returns-then-not-all_fit-clause-does g c =
-    let d = kept c.args.desk.now in
+    let d = kept_desktop c.args.desk.now in
     let documents = c.args.documents.now in
     let none = λ (all : List ℕ). brought_full (seen all d) documents
     (few_told c.in_ok-sizes.sizes.entries (all_filed (seen all d) documents) c.len.result
@@ -41,7 +41,7 @@ returns-then-not-all_fit-clause-does g c =
 
 pub returns-clause-does : goal.returns-clause-does
 returns-clause-does g c =
-    let d = kept c.args.desk.now in
+    let d = kept_desktop c.args.desk.now in
     let old = g.S.CharSource.characters c.args.source.now in
     let documents = c.args.documents.now in
     let few = λ (all : List ℕ). few_told c.in_ok-sizes.sizes.entries (all_filed (seen all d) documents) c.len.result

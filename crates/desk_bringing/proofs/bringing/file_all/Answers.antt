@@ -3,7 +3,7 @@ use Rattle.std.proofs.lemmas.List.{take_more}
 use Rattle.desktop_definitions.specs.Desktop.{KeptDesktop}
 use Rattle.desk_bringing.proofs.Sums.{bytes_more}
 use Rattle.std.proofs.lemmas.Result.{err_from_is_err_and}
-use Rattle.desk_core.specs.Words.{Uses, kept}
+use Rattle.desk_core.specs.Words.{Uses, kept_desktop}
 use Rattle.desk_bringing.specs.Bringing.{Documents}
 use Rattle.desk_bringing.specs.Gathering.{gathered_none, gathered_more}
 use Rattle.desk_bringing.specs.Gathered.{IsGathered}
@@ -28,7 +28,7 @@ loop-document-preserved g c =
     ∙ ap (λ (x : List ℕ × List ℕ). take i documents ++ x ∷ []) (sym c.document-item.is) in
     record {
       gathered = subst (λ (l : Documents). IsGathered (g.S.CharSource.characters c.args.source.now)
-          (g.S.CharSource.characters c.file_one.new.source) (kept c.args.desk.now) (kept c.file_one.new.desk) l)
+          (g.S.CharSource.characters c.file_one.new.source) (kept_desktop c.args.desk.now) (kept_desktop c.file_one.new.desk) l)
           (sym next) (gathered_more c.loop-document.invariant.gathered more);
       written = ap (λ (d : KeptDesktop). d.written) more.after_is
           ∙ ap (λ n. n + length item.1) c.loop-document.invariant.written

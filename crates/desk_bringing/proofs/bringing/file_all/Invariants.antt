@@ -1,5 +1,5 @@
 use Rattle.std.proofs.Common.{◌≡◌, ◌+◌, take}
-use Rattle.desk_core.specs.Words.{kept}
+use Rattle.desk_core.specs.Words.{kept_desktop}
 use Rattle.desk_bringing.specs.Bringing.{many_bytes}
 use Rattle.desk_bringing.specs.Gathered.{IsGathered}
 use Rattle.desk_bringing.proofs.Calm.{IsCalm}
@@ -9,7 +9,7 @@ use Rattle.desk_bringing.proofs.bringing.file_all.Given as goal
 abbrev pub invariant-loop-document : goal.invariant-loop-document
 invariant-loop-document g l = record {
   gathered : IsGathered (g.S.CharSource.characters l.fn.source) (g.S.CharSource.characters l.source)
-      (kept l.fn.desk) (kept l.desk) (take l.document-index l.documents);
+      (kept_desktop l.fn.desk) (kept_desktop l.desk) (take l.document-index l.documents);
   written : l.desk.written ≡ l.fn.desk.written + many_bytes (take l.document-index l.documents);
   calm : IsCalm g.S.CharSource l.fn.source l.source;
 }

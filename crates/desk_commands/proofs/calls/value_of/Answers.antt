@@ -1,10 +1,10 @@
 use Rattle.std.proofs.Common.{◌∙◌}
 use Rattle.std.proofs.lemmas.Result.{IfOk-weaker}
 use Rattle.piece_ring.specs.Flat.{flat}
-use Rattle.readers_scanners.specs.Reading.{bytes}
-use Rattle.command_table.specs.Parameters.{value}
+use Rattle.readers_scanners.specs.Reading.{bytes_of_text}
+use Rattle.command_table.specs.Parameters.{value_parameter}
 use Rattle.desktop_laws.specs.CallLaws.{place_stands, menu_stands, value_read}
-use Rattle.desk_core.specs.Kept.{kept}
+use Rattle.desk_core.specs.Kept.{kept_desktop}
 use Rattle.desk_commands.proofs.CallLemmas.{call_place}
 use Rattle.desk_commands.proofs.calls.value_of.Goals as goal
 
@@ -21,9 +21,9 @@ pub returns-clause-told : goal.returns-clause-told
 returns-clause-told g c = record {
   exact =
       IfOk-weaker c.params.result _ _ (λ r fact h. fact h
-      ∙ (λ k. value (bytes (g.S.CharSource.characters c.args.source.now)) (flat (c.text_called-text.ensures k))
+      ∙ (λ k. value_parameter (bytes_of_text (g.S.CharSource.characters c.args.source.now)) (flat (c.text_called-text.ensures k))
       c.args.call.after (c.selection_place.ensures k) (c.menu_at_marker.ensures k))
-      ∙ value_read _ (kept c.args.desk.now) c.args.call) c.params.ensures.value;
+      ∙ value_read _ (kept_desktop c.args.desk.now) c.args.call) c.params.ensures.value;
   reads = c.params.ensures.reads;
   cause = c.params.ensures.cause;
 }

@@ -8,7 +8,7 @@ use Rattle.desktop_laws.specs.OpeningDone.{new_fresh, can_open, whole_columns}
 use Rattle.desktop_laws.specs.RowLaws.{known_too_low}
 use Rattle.desktop_laws.specs.OpeningOnLaws.{half_free, copied_low, copied_full}
 use Rattle.desktop_laws.specs.OpeningOnLaws.{copied_answered}
-use Rattle.desk_core.specs.Kept.{kept}
+use Rattle.desk_core.specs.Kept.{kept_desktop}
 use Rattle.desk_commands.proofs.OpeningLemmas.{answered_there, menu_is}
 use Rattle.desk_commands.proofs.documents.copy_viewer.Goals as goal
 
@@ -17,7 +17,7 @@ unfolding seen
 returns-then-rows-eq1 g c = record {
   answered =
       let old = g.S.CharSource.characters c.args.source.now in
-      let d = kept c.args.desk.now in
+      let d = kept_desktop c.args.desk.now in
       let place = c.place_of-place in
       refusal_answered _ old d (viewer_copied (seen old d) c.args.id) too_low c.requires.over known_too_low
       (copied_low (seen old d) c.args.id place.result.x place.result.bottom place.result.top place.ensures
@@ -28,7 +28,7 @@ returns-then-rows-eq1 g c = record {
 pub returns-then-not-opening_on_fits : goal.returns-then-not-opening_on_fits
 returns-then-not-opening_on_fits g c = record {
   answered =
-      let d = kept c.args.desk.now in
+      let d = kept_desktop c.args.desk.now in
       let place = c.place_of-place in
       let viewer = c.viewer_or_none-viewer.result in
       let more = c.if-rows-eq1.false in
@@ -44,12 +44,12 @@ returns-then-not-opening_on_fits g c = record {
 }
 
 pub open_on-requires-clause-can : goal.open_on-requires-clause-can
-open_on-requires-clause-can g c = can_open (kept c.args.desk.now) c.requires.over.whole
+open_on-requires-clause-can g c = can_open (kept_desktop c.args.desk.now) c.requires.over.whole
 
 pub returns : goal.returns
 returns g c = record {
   answered =
-      let d = kept c.args.desk.now in
+      let d = kept_desktop c.args.desk.now in
       let place = c.place_of-place in
       let x = place.result.x in
       let y = place.result.bottom + (place.result.top - place.result.bottom) / 2 in

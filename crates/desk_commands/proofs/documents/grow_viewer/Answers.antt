@@ -9,7 +9,7 @@ use Rattle.desktop_laws.specs.KeyLaws.{refusal_answered}
 use Rattle.desktop_laws.specs.OpeningDone.{can_open}
 use Rattle.desktop_laws.specs.RowLaws.{known_too_deep}
 use Rattle.desktop_laws.specs.GrownLaws.{grown_deep, grown_answered, grown_full}
-use Rattle.desk_core.specs.Kept.{kept}
+use Rattle.desk_core.specs.Kept.{kept_desktop}
 use Rattle.desk_commands.proofs.OpeningLemmas.{answered_there, menu_is}
 use Rattle.desk_commands.proofs.documents.grow_viewer.Goals as goal
 
@@ -18,7 +18,7 @@ unfolding seen
 returns-then-levels-eq-DEPTH g c = record {
   answered =
       let old = g.S.CharSource.characters c.args.source.now in
-      let d = kept c.args.desk.now in
+      let d = kept_desktop c.args.desk.now in
       let v = c.args.id in
       let track = c.track_from-track.ensures (track_of d.columns v) c.place_of.ensures.left in
       refusal_answered _ old d (viewer_grown (seen old d) v) too_deep c.requires.over known_too_deep
@@ -30,7 +30,7 @@ returns-then-levels-eq-DEPTH g c = record {
 pub returns-then-not-opening_over_fits : goal.returns-then-not-opening_over_fits
 returns-then-not-opening_over_fits g c = record {
   answered =
-      let d = kept c.args.desk.now in
+      let d = kept_desktop c.args.desk.now in
       let v = c.args.id in
       let k = c.track_from-track.result in
       let viewer = c.viewer_or_none-viewer.result in
@@ -46,14 +46,14 @@ returns-then-not-opening_over_fits g c = record {
 
 pub open_over-requires : goal.open_over-requires
 open_over-requires g c = (
-  can_open (kept c.args.desk.now) c.requires.over.whole,
+  can_open (kept_desktop c.args.desk.now) c.requires.over.whole,
   omega (arith, c.levels.ensures.depth, c.levels.ensures.few, c.if-levels-eq-DEPTH.false),
 )
 
 pub returns : goal.returns
 returns g c = record {
   answered =
-      let d = kept c.args.desk.now in
+      let d = kept_desktop c.args.desk.now in
       let v = c.args.id in
       let k = c.track_from-track.result in
       let viewer = c.viewer_or_none-viewer.result in

@@ -4,40 +4,40 @@ use Rattle.piece_ring.specs.Look.{default_look}
 use Rattle.piece_ring.specs.Flat.{run}
 use Rattle.desktop_definitions.specs.declared.reply.Reply.TheVariants.{Done}
 use Rattle.desktop_definitions.specs.Desktop.{KeptDesktop}
-use Rattle.desktop_definitions.specs.Change.{plain, more_written}
-use Rattle.desktop_definitions.specs.Opening.{opening_on, dropped}
+use Rattle.desktop_definitions.specs.Change.{plain_text, more_written}
+use Rattle.desktop_definitions.specs.Opening.{opening_on, without_unshown}
 use Rattle.desktop_definitions.specs.Effects.{log_opened}
 use Rattle.desktop_definitions.specs.Seen.{seen}
-use Rattle.desktop_definitions.specs.Step.{fits, settled}
+use Rattle.desktop_definitions.specs.Step.{fits, outcome_after}
 use Rattle.desktop_definitions.specs.Outcome.{IsAnswered}
 use Rattle.desktop_laws.specs.OutcomeLaws.{length_in_look}
 use Rattle.desktop_definitions.specs.Opening.{new_id}
 use Rattle.desktop_laws.specs.OpeningDone.{new_fresh, can_open, written_on, whole_columns}
 use Rattle.desktop_laws.specs.OpeningOnLaws.{log_full, log_answered}
-use Rattle.desk_core.specs.Kept.{kept}
+use Rattle.desk_core.specs.Kept.{kept_desktop}
 use Rattle.desk_commands.proofs.documents.open_log.Goals as goal
 
 pub returns-then-not-opening_on_fits : goal.returns-then-not-opening_on_fits
 returns-then-not-opening_on_fits g c = record {
   answered =
       let old = g.S.CharSource.characters c.args.source.now in
-      let d = kept c.args.desk.now in
+      let d = kept_desktop c.args.desk.now in
       let menu = c.menu_line-menu.result.items in
       let cell = c.free_cell-x.result in
       let long : c.len-len.result ≡ length menu = c.len-len.ensures.value in
       log_full _ old d menu cell c.requires.over c.menu_line-menu.ensures c.free_cell-x.ensures.cell
-      (subst (λ (n : ℕ). fits (dropped (more_written (opening_on (seen old d) (plain menu) 0 0 cell) n)) ≡ false) long
-      (sym (c.opening_on_fits.ensures.fits old (plain menu) 0 0 (length_in_look default_look menu ∙ sym long)
+      (subst (λ (n : ℕ). fits (without_unshown (more_written (opening_on (seen old d) (plain_text menu) 0 0 cell) n)) ≡ false) long
+      (sym (c.opening_on_fits.ensures.fits old (plain_text menu) 0 0 (length_in_look default_look menu ∙ sym long)
       (inl refl)) ∙ c.if-not-opening_on_fits.true));
   uses = search (rules, g.met.S.CharSource.ground_self, g.met.S.CharSource.ground_through);
 }
 
 pub open_on-requires-clause-can : goal.open_on-requires-clause-can
-open_on-requires-clause-can g c = can_open (kept c.args.desk.now) c.requires.over.whole
+open_on-requires-clause-can g c = can_open (kept_desktop c.args.desk.now) c.requires.over.whole
 
 pub overflow_add-desk : goal.overflow_add-desk
 overflow_add-desk g c =
-    let d = kept c.args.desk.now in
+    let d = kept_desktop c.args.desk.now in
     let written : c.open_on.new.desk.written ≡ d.written
     = ap (λ (x : KeptDesktop). x.written) c.in_ok-open_on.ensures
     ∙ written_on d c.in_ok-text.text 0 0 c.free_cell-x.result in
@@ -50,7 +50,7 @@ returns g c = record {
       let H = g.S.CharSource.honest c.args.source.now in
       let old = g.S.CharSource.characters c.args.source.now in
       let new = g.S.CharSource.characters c.append.new.self in
-      let d = kept c.args.desk.now in
+      let d = kept_desktop c.args.desk.now in
       let menu = c.menu_line-menu.result.items in
       let text = c.in_ok-text.text in
       let cell = c.free_cell-x.result in
@@ -60,10 +60,10 @@ returns g c = record {
       let hold = whole_columns d c.requires.over.whole in
       let written : c.open_on.new.desk.written ≡ d.written
       = ap (λ (x : KeptDesktop). x.written) c.in_ok-open_on.ensures ∙ written_on d text 0 0 cell in
-      let after : record (kept c.open_on.new.desk) { written = c.open_on.new.desk.written + c.len-len.result }
-      ≡ record (dropped (opening_on d text 0 0 cell)) { written = d.written + length menu }
+      let after : record (kept_desktop c.open_on.new.desk) { written = c.open_on.new.desk.written + c.len-len.result }
+      ≡ record (without_unshown (opening_on d text 0 0 cell)) { written = d.written + length menu }
       = λ k. record (c.in_ok-open_on.ensures k) { written = written k + long k } in
-      subst (λ (x : KeptDesktop). IsAnswered H old new d x (settled (seen old d) (Ok (log_opened (seen old d)))) Done)
+      subst (λ (x : KeptDesktop). IsAnswered H old new d x (outcome_after (seen old d) (Ok (log_opened (seen old d)))) Done)
       (sym after)
       (log_answered H old d menu cell c.requires.over c.menu_line-menu.ensures c.free_cell-x.ensures.cell new text
       (c.in_ok-append.ensures.added ∙ ap (λ (l : List ℕ). old ++ l) c.as_slice.ensures.value)
@@ -73,7 +73,7 @@ returns g c = record {
         places = λ w. c.edits_place_viewers.ensures.opened d.columns (new_id d) x y w hold;
       })
       (λ characters t t_long.
-      subst (λ (n : ℕ). fits (dropped (more_written (opening_on (seen characters d) t 0 0 cell) n)) ≡ true) long
+      subst (λ (n : ℕ). fits (without_unshown (more_written (opening_on (seen characters d) t 0 0 cell) n)) ≡ true) long
       (sym (c.opening_on_fits.ensures.fits characters t 0 0 (t_long ∙ sym long) (inl refl))
       ∙ c.if-not-opening_on_fits.false)));
   uses = search (rules, g.met.S.CharSource.ground_self, g.met.S.CharSource.ground_through);

@@ -6,17 +6,17 @@ use Rattle.piece_ring.specs.Offsets.{run-AreWithin}
 use Rattle.piece_ring.specs.Text.{AreWithin}
 use Rattle.desktop_laws.specs.RowLaws.{text_held}
 use Rattle.desktop_laws.specs.LogLaws.{log_kept, line_put, line_logged}
-use Rattle.desk_core.specs.Kept.{kept}
+use Rattle.desk_core.specs.Kept.{kept_desktop}
 use Rattle.desktop_definitions.specs.Looks.{AreLooks}
 use Rattle.desktop_laws.specs.LookedLaws.{default_is_look, run_looks}
 use Rattle.desk_commands.proofs.log.log_line.Goals as goal
 
 pub insert-requires-clause-there : goal.insert-requires-clause-there
-insert-requires-clause-there g c = log_kept _ (kept c.args.desk.now) c.requires.stands.built
+insert-requires-clause-there g c = log_kept _ (kept_desktop c.args.desk.now) c.requires.stands.built
 
 pub insert-requires-clause-short : goal.insert-requires-clause-short
 insert-requires-clause-short g c =
-    let all = text_held (kept c.args.desk.now) 0 in
+    let all = text_held (kept_desktop c.args.desk.now) 0 in
     let low = c.requires.short in
     let size : length (flat c.in_ok-buffer.buffer) ≡ length c.args.line.now =
     ap length c.in_ok-buffer.ensures ∙ length-run c.args.desk.now.written (length c.args.line.now) default_look in
@@ -39,7 +39,7 @@ show_log_end-requires g c =
     let premise = c.in_ok-append.ensures.keeps.premise in
     record {
       built = (line_put (s.characters c.args.source.now) c.args.line.now (s.characters c.append.new.self)
-          (s.characters c.insert.new.source) (kept c.args.desk.now) (kept c.insert.new.self) c.log_len-end.result
+          (s.characters c.insert.new.source) (kept_desktop c.args.desk.now) (kept_desktop c.insert.new.self) c.log_len-end.result
           c.in_ok-buffer.buffer c.requires.stands c.in_ok-append.ensures.added (λ h. premise.1 h) reads.as_long
           (λ h. reads.same (premise.1 h)) c.in_ok-buffer.ensures c.log_len-end.ensures
           c.in_ok-insert.ensures.changed).stands.built;
@@ -58,10 +58,10 @@ returns g c = record {
       let again = c.in_ok-show_log_end.ensures.reads in
       let premise = c.in_ok-append.ensures.keeps.premise in
       line_logged (s.characters c.args.source.now) c.args.line.now (s.characters c.append.new.self)
-      (s.characters c.insert.new.source) (kept c.args.desk.now) (kept c.insert.new.self) c.log_len-end.result
+      (s.characters c.insert.new.source) (kept_desktop c.args.desk.now) (kept_desktop c.insert.new.self) c.log_len-end.result
       c.in_ok-buffer.buffer c.requires.stands c.in_ok-append.ensures.added (λ h. premise.1 h) reads.as_long
       (λ h. reads.same (premise.1 h)) c.in_ok-buffer.ensures c.log_len-end.ensures c.in_ok-insert.ensures.changed
-      (s.characters c.show_log_end.new.source) (kept c.show_log_end.new.desk) (λ h. reads.still (premise.1 h))
+      (s.characters c.show_log_end.new.source) (kept_desktop c.show_log_end.new.desk) (λ h. reads.still (premise.1 h))
       again.as_long (λ h. again.same (reads.still (premise.1 h))) c.in_ok-show_log_end.ensures.changed;
   uses = search (rules, g.met.S.CharSource.ground_self, g.met.S.CharSource.ground_through);
 }

@@ -1,6 +1,6 @@
 use Rattle.std.proofs.Common.{drop}
 use Rattle.desktop_laws.specs.LogLaws.{IsLogging}
-use Rattle.desk_core.specs.Kept.{kept}
+use Rattle.desk_core.specs.Kept.{kept_desktop}
 use Rattle.desk_commands.specs.Lines.{bytes_of_lines}
 use Rattle.desk_commands.proofs.LogLemmas.{IsCalm}
 use Rattle.desk_commands.proofs.log.log_lines.Given as goal
@@ -10,7 +10,7 @@ abbrev pub invariant-loop-line : goal.invariant-loop-line
 invariant-loop-line g l =
     let s = g.S.CharSource in
     record {
-      logging : IsLogging (s.honest l.fn.source) (s.characters l.fn.source) (s.characters l.source) (kept l.fn.desk)
-          (kept l.desk) (bytes_of_lines l.lines) (bytes_of_lines (drop l.line-index l.lines));
+      logging : IsLogging (s.honest l.fn.source) (s.characters l.fn.source) (s.characters l.source) (kept_desktop l.fn.desk)
+          (kept_desktop l.desk) (bytes_of_lines l.lines) (bytes_of_lines (drop l.line-index l.lines));
       grown : IsCalm s l.fn.source l.source;
     }

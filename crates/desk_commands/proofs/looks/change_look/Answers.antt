@@ -1,7 +1,7 @@
 use Rattle.std.proofs.Common.{rules, sym, ◌∙◌}
 use Rattle.desktop_laws.specs.LookLaws.{none_set_answered, none_selected_answered, selection_set_answered}
 use Rattle.desktop_laws.specs.RowLaws.{over_built}
-use Rattle.desk_core.specs.Kept.{kept}
+use Rattle.desk_core.specs.Kept.{kept_desktop}
 use Rattle.desk_commands.proofs.looks.change_look.Goals as goal
 
 pub returns-in_default : goal.returns-in_default
@@ -27,6 +27,6 @@ returns g c = record {
   answered =
       selection_set_answered _ _ _ c.requires.over _ c.in-Some.change _ _ c.in-Some.is
       (sym c.in-Some-selection.ensures.is)
-      (c.in_ok-set_looks.ensures.changed _ (over_built _ (kept c.args.desk.now) c.requires.over));
+      (c.in_ok-set_looks.ensures.changed _ (over_built _ (kept_desktop c.args.desk.now) c.requires.over));
   uses = search (rules, g.met.S.CharSource.ground_self, g.met.S.CharSource.ground_through);
 }

@@ -6,7 +6,7 @@ use Rattle.desktop_definitions.specs.declared.viewer.Viewer.{Viewer}
 use Rattle.desktop_definitions.specs.Opening.{least_unused, new_id}
 use Rattle.desktop_definitions.specs.Viewers.{viewer_in}
 use Rattle.desktop_laws.specs.OpenLaws.{unused_none}
-use Rattle.desk_core.specs.Kept.{kept}
+use Rattle.desk_core.specs.Kept.{kept_desktop}
 use Rattle.desk_commands.proofs.openings.join.Goals as goal
 
 pub unused_id-id-requires : goal.unused_id-id-requires
@@ -23,7 +23,7 @@ add_viewer-requires c =
 
 pub returns-clause-desk : goal.returns-clause-desk
 returns-clause-desk c =
-    let d = kept c.args.desk.now in
+    let d = kept_desktop c.args.desk.now in
     let id : c.unused_id-id.result ≡ new_id d
     = c.unused_id-id.ensures ∙ ap (λ (l : List (ℕ × Viewer)). least_unused (keys_of l)) c.as_slice.ensures.value in
     let viewers : c.add_viewer.new.viewers.items ≡ insert_entry nat_cmp d.viewers (new_id d)

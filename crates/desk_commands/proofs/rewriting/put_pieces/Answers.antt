@@ -3,7 +3,7 @@ use Rattle.char_file.proofs.Reading.{read_on}
 use Rattle.piece_ring.specs.Flat.{flat, run, characters_of}
 use Rattle.piece_ring.specs.Lengths.{length-run}
 use Rattle.piece_ring.specs.Text.{AreWithin}
-use Rattle.readers_scanners.specs.Reading.{bytes}
+use Rattle.readers_scanners.specs.Reading.{bytes_of_text}
 use Rattle.desk_commands.proofs.RewritingLemmas.{piece_inside, rest_inside, piece_long, text_on, bytes_on}
 use Rattle.desk_commands.proofs.rewriting.put_pieces.Goals as goal
 
@@ -43,7 +43,7 @@ loop-piece-preserved g c =
           i.laid_on;
       read = λ honest.
           bytes_on first (s.characters c.args.source.now) c.loop-piece.made.items c.put_piece.new.made.items _
-          (subst (λ (l : List ℕ). c.put_piece.new.made.items ≡ c.loop-piece.made.items ++ bytes l (characters_of p))
+          (subst (λ (l : List ℕ). c.put_piece.new.made.items ≡ c.loop-piece.made.items ++ bytes_of_text l (characters_of p))
           (i.reads.same honest) (done.read (i.reads.still honest))) (i.read honest);
       longer = omega (arith, i.longer, done.longer, piece_long first);
       counted = omega (

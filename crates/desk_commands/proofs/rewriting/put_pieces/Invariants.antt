@@ -2,7 +2,7 @@ use Rattle.std.proofs.Common.{◌≡◌, ◌+◌, ◌++◌, length}
 use Rattle.char_file.specs.Source.{OnlyReads}
 use Rattle.piece_ring.specs.Flat.{flat}
 use Rattle.piece_ring.specs.Text.{AreWithin}
-use Rattle.readers_scanners.specs.Reading.{bytes}
+use Rattle.readers_scanners.specs.Reading.{bytes_of_text}
 use Rattle.desktop_laws.specs.Rewriting.{laid}
 use Rattle.desk_commands.proofs.rewriting.put_pieces.Given as goal
 
@@ -13,8 +13,8 @@ invariant-loop-piece g l =
     record {
       laid_on : flat l.buffer ++ laid (length l.made.items) (flat l.left.left)
           ≡ laid (length l.fn.made.items) (flat l.fn.left.left);
-      read : s.honest l.fn.source → l.made.items ++ bytes (s.characters l.fn.source) (flat l.left.left)
-          ≡ l.fn.made.items ++ bytes (s.characters l.fn.source) (flat l.fn.left.left);
+      read : s.honest l.fn.source → l.made.items ++ bytes_of_text (s.characters l.fn.source) (flat l.left.left)
+          ≡ l.fn.made.items ++ bytes_of_text (s.characters l.fn.source) (flat l.fn.left.left);
       longer : length l.made.items + length (flat l.left.left)
           ≡ length l.fn.made.items + length (flat l.fn.left.left);
       counted : length (flat l.buffer) + length (flat l.left.left) ≡ length (flat l.fn.left.left);

@@ -1,7 +1,7 @@
 use Rattle.std.proofs.Common.{ℕ, ◌≡◌, ◌+◌, ◌-◌, length, arith, sym, subst}
 use Rattle.std.specs.Prelude.{min}
 use Rattle.piece_ring.specs.Flat.{flat}
-use Rattle.readers_scanners.specs.Reading.{bytes}
+use Rattle.readers_scanners.specs.Reading.{bytes_of_text}
 use Rattle.readers_scanners.specs.Walking.{IsAt, onward, seen}
 use Rattle.desktop_definitions.specs.Limits.{most_pattern}
 use Rattle.desktop_laws.specs.SearchLaws.{AreRead, read_more, read_pattern}
@@ -9,7 +9,7 @@ use Rattle.desk_commands.proofs.searches.first_bytes.Goals as goal
 
 pub returns-clause-bytes : goal.returns-clause-bytes
 returns-clause-bytes g c h =
-    let bs = bytes (g.S.CharSource.characters c.args.source.now) (flat c.args.text.now) in
+    let bs = bytes_of_text (g.S.CharSource.characters c.args.source.now) (flat c.args.text.now) in
     let long : length c.loop.pattern.items ≡ min (c.args.selection.end - c.args.selection.beg) most_pattern =
     omega (arith, c.loop.invariant.long, c.loop-test.false, c.loop.auto.counter-end, c.min-end.ensures) in
     read_pattern bs c.args.selection.beg c.args.selection.end c.loop.pattern.items long (c.loop.invariant.read h)
@@ -18,7 +18,7 @@ pub loop-preserved : goal.loop-preserved
 loop-preserved g c =
     let s = g.S.CharSource in let laws = g.met.S.CharSource in let now = c.loop.invariant in
     let text = flat c.args.text.now in
-    let bs = bytes (s.characters c.args.source.now) text in
+    let bs = bytes_of_text (s.characters c.args.source.now) text in
     let read = c.in_ok-next_byte.ensures in let more = c.push.ensures.len in
     let Way : ℕ → Type 0 = λ at. IsAt s.characters s.failures s.honest s.same_ground c.args.source.now
     c.next_byte.new.source text c.next_byte.new.self at in

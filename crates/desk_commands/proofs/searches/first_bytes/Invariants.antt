@@ -1,6 +1,6 @@
 use Rattle.std.proofs.Common.{◌≡◌, ◌+◌, length}
 use Rattle.piece_ring.specs.Flat.{flat}
-use Rattle.readers_scanners.specs.Reading.{bytes}
+use Rattle.readers_scanners.specs.Reading.{bytes_of_text}
 use Rattle.readers_scanners.specs.Walking.{IsAt}
 use Rattle.desktop_laws.specs.SearchLaws.{AreRead}
 use Rattle.desk_commands.proofs.searches.first_bytes.Given as goal
@@ -13,5 +13,5 @@ invariant-loop g l =
           (l.fn.selection.beg + length l.pattern.items);
       long : length l.pattern.items ≡ l.counter;
       read : s.honest l.fn.source
-          → AreRead (bytes (s.characters l.fn.source) (flat l.text)) l.fn.selection.beg l.pattern.items;
+          → AreRead (bytes_of_text (s.characters l.fn.source) (flat l.text)) l.fn.selection.beg l.pattern.items;
     }

@@ -1,7 +1,7 @@
 use Rattle.std.proofs.Common.{◌≡◌, ◌+◌, ◌≤◌, ℕ, length, arith, sym, ap, subst, ◌∙◌}
 use Rattle.std.specs.Str.{bytes_eq}
 use Rattle.piece_ring.specs.Flat.{flat}
-use Rattle.readers_scanners.specs.Reading.{bytes}
+use Rattle.readers_scanners.specs.Reading.{bytes_of_text}
 use Rattle.readers_scanners.specs.Walking.{IsAt, onward, seen}
 use Rattle.desktop_laws.specs.SearchLaws.{IsSought, bytes_long, sought_on, sought_found, sought_next, sought_none}
 use Rattle.desk_commands.proofs.searches.found_at.Goals.{then-len-pattern+else-eq, else-len-pattern}
@@ -11,7 +11,7 @@ pub returns-then-eq-clause-found : goal.returns-then-eq-clause-found
 returns-then-eq-clause-found g c h =
     let s = g.S.CharSource in let laws = g.met.S.CharSource in let now = c.loop.invariant in
     let text = flat c.args.text.now in
-    let bs = bytes (s.characters c.args.source.now) text in
+    let bs = bytes_of_text (s.characters c.args.source.now) text in
     let there = seen s.characters s.failures s.honest s.same_ground laws.ground_self laws.ground_through _ _ _ _ _
     now.way c.in_ok-next_byte.field-0 c.in_ok-next_byte.ensures.there h in
     let all = bytes_long (s.characters c.args.source.now) text in
@@ -28,7 +28,7 @@ pub loop-preserved : goal.loop-preserved
 loop-preserved g c =
     let s = g.S.CharSource in let laws = g.met.S.CharSource in let now = c.loop.invariant in
     let text = flat c.args.text.now in
-    let bs = bytes (s.characters c.args.source.now) text in
+    let bs = bytes_of_text (s.characters c.args.source.now) text in
     let all = bytes_long (s.characters c.args.source.now) text in
     let on = onward s.characters s.failures s.honest s.same_ground laws.ground_self laws.ground_through _ _ _ _ _
     now.way _ _ c.in_ok-next_byte.ensures.moves c.in_ok-next_byte.ensures.text c.in_ok-next_byte.ensures.reads
@@ -75,7 +75,7 @@ pub returns-clause-found : goal.returns-clause-found
 returns-clause-found g c h =
     let s = g.S.CharSource in let now = c.loop.invariant in
     let text = flat c.args.text.now in
-    let bs = bytes (s.characters c.args.source.now) text in
+    let bs = bytes_of_text (s.characters c.args.source.now) text in
     let all = bytes_long (s.characters c.args.source.now) text in
     let begun : c.args.pos ≤ c.len-end.result = omega (arith, c.requires.place, c.len-end.ensures) in
     let last : c.loop.place + length c.loop.window.items ≡ length bs =

@@ -1,6 +1,6 @@
 use Rattle.std.proofs.Common.{◌≡◌, ◌+◌, ◌<◌, length}
 use Rattle.piece_ring.specs.Flat.{flat}
-use Rattle.readers_scanners.specs.Reading.{bytes}
+use Rattle.readers_scanners.specs.Reading.{bytes_of_text}
 use Rattle.readers_scanners.specs.Walking.{IsAt}
 use Rattle.desktop_laws.specs.SearchLaws.{IsSought}
 use Rattle.desk_commands.proofs.searches.found_at.Given as goal
@@ -13,6 +13,6 @@ invariant-loop g l =
           (l.place + length l.window.items);
       count : l.place + length l.window.items ≡ l.counter;
       short : length l.window.items < length l.pattern;
-      sought : s.honest l.fn.source → IsSought (bytes (s.characters l.fn.source) (flat l.text)) l.pattern l.pos l.place
+      sought : s.honest l.fn.source → IsSought (bytes_of_text (s.characters l.fn.source) (flat l.text)) l.pattern l.pos l.place
           l.window.items;
     }

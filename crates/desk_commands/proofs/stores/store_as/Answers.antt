@@ -8,7 +8,7 @@ use Rattle.desktop_laws.specs.DeskWords.{has_space}
 use Rattle.desktop_laws.specs.RowPartLaws.{kept_main_long}
 use Rattle.desktop_laws.specs.KeyLaws.{main_small}
 use Rattle.desktop_laws.specs.StoreLaws.{files_small, storing_refused, storing_full}
-use Rattle.desk_core.specs.Kept.{kept}
+use Rattle.desk_core.specs.Kept.{kept_desktop}
 use Rattle.desk_commands.proofs.StoringLemmas.{copy_stands, copy_short, copy_answered}
 use Rattle.desk_commands.proofs.stores.store_as.Goals as goal
 
@@ -17,7 +17,7 @@ returns-then-not-has_room g c = record {
   answered =
       let s = g.S.CharSource in
       let old = s.characters c.args.source.now in
-      let d = kept c.args.desk.now in
+      let d = kept_desktop c.args.desk.now in
       storing_refused (s.honest c.args.source.now) old d c.requires.over c.args.name.now (main_of (seen old d) c.args.id)
       (sym (c.has_room.ensures old) ∙ c.if-not-has_room.true);
   uses = search (rules, g.met.S.CharSource.ground_self, g.met.S.CharSource.ground_through);
@@ -25,7 +25,7 @@ returns-then-not-has_room g c = record {
 
 pub fits_more-requires-clause-more : goal.fits_more-requires-clause-more
 fits_more-requires-clause-more g c =
-    let d = kept c.args.desk.now in
+    let d = kept_desktop c.args.desk.now in
     let low = main_small (g.S.CharSource.characters c.args.source.now) d c.args.id c.requires.over in
     let long : c.len-2.result ≡ length (flat (kept_main d c.args.id)) =
     c.len-2.ensures ∙ ap (λ pieces. length (flat pieces)) c.main_text-text.ensures in
@@ -34,7 +34,7 @@ fits_more-requires-clause-more g c =
 pub fits_more-requires-clause-fewer : goal.fits_more-requires-clause-fewer
 unfolding seen
 fits_more-requires-clause-fewer g c =
-    let small = files_small (seen [] (kept c.args.desk.now)) (c.requires.over.whole.sound []) in
+    let small = files_small (seen [] (kept_desktop c.args.desk.now)) (c.requires.over.whole.sound []) in
     let sum = c.length_of.ensures [] [] in
     omega (arith, small, sum)
 
@@ -43,7 +43,7 @@ returns-then-not-fits_more g c = record {
   answered =
       let s = g.S.CharSource in
       let old = s.characters c.args.source.now in
-      let d = kept c.args.desk.now in
+      let d = kept_desktop c.args.desk.now in
       let all = c.len-2.result + c.len-3.result in
       let gone = c.length_of.result in
       storing_full (s.honest c.args.source.now) old d c.requires.over c.args.name.now (main_of (seen old d) c.args.id)
@@ -63,7 +63,7 @@ unfolding seen
 log_line-requires g c = record {
   stands =
       let old = g.S.CharSource.characters c.args.source.now in
-      copy_stands ⊤ old (kept c.args.desk.now) c.requires.over c.args.name.now c.args.id c.storing_line-line.result.items
+      copy_stands ⊤ old (kept_desktop c.args.desk.now) c.requires.over c.args.name.now c.args.id c.storing_line-line.result.items
       c.len.result c.length_of.result (c.len-2.result + c.len-3.result)
       (sym (c.has_room.ensures old) ∙ c.if-not-has_room.false)
       (c.len.ensures ∙ ap (λ pieces. length (flat pieces)) c.main_text-text.ensures) c.storing_line-line.ensures
@@ -71,13 +71,13 @@ log_line-requires g c = record {
       c.put.new.files.entries c.in_ok-copy.copy c.in_ok-put.ensures.put c.in_ok-put.ensures.valid
       (c.in_ok-copy.ensures ∙ ap flat c.main_text-text.ensures);
   room =
-      let low = space_written (seen [] (kept c.args.desk.now)) c.len-4.result (c.len-2.result + c.len-3.result)
+      let low = space_written (seen [] (kept_desktop c.args.desk.now)) c.len-4.result (c.len-2.result + c.len-3.result)
       c.length_of.result (sym (c.fits_more.ensures []) ∙ c.if-not-fits_more.false) in
       let long = ap length c.as_slice.ensures.value in
       omega (arith, low, long, c.len-4.ensures.value);
   short =
       let old = g.S.CharSource.characters c.args.source.now in
-      let d = kept c.args.desk.now in
+      let d = kept_desktop c.args.desk.now in
       let all = c.len-2.result + c.len-3.result in
       let gone = c.length_of.result in
       let low = copy_short ⊤ old d c.requires.over c.args.name.now c.args.id c.storing_line-line.result.items
@@ -97,7 +97,7 @@ returns g c = record {
   answered =
       let s = g.S.CharSource in
       let old = s.characters c.args.source.now in
-      let d = kept c.args.desk.now in
+      let d = kept_desktop c.args.desk.now in
       let all = c.len-2.result + c.len-3.result in
       let gone = c.length_of.result in
       let line = c.as_slice.result.now in
@@ -110,7 +110,7 @@ returns g c = record {
       (omega (arith, long, c.len.ensures, c.len-2.ensures, c.len-3.ensures.value)) c.length_of.ensures
       c.put.new.files.entries c.in_ok-copy.copy c.in_ok-put.ensures.put c.in_ok-put.ensures.valid
       (c.in_ok-copy.ensures ∙ ap flat c.main_text-text.ensures) (s.characters c.log_line.new.source)
-      (kept c.log_line.new.desk) c.in_ok-log_line.ensures.logged
+      (kept_desktop c.log_line.new.desk) c.in_ok-log_line.ensures.logged
       (λ among. ap (λ n. has_space (seen among d) n all gone) made
       ∙ sym (c.fits_more.ensures among) ∙ c.if-not-fits_more.false);
   uses = search (rules, g.met.S.CharSource.ground_self, g.met.S.CharSource.ground_through);

@@ -3,9 +3,9 @@ use Rattle.std.specs.Prelude.{slice_set}
 use Rattle.std.proofs.lemmas.List.Edits.{map_over_more}
 use Rattle.char_file.proofs.Reading.{read_on}
 use Rattle.piece_ring.specs.Flat.{flat}
-use Rattle.readers_scanners.specs.Reading.{bytes}
+use Rattle.readers_scanners.specs.Reading.{bytes_of_text}
 use Rattle.desktop_definitions.specs.declared.viewer.Viewer.{Viewer}
-use Rattle.desktop_definitions.specs.Change.{followed}
+use Rattle.desktop_definitions.specs.Change.{following_viewer}
 use Rattle.desk_core.proofs.ViewerLemmas.{moved_more}
 use Rattle.desk_core.proofs.viewers.follow_all.Goals as goal
 
@@ -28,7 +28,7 @@ loop-at-preserved g c =
       exact = λ h.
           let f : ℕ × Viewer → ℕ × Viewer = λ e. (
             e.0,
-            followed change.number (bytes (s.characters c.args.source.now) text) change.pos change.more change.fewer
+            following_viewer change.number (bytes_of_text (s.characters c.args.source.now) text) change.pos change.more change.fewer
                 e.1,
           ) in
           let is : c.follow.new.entry ≡ f old =

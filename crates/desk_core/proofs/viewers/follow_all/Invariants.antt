@@ -1,8 +1,8 @@
 use Rattle.std.proofs.Common.{◌≡◌, ◌++◌, length, map, take, drop}
 use Rattle.char_file.specs.Source.{OnlyReads}
 use Rattle.piece_ring.specs.Flat.{flat}
-use Rattle.readers_scanners.specs.Reading.{bytes}
-use Rattle.desktop_definitions.specs.Change.{followed}
+use Rattle.readers_scanners.specs.Reading.{bytes_of_text}
+use Rattle.desktop_definitions.specs.Change.{following_viewer}
 use Rattle.desk_core.proofs.ViewerLemmas.{HaveMoved}
 use Rattle.desk_core.proofs.viewers.follow_all.Given as goal
 
@@ -14,7 +14,7 @@ invariant-loop-at g l =
       moved : HaveMoved l.change.number (length (flat l.text)) l.at l.fn.viewers.items l.viewers.items;
       exact : s.honest l.fn.source → l.viewers.items ≡ map (λ e. (
         e.0,
-        followed l.change.number (bytes (s.characters l.fn.source) (flat l.text)) l.change.pos l.change.more
+        following_viewer l.change.number (bytes_of_text (s.characters l.fn.source) (flat l.text)) l.change.pos l.change.more
             l.change.fewer e.1,
       )) (take l.at l.fn.viewers.items)
           ++ drop l.at l.fn.viewers.items;

@@ -3,8 +3,8 @@ use Rattle.std.specs.Prelude.{reverse}
 use Rattle.std.proofs.lemmas.List.{length-map, take_all}
 use Rattle.viewer_tracks.specs.declared.display.TheConstants.{DEPTH}
 use Rattle.viewer_tracks.specs.Viewers.{Entry, times_in}
-use Rattle.viewer_tracks.specs.Columns.{Columns, shown, with_shown, stack_of, with_stack, times_placed}
-use Rattle.desk_image.specs.Pictures.{entry_of, track_of, stack_of as levels_of}
+use Rattle.viewer_tracks.specs.Columns.{Columns, shown_track, with_shown, stack_of, with_stack, times_placed}
+use Rattle.desk_image.specs.Pictures.{entry_of_stretch, track_of_stretches, stack_of_stretches as levels_of}
 use Rattle.desk_imaging.specs.Images.{Levels}
 use Rattle.desk_imaging.proofs.Building.{some_levels, lowest_heights, lowest_bottom, lowest_once, lowest_built, room}
 use Rattle.desk_imaging.proofs.Building.{track_there, some_there, once_more, built_more}
@@ -13,7 +13,7 @@ use Rattle.desk_imaging.proofs.drafts.build.Goals as goal
 pub on_level-requires : goal.on_level-requires
 on_level-requires c =
     let some = some_levels _ _ _ c.requires.can in
-    let same = length-map {B = List Entry} c.args.stack.now track_of in
+    let same = length-map {B = List Entry} c.args.stack.now track_of_stretches in
     omega (arith, some, same)
 
 pub pile-requires-clause-heights : goal.pile-requires-clause-heights
@@ -31,7 +31,7 @@ loop-level-init c =
     let k = c.args.track in
     record {
       tracks = c.pile.ensures.piled
-          ∙ ap (λ (l : List Entry). with_shown t k (shown t k ++ l)) c.on_level.ensures.viewers
+          ∙ ap (λ (l : List Entry). with_shown t k (shown_track t k ++ l)) c.on_level.ensures.viewers
           ∙ lowest_built _ _ _ c.requires.can;
       sound = c.pile.ensures.sound;
     }
@@ -41,7 +41,7 @@ lay-requires-clause-some c =
     let level = c.on_level-in-loop-level in
     let from = c.loop-level.auto.level in
     let long = ap length level.ensures.viewers in
-    let entries = length-map {B = Entry} level.result.now entry_of in
+    let entries = length-map {B = Entry} level.result.now entry_of_stretch in
     let some = some_there _ _ _ c.requires.can c.loop-level.level (omega (arith, from)) level.ensures.within in
     omega (arith, long, entries, some)
 
@@ -78,7 +78,7 @@ loop-level-preserved c =
 pub returns-clause-built : goal.returns-clause-built
 returns-clause-built c =
     let stack = c.args.stack.now in
-    let same = length-map {B = List Entry} stack track_of in
+    let same = length-map {B = List Entry} stack track_of_stretches in
     let past = c.loop-level-test.false in
     c.loop-level.invariant.tracks
     ∙ ap (λ (l : Levels). with_stack c.args.tracks.now c.args.track (reverse l))

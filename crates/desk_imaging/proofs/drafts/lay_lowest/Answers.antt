@@ -1,5 +1,5 @@
 use Rattle.std.proofs.Common.{◌∙◌, ap, subst, sym}
-use Rattle.viewer_tracks.specs.Columns.{IsOnTop, after_change, after_open_track}
+use Rattle.viewer_tracks.specs.Columns.{IsOnTop, columns_changed, after_open_track}
 use Rattle.desk_imaging.proofs.Building.{on_top, lowered}
 use Rattle.desk_imaging.proofs.drafts.lay_lowest.Goals as goal
 
@@ -16,5 +16,5 @@ returns-clause-laid c =
     let v = c.args.lowest.viewer in
     let h = c.args.lowest.height in
     c.change.ensures.changed
-    ∙ ap (λ x. after_change x v h) (c.open_track.ensures.opened ∙ ap (after_open_track t v) c.left.ensures)
+    ∙ ap (λ x. columns_changed x v h) (c.open_track.ensures.opened ∙ ap (after_open_track t v) c.left.ensures)
     ∙ lowered t c.args.track v h c.requires.sound c.requires.fresh c.requires.room c.requires.fits.0 c.requires.fits.1

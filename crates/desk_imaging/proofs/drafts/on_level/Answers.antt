@@ -1,7 +1,7 @@
 use Rattle.std.proofs.Common.{List, arith}
 use Rattle.std.proofs.lemmas.List.{length-map}
 use Rattle.viewer_tracks.specs.Viewers.{Entry}
-use Rattle.desk_image.specs.Pictures.{track_of}
+use Rattle.desk_image.specs.Pictures.{track_of_stretches}
 use Rattle.desk_imaging.proofs.Building.{level_is}
 use Rattle.desk_imaging.proofs.drafts.on_level.Goals as goal
 
@@ -11,6 +11,6 @@ returns-clause-viewers c = level_is c.args.stack.now c.args.level c.index-stack-
 
 pub returns-clause-within : goal.returns-clause-within
 returns-clause-within c =
-    let same = length-map {B = List Entry} c.args.stack.now track_of in
+    let same = length-map {B = List Entry} c.args.stack.now track_of_stretches in
     let low = c.requires in
     omega (arith, same, low)

@@ -1,5 +1,5 @@
 use Rattle.std.proofs.Common.{◌∙◌, ◌+◌, ℕ, ap, subst, sym, arith, get_or, append-nil}
-use Rattle.viewer_tracks.specs.Columns.{after_open, IsPlaced, shown, with_shown}
+use Rattle.viewer_tracks.specs.Columns.{after_open, IsPlaced, shown_track, with_shown}
 use Rattle.desk_image.specs.declared.picture.Stretch.{Stretch}
 use Rattle.desk_imaging.proofs.DraftLemmas.{as_shown, full_to, rows_fit, not_there, piled, height_more}
 use Rattle.desk_imaging.proofs.drafts.pile.Goals as goal
@@ -9,7 +9,7 @@ none = record { viewer = 0; height = 0 }
 
 pub loop-stretch-init : goal.loop-stretch-init
 loop-stretch-init c =
-    let t = shown c.args.tracks.now c.args.track in
+    let t = shown_track c.args.tracks.now c.args.track in
     record {
       tracks = as_shown c.args.tracks.now c.args.track c.requires.sound
           ∙ ap (with_shown c.args.tracks.now c.args.track) (sym (append-nil t));

@@ -2,7 +2,7 @@ use Rattle.std.proofs.Common.{◌∙◌, ap, arith}
 use Rattle.std.specs.Prelude.{reverse}
 use Rattle.viewer_tracks.specs.declared.display.Track.TheVariants.{User, System}
 use Rattle.viewer_tracks.specs.Columns.{Columns, stack_of, times_placed, with_stack}
-use Rattle.desk_image.specs.Pictures.{stack_of as levels_of}
+use Rattle.desk_image.specs.Pictures.{stack_of_stretches as levels_of}
 use Rattle.desk_imaging.proofs.Stacks.{times_reversed, nothing_placed}
 use Rattle.desk_imaging.proofs.drafts.tracks_of.Goals as goal
 

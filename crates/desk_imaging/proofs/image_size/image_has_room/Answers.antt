@@ -1,10 +1,10 @@
-use Rattle.desk_core.specs.Kept.{kept}
+use Rattle.desk_core.specs.Kept.{kept_desktop}
 use Rattle.desk_imaging.proofs.ImageLemmas.{image_long, has_room}
 use Rattle.desk_imaging.proofs.image_size.image_has_room.Goals as goal
 
 pub returns-clause-room : goal.returns-clause-room
 returns-clause-room c =
-    has_room (kept c.args.desk.now) c.requires.whole c.requires.spellable c.images_have_room.ensures
+    has_room (kept_desktop c.args.desk.now) c.requires.whole c.requires.spellable c.images_have_room.ensures
 
 pub returns-clause-parts : goal.returns-clause-parts
-returns-clause-parts c = image_long (kept c.args.desk.now)
+returns-clause-parts c = image_long (kept_desktop c.args.desk.now)

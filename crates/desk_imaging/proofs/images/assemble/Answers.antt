@@ -1,7 +1,7 @@
 use Rattle.std.proofs.Common.{◌∙◌, length, rules, ap, subst, sym, arith}
 use Rattle.std.proofs.lemmas.List.{length-map}
 use Rattle.desk_image.specs.Image.{IsSpellable}
-use Rattle.desk_image.specs.Pictures.{pictured, track_of}
+use Rattle.desk_image.specs.Pictures.{pictured, track_of_stretches}
 use Rattle.desk_imaging.specs.Images.{IsDesktopOf}
 use Rattle.desk_imaging.proofs.ImageMade.{user_few, system_few, made, spellable}
 use Rattle.desk_imaging.proofs.ImageHolds.{makes_desktop}
@@ -10,13 +10,13 @@ use Rattle.desk_imaging.proofs.images.assemble.Goals as goal
 pub is_desktop-requires-clause-user : goal.is_desktop-requires-clause-user
 is_desktop-requires-clause-user c =
     let few = user_few c.requires.0 c.args.written (pictured c.args.picture) c.requires.1 in
-    let same = length-map c.args.picture.user.items track_of in
+    let same = length-map c.args.picture.user.items track_of_stretches in
     omega (arith, few, same)
 
 pub is_desktop-requires-clause-system : goal.is_desktop-requires-clause-system
 is_desktop-requires-clause-system c =
     let few = system_few c.requires.0 c.args.written (pictured c.args.picture) c.requires.1 in
-    let same = length-map c.args.picture.system.items track_of in
+    let same = length-map c.args.picture.system.items track_of_stretches in
     omega (arith, few, same)
 
 pub is_desktop-requires-clause-few : goal.is_desktop-requires-clause-few

@@ -1,5 +1,5 @@
-use Rattle.event_bytes.specs.Parts.{word}
-use Rattle.desk_image.specs.Image.{listed, file_bytes}
+use Rattle.event_bytes.specs.Parts.{word_bytes}
+use Rattle.desk_image.specs.Image.{listed_bytes, file_bytes}
 use Rattle.desk_image.proofs.Putting.{item_put}
 use Rattle.desk_imaging.proofs.Tables.{first_looks, later_look, some_then}
 use Rattle.desk_imaging.proofs.imaging.put_files.Goals as goal
@@ -16,6 +16,6 @@ loop-name-preserved g c =
       looks = later_look steps i.looks;
       some = some_then steps i.some done.some;
       left = item_put g.K.ByteSink g.met.K.ByteSink.ground_through file_bytes
-          (listed word file_bytes c.args.files.now.entries) c.loop-name.name-iterator
+          (listed_bytes word_bytes file_bytes c.args.files.now.entries) c.loop-name.name-iterator
           (c.in-Some.name.now, c.in-Some.text.now) c.next.new.self steps i.left done.puts;
     }

@@ -1,10 +1,10 @@
 use Rattle.std.proofs.Common.{All, []}
 use Rattle.std.specs.List.{flat_map}
 use Rattle.std.specs.Map.{values_of}
-use Rattle.event_bytes.specs.Parts.{word}
+use Rattle.event_bytes.specs.Parts.{word_bytes}
 use Rattle.desktop_definitions.specs.Looks.{AreLooks}
 use Rattle.desktop_definitions.specs.Seen.{seen_table}
-use Rattle.desk_image.specs.Image.{listed, file_bytes, AreSome}
+use Rattle.desk_image.specs.Image.{listed_bytes, file_bytes, AreSome}
 use Rattle.desk_image.proofs.Putting.{IsLeft}
 use Rattle.desk_imaging.proofs.imaging.put_files.Given as goal
 
@@ -13,6 +13,6 @@ abbrev pub invariant-loop-name : goal.invariant-loop-name
 invariant-loop-name g l = record {
   looks : All AreLooks (values_of (seen_table [] l.name-iterator));
   some : All AreSome (values_of l.name-iterator) → All AreSome (values_of l.fn.files.entries);
-  left : IsLeft g.K.ByteSink (listed word file_bytes l.fn.files.entries) (flat_map file_bytes l.name-iterator)
+  left : IsLeft g.K.ByteSink (listed_bytes word_bytes file_bytes l.fn.files.entries) (flat_map file_bytes l.name-iterator)
       l.fn.sink l.sink;
 }

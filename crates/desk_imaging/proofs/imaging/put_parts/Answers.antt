@@ -1,7 +1,7 @@
 use Rattle.std.proofs.lemmas.Result.{on_ok_weaker}
 use Rattle.viewer_tracks.specs.declared.display.Track.TheVariants.{User, System}
 use Rattle.desk_image.proofs.Putting.{then_put, same_put}
-use Rattle.desk_core.specs.Kept.{kept}
+use Rattle.desk_core.specs.Kept.{kept_desktop}
 use Rattle.desk_imaging.proofs.ImageLemmas.{image_in_three}
 use Rattle.desk_imaging.proofs.imaging.put_parts.Goals as goal
 
@@ -9,7 +9,7 @@ pub returns-clause-puts : goal.returns-clause-puts
 returns-clause-puts g c =
     let k = g.K.ByteSink in
     let through = g.met.K.ByteSink.ground_through in
-    same_put k (image_in_three (kept c.args.desk.now)) (then_put k through c.in_ok-put_settings.ensures
+    same_put k (image_in_three (kept_desktop c.args.desk.now)) (then_put k through c.in_ok-put_settings.ensures
     (then_put k through c.in_ok-put_tables.ensures.puts c.put_display.ensures.puts))
 
 pub returns-clause-spellable : goal.returns-clause-spellable

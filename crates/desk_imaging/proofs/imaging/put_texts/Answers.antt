@@ -1,10 +1,10 @@
 use Rattle.std.proofs.Common.{List, All, sym, subst}
 use Rattle.std.specs.Map.{keys_of}
 use Rattle.std.proofs.lemmas.List.Elements.{All-cons}
-use Rattle.event_bytes.specs.Parts.{word}
+use Rattle.event_bytes.specs.Parts.{word_bytes}
 use Rattle.piece_ring.specs.declared.piece.Piece.{Piece}
 use Rattle.desktop_definitions.specs.Tables.{Texts}
-use Rattle.desk_image.specs.Image.{listed, text_bytes, InWord}
+use Rattle.desk_image.specs.Image.{listed_bytes, text_bytes, InWord}
 use Rattle.desk_image.proofs.Putting.{item_put}
 use Rattle.desk_imaging.proofs.Tables.{first_looks, later_look, some_then}
 use Rattle.desk_imaging.proofs.imaging.put_texts.Goals as goal
@@ -25,6 +25,6 @@ loop-number-preserved g c =
       numbers = λ small. i.numbers (subst (λ (es : Texts (List Piece)). All InWord (keys_of es)) (sym steps)
           (All-cons InWord number (keys_of later) done.small small));
       left = item_put g.K.ByteSink g.met.K.ByteSink.ground_through text_bytes
-          (listed word text_bytes c.args.texts.now.entries) c.loop-number.number-iterator (number, c.in-Some.text.now)
+          (listed_bytes word_bytes text_bytes c.args.texts.now.entries) c.loop-number.number-iterator (number, c.in-Some.text.now)
           later steps i.left done.puts;
     }

@@ -1,10 +1,10 @@
 use Rattle.std.proofs.Common.{All, []}
 use Rattle.std.specs.List.{flat_map}
 use Rattle.std.specs.Map.{keys_of, values_of}
-use Rattle.event_bytes.specs.Parts.{word}
+use Rattle.event_bytes.specs.Parts.{word_bytes}
 use Rattle.desktop_definitions.specs.Looks.{AreLooks}
 use Rattle.desktop_definitions.specs.Seen.{seen_table}
-use Rattle.desk_image.specs.Image.{listed, text_bytes, AreSome, InWord}
+use Rattle.desk_image.specs.Image.{listed_bytes, text_bytes, AreSome, InWord}
 use Rattle.desk_image.proofs.Putting.{IsLeft}
 use Rattle.desk_imaging.proofs.imaging.put_texts.Given as goal
 
@@ -14,6 +14,6 @@ invariant-loop-number g l = record {
   looks : All AreLooks (values_of (seen_table [] l.number-iterator));
   some : All AreSome (values_of l.number-iterator) → All AreSome (values_of l.fn.texts.entries);
   numbers : All InWord (keys_of l.number-iterator) → All InWord (keys_of l.fn.texts.entries);
-  left : IsLeft g.K.ByteSink (listed word text_bytes l.fn.texts.entries) (flat_map text_bytes l.number-iterator)
+  left : IsLeft g.K.ByteSink (listed_bytes word_bytes text_bytes l.fn.texts.entries) (flat_map text_bytes l.number-iterator)
       l.fn.sink l.sink;
 }

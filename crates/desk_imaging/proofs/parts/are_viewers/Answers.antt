@@ -2,7 +2,7 @@ use Rattle.std.proofs.Common.{◌∙◌, sym, rules, tests}
 use Rattle.std.proofs.lemmas.Iterator.{YieldsList-from_slice}
 use Rattle.std.proofs.lemmas.Iterator.Search.{all_from_yields_List}
 use Rattle.std.proofs.lemmas.List.Folds.{list_all-map}
-use Rattle.desk_image.specs.Pictures.{entry_of}
+use Rattle.desk_image.specs.Pictures.{entry_of_stretch}
 use Rattle.desk_imaging.specs.Images.{has_id}
 use Rattle.desk_imaging.proofs.parts.are_viewers.Goals as goal
 
@@ -12,4 +12,4 @@ returns c =
     let stretches = c.args.stretches.now in
     all_from_yields_List (λ s. has_id viewers s.viewer) _ _ c.all.result c.all.ensures.ran
     (YieldsList-from_slice stretches cc) (λ x b q k. search (rules, tests))
-    ∙ sym (list_all-map (λ e. has_id viewers e.viewer) entry_of stretches)
+    ∙ sym (list_all-map (λ e. has_id viewers e.viewer) entry_of_stretch stretches)

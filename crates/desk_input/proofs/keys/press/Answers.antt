@@ -1,4 +1,4 @@
-use Rattle.desktop_definitions.specs.Keys.{pressed}
+use Rattle.desktop_definitions.specs.Keys.{after_key}
 use Rattle.desktop_definitions.specs.Unread.{key_needs_no_byte}
 use Rattle.desk_input.proofs.StillLemmas.{unread_where}
 use Rattle.desk_input.proofs.keys.press.Goals as goal
@@ -8,7 +8,7 @@ unfolding key_needs_no_byte
 returns-in-Copy g c = rw c.in-Copy.is (unread_where g.S.CharSource (λ h. tt) c.copy.ensures)
 
 pub returns-in-Paste : goal.returns-in-Paste
-unfolding pressed key_needs_no_byte
+unfolding after_key key_needs_no_byte
 returns-in-Paste g c = rw c.in-Paste.is c.put_buffer.ensures
 
 pub returns-in-Escape : goal.returns-in-Escape

@@ -6,13 +6,13 @@ use Rattle.piece_ring.specs.Text.{AreWithin}
 use Rattle.desktop_definitions.specs.declared.reply.Reply.TheVariants.{Done, No}
 use Rattle.desktop_definitions.specs.Limits.{full}
 use Rattle.desktop_definitions.specs.Change.{more_written}
-use Rattle.desktop_definitions.specs.Keys.{typed}
+use Rattle.desktop_definitions.specs.Keys.{after_typing}
 use Rattle.desktop_definitions.specs.Seen.{seen}
-use Rattle.desktop_definitions.specs.Step.{settled}
+use Rattle.desktop_definitions.specs.Step.{outcome_after}
 use Rattle.desktop_definitions.specs.Outcome.{IsAnswered}
 use Rattle.desktop_laws.specs.RowLaws.{known_no_caret, over_built, built_longer, changed_under, space_written}
 use Rattle.desktop_laws.specs.KeyLaws.{typed_none, typed_full, typed_answered, main_small}
-use Rattle.desk_core.specs.Kept.{kept}
+use Rattle.desk_core.specs.Kept.{kept_desktop}
 use Rattle.desktop_definitions.specs.Looks.{AreLooks}
 use Rattle.desktop_laws.specs.LookedLaws.{run_looks, kept_look}
 use Rattle.desk_core.proofs.StretchLemmas.{refused_effect}
@@ -22,15 +22,15 @@ use Rattle.desk_input.proofs.keys.type_bytes.Goals as goal
 pub returns-in_default : goal.returns-in_default
 unfolding seen
 returns-in_default g c =
-    does_unread g.S.CharSource g.met.S.CharSource.ground_self _ _ (kept c.args.desk.now) _ _ c.requires
+    does_unread g.S.CharSource g.met.S.CharSource.ground_self _ _ (kept_desktop c.args.desk.now) _ _ c.requires
     (λ H all over. refused_effect over known_no_caret (typed_none _ (sym c.caret_place.ensures.is ∙ c.in_default.is) _))
 
 pub returns-then-not-fits_more : goal.returns-then-not-fits_more
 returns-then-not-fits_more g c =
-    let d = kept c.args.desk.now in
+    let d = kept_desktop c.args.desk.now in
     does_unread g.S.CharSource g.met.S.CharSource.ground_self _ _ d _ _ c.requires
     (λ H all over. subst (λ (b : List ℕ). IsAnswered H all all d d
-    (settled (seen all d) (typed (seen all d) b)) (No full)) c.as_bytes-bytes.ensures.value
+    (outcome_after (seen all d) (after_typing (seen all d) b)) (No full)) c.as_bytes-bytes.ensures.value
     (typed_full H all d over c.in-Some.caret (sym c.in-Some.ensures.is)
     c.in-Some.ensures.stands.placed c.as_bytes-bytes.result.now
     (sym (c.fits_more.ensures all) ∙ c.if-not-fits_more.true)))
@@ -50,7 +50,7 @@ append-requires g c =
 pub put_at_caret-requires-clause-at : goal.put_at_caret-requires-clause-at
 put_at_caret-requires-clause-at g c =
     let old = g.S.CharSource.characters c.args.source.now in
-    let d = kept c.args.desk.now in
+    let d = kept_desktop c.args.desk.now in
     let grown : length (g.S.CharSource.characters c.append.new.self) ≡ length old + length c.as_bytes-bytes.result.now =
     ap length c.in_ok-append.ensures.added ∙ length-append old c.as_bytes-bytes.result.now in
     record {
@@ -63,7 +63,7 @@ pub put_at_caret-requires-clause-goes : goal.put_at_caret-requires-clause-goes
 unfolding seen
 put_at_caret-requires-clause-goes g c =
     let old = g.S.CharSource.characters c.args.source.now in
-    let d = kept c.args.desk.now in
+    let d = kept_desktop c.args.desk.now in
     let n = length c.as_bytes-bytes.result.now in
     let grown : length (g.S.CharSource.characters c.append.new.self) ≡ length old + n =
     ap length c.in_ok-append.ensures.added ∙ length-append old c.as_bytes-bytes.result.now in
@@ -90,15 +90,15 @@ pub returns : goal.returns
 returns g c = record {
   answered =
       let old = g.S.CharSource.characters c.args.source.now in
-      let d = kept c.args.desk.now in
+      let d = kept_desktop c.args.desk.now in
       let reads = c.in_ok-put_at_caret.ensures.reads in
       let premise = c.in_ok-append.ensures.keeps.premise in
       subst (λ (b : List ℕ). IsAnswered (g.S.CharSource.honest c.args.source.now) old
       (g.S.CharSource.characters c.put_at_caret.new.source) d
-      (more_written (kept c.put_at_caret.new.self) (length c.as_bytes-bytes.result.now))
-      (settled (seen old d) (typed (seen old d) b)) Done) c.as_bytes-bytes.ensures.value
+      (more_written (kept_desktop c.put_at_caret.new.self) (length c.as_bytes-bytes.result.now))
+      (outcome_after (seen old d) (after_typing (seen old d) b)) Done) c.as_bytes-bytes.ensures.value
       (typed_answered _ old c.as_bytes-bytes.result.now (g.S.CharSource.characters c.append.new.self)
-      (g.S.CharSource.characters c.put_at_caret.new.source) d (kept c.put_at_caret.new.self) c.requires
+      (g.S.CharSource.characters c.put_at_caret.new.source) d (kept_desktop c.put_at_caret.new.self) c.requires
       c.in_ok-append.ensures.added reads.as_long (λ h. reads.same (premise.1 h)) c.in-Some.caret
       (sym c.in-Some.ensures.is) c.in_ok-buffer.buffer c.in_ok-buffer.ensures
       (changed_under (λ h. premise.1 h) c.in_ok-put_at_caret.ensures.changed)

@@ -4,7 +4,7 @@ use Rattle.piece_ring.specs.Flat.{flat}
 use Rattle.desktop_definitions.specs.declared.viewer.Selection.{Selection}
 use Rattle.desktop_definitions.specs.Gesture.{text_position}
 use Rattle.desktop_definitions.specs.Seen.{seen}
-use Rattle.desk_core.specs.Kept.{kept}
+use Rattle.desk_core.specs.Kept.{kept_desktop}
 use Rattle.desk_core.proofs.PositionLemmas.{drawn_read}
 use Rattle.desk_core.specs.Positions.{IsPosition}
 use Rattle.char_file.proofs.Reading.{read_on}
@@ -29,7 +29,7 @@ returns-clause-told g c =
           ∙ drawn_read _ _ c.args.id c.args.from.0 c.args.from.1 c.args.to.0 c.args.to.1
           c.in_ok-first.first c.in_ok-last.last c.len-len.result (first.exact h)
           (last.exact (first.reads.still h)
-          ∙ ap (λ (l : List ℕ). text_position (seen l (kept c.args.desk.now)) c.args.id c.args.to.0 c.args.to.1)
+          ∙ ap (λ (l : List ℕ). text_position (seen l (kept_desktop c.args.desk.now)) c.args.id c.args.to.0 c.args.to.1)
           (first.reads.same h))
           (c.len-len.ensures ∙ ap (λ (t : List Piece). length (flat t)) c.main_text.ensures);
       reads = read_on _ _ _ _ g.met.S.CharSource.ground_through _ _ _ first.reads last.reads;
@@ -42,7 +42,7 @@ returns-clause-viewer g c =
 
 pub returns-clause-within : goal.returns-clause-within
 returns-clause-within g c =
-    let d = kept c.args.desk.now in
+    let d = kept_desktop c.args.desk.now in
     let viewer = ap (λ (s : Selection). s.viewer) c.stretch.ensures in
     subst (λ v. IsPosition d v c.stretch.result.end) (sym viewer) (record {
       placed = c.requires.at.placed;

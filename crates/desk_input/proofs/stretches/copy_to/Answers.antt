@@ -2,7 +2,7 @@ use Rattle.std.proofs.Common.{rules, ◌∙◌, sym, arith}
 use Rattle.desktop_definitions.specs.Seen.{seen}
 use Rattle.desktop_laws.specs.RowLaws.{known_no_selection, over_built}
 use Rattle.desktop_laws.specs.KeyLaws.{copied_to_none, copied_to_full, copied_to_answered}
-use Rattle.desk_core.specs.Kept.{kept}
+use Rattle.desk_core.specs.Kept.{kept_desktop}
 use Rattle.desk_core.proofs.StretchLemmas.{refused_effect}
 use Rattle.desk_input.proofs.StillLemmas.{does_unread}
 use Rattle.desk_input.proofs.stretches.copy_to.Goals as goal
@@ -10,14 +10,14 @@ use Rattle.desk_input.proofs.stretches.copy_to.Goals as goal
 pub returns-in_default : goal.returns-in_default
 unfolding seen
 returns-in_default g c =
-    does_unread g.S.CharSource g.met.S.CharSource.ground_self _ _ (kept c.args.desk.now) _ _ c.requires.over
+    does_unread g.S.CharSource g.met.S.CharSource.ground_self _ _ (kept_desktop c.args.desk.now) _ _ c.requires.over
     (λ H all over. refused_effect over known_no_selection
     (copied_to_none _ (sym c.selection.ensures.is ∙ c.in_default.is) _ _))
 
 pub returns-then-not-fits_more : goal.returns-then-not-fits_more
 returns-then-not-fits_more g c =
     let stands = c.in-Some.ensures in
-    does_unread g.S.CharSource g.met.S.CharSource.ground_self _ _ (kept c.args.desk.now) _ _ c.requires.over
+    does_unread g.S.CharSource g.met.S.CharSource.ground_self _ _ (kept_desktop c.args.desk.now) _ _ c.requires.over
     (λ H all over. copied_to_full _ _ _ over _ (sym stands.is) stands.some stands.stands.place _ _ c.requires.at.placed
     (sym (c.fits_more.ensures _) ∙ c.if-not-fits_more.true))
 

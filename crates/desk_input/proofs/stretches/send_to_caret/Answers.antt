@@ -7,7 +7,7 @@ use Rattle.desktop_definitions.specs.Seen.{seen, seen_text}
 use Rattle.desktop_definitions.specs.Changed.{IsChanged}
 use Rattle.desktop_laws.specs.RowLaws.{known_no_selection, known_no_caret}
 use Rattle.desktop_laws.specs.KeyLaws.{sent_empty, sent_none, sent_full, sent_answered}
-use Rattle.desk_core.specs.Kept.{kept}
+use Rattle.desk_core.specs.Kept.{kept_desktop}
 use Rattle.desk_core.proofs.StretchLemmas.{refused_effect, selected_built}
 use Rattle.desk_input.proofs.stretches.send_to_caret.Goals as goal
 
@@ -51,15 +51,15 @@ pub returns : goal.returns
 returns g c = record {
   answered =
       let old = g.S.CharSource.characters c.args.source.now in
-      let d = kept c.args.desk.now in
+      let d = kept_desktop c.args.desk.now in
       let same : (record d { selections = c.select.new.selections.items }) ≡ with_selection d c.args.drawn =
       λ k. record d { selections = c.in_ok-select.ensures k } in
       let reads = c.in_ok-put_at_caret.ensures.reads in
-      sent_answered _ old _ d (kept c.put_at_caret.new.self) c.requires.over reads.as_long reads.same d
+      sent_answered _ old _ d (kept_desktop c.put_at_caret.new.self) c.requires.over reads.as_long reads.same d
       c.args.drawn c.in_ok-copy.copy c.if-drawn.false c.requires.at.place c.in_ok-copy.ensures.is c.in-Some.caret
       (sym c.in-Some.ensures.is) c.requires.at.placed
       (subst (λ (d : KeptDesktop). IsChanged (g.S.CharSource.honest c.args.source.now) old d
-      (kept c.put_at_caret.new.self) (put_at_caret (seen old d)
+      (kept_desktop c.put_at_caret.new.self) (put_at_caret (seen old d)
       (seen_text old c.in_ok-copy.copy) c.in-Some.caret)
       (length (flat c.in_ok-copy.copy)) 0) same c.in_ok-put_at_caret.ensures.changed)
       (λ all. sym (c.fits_more.ensures all) ∙ c.if-not-fits_more.false);

@@ -1,6 +1,6 @@
 use Rattle.std.proofs.Common.{◌∙◌, ◌-◌, length, ap, arith}
 use Rattle.std.specs.Prelude.{slice_get}
-use Rattle.desk_sitting.specs.Travels.{place_of, settled, took_back}
+use Rattle.desk_sitting.specs.Travels.{store_place, settled, took_back}
 use Rattle.desk_sitting.proofs.Travelling.{goes_back, goes_not, popped}
 use Rattle.desk_sitting.proofs.travels.take_back.Goals as goal
 
@@ -12,7 +12,7 @@ returns-in-Ok g c =
     goes_back g.D.Disk c.requires.asked c.requires.usable e.any_moment e.behaves.device tt c.in-Ok.events
     c.in-Ok.events.items e.ok e.behaves.faults
     (c.took_back.ensures ∙ ap (λ o. took_back o c.place-from.result c.place.result s) (popped _ _ _ c.in-Ok.events.items _ (omega (arith, c.in-Ok.events.ok)) c.pop.ensures.value c.pop.ensures.cases)
-    ∙ ap (λ p. took_back last p c.place.result s) c.place-from.ensures ∙ ap (λ p. took_back last (place_of c.args.store.now) p s) c.place.ensures)
+    ∙ ap (λ p. took_back last p c.place.result s) c.place-from.ensures ∙ ap (λ p. took_back last (store_place c.args.store.now) p s) c.place.ensures)
 
 pub returns-in-Err : goal.returns-in-Err
 returns-in-Err g c =

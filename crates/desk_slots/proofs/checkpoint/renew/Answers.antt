@@ -2,7 +2,7 @@ use Rattle.std.proofs.Common.{sym, subst, arith}
 use Rattle.sector_disk.specs.Trail.{now}
 use Rattle.char_pages.specs.Cached.{AreTrue}
 use Rattle.store_layout.specs.declared.layout.TheConstants.{LAYOUT}
-use Rattle.store_layout.specs.Kept.{IsKept}
+use Rattle.store_layout.specs.Kept.{ShowsSettled}
 use Rattle.desk_slots.proofs.Renewing.{shown_settled, named_settled}
 use Rattle.desk_slots.proofs.Staying.{goes_on, told_stays, lines_stay, apart_renewal}
 use Rattle.desk_slots.proofs.checkpoint.renew.Goals as goal
@@ -17,7 +17,7 @@ pub returns-clause-renewed : goal.returns-clause-renewed
 returns-clause-renewed g c = λ honest live version number count before was.
     let d = g.D.Disk in
     let after = c.change_slot.new.disk in
-    subst (λ x. IsKept (d.size c.args.disk.now) (d.trail after) c.args.place.slot LAYOUT c.args.place.epoch 0 x)
+    subst (λ x. ShowsSettled (d.size c.args.disk.now) (d.trail after) c.args.place.slot LAYOUT c.args.place.epoch 0 x)
     (sym (shown_settled _ _ c.args.place c.args.desktop.now c.settle.new.self c.requires.live c.requires.goes
     (c.change_slot.ensures.kept.moments honest) (c.in_ok-change_slot.ensures.front honest) c.settle.ensures.desktop
     c.settle.ensures.same)) (c.in_ok-change_slot.ensures.renewed honest live version number count before was)

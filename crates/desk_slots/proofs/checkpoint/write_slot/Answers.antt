@@ -1,6 +1,6 @@
 use Rattle.std.proofs.Common.{arith}
 use Rattle.sector_disk.specs.Trail.{now}
-use Rattle.desk_slots.specs.Live.{characters_of}
+use Rattle.desk_slots.specs.Live.{live_characters}
 use Rattle.desk_slots.proofs.Fronts.{placed}
 use Rattle.desk_slots.proofs.NewSlot.{slot_filled}
 use Rattle.desk_slots.proofs.checkpoint.write_slot.Goals as goal
@@ -15,7 +15,7 @@ returns-clause-filled g c = λ honest.
     let fourth = c.write-2.ensures.kept.still third in
     let e = c.in_ok-extent.ensures in
     let content = (now (g.D.Disk.trail c.args.disk.now)).reads in
-    let characters = characters_of content c.args.desktop.now in
+    let characters = live_characters content c.args.desktop.now in
     slot_filled _ _ _ _ c.args.place.slot c.args.place.epoch c.in_ok-extent.extent c.written.result
     c.args.place.area c.args.desktop.now.desktop characters c.sector.result c.closed_gate.result c.args.place.two
     c.args.place.low

@@ -1,5 +1,5 @@
 use Rattle.std.proofs.Common.{◌≡◌, sym, ◌∙◌, ap, subst, true, rules}
-use Rattle.event_bytes.specs.Spelling.{Begins}
+use Rattle.event_bytes.specs.Spelling.{BeginsWithEvent}
 use Rattle.sector_disk.specs.Trail.{now}
 use Rattle.sector_disk.proofs.Touching.{still_reads}
 use Rattle.store_layout.specs.Layout.{is_open, body}
@@ -19,6 +19,6 @@ returns-in-None-clause-damaged g c = λ n is honest.
       ap (λ j. is_open ((now (g.D.Disk.trail c.args.disk.now)).reads j)) (sym c.gate.ensures)
           ∙ ap is_open (sym (c.in_ok-read.ensures.bytes honest)) ∙ sym c.is_open_gate.ensures ∙ opened,
       λ event begins.
-          let found = c.in-None.ensures.only event (subst (λ b. Begins b event) (sym read) begins) in
+          let found = c.in-None.ensures.only event (subst (λ b. BeginsWithEvent b event) (sym read) begins) in
           absurd cc,
     )

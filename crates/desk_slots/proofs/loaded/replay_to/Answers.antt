@@ -1,7 +1,7 @@
 use Rattle.std.proofs.Common.{rules, ◌≡◌, ◌∙◌, ap, sym, subst, true, false, arith}
 use Rattle.std.proofs.lemmas.Result.{err_from_is_err_and}
 use Rattle.event_bytes.specs.declared.event.Event.{Event}
-use Rattle.event_bytes.specs.Spelling.{Begins}
+use Rattle.event_bytes.specs.Spelling.{BeginsWithEvent}
 use Rattle.sector_disk.specs.Trail.{Content, now}
 use Rattle.desktop_definitions.specs.Step.{step_in, Outcome}
 use Rattle.command_table.specs.Versions.{version_number}
@@ -9,7 +9,7 @@ use Rattle.sector_disk.proofs.Touching.{still_all}
 use Rattle.sector_disk.proofs.Confinement as confined
 use Rattle.store_layout.specs.Layout.{is_open, gate, body}
 use Rattle.desk_slots.specs.Live.{seen_live}
-use Rattle.desk_slots.specs.Load.{IsReadTo}
+use Rattle.desk_slots.specs.Load.{IsJournalReadTo}
 use Rattle.desk_slots.proofs.Loading.{one_read, not_read}
 use Rattle.desk_slots.proofs.Staying.{apart_nowhere, live_stays}
 use Rattle.desk_slots.proofs.loaded.replay_to.Goals as goal
@@ -27,7 +27,7 @@ returns-in_err-event-clause-damaged g c =
       not_read (now (g.D.Disk.trail c.args.disk.now)).reads c.args.slot (version_number c.args.version) k _ _
           (i.read honest) (omega (arith, c.loop-k-test.true))
           (subst (λ r. is_open (r (gate c.args.slot k)) ≡ true) same found.1)
-          (subst (λ r. (event : Event) → Begins (r (body c.args.slot k)) event → ⊥) same found.2),
+          (subst (λ r. (event : Event) → BeginsWithEvent (r (body c.args.slot k)) event → ⊥) same found.2),
     )
 
 pub returns-in-None-clause-read : goal.returns-in-None-clause-read
@@ -36,7 +36,7 @@ returns-in-None-clause-read g c = λ honest.
     let same = still_all (g.D.Disk.trail c.args.disk.now) (g.D.Disk.trail c.loop-k.disk) (i.kept.moments honest) in
     let mid = i.kept.still honest in
     let closed = (rw c.in-None.is at c.in_ok-event.ensures.none) mid in
-    let there = subst (λ (r : Content). IsReadTo (now (g.D.Disk.trail c.args.disk.now)).reads c.args.slot
+    let there = subst (λ (r : Content). IsJournalReadTo (now (g.D.Disk.trail c.args.disk.now)).reads c.args.slot
     (version_number c.args.version) c.loop-k.k
     (seen_live (now (g.D.Disk.trail c.args.disk.now)).reads c.args.desktop.now) (seen_live r c.loop-k.desktop))
     (sym (still_all (g.D.Disk.trail c.loop-k.disk) (g.D.Disk.trail c.read_event.new.disk)
@@ -75,7 +75,7 @@ loop-k-preserved g c =
           one_read (now (g.D.Disk.trail c.args.disk.now)).reads c.args.slot (version_number c.args.version) k _ _ _
           c.in-Some.event (i.read honest) (omega (arith, c.loop-k-test.true))
           (subst (λ r. is_open (r (gate c.args.slot k)) ≡ true) same found.0)
-          (subst (λ r. Begins (r (body c.args.slot k)) c.in-Some.event) same found.1)
+          (subst (λ r. BeginsWithEvent (r (body c.args.slot k)) c.in-Some.event) same found.1)
           (ap (λ (o : Outcome). o.desktop) (c.in_ok-step-in-Some.ensures.done (c.read_event.ensures.kept.still mid))
           ∙ ap (λ (r : Content).
           (step_in (version_number c.args.version) (seen_live r c.loop-k.desktop) c.in-Some.event).desktop)
@@ -92,7 +92,7 @@ returns-clause-read g c = λ honest.
     let R = (now (g.D.Disk.trail c.args.disk.now)).reads in
     let last : c.loop-k.k ≡ c.args.most = omega (arith, c.loop-k-test.false, c.loop-k.auto.k-end) in
     record {
-      read = subst (λ n. IsReadTo R c.args.slot (version_number c.args.version) n (seen_live R c.args.desktop.now)
+      read = subst (λ n. IsJournalReadTo R c.args.slot (version_number c.args.version) n (seen_live R c.args.desktop.now)
           (seen_live (now (g.D.Disk.trail c.loop-k.disk)).reads c.loop-k.desktop)) last (i.read honest);
       ended = λ less. absurd (omega (arith, less));
     }

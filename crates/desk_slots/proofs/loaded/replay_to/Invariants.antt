@@ -3,8 +3,8 @@ use Rattle.sector_disk.specs.Trail.{Nowhere, now}
 use Rattle.sector_disk.specs.Confined.{IsConfined}
 use Rattle.char_pages.specs.Pages.{saved_of, renewed_of}
 use Rattle.command_table.specs.Versions.{version_number}
-use Rattle.desk_slots.specs.Live.{seen_live, IsLive, IsTold}
-use Rattle.desk_slots.specs.Load.{IsReadTo}
+use Rattle.desk_slots.specs.Live.{seen_live, IsLive, HasTrueCache}
+use Rattle.desk_slots.specs.Load.{IsJournalReadTo}
 use Rattle.desk_slots.proofs.loaded.replay_to.Given as goal
 
 -- nothing is written, and the events before gate k have been stepped
@@ -13,11 +13,11 @@ invariant-loop-k g l = record {
   kept : IsConfined g.D.Disk.size g.D.Disk.honest g.D.Disk.trail Nowhere l.fn.disk l.disk;
   calm : g.D.Disk.failures l.disk ≡ g.D.Disk.failures l.fn.disk;
   read : g.D.Disk.honest l.fn.disk
-      → IsReadTo (now (g.D.Disk.trail l.fn.disk)).reads l.slot (version_number l.version) l.k
+      → IsJournalReadTo (now (g.D.Disk.trail l.fn.disk)).reads l.slot (version_number l.version) l.k
       (seen_live (now (g.D.Disk.trail l.fn.disk)).reads l.fn.desktop)
       (seen_live (now (g.D.Disk.trail l.disk)).reads l.desktop);
   live : IsLive l.desktop;
-  told : IsTold g.D.Disk l.disk l.desktop;
+  told : HasTrueCache g.D.Disk l.disk l.desktop;
   area : l.desktop.area ≡ l.fn.desktop.area;
   counted : renewed_of l.desktop.pages ≡ false → saved_of l.desktop.pages ≡ saved_of l.fn.desktop.pages;
 }

@@ -5,7 +5,7 @@ use Rattle.desktop_definitions.specs.declared.entry.Entry.{Entry}
 use Rattle.desktop_definitions.specs.Listing.{track_entries}
 use Rattle.desktop_definitions.specs.Unread.{without_name}
 use Rattle.desktop_definitions.specs.Seen.{seen}
-use Rattle.desk_core.specs.Kept.{kept}
+use Rattle.desk_core.specs.Kept.{kept_desktop}
 use Rattle.desk_views.proofs.Listed.{lowest_entries, all_tracks, listed_track, told_track, none_listed, reads_then}
 use Rattle.desk_views.proofs.views.list_column.Goals as goal
 
@@ -23,7 +23,7 @@ loop-below-preserved g c =
     let C = g.S.CharSource in
     let i = c.loop-below.invariant in
     let e = c.in_ok-list_level.ensures in
-    let d = kept c.args.desk.now in
+    let d = kept_desktop c.args.desk.now in
     let k = c.args.track in
     let n = c.loop-below.below in
     let characters = C.characters c.args.source.now in
@@ -60,7 +60,7 @@ returns-in_err-list_level-clause-reads g c =
 pub returns-clause-entries : goal.returns-clause-entries
 unfolding seen
 returns-clause-entries g c = λ honest.
-    let d = kept c.args.desk.now in
+    let d = kept_desktop c.args.desk.now in
     let k = c.args.track in
     let x = seen (g.S.CharSource.characters c.args.source.now) d in
     let stack = stack_of d.columns k in
@@ -72,7 +72,7 @@ returns-clause-entries g c = λ honest.
 pub returns-clause-unread : goal.returns-clause-unread
 unfolding seen
 returns-clause-unread g c = λ all long.
-    let d = kept c.args.desk.now in
+    let d = kept_desktop c.args.desk.now in
     let k = c.args.track in
     let x = seen all d in
     let stack = stack_of d.columns k in

@@ -10,7 +10,7 @@ use Rattle.desktop_definitions.specs.Listing.{viewer_entry}
 use Rattle.desktop_definitions.specs.Unread.{without_name}
 use Rattle.desktop_definitions.specs.Seen.{seen}
 use Rattle.desktop_laws.specs.ViewLaws.{listed_more, listed_all}
-use Rattle.desk_core.specs.Kept.{kept}
+use Rattle.desk_core.specs.Kept.{kept_desktop}
 use Rattle.desk_views.proofs.views.list_level.Goals as goal
 
 pub loop-index-init : goal.loop-index-init
@@ -24,7 +24,7 @@ entry_of-requires-clause-over g c = record {
 
 pub loop-index-preserved : goal.loop-index-preserved
 loop-index-preserved g c =
-    let d = kept c.args.desk.now in
+    let d = kept_desktop c.args.desk.now in
     let C = g.S.CharSource in
     let characters = C.characters c.args.source.now in
     let i = c.loop-index.invariant in
@@ -54,7 +54,7 @@ loop-index-preserved g c =
 pub returns-clause-entries : goal.returns-clause-entries
 unfolding seen
 returns-clause-entries g c = λ honest.
-    let d = kept c.args.desk.now in
+    let d = kept_desktop c.args.desk.now in
     let standing = track_on (stack_of d.columns c.args.track) c.args.level in
     let entry = viewer_entry (seen (g.S.CharSource.characters c.args.source.now) d) c.args.track in
     listed_all entry standing c.loop-index.index c.args.entries.now.items c.loop-index.entries.items
@@ -63,7 +63,7 @@ returns-clause-entries g c = λ honest.
 pub returns-clause-unread : goal.returns-clause-unread
 unfolding seen
 returns-clause-unread g c = λ all long.
-    let d = kept c.args.desk.now in
+    let d = kept_desktop c.args.desk.now in
     let standing = track_on (stack_of d.columns c.args.track) c.args.level in
     let entry = viewer_entry (seen all d) c.args.track in
     listed_all (λ v. without_name (entry v)) standing c.loop-index.index (map without_name c.args.entries.now.items)

@@ -5,7 +5,7 @@ use Rattle.screen_pictures.specs.Picture.{picture}
 use Rattle.screen_pictures.specs.Screen.{screen_of}
 use Rattle.screen_cells.specs.Shown.{IsShowable, as_read}
 use Rattle.desktop_laws.specs.SeenLaws.{within_counted}
-use Rattle.desk_core.specs.Kept.{kept}
+use Rattle.desk_core.specs.Kept.{kept_desktop}
 use Rattle.desk_views.specs.Views.{kept_view, AreThere}
 use Rattle.desk_core.proofs.ViewLemmas.{few}
 use Rattle.desktop_definitions.specs.Seen.{seen}
@@ -14,17 +14,17 @@ use Rattle.desk_views.proofs.Painted.{all_there, all_showable, handed_numbered, 
 use Rattle.desk_views.proofs.views.paint.Goals as goal
 
 pub views_of-requires : goal.views_of-requires
-views_of-requires g c = rw c.deref-2.ensures.value (few (kept c.args.desk.now) c.requires.whole)
+views_of-requires g c = rw c.deref-2.ensures.value (few (kept_desktop c.args.desk.now) c.requires.whole)
 
 pub shown_of-requires : goal.shown_of-requires
 shown_of-requires g c =
-    let d = kept c.args.desk.now in
+    let d = kept_desktop c.args.desk.now in
     let same = viewed _ c.deref-3.ensures.value c.in_ok-views.ensures c.deref-2.ensures.value c.deref.ensures.value in
     subst (All (AreThere d.texts)) (sym same) (all_there d c.requires.whole)
 
 pub paint-requires-clause-showable : goal.paint-requires-clause-showable
 paint-requires-clause-showable g c =
-    let d = kept c.args.desk.now in
+    let d = kept_desktop c.args.desk.now in
     let characters = g.S.CharSource.characters c.args.source.now in
     let same = viewed _ c.deref-3.ensures.value c.in_ok-views.ensures c.deref-2.ensures.value c.deref.ensures.value in
     subst (All (IsShowable (length characters))) (sym c.deref-4.ensures.value)
@@ -34,7 +34,7 @@ paint-requires-clause-showable g c =
 
 pub returns-clause-shown : goal.returns-clause-shown
 returns-clause-shown g c = λ honest told.
-    let d = kept c.args.desk.now in
+    let d = kept_desktop c.args.desk.now in
     let characters = g.S.CharSource.characters c.args.source.now in
     let same = viewed _ c.deref-3.ensures.value c.in_ok-views.ensures c.deref-2.ensures.value c.deref.ensures.value in
     c.in_ok-paint.ensures.painted honest (text_of (seen characters d))
@@ -49,11 +49,11 @@ returns-clause-shown g c = λ honest told.
 pub returns-in_err-paint-clause-lines : goal.returns-in_err-paint-clause-lines
 returns-in_err-paint-clause-lines g c = λ honest.
     let same = viewed _ c.deref-3.ensures.value c.in_ok-views.ensures c.deref-2.ensures.value c.deref.ensures.value in
-    lines_on _ (kept c.args.desk.now) same c.deref-4.ensures.value c.in_ok-shown.ensures c.prepare.ensures.lines
+    lines_on _ (kept_desktop c.args.desk.now) same c.deref-4.ensures.value c.in_ok-shown.ensures c.prepare.ensures.lines
     (c.in_err-paint.ensures.lines honest)
 
 pub returns-clause-lines : goal.returns-clause-lines
 returns-clause-lines g c = λ honest.
     let same = viewed _ c.deref-3.ensures.value c.in_ok-views.ensures c.deref-2.ensures.value c.deref.ensures.value in
-    lines_on _ (kept c.args.desk.now) same c.deref-4.ensures.value c.in_ok-shown.ensures c.prepare.ensures.lines
+    lines_on _ (kept_desktop c.args.desk.now) same c.deref-4.ensures.value c.in_ok-shown.ensures c.prepare.ensures.lines
     (c.in_ok-paint.ensures.lines honest)

@@ -1,9 +1,9 @@
 use Rattle.std.proofs.Common.{◌≡◌, ◌+◌, ◌-◌, arith, [], ap, sym, ◌∙◌, length}
-use Rattle.desktop_definitions.specs.Desktop.{held}
+use Rattle.desktop_definitions.specs.Desktop.{characters_held}
 use Rattle.desktop_definitions.specs.Seen.{seen}
 use Rattle.desktop_definitions.specs.Step.{filed}
 use Rattle.desktop_laws.specs.StepLaws.{fits_by, held_filed, files_held}
-use Rattle.desk_core.specs.Kept.{kept}
+use Rattle.desk_core.specs.Kept.{kept_desktop}
 use Rattle.event_loop.proofs.events.file_fits.Goals as goal
 
 pub overflow_add-held : goal.overflow_add-held
@@ -12,17 +12,17 @@ overflow_add-held c = omega (arith, c.held.ensures.few, c.requires.short)
 pub overflow_sub-held : goal.overflow_sub-held
 unfolding seen
 overflow_sub-held c = omega
-    (arith, c.length_of-gone.ensures [] [], files_held (seen [] (kept c.args.desk.now)), c.held.ensures.held [])
+    (arith, c.length_of-gone.ensures [] [], files_held (seen [] (kept_desktop c.args.desk.now)), c.held.ensures.held [])
 
 pub returns-clause-fits : goal.returns-clause-fits
 unfolding filed seen
 returns-clause-fits c = λ characters text long.
-    let x = seen characters (kept c.args.desk.now) in
-    let sum : held (filed x c.args.name.now text) + c.length_of-gone.result
-    ≡ held x + length text = held_filed x c.args.name.now text c.length_of-gone.result
+    let x = seen characters (kept_desktop c.args.desk.now) in
+    let sum : characters_held (filed x c.args.name.now text) + c.length_of-gone.result
+    ≡ characters_held x + length text = held_filed x c.args.name.now text c.length_of-gone.result
     (c.length_of-gone.ensures characters text) in
     let before = c.held.ensures.held characters in
     let after : c.held.result + c.args.len - c.length_of-gone.result
-    ≡ held (filed x c.args.name.now text) = omega (arith, sum, before, long) in
+    ≡ characters_held (filed x c.args.name.now text) = omega (arith, sum, before, long) in
     c.within_limits.ensures
     ∙ fits_by (filed x c.args.name.now text) _ _ (ap (λ n. c.args.desk.now.written + n) (sym long)) after

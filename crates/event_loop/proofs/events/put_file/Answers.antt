@@ -7,19 +7,19 @@ use Rattle.desktop_definitions.specs.Limits.{full, too_many_files}
 use Rattle.desktop_definitions.specs.Seen.{seen}
 use Rattle.desktop_definitions.specs.Step.{step, step_in, raw, outcome_of}
 use Rattle.desktop_definitions.specs.Sound.{IsOver}
-use Rattle.desktop_definitions.specs.Change.{plain}
+use Rattle.desktop_definitions.specs.Change.{plain_text}
 use Rattle.desktop_laws.specs.StepLaws.{file_no_room, file_full}
 use Rattle.desktop_definitions.specs.Outcome.{IsAnswered}
 use Rattle.desktop_laws.specs.OutcomeLaws.{refused, length_in_look, file_answered}
-use Rattle.desktop_definitions.specs.Unread.{brought, StepsUnread}
-use Rattle.desk_core.specs.Kept.{kept}
+use Rattle.desktop_definitions.specs.Unread.{characters_brought, StepsUnread}
+use Rattle.desk_core.specs.Kept.{kept_desktop}
 use Rattle.desk_core.proofs.UnreadLemmas.{over_all}
 use Rattle.event_loop.proofs.events.put_file.Goals as goal
 
 pub returns-then-not-has_room : goal.returns-then-not-has_room
-unfolding seen brought StepsUnread step step_in raw
+unfolding seen characters_brought StepsUnread step step_in raw
 returns-then-not-has_room g c =
-    let d = kept c.args.desk.now in
+    let d = kept_desktop c.args.desk.now in
     let none = λ (all : List ℕ). file_no_room (seen all d) c.args.name.now c.args.bytes.now (c.requires.whole.sound all).shown
     (sym (c.has_room.ensures all) ∙ c.if-not-has_room.true) in
     record {
@@ -29,13 +29,13 @@ returns-then-not-has_room g c =
     }
 
 pub returns-then-not-file_fits : goal.returns-then-not-file_fits
-unfolding seen brought StepsUnread step step_in raw
+unfolding seen characters_brought StepsUnread step step_in raw
 returns-then-not-file_fits g c =
-    let d = kept c.args.desk.now in
+    let d = kept_desktop c.args.desk.now in
     let bytes = c.args.bytes.now in
     let none = λ (all : List ℕ). file_full (seen all d) c.args.name.now bytes (c.requires.whole.sound all).shown
     (sym (c.has_room.ensures all) ∙ c.if-not-has_room.false)
-    (sym (c.file_fits.ensures.fits all (plain bytes)
+    (sym (c.file_fits.ensures.fits all (plain_text bytes)
     (length_in_look default_look bytes ∙ ap length (sym c.as_bytes-bytes.ensures.value))) ∙ c.if-not-file_fits.true) in
     record {
       answered = refused _ _ d _ full c.requires (search rules) (λ h. none _);
@@ -44,9 +44,9 @@ returns-then-not-file_fits g c =
     }
 
 pub returns : goal.returns
-unfolding seen brought StepsUnread step step_in raw
+unfolding seen characters_brought StepsUnread step step_in raw
 returns g c =
-    let d = kept c.args.desk.now in
+    let d = kept_desktop c.args.desk.now in
     let bytes = c.as_bytes-bytes.result.now in
     let name = c.args.name.now in
     let value = c.as_bytes-bytes.ensures.value in

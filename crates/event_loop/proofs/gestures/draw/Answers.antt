@@ -1,13 +1,13 @@
 use Rattle.desktop_definitions.specs.declared.viewer.Selection.{Selection}
 use Rattle.desktop_definitions.specs.Desktop.{Desktop}
 use Rattle.desktop_definitions.specs.Gesture.{stretch_drawn, done_with}
-use Rattle.desk_core.specs.Kept.{kept}
+use Rattle.desk_core.specs.Kept.{kept_desktop}
 use Rattle.desk_commands.proofs.ReadFirst.{over_after, does_after}
 use Rattle.event_loop.proofs.gestures.draw.Goals as goal
 
 pub point_stretch-requires : goal.point_stretch-requires
 point_stretch-requires g c = record {
-  over = over_after g.S.CharSource _ _ (kept c.args.desk.now) c.in_ok-drawn.ensures.told.reads c.requires.at.over;
+  over = over_after g.S.CharSource _ _ (kept_desktop c.args.desk.now) c.in_ok-drawn.ensures.told.reads c.requires.at.over;
   at = c.in_ok-drawn.ensures.within;
 }
 

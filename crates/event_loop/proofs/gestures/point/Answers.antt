@@ -7,7 +7,7 @@ use Rattle.desktop_definitions.specs.Seen.{seen}
 use Rattle.desktop_definitions.specs.Step.{raw, step_in}
 use Rattle.desktop_definitions.specs.Gesture.{pointed, done_in_filler, done_in_menu, done_in_bar}
 use Rattle.desktop_definitions.specs.Unread.{gesture_brings, StepsUnread}
-use Rattle.desk_core.specs.Kept.{kept}
+use Rattle.desk_core.specs.Kept.{kept_desktop}
 use Rattle.desk_core.proofs.MarkLemmas.{outside_answered}
 use Rattle.desk_core.proofs.UnreadLemmas.{over_all}
 use Rattle.event_loop.proofs.GestureLemmas.{does_there, does_pointed, cells_inside}
@@ -16,7 +16,7 @@ use Rattle.event_loop.proofs.gestures.point.Goals as goal
 pub returns-then-not-are_on_display : goal.returns-then-not-are_on_display
 unfolding raw step_in StepsUnread
 returns-then-not-are_on_display g c =
-    let d = kept c.args.desk.now in
+    let d = kept_desktop c.args.desk.now in
     let is = sym c.are_on_display.ensures ∙ c.if-not-are_on_display.true in
     record {
       answered = outside_answered _ _ d c.requires.over _ _ is;
@@ -62,7 +62,7 @@ returns-in-Bar g c =
     does_pointed g.S.CharSource (version_number c.args.version)
     (sym c.are_on_display.ensures ∙ c.if-not-are_on_display.false) c.in-Bar.ensures.region
     (λ (x : Desktop). done_in_bar x c.args.gesture.keys c.in-Bar.id c.frame_row-row.result)
-    (λ all. ap (done_in_bar (seen all (kept c.args.desk.now)) c.args.gesture.keys c.in-Bar.id) c.frame_row-row.ensures) refl
+    (λ all. ap (done_in_bar (seen all (kept_desktop c.args.desk.now)) c.args.gesture.keys c.in-Bar.id) c.frame_row-row.ensures) refl
     c.point_bar.ensures
 
 pub returns-in-Body : goal.returns-in-Body

@@ -3,7 +3,7 @@ use Rattle.std.proofs.Common.{rules, ◌++◌, ◌∙◌, ℕ, List, ap, append-
 use Rattle.desktop_definitions.specs.declared.reply.Reply.TheVariants.{Done}
 use Rattle.desktop_definitions.specs.Seen.{seen}
 use Rattle.desktop_definitions.specs.Step.{outcome_of}
-use Rattle.desk_core.specs.Kept.{kept}
+use Rattle.desk_core.specs.Kept.{kept_desktop}
 use Rattle.desk_core.proofs.ArmLemmas.{rest_done}
 use Rattle.desk_core.proofs.UnreadLemmas.{over_all}
 use Rattle.event_loop.proofs.GestureLemmas.{filler_rest, filler_brings}
@@ -12,7 +12,7 @@ use Rattle.event_loop.proofs.gestures.point_filler.Goals as goal
 pub returns-in_default : goal.returns-in_default
 returns-in_default g c =
     let other = c.in_default in
-    let d = kept c.args.desk.now in
+    let d = kept_desktop c.args.desk.now in
     record {
       answered = rest_done c.requires.over (filler_rest _ _ _ _ other.not-Middle);
       unread = λ all long.

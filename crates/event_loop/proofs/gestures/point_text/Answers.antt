@@ -1,7 +1,7 @@
 use Rattle.std.proofs.Common.{rules}
 use Rattle.desktop_definitions.specs.Gesture.{pointed, done_with}
 use Rattle.desktop_definitions.specs.Unread.{gesture_needs_no_byte}
-use Rattle.desk_core.specs.Kept.{kept}
+use Rattle.desk_core.specs.Kept.{kept_desktop}
 use Rattle.desk_core.proofs.ArmLemmas.{rest_done}
 use Rattle.desk_input.proofs.StillLemmas.{does_unread}
 use Rattle.event_loop.proofs.GestureLemmas.{pointed_rest}
@@ -18,6 +18,6 @@ returns-in-Right g c = record { answered = search rules; unread = search rules; 
 pub returns-in_default : goal.returns-in_default
 returns-in_default g c =
     let other = c.in_default in
-    does_unread g.S.CharSource g.met.S.CharSource.ground_self _ _ (kept c.args.desk.now) _ _ c.requires.at.over
+    does_unread g.S.CharSource g.met.S.CharSource.ground_self _ _ (kept_desktop c.args.desk.now) _ _ c.requires.at.over
     (λ H all over. rest_done over (pointed_rest _ _ _ _ _ _ _ _ other.not-Left other.not-LeftMiddle other.not-LeftRight
     other.not-Right other.not-RightLeft other.not-RightMiddle other.not-Middle))

@@ -1,5 +1,5 @@
 use Rattle.std.proofs.Common.{refl, ap, ◌∙◌}
-use Rattle.desk_core.specs.Kept.{kept}
+use Rattle.desk_core.specs.Kept.{kept_desktop}
 use Rattle.stale_texts.specs.Stale.{stale_of, stale_by_key}
 use Rattle.event_loop.proofs.stale.stale_of.Goals as goal
 
@@ -10,7 +10,7 @@ returns-in-Typed c = rw c.in-Typed.is c.stale_at_caret.ensures
 pub returns-in-Key : goal.returns-in-Key
 unfolding stale_of
 returns-in-Key c =
-    let d = kept c.args.desk.now in
+    let d = kept_desktop c.args.desk.now in
     rw c.in-Key.is (c.stale_by_key.ensures
     ∙ ap (λ latest. stale_by_key d.viewers d.caret latest c.in-Key.key) c.newest.ensures)
 

@@ -1,5 +1,5 @@
 use Rattle.std.proofs.Common.{refl}
-use Rattle.oberon_main.specs.Answers.{answer, after}
+use Rattle.oberon_main.specs.Answers.{answer, session_after}
 use Rattle.oberon_main.proofs.Surviving.{same_withstands}
 use Rattle.oberon_main.proofs.Working.{look_works_out}
 use Rattle.oberon_main.proofs.answering.work_out.Goals as goal
@@ -14,7 +14,7 @@ pub returns-in-Display : goal.returns-in-Display
 returns-in-Display g c = rw c.in-Display.is (look_works_out g.D.Disk _ _ (λ wrong. cc) c.screen.ensures)
 
 pub returns-in-Malformed : goal.returns-in-Malformed
-unfolding answer after
+unfolding answer session_after
 returns-in-Malformed g c = rw c.in-Malformed.is (record {
   worked_out = record {
     bytes = λ honest. c.short_line.ensures;

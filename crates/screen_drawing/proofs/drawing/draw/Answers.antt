@@ -6,7 +6,7 @@ use Rattle.std.proofs.KnownBytes.{Appends-trans}
 use Rattle.output_bytes.specs.Sent.{AppendsFront}
 use Rattle.output_bytes.proofs.Taking.{first_front, front_sent, second_front, whole_sent}
 use Rattle.screen_pictures.specs.declared.cell.Cell.{Cell}
-use Rattle.screen_drawing.specs.Drawn.{background, drawn, drawn_rows, heading}
+use Rattle.screen_drawing.specs.Drawn.{background, drawing_of, drawn_rows, heading}
 use Rattle.screen_drawing.proofs.drawing.draw.Goals as goal
 
 -- what follows the heading, and what follows the background
@@ -19,8 +19,8 @@ after_heading screen = concat (background ∷ drawn_rows screen ∷ codes "</svg
 -- heading and background were taken, and then a front of the rest
 begun_front : (screen : List (List Cell)) (old one two new : Option (List ℕ)) → Appends old one heading
     → Appends one two background → AppendsFront two new (after_background screen)
-    → AppendsFront old new (drawn screen)
-unfolding drawn
+    → AppendsFront old new (drawing_of screen)
+unfolding drawing_of
 begun_front screen old one two new first second front =
     second_front old one new heading (after_heading screen) first
     (second_front one two new background (after_background screen) second front)
@@ -28,20 +28,20 @@ begun_front screen old one two new first second front =
 -- all parts were taken
 all_drawn : (screen : List (List Cell)) (old one two three new : Option (List ℕ)) → Appends old one heading
     → Appends one two background → Appends two three (drawn_rows screen) → Appends three new (codes "</svg>\n")
-    → Appends old new (drawn screen)
-unfolding drawn
+    → Appends old new (drawing_of screen)
+unfolding drawing_of
 all_drawn screen old one two three new first second third last =
     Appends-trans old one new heading (after_heading screen) first
     (Appends-trans one two new background (after_background screen) second
     (Appends-trans two three new (drawn_rows screen) (codes "</svg>\n") third last))
 
 pub returns-in_err-draw_heading : goal.returns-in_err-draw_heading
-unfolding drawn
+unfolding drawing_of
 returns-in_err-draw_heading g c = front_sent c.from_residual.result _ _ _ _ c.from_residual.ensures.1
     (first_front _ _ heading (after_heading c.args.screen.now) c.in_err-draw_heading.ensures.front)
 
 pub returns-in_err-draw_background : goal.returns-in_err-draw_background
-unfolding drawn
+unfolding drawing_of
 returns-in_err-draw_background g c =
     front_sent c.from_residual-in_err-draw_background.result _ _ _ _ c.from_residual-in_err-draw_background.ensures.1
     (second_front _ _ _ heading (after_heading c.args.screen.now) c.in_ok-draw_heading.ensures.sent
@@ -61,6 +61,6 @@ returns-in_err-send g c =
     c.in_err-send.ensures.front))
 
 pub returns : goal.returns
-returns g c = whole_sent c.flush.result _ _ _ (drawn c.args.screen.now)
+returns g c = whole_sent c.flush.result _ _ _ (drawing_of c.args.screen.now)
     (all_drawn c.args.screen.now _ _ _ _ _ c.in_ok-draw_heading.ensures.sent c.in_ok-draw_background.ensures.sent
     c.in_ok-draw_rows.ensures.sent c.in_ok-send.ensures.sent) c.flush.ensures

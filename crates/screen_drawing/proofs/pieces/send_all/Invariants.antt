@@ -1,8 +1,8 @@
 use Rattle.std.proofs.Common.{drop}
 use Rattle.output_bytes.proofs.Taking.{HasTaken}
-use Rattle.screen_drawing.specs.Spelling.{joined}
+use Rattle.screen_drawing.specs.Spelling.{joined_pieces}
 use Rattle.screen_drawing.proofs.pieces.send_all.Given as goal
 
 abbrev pub invariant-loop-piece : goal.invariant-loop-piece
-invariant-loop-piece g l = HasTaken (g.W.Write.contents l.fn.writer) (g.W.Write.contents l.writer) (joined l.pieces)
-    (joined (drop l.piece-index l.pieces))
+invariant-loop-piece g l = HasTaken (g.W.Write.contents l.fn.writer) (g.W.Write.contents l.writer) (joined_pieces l.pieces)
+    (joined_pieces (drop l.piece-index l.pieces))

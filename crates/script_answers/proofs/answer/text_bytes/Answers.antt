@@ -2,7 +2,7 @@ use Rattle.std.proofs.Common.{◌≡◌, ◌++◌, ◌∙◌, sym, ap, subst, ar
 use Rattle.std.specs.List.{flat_map}
 use Rattle.piece_ring.specs.Text.{Text}
 use Rattle.script_answers.specs.Answer.{stretches, stretch_line}
-use Rattle.script_answers.specs.Stretch.{bytes_in}
+use Rattle.script_answers.specs.Stretch.{stretch_bytes}
 use Rattle.script_answers.proofs.Stretches.{some_counted, line_more}
 use Rattle.script_answers.proofs.answer.text_bytes.Goals as goal
 
@@ -23,7 +23,7 @@ loop-first-preserved c =
     let n = c.count_in_look.result in
     let all = flat_map stretch_line (stretches c.args.text.now) in
     let grown = c.in_ok-push_stretch.ensures ∙ ap (λ (s : Text _). c.loop-first.bytes.items
-    ++ stretch_line (record { look = first.1; bytes = bytes_in s })) c.split_at.ensures.front in
+    ++ stretch_line (record { look = first.1; bytes = stretch_bytes s })) c.split_at.ensures.front in
     subst (λ (r : Text _). c.push_stretch.new.text.items ++ flat_map stretch_line (stretches r) ≡ all)
     (sym c.split_at.ensures.back)
     (line_more c.loop-first.bytes.items c.push_stretch.new.text.items rest first n all

@@ -1,6 +1,6 @@
-use Rattle.store_documents.specs.Standings.{OnlyLooked, AreSorted}
+use Rattle.store_documents.specs.Standings.{HasOnlyLooked, AreSorted}
 use Rattle.store_documents.proofs.sorting.sort.Given as goal
 
 abbrev pub invariant-loop-document : goal.invariant-loop-document
 invariant-loop-document g l = (g.D.Disk.honest l.fn.store.disk → AreSorted l.fn.store.desktop l.yielded l.sorted)
-    × OnlyLooked g.D.Disk l.fn.store l.store
+    × HasOnlyLooked g.D.Disk l.fn.store l.store

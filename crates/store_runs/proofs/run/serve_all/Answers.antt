@@ -1,5 +1,5 @@
 use Rattle.std.proofs.Common.{◌≡◌, List, ◌∷◌, [], ◌++◌, refl, sym, ◌∙◌, ap, subst, arith, rules, length, get_or, ◌<◌}
-use Rattle.store_runs.specs.Run.{Served, IsRun, served_of}
+use Rattle.store_runs.specs.Run.{Served, IsCallRun, served_of}
 use Rattle.store_runs.proofs.Chaining.{one_call_more, served_grow, none_served}
 use Rattle.store_runs.proofs.run.serve_all.Goals as goal
 
@@ -11,7 +11,7 @@ loop-call-init g c = record {
       let store = c.args.store.now in
       let unserved : served_of c.args.calls.now c.in_ok-answers.answers.items
       ≡ [] = ap (served_of c.args.calls.now) c.in_ok-answers.ensures.items ∙ none_served c.args.calls.now in
-      subst (λ (served : List Served). IsRun g.D.Disk served store store) (sym unserved) refl;
+      subst (λ (served : List Served). IsCallRun g.D.Disk served store store) (sym unserved) refl;
 }
 
 pub loop-call-preserved : goal.loop-call-preserved
@@ -35,7 +35,7 @@ loop-call-preserved g c =
           let grown : served_of calls c.push_reserved.new.self.items ≡ served_of calls answers ++ served ∷ [] =
           ap (served_of calls) c.push_reserved.ensures.items ∙ served_grow calls answers answer call room
           ∙ ap (λ x. served_of calls answers ++ record { call = x; answer = answer } ∷ []) here in
-          subst (λ (ss : List Served). IsRun g.D.Disk ss c.args.store.now c.serve-answer.new.store) (sym grown) goes;
+          subst (λ (ss : List Served). IsCallRun g.D.Disk ss c.args.store.now c.serve-answer.new.store) (sym grown) goes;
     }
 
 pub returns-clause-any_moment : goal.returns-clause-any_moment

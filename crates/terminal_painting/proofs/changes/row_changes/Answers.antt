@@ -3,7 +3,7 @@ use Rattle.arrayvec.specs.ArrayVec.{array_vec_len}
 use Rattle.std.specs.List.{list_all}
 use Rattle.std.proofs.lemmas.Slice.{between_to_end}
 use Rattle.terminal_painting.specs.declared.face.Face.{Face}
-use Rattle.terminal_painting.specs.Changes.{is_blank}
+use Rattle.terminal_painting.specs.Changes.{is_blank_face}
 use Rattle.terminal_painting.proofs.Steps.{left, none_done, all_done, kept_step, cleared_step, put_step}
 use Rattle.terminal_painting.proofs.changes.row_changes.Goals as goal
 
@@ -27,7 +27,7 @@ loop-x-preserved c =
     record {
       done = put_step _ _ c.loop-x.x c.from-at.result c.args.olds.now c.args.news.now _ _ _ c.loop-x.invariant.done
           (omega arith) (omega arith) (omega arith) (sym c.is_same.ensures ∙ c.if-is_same.false) _ _
-          (ap (λ (l : List Face). list_all is_blank l)
+          (ap (λ (l : List Face). list_all is_blank_face l)
           (sym (between_to_end c.args.news.now c.from-at.result 80 (omega arith)))
           ∙ sym c.is_blank.ensures ∙ c.if-is_blank.false)
           c.reach-in-loop-x.ensures.value c.push-in-loop-x.ensures.items;
@@ -38,7 +38,7 @@ pub returns-then-is_blank-clause-value : goal.returns-then-is_blank-clause-value
 returns-then-is_blank-clause-value c =
     cleared_step _ _ c.loop-x.x c.from-at.result c.args.olds.now c.args.news.now _ _ _ c.loop-x.invariant.done
     (omega arith) (omega arith) (omega arith) (sym c.is_same.ensures ∙ c.if-is_same.false) _ _ _
-    (ap (λ (l : List Face). list_all is_blank l)
+    (ap (λ (l : List Face). list_all is_blank_face l)
     (sym (between_to_end c.args.news.now c.from-at.result 80 (omega arith)))
     ∙ sym c.is_blank.ensures ∙ c.if-is_blank.true)
     c.plain.ensures c.reach.ensures.value c.push.ensures.items

@@ -1,11 +1,11 @@
 use Rattle.std.proofs.Common.{◌≡◌, ◌<◌, ℕ, get_or, length}
 use Rattle.terminal_painting.specs.Scene.{letter_face}
-use Rattle.terminal_painting.specs.Pen.{blank}
+use Rattle.terminal_painting.specs.Pen.{blank_face}
 use Rattle.terminal_painting.specs.declared.pen.TheConstants.{WHITE}
 use Rattle.terminal_painting.proofs.scene.row_of_text.Given as goal
 
 abbrev pub invariant-loop-x : goal.invariant-loop-x
 invariant-loop-x l = record {
   long : length l.row ≡ 80;
-  written : (k : ℕ) → k < l.x → get_or l.row k (blank WHITE) ≡ letter_face l.text k;
+  written : (k : ℕ) → k < l.x → get_or l.row k (blank_face WHITE) ≡ letter_face l.text k;
 }

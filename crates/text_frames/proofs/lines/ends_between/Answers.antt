@@ -1,6 +1,6 @@
 use Rattle.std.proofs.Common.{◌≡◌, ◌+◌, ◌-◌, refl, arith}
 use Rattle.piece_ring.specs.Flat.{flat}
-use Rattle.readers_scanners.specs.Reading.{bytes}
+use Rattle.readers_scanners.specs.Reading.{bytes_of_text}
 use Rattle.text_frames.proofs.Ends.{ends_by, onward_by}
 use Rattle.text_frames.proofs.Placing.{below_rows, length-read}
 use Rattle.text_frames.proofs.lines.ends_between.Goals as goal
@@ -10,7 +10,7 @@ returns-then-ends-h-clause-few g c h =
     let characters = g.S.CharSource.characters c.args.source.now in let text = flat c.args.text.now in
     let within = c.requires.within in let long = length-read characters text in let order = c.requires.order in
     let low = c.loop-left.invariant.low in
-    below_rows (bytes characters text) c.args.org (c.args.pos - c.loop-left.left) c.args.pos c.args.h
+    below_rows (bytes_of_text characters text) c.args.org (c.args.pos - c.loop-left.left) c.args.pos c.args.h
     c.loop-left.ends (omega (arith, low, order)) (omega arith) (omega (arith, within, long))
     (c.loop-left.invariant.so_far h) c.if-ends-h.true
 

@@ -1,6 +1,6 @@
 use Rattle.std.proofs.Common.{◌≡◌, ◌+◌, ◌-◌, ◌≤◌}
 use Rattle.piece_ring.specs.Flat.{flat}
-use Rattle.readers_scanners.specs.Reading.{bytes}
+use Rattle.readers_scanners.specs.Reading.{bytes_of_text}
 use Rattle.readers_scanners.specs.Walking.{IsAt}
 use Rattle.text_frames.specs.Lines.{ends_between}
 use Rattle.text_frames.proofs.lines.ends_between.Given as goal
@@ -14,7 +14,7 @@ invariant-loop-left g l =
       low : l.left ≤ l.pos - l.org;
       few : l.ends + l.left ≤ l.pos - l.org;
       so_far : s.honest l.fn.source
-          → l.ends ≡ ends_between (bytes (s.characters l.fn.source) (flat l.text)) l.org (l.pos - l.left);
+          → l.ends ≡ ends_between (bytes_of_text (s.characters l.fn.source) (flat l.text)) l.org (l.pos - l.left);
     }
 
 abbrev pub decreases-loop-left : goal.decreases-loop-left

@@ -1,5 +1,5 @@
 use Rattle.std.proofs.Common.{◌≡◌, ◌+◌, ◌-◌, ◌<◌, arith, sym, ◌∙◌}
-use Rattle.readers_scanners.specs.Reading.{bytes}
+use Rattle.readers_scanners.specs.Reading.{bytes_of_text}
 use Rattle.readers_scanners.specs.Walking.{backward, seen_before}
 use Rattle.text_frames.proofs.Greatest.{starts_here, starts_before}
 use Rattle.text_frames.proofs.Near.{starts_above, starts_at_org, starts_at}
@@ -8,7 +8,7 @@ use Rattle.text_frames.proofs.lines.row_start.Goals as goal
 pub returns-then-byte-eq-CARRIAGE_RETURN-clause-start : goal.returns-then-byte-eq-CARRIAGE_RETURN-clause-start
 returns-then-byte-eq-CARRIAGE_RETURN-clause-start g c h =
     let s = g.S.CharSource in let laws = g.met.S.CharSource in let before = c.loop-at.invariant in
-    let bs = bytes (s.characters c.args.source.now) c.args.reader.now.text in
+    let bs = bytes_of_text (s.characters c.args.source.now) c.args.reader.now.text in
     let there = seen_before s.characters s.failures s.honest s.same_ground laws.ground_self laws.ground_through
     _ _ _ _ _ before.way c.in_ok-byte.byte _ c.in_ok-byte.ensures.moves c.in_ok-byte.ensures.there h in
     let test = c.loop-at-test.true in let low = c.max-low.ensures in
@@ -32,14 +32,14 @@ loop-at-preserved g c =
           _ _ _ _ _ before.way c.in_ok-byte.byte _ c.in_ok-byte.ensures.moves c.in_ok-byte.ensures.there h in
           let some : 0 < c.loop-at.at = omega (arith, test) in
           before.exact h
-          ∙ starts_before (bytes (s.characters c.args.source.now) c.args.reader.now.text) c.loop-at.at c.in_ok-byte.byte
+          ∙ starts_before (bytes_of_text (s.characters c.args.source.now) c.args.reader.now.text) c.loop-at.at c.in_ok-byte.byte
           there some c.if-byte-eq-CARRIAGE_RETURN.false;
     }
 
 pub returns-then-low-org-clause-start : goal.returns-then-low-org-clause-start
 returns-then-low-org-clause-start g c h =
     let s = g.S.CharSource in
-    let bs = bytes (s.characters c.args.source.now) c.args.reader.now.text in
+    let bs = bytes_of_text (s.characters c.args.source.now) c.args.reader.now.text in
     let past = c.loop-at-test.false in let low = c.max-low.ensures in let least = c.saturating_sub.ensures in
     let above = c.if-low-org.true in let from = c.loop-at.invariant.floor in
     let here : c.loop-at.at ≡ c.max-low.result = omega (arith, past, from) in
@@ -49,7 +49,7 @@ returns-then-low-org-clause-start g c h =
 pub returns-clause-start : goal.returns-clause-start
 returns-clause-start g c h =
     let s = g.S.CharSource in
-    let bs = bytes (s.characters c.args.source.now) c.args.reader.now.text in
+    let bs = bytes_of_text (s.characters c.args.source.now) c.args.reader.now.text in
     let past = c.loop-at-test.false in let low = c.max-low.ensures in
     let above = c.if-low-org.false in let from = c.loop-at.invariant.floor in
     let here : c.loop-at.at ≡ c.args.org = omega (arith, past, from, low, above) in

@@ -1,5 +1,5 @@
 use Rattle.std.proofs.Common.{◌≡◌, ◌≤◌}
-use Rattle.readers_scanners.specs.Reading.{bytes}
+use Rattle.readers_scanners.specs.Reading.{bytes_of_text}
 use Rattle.readers_scanners.specs.Walking.{IsAt}
 use Rattle.text_frames.specs.Lines.{line_start}
 use Rattle.text_frames.proofs.lines.row_start.Given as goal
@@ -12,6 +12,6 @@ invariant-loop-at g l =
       range : l.at ≤ l.fn.reader.position;
       floor : l.low ≤ l.at;
       exact : s.honest l.fn.source
-          → line_start (bytes (s.characters l.fn.source) l.fn.reader.text) l.fn.reader.position
-          ≡ line_start (bytes (s.characters l.fn.source) l.fn.reader.text) l.at;
+          → line_start (bytes_of_text (s.characters l.fn.source) l.fn.reader.text) l.fn.reader.position
+          ≡ line_start (bytes_of_text (s.characters l.fn.source) l.fn.reader.text) l.at;
     }

@@ -1,5 +1,5 @@
 use Rattle.std.proofs.Common.{◌≡◌, ◌≤◌}
-use Rattle.readers_scanners.specs.Reading.{bytes}
+use Rattle.readers_scanners.specs.Reading.{bytes_of_text}
 use Rattle.text_frames.specs.Lines.{line_start}
 use Rattle.readers_scanners.specs.Walking.{IsAt}
 use Rattle.text_frames.proofs.lines.to_line_start.Given as goal
@@ -11,6 +11,6 @@ invariant-loop-at g l =
       way : IsAt s.characters s.failures s.honest s.same_ground l.fn.source l.source l.fn.reader.text l.reader l.at;
       range : l.at ≤ l.fn.reader.position;
       exact : s.honest l.fn.source
-          → line_start (bytes (s.characters l.fn.source) l.fn.reader.text) l.fn.reader.position
-          ≡ line_start (bytes (s.characters l.fn.source) l.fn.reader.text) l.at;
+          → line_start (bytes_of_text (s.characters l.fn.source) l.fn.reader.text) l.fn.reader.position
+          ≡ line_start (bytes_of_text (s.characters l.fn.source) l.fn.reader.text) l.at;
     }

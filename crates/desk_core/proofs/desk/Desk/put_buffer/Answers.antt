@@ -5,7 +5,7 @@ use Rattle.desktop_definitions.specs.Seen.{seen, seen_text}
 use Rattle.desktop_laws.specs.RowLaws.{known_no_caret, over_built}
 use Rattle.desktop_laws.specs.DeskWords.{has_space}
 use Rattle.desktop_laws.specs.SearchLaws.{put_none, put_full, put_answered}
-use Rattle.desk_core.specs.Kept.{kept}
+use Rattle.desk_core.specs.Kept.{kept_desktop}
 use Rattle.desk_core.proofs.StretchLemmas.{refused_effect, buffer_goes}
 use Rattle.desk_core.proofs.BufferLemmas.{buffer_seen}
 use Rattle.desk_core.proofs.UnreadLemmas.{refusal_is}
@@ -15,9 +15,9 @@ pub returns-in_default : goal.returns-in_default
 returns-in_default g c = record {
   answered =
       refused_effect c.requires.over known_no_caret
-      (put_none _ (kept c.args.self.now) _ (sym c.caret_place.ensures.is ∙ c.in_default.is));
+      (put_none _ (kept_desktop c.args.self.now) _ (sym c.caret_place.ensures.is ∙ c.in_default.is));
   unread = λ calm all long.
-      refusal_is (put_none all (kept c.args.self.now) _ (sym c.caret_place.ensures.is ∙ c.in_default.is));
+      refusal_is (put_none all (kept_desktop c.args.self.now) _ (sym c.caret_place.ensures.is ∙ c.in_default.is));
   uses = search (rules, g.met.S.CharSource.ground_self, g.met.S.CharSource.ground_through);
 }
 
@@ -25,7 +25,7 @@ pub returns-then-not-fits_more : goal.returns-then-not-fits_more
 returns-then-not-fits_more g c = record {
   answered =
       let old = g.S.CharSource.characters c.args.source.now in
-      let d = kept c.args.self.now in
+      let d = kept_desktop c.args.self.now in
       put_full _ old d c.buffer-buffer.result.now _ c.requires.over
       (ap (seen_text old) c.buffer-buffer.ensures ∙ buffer_seen old d c.args.buffer) c.in-Some.caret
       (sym c.in-Some.ensures.is) c.in-Some.ensures.stands.placed
@@ -37,7 +37,7 @@ returns-then-not-fits_more g c = record {
 
 pub put_at_caret-requires-clause-at : goal.put_at_caret-requires-clause-at
 put_at_caret-requires-clause-at g c = record {
-  built = over_built _ (kept c.args.self.now) c.requires.over;
+  built = over_built _ (kept_desktop c.args.self.now) c.requires.over;
   stands = c.in-Some.ensures.stands;
 }
 
@@ -51,7 +51,7 @@ pub returns : goal.returns
 returns g c = record {
   answered =
       let old = g.S.CharSource.characters c.args.source.now in
-      let d = kept c.args.self.now in
+      let d = kept_desktop c.args.self.now in
       let reads = c.in_ok-put_at_caret.ensures.reads in
       put_answered _ old d c.buffer-buffer.result.now _ c.requires.over
       (ap (seen_text old) c.buffer-buffer.ensures ∙ buffer_seen old d c.args.buffer) c.in-Some.caret

@@ -7,7 +7,7 @@ use Rattle.store_layout.specs.declared.layout.TheConstants.{LAYOUT}
 use Rattle.store_layout.specs.Meaning.{MeansEither}
 use Rattle.desk_slots.specs.Live.{seen_live}
 use Rattle.desk_slots.proofs.Settling.{kept_shows}
-use Rattle.desk_journal.specs.Bringing.{IsBrought}
+use Rattle.desk_journal.specs.Bringing.{AreBrought}
 use Rattle.desk_journal.specs.View.{StoreView}
 use Rattle.desk_journal.proofs.Storing.{goes_by}
 use Rattle.desk_journal.proofs.Brought.{stays_shown, none_yet, refused_knows, refused_shown, all_or_none, brought_kept}
@@ -71,7 +71,7 @@ returns-in-No-clause-ok g c =
     let knows = refused_knows d s.slot (version_number s.version) s.epoch s.events s.disk disk s.desktop
     c.bring.new.self (c.self.invariant c.if-self.false) c.bring.ensures.disk c.bring.ensures.named r.live r.told
     (λ honest. refused_shown c.args.documents.now c.in-No.is (r.done honest)) in
-    subst (λ old. IsBrought d c.args.documents.now c.in_ok-reply.reply old store) c.self.view_is (record {
+    subst (λ old. AreBrought d c.args.documents.now c.in_ok-reply.reply old store) c.self.view_is (record {
       brought = r.done;
       durable = λ honest. kept_shows (d.size disk) (d.trail disk) s.slot (version_number s.version) s.epoch s.events
           live (knows.5 honest).0;
@@ -156,7 +156,7 @@ returns-clause-ok g c =
       events = 0;
       must_reopen = false;
     } in
-    subst (λ old. IsBrought d c.args.documents.now c.in_ok-reply.reply old store) c.self.view_is (record {
+    subst (λ old. AreBrought d c.args.documents.now c.in_ok-reply.reply old store) c.self.view_is (record {
       brought = λ honest. ap (λ x. outcome_of x c.in_ok-reply.reply) (r.shown (run.still honest)) ∙ b.done honest;
       durable = λ honest.
           kept_shows (d.size after.disk) (d.trail after.disk) (1 - s.slot) LAYOUT (s.epoch + 1) 0 live

@@ -1,7 +1,7 @@
 use Rattle.std.proofs.Common.{sym, subst, refl}
 use Rattle.command_table.specs.Versions.{version_number}
 use Rattle.desk_journal.proofs.Storing.{known}
-use Rattle.store_layout.specs.Kept.{IsKept}
+use Rattle.store_layout.specs.Kept.{ShowsSettled}
 use Rattle.sector_disk.specs.Trail.{now}
 use Rattle.desk_slots.specs.Live.{seen_live}
 use Rattle.desk_slots.proofs.Settling.{kept_shows}
@@ -18,7 +18,7 @@ returns-in-Ok-clause-ok g c =
           let desktop = seen_live (now (g.D.Disk.trail disk)).reads x.desktop in
           kept_shows (g.D.Disk.size disk) (g.D.Disk.trail disk) x.slot (version_number x.version) x.epoch x.events
           desktop
-          (subst (λ n. IsKept n (g.D.Disk.trail disk) x.slot (version_number x.version) x.epoch x.events desktop)
+          (subst (λ n. ShowsSettled n (g.D.Disk.trail disk) x.slot (version_number x.version) x.epoch x.events desktop)
           (sym e.kept.as_large)
           (e.shown (e.kept.already honest)).0);
       settled = λ honest. (e.shown honest).0.settled.quiet;

@@ -2,7 +2,7 @@ use Rattle.std.proofs.Common.{subst, inl}
 use Rattle.std.proofs.lemmas.Result.{err_from_is_err_and, IfOk-weaker}
 use Rattle.desk_journal.specs.Undoing.{IsAdded}
 use Rattle.desk_journal.proofs.Undoing.{added_behind}
-use Rattle.desk_journal.specs.Posting.{LeavesEither, IsPosted, IsStarved, HasRoom, RecordsDone}
+use Rattle.desk_journal.specs.Posting.{LeavesEither, IsPosted, IsStarved, HasJournalRoom, RecordsDone}
 use Rattle.desk_journal.proofs.Between.{checkpoints, done_first, no_need, put_posts, stopped_first}
 use Rattle.desk_journal.proofs.Storing.{renewed_then, renewed_starved, renewed_recorded}
 use Rattle.desk_journal.proofs.store.Store.post.Goals as goal
@@ -39,7 +39,7 @@ returns-clause-first g c = λ usable due. elim c.if-needs.branch [
       w.in_ok-checkpoint.was
       (checkpoints g.D.Disk w.checkpoint.result _ _ first.any_moment first.ok first.fault first.worn
       first.behaves)
-      (subst (λ mid. HasRoom mid → IsPosted g.D.Disk c.args.event.now c.put.result mid c.put.new.self) w.self-is
+      (subst (λ mid. HasJournalRoom mid → IsPosted g.D.Disk c.args.event.now c.put.result mid c.put.new.self) w.self-is
       (λ room. put_posts g.D.Disk c.args.event.now c.put.result _ c.put.new.self room c.put.ensures.any_moment
       c.put.ensures.ok c.put.ensures.memory c.put.ensures.fault c.put.ensures.behaves))
   | else-needs w ↦ absurd (no_need c.args.self.now (c.needs.ensures.room w.if-needs.false) due)

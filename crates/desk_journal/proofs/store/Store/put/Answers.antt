@@ -1,7 +1,7 @@
 use Rattle.std.proofs.Common.{◌≡◌, inl, inr, ◌<◌, ◌+◌, Ok, ap, sym, subst, refl, arith, false}
 use Rattle.store_layout.specs.declared.layout.TheConstants.{JOURNAL_EVENTS, LAYOUT}
 use Rattle.command_table.specs.Versions.{version_number}
-use Rattle.store_layout.specs.Kept.{IsKept, IsSettled}
+use Rattle.store_layout.specs.Kept.{ShowsSettled, IsSettled}
 use Rattle.store_layout.specs.Meaning.{and_then}
 use Rattle.desk_journal.specs.Undoing.{IsAdded}
 use Rattle.desk_journal.proofs.Undoing.{standing, up_to, up_to_any}
@@ -35,12 +35,12 @@ returns-clause-ok g c =
           let before = r.device.already honest in
           kept_shows (g.D.Disk.size after.disk) (g.D.Disk.trail after.disk) s.slot (version_number s.version) s.epoch
           (s.events + 1) live
-          (subst (λ n. IsKept n (g.D.Disk.trail after.disk) s.slot (version_number s.version) s.epoch (s.events + 1)
+          (subst (λ n. ShowsSettled n (g.D.Disk.trail after.disk) s.slot (version_number s.version) s.epoch (s.events + 1)
           live)
           (sym r.device.as_large)
-          (subst (λ v. IsKept (g.D.Disk.size s.disk) (g.D.Disk.trail after.disk) s.slot v s.epoch (s.events + 1) live)
+          (subst (λ v. ShowsSettled (g.D.Disk.size s.disk) (g.D.Disk.trail after.disk) s.slot v s.epoch (s.events + 1) live)
           (sym room.1) (r.added before s.epoch
-          (subst (λ v. IsKept (g.D.Disk.size s.disk) (g.D.Disk.trail s.disk) s.slot v s.epoch s.events
+          (subst (λ v. ShowsSettled (g.D.Disk.size s.disk) (g.D.Disk.trail s.disk) s.slot v s.epoch s.events
           (seen_live (now (g.D.Disk.trail s.disk)).reads s.desktop)) room.1
           ((c.self.invariant c.if-self.false).5 before).0))));
       more = λ _. (refl, refl);
@@ -101,5 +101,5 @@ returns-clause-any_moment g c =
     } in
     subst (λ old. LeavesEither g.D.Disk c.args.event.now old store) c.self.view_is (λ usable honest.
     c.record.ensures.any_moment honest s.epoch
-    (subst (λ v. IsKept (g.D.Disk.size s.disk) (g.D.Disk.trail s.disk) s.slot v s.epoch s.events
+    (subst (λ v. ShowsSettled (g.D.Disk.size s.disk) (g.D.Disk.trail s.disk) s.slot v s.epoch s.events
     (seen_live (now (g.D.Disk.trail s.disk)).reads s.desktop)) room.1 (was.5 honest).0))

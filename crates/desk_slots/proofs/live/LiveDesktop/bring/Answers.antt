@@ -4,7 +4,7 @@ use Rattle.sector_disk.specs.Trail.{Content, now}
 use Rattle.sector_disk.proofs.Touching.{still_all}
 use Rattle.store_layout.specs.Layout.{head}
 use Rattle.store_layout.specs.Meaning.{full_sectors}
-use Rattle.desk_slots.specs.Live.{characters_of, seen_live}
+use Rattle.desk_slots.specs.Live.{live_characters, seen_live}
 use Rattle.desk_slots.proofs.Brought.{lines_left}
 use Rattle.desk_slots.proofs.Settled.{over_all}
 use Rattle.desk_slots.proofs.live.LiveDesktop.bring.Goals as goal
@@ -35,6 +35,6 @@ returns-clause-told g c = record {
       let before = c.bring_over.ensures.reads.confined.already honest in
       let content = (now (g.D.Disk.trail c.args.disk.now)).reads in
       lines_left (seen_live content c.args.self.now) _ c.args.documents.now _ c.args.self.now.lines
-      ((c.requires.live.over content).whole.sound (characters_of content c.args.self.now))
+      ((c.requires.live.over content).whole.sound (live_characters content c.args.self.now))
       (c.in_ok-bring_over.ensures.done before) (c.requires.told.lines before);
 }

@@ -5,7 +5,7 @@ use Rattle.desktop_definitions.specs.Desktop.{Desktop}
 use Rattle.desktop_definitions.specs.Viewers.{text_of}
 use Rattle.desktop_definitions.specs.Step.{Outcome}
 use Rattle.screen_cells.specs.Lines.{AreLinesOf}
-use Rattle.desk_slots.specs.Live.{characters_of}
+use Rattle.desk_slots.specs.Live.{live_characters}
 use Rattle.desk_slots.proofs.Settled.{over_all}
 use Rattle.desk_slots.proofs.live.LiveDesktop.step.Goals as goal
 
@@ -17,7 +17,7 @@ returns-clause-told g c = record {
       let content = (now (g.D.Disk.trail c.args.disk.now)).reads in
       subst (λ (d : Desktop). AreLinesOf (text_of d) c.forget_stale.new.lines)
       (sym (ap (λ (o : Outcome). o.desktop) (c.in_ok-step_over.ensures.done before)))
-      (c.forget_stale.ensures (version_number c.args.version) (characters_of content c.args.self.now)
+      (c.forget_stale.ensures (version_number c.args.version) (live_characters content c.args.self.now)
       (c.requires.live.over content) (c.requires.told.lines before));
 }
 

@@ -5,14 +5,14 @@ use Rattle.desktop_definitions.specs.Desktop.{KeptDesktop}
 use Rattle.desktop_definitions.specs.Seen.{seen}
 use Rattle.desktop_definitions.specs.Listing.{entries_of, column_entries}
 use Rattle.desktop_definitions.specs.Unread.{without_name, ListsUnread}
-use Rattle.desk_core.specs.Kept.{kept}
+use Rattle.desk_core.specs.Kept.{kept_desktop}
 use Rattle.desk_core.proofs.ListLemmas.{list_whole, parts_told}
 use Rattle.event_loop.proofs.desktop.Desktop.list.Goals as goal
 
 pub returns-clause-entries : goal.returns-clause-entries
 returns-clause-entries g c = λ honest.
     let characters = g.S.CharSource.characters c.args.source.now in
-    let d = kept c.self.inside.desk in
+    let d = kept_desktop c.self.inside.desk in
     let first = c.in_ok-list_column.ensures.reads in
     list_whole characters d c.in_ok-entries.entries.items c.list_column.new.entries.items
     c.list_column-2.new.entries.items c.push.new.self.items
@@ -25,7 +25,7 @@ returns-clause-entries g c = λ honest.
 pub returns-clause-unread : goal.returns-clause-unread
 unfolding ListsUnread
 returns-clause-unread g c = λ all long.
-    let d = kept c.self.inside.desk in
+    let d = kept_desktop c.self.inside.desk in
     let as_written = long ∙ sym (ap (λ (d : KeptDesktop). d.written) c.self.view_is) in
     let files = c.in_ok-entries.entries.items in
     let user = column_entries (seen all d) User in

@@ -1,10 +1,10 @@
 use Rattle.std.proofs.Common.{sym, ap, ◌∙◌}
-use Rattle.recorded_disk.specs.Spelling.{spelling}
+use Rattle.recorded_disk.specs.Spelling.{spelling_of_calls}
 use Rattle.recorded_disk.proofs.Spellings.{none, ends_at}
 use Rattle.recorded_disk.proofs.disk.RecordedDisk.forget.Goals as goal
 
 pub invariant_of-self : goal.invariant_of-self
 invariant_of-self c = (
   ends_at c.self.inside.disk.calls c.new-self-inside.result.items c.new-self-inside.ensures,
-  c.clear.ensures.items ∙ sym none ∙ sym (ap spelling c.new-self-inside.ensures),
+  c.clear.ensures.items ∙ sym none ∙ sym (ap spelling_of_calls c.new-self-inside.ensures),
 )

@@ -1,10 +1,10 @@
 use Rattle.std.proofs.Common.{sym, ap, ◌∙◌}
-use Rattle.recorded_disk.specs.Spelling.{spelling}
+use Rattle.recorded_disk.specs.Spelling.{spelling_of_calls}
 use Rattle.recorded_disk.proofs.Spellings.{none, ends_at}
 use Rattle.recorded_disk.proofs.disk.RecordedDisk.new.Goals as goal
 
 pub invariant_of-result : goal.invariant_of-result
 invariant_of-result c = (
   ends_at c.in_ok-disk.disk.calls c.new-2.result.items c.new-2.ensures,
-  c.new-3.ensures.items ∙ sym none ∙ sym (ap spelling c.new-2.ensures),
+  c.new-3.ensures.items ∙ sym none ∙ sym (ap spelling_of_calls c.new-2.ensures),
 )

@@ -1,7 +1,7 @@
 use Rattle.std.proofs.Common.{ℕ}
 use Rattle.std.specs.Prelude.{All}
 use Rattle.piece_ring.specs.Text.{Text as AText}
-use Rattle.screen_cells.specs.Lines.{AreLinesOf, IsNumbered, AreReady}
+use Rattle.screen_cells.specs.Lines.{AreLinesOf, IsNumbered, HavePlaces}
 use Rattle.screen_cells.specs.Walks.{AreKept}
 use Rattle.screen_cells.proofs.Keeping.{AreKnown}
 use Rattle.screen_cells.proofs.Painting.{ArePainted}
@@ -18,5 +18,5 @@ invariant-loop-y g l =
       lines : s.honest l.fn.source → (texts : ℕ → AText ℕ)
           → All (IsNumbered texts (s.characters l.fn.source)) l.shown → AreLinesOf texts l.fn.lines
           → AreLinesOf texts l.lines;
-      ready : AreReady l.lines;
+      ready : HavePlaces l.lines;
     }
