@@ -19,7 +19,7 @@ use Rattle.char_pages.specs.Ground.{OnlyLooked, OnSamePages}
 use Rattle.char_pages.specs.GroundLaws.{none_more}
 use Rattle.char_pages.proofs.Caching.{true_with}
 use Rattle.sector_disk.specs.Stored.{stored}
-use Rattle.sector_disk.specs.StoredLaws.{stored_at, stored_same, length-stored}
+use Rattle.sector_disk.proofs.StoredLaws.{stored_at, stored_same, length-stored}
 
 module _ (c : Content) (base saved : ℕ) (rest : List ℕ) where
   -- how many there are

@@ -1,2 +1,4 @@
 pub mod Calm
 pub mod Sums
+pub mod BringingLaws
+pub mod Gathering

@@ -1,4 +1,2 @@
 pub mod Bringing
 pub mod Gathered
-pub mod BringingLaws
-pub mod Gathering

@@ -16,16 +16,16 @@ use Rattle.char_file.specs.declared.source.CharSource.{Ghosts}
 use Rattle.char_file.specs.Source.{OnlyReads}
 use Rattle.char_file.proofs.Reading.{read_on}
 use Rattle.piece_ring.specs.Flat.{IsWhole, run, characters_of}
-use Rattle.piece_ring.specs.Lengths.{length-run}
+use Rattle.piece_ring.proofs.Lengths.{length-run}
 use Rattle.piece_ring.specs.Text.{AreWithin}
 use Rattle.piece_ring.proofs.Runs.{run-append, length-flat-cons}
 use Rattle.readers_scanners.specs.Reading.{bytes_of_text}
 use Rattle.readers_scanners.proofs.Counting.{bytes-append, end_within}
 use Rattle.desktop_definitions.specs.Words.{keys_of, Look, Piece, Text, flat}
 use Rattle.desktop_definitions.specs.Sound.{AllWithin}
-use Rattle.desktop_laws.specs.TableLaws.{kept_lengths}
+use Rattle.desktop_laws.proofs.TableLaws.{kept_lengths}
 use Rattle.desktop_laws.specs.Rewriting.{laid, flats, laid_table, bytes_in}
-use Rattle.desktop_laws.specs.RewritingLaws.{laid-append, laid-run}
+use Rattle.desktop_laws.proofs.RewritingLaws.{laid-append, laid-run}
 use Rattle.desk_commands.specs.Rewriting.{CanPut, Rewrites}
 
 -- ---- the characters of a piece

@@ -6,7 +6,7 @@ use Rattle.std.proofs.Common.{refl, sym, ap, subst, ◌∙◌, arith}
 use Rattle.sector_disk.specs.Faults.{OneOf}
 use Rattle.piece_ring.specs.declared.piece.Piece.{Piece}
 use Rattle.piece_ring.specs.Flat.{flat}
-use Rattle.piece_ring.specs.Offsets.{stretch-AreWithin}
+use Rattle.piece_ring.proofs.Offsets.{stretch-AreWithin}
 use Rattle.piece_ring.specs.Text.{stretch, AreWithin}
 use Rattle.readers_scanners.specs.Reading.{bytes_of_text}
 use Rattle.text_frames.specs.Cells.{cell_of}
@@ -20,13 +20,13 @@ use Rattle.desktop_definitions.specs.Seen.{seen}
 use Rattle.desktop_definitions.specs.Step.{outcome_after}
 use Rattle.desktop_definitions.specs.Sound.{IsKeptWhole, IsBuilt, IsOver}
 use Rattle.desktop_definitions.specs.Outcome.{IsAnswered, reply_codes}
-use Rattle.desktop_laws.specs.RowLaws.{over_built, main_kept}
-use Rattle.desktop_laws.specs.MarkLaws.{with_selection_changed}
-use Rattle.desktop_laws.specs.RowPartLaws.{kept_caret, kept_newest, copy_long, copy_looks, text_within}
-use Rattle.desktop_laws.specs.KeyLaws.{refusal_answered, main_small, copy_changed}
+use Rattle.desktop_laws.proofs.RowLaws.{over_built, main_kept}
+use Rattle.desktop_laws.proofs.MarkLaws.{with_selection_changed}
+use Rattle.desktop_laws.proofs.RowPartLaws.{kept_caret, kept_newest, copy_long, copy_looks, text_within}
+use Rattle.desktop_laws.proofs.KeyLaws.{refusal_answered, main_small, copy_changed}
 use Rattle.desk_core.specs.Mouse.{position_in, start_of_row}
 use Rattle.desk_core.specs.Positions.{IsPosition, CanGo}
-use Rattle.desktop_laws.specs.PlaceLaws.{on_top_placed}
+use Rattle.desktop_laws.proofs.PlaceLaws.{on_top_placed}
 use Rattle.desk_core.proofs.PositionLemmas.{start_read}
 use Rattle.desk_core.specs.declared.edits.DeskBuffer.{DeskBuffer}
 use Rattle.desk_core.specs.Buffers.{buffer_of}

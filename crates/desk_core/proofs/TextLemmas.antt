@@ -9,8 +9,8 @@ use Rattle.std.specs.BTreeMap.{is_at}
 use Rattle.piece_ring.specs.declared.piece.Look.{Look}
 use Rattle.piece_ring.specs.declared.piece.Piece.{Piece}
 use Rattle.piece_ring.specs.Flat.{flat}
-use Rattle.piece_ring.specs.Lengths.{length-inserted, length-deleted, length-looks_changed}
-use Rattle.piece_ring.specs.Offsets.{inserted-AreWithin, deleted-AreWithin, looks_changed-AreWithin}
+use Rattle.piece_ring.proofs.Lengths.{length-inserted, length-deleted, length-looks_changed}
+use Rattle.piece_ring.proofs.Offsets.{inserted-AreWithin, deleted-AreWithin, looks_changed-AreWithin}
 use Rattle.piece_ring.specs.Text.{Text, inserted, deleted, looks_changed, AreWithin}
 use Rattle.readers_scanners.specs.Reading.{bytes_of_text}
 use Rattle.viewer_tracks.specs.Columns.{IsPlaced, IsOnTop, times_placed, times_meant}
@@ -26,16 +26,16 @@ use Rattle.desktop_definitions.specs.Seen.{seen, seen_text}
 use Rattle.desktop_definitions.specs.Sound.{IsBuilt}
 use Rattle.desktop_definitions.specs.Changed.{IsChanged}
 use Rattle.desktop_laws.specs.DeskWords.{CanFollow, AreMoved, IsSet}
-use Rattle.desktop_laws.specs.EditLaws.{set_there, set_long, set_orgs, set_within, set_changed}
-use Rattle.desktop_laws.specs.EditLaws.{insertion_seen, deletion_seen, looks_seen, looks_changed_so, unchanged}
-use Rattle.desktop_laws.specs.EditLaws.{insertion_none, caret_shown_changed}
-use Rattle.desktop_laws.specs.TextLaws.{long_seen, text_within}
-use Rattle.desktop_laws.specs.TableLaws.{lookup_seen, is_some_map, length_seen_text}
-use Rattle.desktop_laws.specs.ChangeLaws.{is_there}
+use Rattle.desktop_laws.proofs.EditLaws.{set_there, set_long, set_orgs, set_within, set_changed}
+use Rattle.desktop_laws.proofs.EditLaws.{insertion_seen, deletion_seen, looks_seen, looks_changed_so, unchanged}
+use Rattle.desktop_laws.proofs.EditLaws.{insertion_none, caret_shown_changed}
+use Rattle.desktop_laws.proofs.TextLaws.{long_seen, text_within}
+use Rattle.desktop_laws.proofs.TableLaws.{lookup_seen, is_some_map, length_seen_text}
+use Rattle.desktop_laws.proofs.ChangeLaws.{is_there}
 use Rattle.text_frames.specs.Rules.{shown_org}
 use Rattle.desktop_definitions.specs.Looks.{IsLook, AreLooks}
 use Rattle.desk_core.specs.Movable.{IsMovable}
-use Rattle.desktop_laws.specs.LookedLaws.{inserted_looks, deleted_looks, looks_changed_looks, kept_text_looks}
+use Rattle.desktop_laws.proofs.LookedLaws.{inserted_looks, deleted_looks, looks_changed_looks, kept_text_looks}
 
 -- the desktop with other texts, whose frames lost caret and selection, and other viewers
 abbrev pub Follows : KeptDesktop → Texts (List Piece) → ℕ → List (ℕ × Viewer) → KeptDesktop → Type 0

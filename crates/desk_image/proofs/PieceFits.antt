@@ -7,11 +7,11 @@ use Rattle.std.proofs.lemmas.List.Sums.{sum_by-cons}
 use Rattle.piece_ring.specs.declared.piece.Look.{Look}
 use Rattle.piece_ring.specs.declared.piece.Piece.{Piece}
 use Rattle.piece_ring.specs.Flat.{flat, run, characters_of}
-use Rattle.piece_ring.specs.Lengths.{length-run}
+use Rattle.piece_ring.proofs.Lengths.{length-run}
 use Rattle.piece_ring.specs.Text.{Text, AreWithin, renamed}
 use Rattle.desktop_definitions.specs.Limits.{most_held}
 use Rattle.desktop_definitions.specs.Looks.{IsLook, AreLooks}
-use Rattle.desktop_laws.specs.FewLaws.{few_some}
+use Rattle.desktop_laws.proofs.FewLaws.{few_some}
 use Rattle.desk_image.specs.Image.{AreSome}
 use Rattle.desk_image.specs.Fitting.{Chain, FitsPiece, FitsPieces, less, length_of_pieces}
 

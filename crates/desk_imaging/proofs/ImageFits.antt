@@ -18,15 +18,15 @@ use Rattle.event_bytes.specs.Bytes.{is_name}
 use Rattle.piece_ring.specs.declared.piece.Look.{Look}
 use Rattle.piece_ring.specs.declared.piece.Piece.{Piece}
 use Rattle.piece_ring.specs.Flat.{flat, run, characters_of}
-use Rattle.piece_ring.specs.Lengths.{length-run}
-use Rattle.piece_ring.specs.Offsets.{run-AreWithin, append-AreWithin}
+use Rattle.piece_ring.proofs.Lengths.{length-run}
+use Rattle.piece_ring.proofs.Offsets.{run-AreWithin, append-AreWithin}
 use Rattle.piece_ring.specs.Text.{Text, AreWithin, renamed}
 use Rattle.viewer_tracks.specs.declared.display.TheConstants.{ROWS, DEPTH}
 use Rattle.viewer_tracks.specs.Viewers.{Entry, IsTrack}
 use Rattle.viewer_tracks.specs.Columns.{IsStack}
 use Rattle.desktop_definitions.specs.Looks.{IsLook, AreLooks}
 use Rattle.desktop_definitions.specs.Tables.{Texts, Files, name_cmp}
-use Rattle.desktop_laws.specs.TableLaws.{kept_lengths}
+use Rattle.desktop_laws.proofs.TableLaws.{kept_lengths}
 use Rattle.desk_image.specs.declared.picture.ViewerPicture.{ViewerPicture}
 use Rattle.desk_image.specs.Image.{InWord, InId, AreSome, has_overlays}
 use Rattle.desk_image.specs.Fitting.{Chain, FitsPiece, FitsText, FitsFile, FitsViewer, FitsEntry, less, length_of_pieces, totals}

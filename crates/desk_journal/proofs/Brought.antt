@@ -9,7 +9,7 @@ use Rattle.desktop_definitions.specs.declared.reply.Reply.TheVariants.{No}
 use Rattle.desktop_definitions.specs.Desktop.{Desktop}
 use Rattle.desktop_definitions.specs.Step.{Outcome, outcome_of}
 use Rattle.desk_bringing.specs.Bringing.{Documents, brought_in}
-use Rattle.desk_bringing.specs.BringingLaws.{refused_same}
+use Rattle.desk_bringing.proofs.BringingLaws.{refused_same}
 use Rattle.store_layout.specs.declared.layout.TheConstants.{LAYOUT}
 use Rattle.store_layout.specs.Kept.{ShowsSettled}
 use Rattle.store_layout.specs.Meaning.{Means, MeansEither}

@@ -3,7 +3,7 @@ use Rattle.std.proofs.Common.{◌≡◌, ◌⊎◌, inl, inr, true, false, ap, a
 use Rattle.std.specs.Prelude.{not, nat_lt, ◌==◌}
 use Rattle.std.proofs.lemmas.Bool.{lt-ltb, ltb-true, eq-eqb, eqb-true, and_from, and_parts, cases_lt, cases_eq}
 use Rattle.std.proofs.lemmas.Bool.{false_from_ne_true}
-use Rattle.store_layout.specs.Bits.{clash}
+use Rattle.store_layout.proofs.Bits.{clash}
 use Rattle.store_layout.specs.declared.layout.TheConstants.{JOURNAL_EVENTS, LAYOUT}
 use Rattle.desk_journal.specs.Session.{Session, HasRoomIn, IsDue, has_journal_room, is_due}
 

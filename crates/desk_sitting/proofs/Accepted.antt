@@ -9,7 +9,7 @@ use Rattle.event_bytes.specs.declared.keys.Keys.TheVariants.{Left}
 use Rattle.desktop_definitions.specs.Desktop.{Desktop}
 use Rattle.desktop_definitions.specs.Shown.{shown_screen}
 use Rattle.desktop_definitions.specs.Step.{step, steps}
-use Rattle.store_layout.specs.Bits.{true_or_false}
+use Rattle.store_layout.proofs.Bits.{true_or_false}
 use Rattle.desk_journal.specs.Session.{Session, is_due, is_worn, renewed, stepped, taken}
 use Rattle.desk_journal.proofs.Prefixes.{steps_both}
 use Rattle.terminal_presses.specs.declared.press.Press.{Press}

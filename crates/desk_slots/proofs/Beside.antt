@@ -3,12 +3,12 @@ use Rattle.std.proofs.Common.{◌≡◌, ◌≢◌, ◌⊎◌, inl, inr, ℕ, �
 use Rattle.sector_disk.specs.Trail.{Content, Trail, now, LeavesOnly, Touches, Nowhere}
 use Rattle.sector_disk.proofs.Touching.{spared, still_reads, still_all, stays_put}
 use Rattle.store_layout.specs.declared.layout.TheConstants.{AREA, IMAGE_SECTORS, JOURNAL_EVENTS, LABEL}
-use Rattle.store_layout.specs.Bits.{true_or_false, clash}
+use Rattle.store_layout.proofs.Bits.{true_or_false, clash}
 use Rattle.store_layout.specs.Layout.{is_label, is_open, slot_gate, slot_head, gate, body, image_at, area_at, head}
 use Rattle.store_layout.specs.Layout.{head_of, IsGoodHead}
 use Rattle.store_layout.specs.Meaning.{IsJournal, HasImage, Standing, Stands, full_sectors}
 use Rattle.store_layout.specs.Kept.{InCheckpoint, IsSettled, OpenGate, SparesArea}
-use Rattle.store_layout.specs.StandingLaws.{area_apart, standing_carried, image_stays, journal_short, journal_stays, older_stays}
+use Rattle.store_layout.proofs.StandingLaws.{area_apart, standing_carried, image_stays, journal_short, journal_stays, older_stays}
 use Rattle.store_layout.specs.declared.head.Head.{Head}
 use Rattle.desktop_definitions.specs.Desktop.{Desktop}
 use Rattle.desktop_definitions.specs.Step.{steps_in}

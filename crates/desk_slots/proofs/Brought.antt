@@ -11,7 +11,7 @@ use Rattle.desktop_definitions.specs.Step.{Outcome, filed, fits, outcome_after, 
 use Rattle.screen_cells.specs.declared.lines.KeptLines.{KeptLines}
 use Rattle.screen_cells.specs.Lines.{AreLinesOf}
 use Rattle.desk_bringing.specs.Bringing.{Documents, all_filed, has_few_files, all_brought, brought_in}
-use Rattle.desk_bringing.specs.BringingLaws.{all_filed_shown, brought_many, brought_full, brought_done}
+use Rattle.desk_bringing.proofs.BringingLaws.{all_filed_shown, brought_many, brought_full, brought_done}
 
 texts_filed : (d : Desktop) (documents : Documents) → (all_filed d documents).texts ≡ d.texts
 unfolding all_filed filed

@@ -10,7 +10,7 @@ use Rattle.store_layout.specs.Layout.{is_open, slot_gate, head, IsGoodHead}
 use Rattle.store_layout.specs.Finding.{AreHeadsGood}
 use Rattle.store_layout.specs.Footprint.{IsInUse}
 use Rattle.desk_slots.specs.Load.{IsChosen}
-use Rattle.store_layout.specs.Bits.{clash}
+use Rattle.store_layout.proofs.Bits.{clash}
 
 -- what was found in a slot: it is closed, or open over a good head
 abbrev pub IsFound : Content → ℕ → Option Head → Type 0

@@ -5,7 +5,7 @@ use Rattle.std.proofs.Math.Seq.{take-add, drop-append-add}
 use Rattle.std.proofs.lemmas.List.{length-take-le, length-drop, take_all}
 use Rattle.sector_disk.specs.Trail.{Content, Moment, written}
 use Rattle.sector_disk.specs.Stored.{stored}
-use Rattle.sector_disk.specs.StoredLaws.{stored_same, sector_more, length-stored}
+use Rattle.sector_disk.proofs.StoredLaws.{stored_same, sector_more, length-stored}
 use Rattle.sector_streams.proofs.Filled.{reads_here, reads_elsewhere}
 use Rattle.sector_disk.specs.declared.disk.TheConstants.{SECTOR_BYTES}
 use Rattle.sector_streams.specs.Filling.{InRange}
@@ -17,7 +17,7 @@ use Rattle.store_layout.specs.declared.layout.TheConstants.{AREA_SECTORS, IMAGE_
 use Rattle.store_layout.specs.Layout.{area_start, area_at, image_at}
 use Rattle.store_layout.specs.Meaning.{full_sectors, left_over}
 use Rattle.store_layout.specs.Kept.{HasFront}
-use Rattle.store_layout.specs.StandingLaws.{has_front_stays}
+use Rattle.store_layout.proofs.StandingLaws.{has_front_stays}
 use Rattle.desk_slots.specs.Live.{IsOverPages}
 use Rattle.desk_slots.proofs.Counting.{no_content, few_written}
 use Rattle.desk_slots.proofs.Settled.{has_front}

@@ -9,24 +9,24 @@ use Rattle.std.proofs.lemmas.List.{get_or-take}
 use Rattle.sector_disk.specs.Trail.{Moment, Trail, now, written, after_sync, Touches, Only}
 use Rattle.sector_disk.proofs.Touching.{still_reads}
 use Rattle.sector_disk.specs.Stored.{stored, byte_of}
-use Rattle.sector_disk.specs.StoredLaws.{stored_by_index, none_stored}
+use Rattle.sector_disk.proofs.StoredLaws.{stored_by_index, none_stored}
 use Rattle.sector_streams.proofs.Filled.{reads_here, reads_elsewhere}
 use Rattle.desktop_definitions.specs.Desktop.{empty_desktop}
 use Rattle.desktop_definitions.specs.Seen.{seen}
 use Rattle.desktop_definitions.specs.Sound.{IsSound, IsWithin, IsKeptWhole}
-use Rattle.desktop_laws.specs.StepLaws.{empty_sound}
+use Rattle.desktop_laws.proofs.StepLaws.{empty_sound}
 use Rattle.sector_disk.specs.declared.disk.TheConstants.{SECTOR_BYTES}
 use Rattle.desk_image.specs.declared.empty.TheConstants.{EMPTY_IMAGE, FLAT_EMPTY_IMAGE}
 use Rattle.desk_image.specs.Image.{has_overlays, IsSpellable, Spells}
 use Rattle.desk_image.specs.Laws.{EmptyLaw, empty_bytes}
 use Rattle.store_layout.specs.declared.head.Head.{Head}
 use Rattle.store_layout.specs.declared.layout.TheConstants.{FIRST_LAYOUT, LABEL, LAYOUT, STORE_SECTORS}
-use Rattle.store_layout.specs.Bits.{clash}
+use Rattle.store_layout.proofs.Bits.{clash}
 use Rattle.store_layout.specs.Layout.{is_label, is_open, slot_gate, slot_head, gate, image_at, area_start, area_at}
 use Rattle.store_layout.specs.Layout.{head, head_of, IsGoodHead}
 use Rattle.store_layout.specs.Meaning.{MakesDesktop, full_sectors}
 use Rattle.store_layout.specs.Kept.{IsNewSlot, ShowsSettled}
-use Rattle.store_layout.specs.StandingLaws.{image_stays}
+use Rattle.store_layout.proofs.StandingLaws.{image_stays}
 use Rattle.desk_slots.specs.Written.{HasGate, IsFilled}
 use Rattle.desk_slots.proofs.NewSlot.{filled_as}
 

@@ -16,9 +16,9 @@ use Rattle.store_layout.specs.declared.head.Head.{Head}
 use Rattle.store_layout.specs.declared.layout.TheConstants.{FIRST_LAYOUT, JOURNAL_EVENTS, LAYOUT}
 use Rattle.store_layout.specs.Layout.{is_open, slot_gate, slot_head, gate, body, image_at, head}
 use Rattle.store_layout.specs.Layout.{IsGoodHead}
-use Rattle.store_layout.specs.Bits.{clash}
+use Rattle.store_layout.proofs.Bits.{clash}
 use Rattle.store_layout.specs.Meaning.{IsJournal, HasImage, Standing, Stands, Shows, full_sectors, desktop_of, cut_to}
-use Rattle.store_layout.specs.StandingLaws.{one_in_use, stands_in_use, journal_leads}
+use Rattle.store_layout.proofs.StandingLaws.{one_in_use, stands_in_use, journal_leads}
 use Rattle.store_layout.specs.Footprint.{IsLedTo}
 use Rattle.store_layout.specs.Finding.{IsNoEvent, AreShut, HasBadHead, IsDamage, IsDamagedAt, StandingLaw}
 use Rattle.store_layout.specs.Kept.{ShowsSettled}

@@ -6,7 +6,7 @@ use Rattle.std.proofs.lemmas.List.{take-append-drop, length-drop}
 use Rattle.sector_disk.specs.declared.disk.TheConstants.{SECTOR_BYTES}
 use Rattle.sector_disk.specs.Trail.{Moment, written, after_sync}
 use Rattle.sector_disk.specs.Stored.{stored}
-use Rattle.sector_disk.specs.StoredLaws.{stored_same}
+use Rattle.sector_disk.proofs.StoredLaws.{stored_same}
 use Rattle.sector_streams.proofs.Filled.{reads_here, reads_elsewhere}
 use Rattle.command_table.specs.Versions.{newest_version}
 use Rattle.desktop_definitions.specs.Desktop.{Desktop, KeptDesktop}
@@ -21,7 +21,7 @@ use Rattle.store_layout.specs.Layout.{is_open, slot_head, gate, image_at, area_s
 use Rattle.store_layout.specs.Layout.{IsGoodHead}
 use Rattle.store_layout.specs.Meaning.{MakesDesktop, full_sectors, left_over}
 use Rattle.store_layout.specs.Kept.{HasFront, IsNewSlot}
-use Rattle.store_layout.specs.StandingLaws.{has_front_stays}
+use Rattle.store_layout.proofs.StandingLaws.{has_front_stays}
 use Rattle.desk_slots.specs.Written.{IsFilled}
 use Rattle.desk_slots.proofs.Counting.{as_kept}
 

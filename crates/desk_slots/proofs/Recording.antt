@@ -10,12 +10,12 @@ use Rattle.event_bytes.specs.Spelling.{BeginsWithEvent}
 use Rattle.desktop_definitions.specs.Desktop.{Desktop}
 use Rattle.desktop_definitions.specs.Step.{step, step_in, steps, steps_in, Outcome}
 use Rattle.store_layout.specs.declared.layout.TheConstants.{JOURNAL_EVENTS, LABEL, LAYOUT, SLOTS}
-use Rattle.store_layout.specs.Bits.{true_or_false}
+use Rattle.store_layout.proofs.Bits.{true_or_false}
 use Rattle.store_layout.specs.Layout.{is_open, slot_gate, slot_head, gate, body, image_at, area_at, head}
 use Rattle.store_layout.specs.Meaning.{IsJournal, Standing, desktop_of, Stands, Means, MeansEither}
 use Rattle.store_layout.specs.Meaning.{and_then}
 use Rattle.store_layout.specs.Kept.{IsSettled, ShowsSettled, NextRecord, IsStaged}
-use Rattle.store_layout.specs.StandingLaws.{IsApart, carried_on, footprint, older_stays}
+use Rattle.store_layout.proofs.StandingLaws.{IsApart, carried_on, footprint, older_stays}
 use Rattle.desk_slots.specs.Written.{HasRecord, InRecord, IsUpTo}
 use Rattle.desk_slots.proofs.Settling.{kept_on, means_on}
 

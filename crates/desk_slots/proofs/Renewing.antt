@@ -8,12 +8,12 @@ use Rattle.char_pages.specs.Pages.{saved_of}
 use Rattle.desktop_definitions.specs.Desktop.{Desktop}
 use Rattle.desktop_definitions.specs.Seen.{seen}
 use Rattle.store_layout.specs.declared.layout.TheConstants.{LABEL, LAYOUT, SLOTS}
-use Rattle.store_layout.specs.Bits.{true_or_false, clash}
+use Rattle.store_layout.proofs.Bits.{true_or_false, clash}
 use Rattle.store_layout.specs.Layout.{is_open, slot_gate, slot_head, gate, body, image_at, area_at, head, head_of}
 use Rattle.store_layout.specs.Meaning.{Standing, Stands, MeansEither, full_sectors}
 use Rattle.store_layout.specs.Kept.{IsSettled, ShowsSettled, IsFront, HasFront, SparesArea, OpenGate, InCheckpoint, IsNewSlot}
-use Rattle.store_layout.specs.StandingLaws.{footprint, other_gate, behind_closed, new_slot, front_stays}
-use Rattle.store_layout.specs.StandingLaws.{standing_carried, journal_stays}
+use Rattle.store_layout.proofs.StandingLaws.{footprint, other_gate, behind_closed, new_slot, front_stays}
+use Rattle.store_layout.proofs.StandingLaws.{standing_carried, journal_stays}
 use Rattle.desk_slots.specs.declared.live.LiveDesktop.{LiveDesktop}
 use Rattle.desk_slots.specs.declared.place.SlotPlace.{SlotPlace}
 use Rattle.desk_slots.specs.Live.{live_characters, seen_live, IsLive, IsNamed}

@@ -4,7 +4,7 @@ use Rattle.std.proofs.Common.{sym, ◌∙◌, ap, arith}
 use Rattle.std.proofs.lemmas.List.{take_at}
 use Rattle.sector_disk.specs.Trail.{Content}
 use Rattle.sector_disk.specs.Stored.{stored}
-use Rattle.sector_disk.specs.StoredLaws.{length-stored, none_stored}
+use Rattle.sector_disk.proofs.StoredLaws.{length-stored, none_stored}
 use Rattle.sector_disk.specs.declared.disk.TheConstants.{SECTOR_BYTES}
 use Rattle.char_pages.specs.declared.pages.Pages.{Pages}
 use Rattle.char_pages.specs.Pages.{base_of, saved_of, rest_of, paged_characters}

@@ -8,9 +8,9 @@ use Rattle.sector_disk.specs.Trail.{Content}
 use Rattle.sector_disk.proofs.Confinement.{joined}
 use Rattle.sector_streams.specs.declared.filling.Filling.{Filling}
 use Rattle.sector_streams.specs.Filling.{first_sector, most_sectors, SectorsOf, InRange}
-use Rattle.sector_streams.specs.FillingLaws.{sectors_are}
+use Rattle.sector_streams.proofs.FillingLaws.{sectors_are}
 use Rattle.sector_disk.specs.Stored.{HoldsBytes, stored}
-use Rattle.sector_disk.specs.StoredLaws.{stored_held}
+use Rattle.sector_disk.proofs.StoredLaws.{stored_held}
 use Rattle.command_table.specs.Versions.{newest_version}
 use Rattle.desktop_definitions.specs.Desktop.{KeptDesktop}
 use Rattle.desktop_definitions.specs.Sound.{IsKeptWhole}

@@ -11,12 +11,12 @@ use Rattle.sector_disk.proofs.Touching.{spared, still_reads, still_all, still_se
 use Rattle.event_bytes.specs.declared.event.Event.{Event}
 use Rattle.event_bytes.specs.Spelling.{BeginsWithEvent}
 use Rattle.store_layout.specs.declared.layout.TheConstants.{JOURNAL_EVENTS, SLOTS}
-use Rattle.store_layout.specs.Bits.{true_or_false, clash}
+use Rattle.store_layout.proofs.Bits.{true_or_false, clash}
 use Rattle.store_layout.specs.Layout.{is_open, gate, body, slot_head}
 use Rattle.store_layout.specs.Meaning.{IsJournal, Standing, Stands, StandsEither, cut_to, desktop_of}
 use Rattle.store_layout.specs.Finding.{FindingLaw, IsForeign, IsDamagedAt}
 use Rattle.store_layout.specs.Kept.{IsSettled}
-use Rattle.store_layout.specs.StandingLaws.{journal_short}
+use Rattle.store_layout.proofs.StandingLaws.{journal_short}
 use Rattle.desk_slots.specs.declared.live.LiveDesktop.{LiveDesktop}
 use Rattle.desk_slots.specs.declared.error.Error.{Error}
 use Rattle.desk_slots.specs.declared.error.Error.TheVariants.{NotAStore, Damaged}

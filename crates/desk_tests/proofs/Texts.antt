@@ -3,7 +3,7 @@ use Rattle.std.specs.Prelude.{◌≡◌, ◌≤◌, ℕ, ◌+◌, List, ◌++◌
 use Rattle.std.proofs.Common.{sym, subst, ap, arith, length-append}
 use Rattle.piece_ring.specs.declared.piece.Look.{Look}
 use Rattle.piece_ring.specs.Flat.{run}
-use Rattle.piece_ring.specs.Offsets.{run-AreWithin}
+use Rattle.piece_ring.proofs.Offsets.{run-AreWithin}
 use Rattle.piece_ring.specs.Text.{Text, AreWithin}
 
 pub within_run : (characters new bytes : List ℕ) (first count : ℕ) (look : Look) (text : Text ℕ)

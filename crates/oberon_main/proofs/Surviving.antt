@@ -9,7 +9,7 @@ use Rattle.sector_disk.proofs.Touching.{weakened, chained, at_last}
 use Rattle.event_bytes.specs.declared.event.Event.{Event}
 use Rattle.desktop_definitions.specs.Desktop.{Desktop}
 use Rattle.desktop_definitions.specs.Step.{step, steps}
-use Rattle.store_layout.specs.Bits.{true_or_false}
+use Rattle.store_layout.proofs.Bits.{true_or_false}
 use Rattle.store_layout.specs.Meaning.{Means, MeansEither}
 use Rattle.store_layout.specs.declared.layout.TheConstants.{JOURNAL_EVENTS}
 use Rattle.desk_journal.specs.Checkpointing.{LeavesDesktop}

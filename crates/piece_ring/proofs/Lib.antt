@@ -16,3 +16,6 @@ pub mod Seams
 pub mod Sharing
 pub mod Steps
 pub mod Walking
+pub mod Lengths
+pub mod Offsets
+pub mod Renaming

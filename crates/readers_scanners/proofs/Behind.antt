@@ -5,7 +5,7 @@ use Rattle.std.proofs.Common.{refl, sym, ap, subst, ◌∙◌, arith}
 use Rattle.piece_ring.specs.declared.piece.Look.{Look}
 use Rattle.piece_ring.specs.Text.{Text}
 use Rattle.readers_scanners.specs.Reading.{Reading, IsReadingBack, bytes_of_text}
-use Rattle.readers_scanners.specs.Walking.{byte_there}
+use Rattle.readers_scanners.proofs.Walking.{byte_there}
 use Rattle.readers_scanners.proofs.Upcoming.{point, one_read}
 
 module _ {X : Type 0} where

@@ -9,7 +9,7 @@ use Rattle.char_file.specs.Source.{IsCountedFrom}
 use Rattle.piece_ring.specs.declared.piece.Look.{Look}
 use Rattle.piece_ring.specs.declared.piece.Piece.{Piece}
 use Rattle.piece_ring.specs.Flat.{run, characters_of}
-use Rattle.piece_ring.specs.Lengths.{length-run}
+use Rattle.piece_ring.proofs.Lengths.{length-run}
 use Rattle.piece_ring.specs.Text.{Text, AreWithin}
 use Rattle.readers_scanners.specs.Reading.{bytes_of_text, contents, IsCounted, IsReading}
 use Rattle.readers_scanners.proofs.Upcoming.{enough, point}

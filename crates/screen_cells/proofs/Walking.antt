@@ -4,7 +4,7 @@ use Rattle.std.specs.Prelude.{⊤, IfSome}
 use Rattle.std.proofs.lemmas.Option.{IfSome_then, slice_get-get_or}
 use Rattle.piece_ring.specs.Flat.{flat}
 use Rattle.text_frames.specs.Rows.{AreRows}
-use Rattle.text_frames.specs.RowLaws.{rows_still}
+use Rattle.text_frames.proofs.RowLaws.{rows_still}
 use Rattle.screen_cells.specs.declared.shown.Shown.{Shown}
 use Rattle.screen_cells.specs.declared.walk.Walk.{Walk}
 use Rattle.screen_cells.specs.Shown.{IsShowable}

@@ -10,4 +10,3 @@ pub mod File
 pub mod Failing
 pub mod Faults
 pub mod Stored
-pub mod StoredLaws

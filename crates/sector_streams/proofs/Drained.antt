@@ -6,7 +6,7 @@ use Rattle.std.proofs.Math.Seq.{drop-cons}
 use Rattle.sector_disk.specs.Trail.{Content}
 use Rattle.sector_disk.specs.declared.disk.TheConstants.{SECTOR_BYTES}
 use Rattle.sector_disk.specs.Stored.{stored}
-use Rattle.sector_disk.specs.StoredLaws.{stored_at, length-stored}
+use Rattle.sector_disk.proofs.StoredLaws.{stored_at, length-stored}
 
 -- the next byte is that of the buffer, though the disk was read in between
 pub byte_passed : (c c' : Content) (from from' extent extent' at at' : ℕ) (buffer : List ℕ) → c' ≡ c → from' ≡ from

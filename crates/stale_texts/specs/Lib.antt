@@ -1,3 +1,1 @@
 pub mod Stale
-pub mod Kept
-pub mod Front

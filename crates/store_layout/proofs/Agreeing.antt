@@ -7,8 +7,8 @@ use Rattle.store_layout.specs.declared.layout.TheConstants.{JOURNAL_EVENTS, SLOT
 use Rattle.store_layout.specs.Layout.{is_open, slot_gate, gate, area_at, head, head_of}
 use Rattle.store_layout.specs.Meaning.{Standing, Stands, Means, full_sectors}
 use Rattle.store_layout.specs.Footprint.{IsLedTo, IsInUse, AgreesOnFootprint}
-use Rattle.store_layout.specs.StandingLaws.{standing_carried, journal_stays, journal_short, journal_leads}
-use Rattle.store_layout.specs.StandingLaws.{older_stays, stands_in_use}
+use Rattle.store_layout.proofs.StandingLaws.{standing_carried, journal_stays, journal_short, journal_leads}
+use Rattle.store_layout.proofs.StandingLaws.{older_stays, stands_in_use}
 
 -- what the one shows the other shows
 agreed : (size : ℕ) (c c' : Content) (s : Standing) → AgreesOnFootprint c c' → Stands size c s → Stands size c' s

@@ -4,12 +4,12 @@ use Rattle.std.proofs.lemmas.Bool.{cases_lt}
 use Rattle.sector_disk.specs.Trail.{Content}
 use Rattle.desk_image.specs.Laws.{UniqueLaw}
 use Rattle.store_layout.specs.declared.layout.TheConstants.{SLOTS}
-use Rattle.store_layout.specs.Bits.{clash}
+use Rattle.store_layout.proofs.Bits.{clash}
 use Rattle.store_layout.specs.Layout.{is_open, slot_gate, slot_head, body, image_at}
 use Rattle.store_layout.specs.Meaning.{HasImage, Standing, Stands}
 use Rattle.store_layout.specs.Finding.{AreShut, HasBadHead, HasBadImage, HasBadBody, IsNoEvent, IsDamage}
 use Rattle.store_layout.specs.Finding.{AreHeadsGood, FindsOneThing}
-use Rattle.store_layout.specs.StandingLaws.{one_in_use, stands_in_use, stands_heads, journal_goes_on}
+use Rattle.store_layout.proofs.StandingLaws.{one_in_use, stands_in_use, stands_heads, journal_goes_on}
 use Rattle.store_layout.proofs.OneStanding.{BeginLaw, one_meaning}
 
 module _ (c : Content) where

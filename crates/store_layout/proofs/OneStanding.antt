@@ -7,11 +7,11 @@ use Rattle.desktop_definitions.specs.Desktop.{Desktop}
 use Rattle.desktop_definitions.specs.Seen.{seen}
 use Rattle.desk_image.specs.Laws.{UniqueLaw}
 use Rattle.store_layout.specs.declared.head.Head.{Head}
-use Rattle.store_layout.specs.Bits.{clash}
+use Rattle.store_layout.proofs.Bits.{clash}
 use Rattle.store_layout.specs.Layout.{head}
 use Rattle.store_layout.specs.Meaning.{IsJournal, MakesDesktop, HasImage, Standing, Stands, Means, Shows, desktop_of}
 use Rattle.store_layout.specs.Meaning.{slot_image_bytes, area_bytes, left_over, full_sectors}
-use Rattle.store_layout.specs.StandingLaws.{one_in_use, stands_in_use}
+use Rattle.store_layout.proofs.StandingLaws.{one_in_use, stands_in_use}
 
 -- bytes begin with one event at most
 abbrev pub BeginLaw : Type 0

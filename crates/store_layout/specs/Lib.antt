@@ -3,5 +3,3 @@ pub mod Meaning
 pub mod Footprint
 pub mod Finding
 pub mod Kept
-pub mod Bits
-pub mod StandingLaws

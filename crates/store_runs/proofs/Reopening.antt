@@ -12,7 +12,7 @@ use Rattle.desktop_definitions.specs.declared.reply.Reply.{Reply}
 use Rattle.desktop_definitions.specs.Desktop.{Desktop}
 use Rattle.desktop_definitions.specs.Step.{step, steps, Outcome}
 use Rattle.store_layout.specs.declared.layout.TheConstants.{LAYOUT}
-use Rattle.store_layout.specs.Bits.{clash}
+use Rattle.store_layout.proofs.Bits.{clash}
 use Rattle.store_layout.specs.Finding.{FindingLaw, FindsOneThing}
 use Rattle.store_layout.specs.Meaning.{Means}
 use Rattle.store_runs.specs.declared.call.StoreCall.{StoreCall}

@@ -7,7 +7,7 @@ use Rattle.char_file.specs.Source.{OnlyReads}
 use Rattle.char_file.proofs.Reading.{read_on}
 use Rattle.piece_ring.specs.Text.{Text}
 use Rattle.readers_scanners.specs.Reading.{bytes_of_text, Reading, IsCounted}
-use Rattle.readers_scanners.specs.Walking.{IsAt}
+use Rattle.readers_scanners.proofs.Walking.{IsAt}
 use Rattle.readers_scanners.proofs.Upcoming.{drop_more}
 use Rattle.event_bytes.specs.Bytes.{carriage_return}
 use Rattle.text_frames.specs.Lines.{is_return, ends_between}

@@ -10,7 +10,7 @@ use Rattle.char_file.specs.Source.{OnlyReads}
 use Rattle.piece_ring.specs.declared.piece.Look.{Look}
 use Rattle.piece_ring.specs.Text.{Text}
 use Rattle.readers_scanners.specs.Reading.{contents, bytes_of_text, Reading}
-use Rattle.readers_scanners.specs.Walking.{at_first, seen_character, byte_there}
+use Rattle.readers_scanners.proofs.Walking.{at_first, seen_character, byte_there}
 use Rattle.text_frames.specs.Lines.{is_return}
 use Rattle.text_frames.specs.Cells.{column_after, row_of, column_of}
 use Rattle.text_frames.specs.Row.{ShownCell, cells_taken, cells_at, IsOfText, AreRowCells}

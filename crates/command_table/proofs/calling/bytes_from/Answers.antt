@@ -3,7 +3,7 @@ use Rattle.std.specs.Prelude.{min}
 use Rattle.piece_ring.specs.Flat.{flat}
 use Rattle.readers_scanners.specs.Reading.{bytes_of_text}
 use Rattle.readers_scanners.proofs.Running.{length-bytes}
-use Rattle.readers_scanners.specs.Walking.{onward, seen}
+use Rattle.readers_scanners.proofs.Walking.{onward, seen}
 use Rattle.command_table.proofs.Window.{one_more, one_count, all_there}
 use Rattle.command_table.proofs.calling.bytes_from.Goals as goal
 

@@ -1,7 +1,7 @@
 use Rattle.std.proofs.Common.{◌≡◌, ◌-◌, ◌+◌, length, take, drop}
 use Rattle.piece_ring.specs.Flat.{flat}
 use Rattle.readers_scanners.specs.Reading.{bytes_of_text}
-use Rattle.readers_scanners.specs.Walking.{IsAt}
+use Rattle.readers_scanners.proofs.Walking.{IsAt}
 use Rattle.command_table.proofs.calling.bytes_from.Given as goal
 
 abbrev pub invariant-loop-at : goal.invariant-loop-at

@@ -1,11 +1,11 @@
 use Rattle.std.proofs.Common.{List, ℕ, sym, rules}
 use Rattle.desktop_definitions.specs.Limits.{full, too_many_files}
 use Rattle.desktop_definitions.specs.Seen.{seen}
-use Rattle.desktop_laws.specs.OutcomeLaws.{refused}
+use Rattle.desktop_laws.proofs.OutcomeLaws.{refused}
 use Rattle.desk_core.specs.Words.{kept_desktop}
 use Rattle.desk_bringing.specs.Bringing.{all_filed}
-use Rattle.desk_bringing.specs.BringingLaws.{brought_many, brought_full, all_filed_shown}
-use Rattle.desk_bringing.specs.Gathering.{gathered_done, gathered_unread}
+use Rattle.desk_bringing.proofs.BringingLaws.{brought_many, brought_full, all_filed_shown}
+use Rattle.desk_bringing.proofs.Gathering.{gathered_done, gathered_unread}
 use Rattle.desktop_definitions.specs.declared.reply.Reply.TheVariants.{Done}
 use Rattle.desk_bringing.proofs.Calm.{uses_as}
 use Rattle.desk_bringing.proofs.Sums.{many_told, few_told}

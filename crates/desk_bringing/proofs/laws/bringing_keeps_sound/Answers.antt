@@ -1,4 +1,4 @@
-use Rattle.desk_bringing.specs.BringingLaws.{brought_sound}
+use Rattle.desk_bringing.proofs.BringingLaws.{brought_sound}
 use Rattle.desk_bringing.proofs.laws.bringing_keeps_sound.Goals as goal
 
 pub returns : goal.returns

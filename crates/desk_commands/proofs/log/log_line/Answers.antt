@@ -1,14 +1,14 @@
 use Rattle.std.proofs.Common.{rules, ◌≡◌, ◌+◌, ◌∙◌, length, ap, sym, subst, length-append, arith}
 use Rattle.piece_ring.specs.Look.{default_look}
 use Rattle.piece_ring.specs.Flat.{flat}
-use Rattle.piece_ring.specs.Lengths.{length-run}
-use Rattle.piece_ring.specs.Offsets.{run-AreWithin}
+use Rattle.piece_ring.proofs.Lengths.{length-run}
+use Rattle.piece_ring.proofs.Offsets.{run-AreWithin}
 use Rattle.piece_ring.specs.Text.{AreWithin}
-use Rattle.desktop_laws.specs.RowLaws.{text_held}
-use Rattle.desktop_laws.specs.LogLaws.{log_kept, line_put, line_logged}
+use Rattle.desktop_laws.proofs.RowLaws.{text_held}
+use Rattle.desktop_laws.proofs.LogLaws.{log_kept, line_put, line_logged}
 use Rattle.desk_core.specs.Kept.{kept_desktop}
 use Rattle.desktop_definitions.specs.Looks.{AreLooks}
-use Rattle.desktop_laws.specs.LookedLaws.{default_is_look, run_looks}
+use Rattle.desktop_laws.proofs.LookedLaws.{default_is_look, run_looks}
 use Rattle.desk_commands.proofs.log.log_line.Goals as goal
 
 pub insert-requires-clause-there : goal.insert-requires-clause-there

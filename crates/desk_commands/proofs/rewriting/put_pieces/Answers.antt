@@ -1,7 +1,7 @@
 use Rattle.std.proofs.Common.{◌≡◌, ◌∙◌, List, ℕ, ◌++◌, length, arith, ap, length-append, subst, sym}
 use Rattle.char_file.proofs.Reading.{read_on}
 use Rattle.piece_ring.specs.Flat.{flat, run, characters_of}
-use Rattle.piece_ring.specs.Lengths.{length-run}
+use Rattle.piece_ring.proofs.Lengths.{length-run}
 use Rattle.piece_ring.specs.Text.{AreWithin}
 use Rattle.readers_scanners.specs.Reading.{bytes_of_text}
 use Rattle.desk_commands.proofs.RewritingLemmas.{piece_inside, rest_inside, piece_long, text_on, bytes_on}

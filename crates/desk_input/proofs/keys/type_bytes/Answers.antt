@@ -1,7 +1,7 @@
 use Rattle.std.proofs.Common.{rules, ◌≡◌, ◌∙◌, ◌+◌, [], List, ℕ, length, ap, sym, subst, length-append, arith}
 use Rattle.piece_ring.specs.Flat.{flat}
-use Rattle.piece_ring.specs.Lengths.{length-run}
-use Rattle.piece_ring.specs.Offsets.{run-AreWithin}
+use Rattle.piece_ring.proofs.Lengths.{length-run}
+use Rattle.piece_ring.proofs.Offsets.{run-AreWithin}
 use Rattle.piece_ring.specs.Text.{AreWithin}
 use Rattle.desktop_definitions.specs.declared.reply.Reply.TheVariants.{Done, No}
 use Rattle.desktop_definitions.specs.Limits.{full}
@@ -10,11 +10,11 @@ use Rattle.desktop_definitions.specs.Keys.{after_typing}
 use Rattle.desktop_definitions.specs.Seen.{seen}
 use Rattle.desktop_definitions.specs.Step.{outcome_after}
 use Rattle.desktop_definitions.specs.Outcome.{IsAnswered}
-use Rattle.desktop_laws.specs.RowLaws.{known_no_caret, over_built, built_longer, changed_under, space_written}
-use Rattle.desktop_laws.specs.KeyLaws.{typed_none, typed_full, typed_answered, main_small}
+use Rattle.desktop_laws.proofs.RowLaws.{known_no_caret, over_built, built_longer, changed_under, space_written}
+use Rattle.desktop_laws.proofs.KeyLaws.{typed_none, typed_full, typed_answered, main_small}
 use Rattle.desk_core.specs.Kept.{kept_desktop}
 use Rattle.desktop_definitions.specs.Looks.{AreLooks}
-use Rattle.desktop_laws.specs.LookedLaws.{run_looks, kept_look}
+use Rattle.desktop_laws.proofs.LookedLaws.{run_looks, kept_look}
 use Rattle.desk_core.proofs.StretchLemmas.{refused_effect}
 use Rattle.desk_input.proofs.StillLemmas.{does_unread}
 use Rattle.desk_input.proofs.keys.type_bytes.Goals as goal

@@ -1,4 +1,4 @@
-use Rattle.desktop_laws.specs.SeenLaws.{seen_longer, within_counted}
+use Rattle.desktop_laws.proofs.SeenLaws.{seen_longer, within_counted}
 use Rattle.desktop_laws.proofs.laws.more_change_nothing.Goals as goal
 
 pub returns : goal.returns

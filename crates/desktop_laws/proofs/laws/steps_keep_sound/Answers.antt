@@ -1,4 +1,4 @@
-use Rattle.desktop_laws.specs.StepSound.{steps_keep_sound}
+use Rattle.desktop_laws.proofs.StepSound.{steps_keep_sound}
 use Rattle.desktop_laws.proofs.laws.steps_keep_sound.Goals as goal
 
 pub returns : goal.returns

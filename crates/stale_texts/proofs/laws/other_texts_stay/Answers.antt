@@ -1,4 +1,4 @@
-use Rattle.stale_texts.specs.Kept.{others_stay}
+use Rattle.stale_texts.proofs.Kept.{others_stay}
 use Rattle.stale_texts.proofs.laws.other_texts_stay.Goals as goal
 
 pub returns : goal.returns

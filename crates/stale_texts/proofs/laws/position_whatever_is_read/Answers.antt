@@ -1,4 +1,4 @@
-use Rattle.stale_texts.specs.Front.{from_seen}
+use Rattle.stale_texts.proofs.Front.{from_seen}
 use Rattle.stale_texts.proofs.laws.position_whatever_is_read.Goals as goal
 
 pub returns : goal.returns

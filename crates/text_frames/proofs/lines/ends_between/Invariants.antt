@@ -1,7 +1,7 @@
 use Rattle.std.proofs.Common.{◌≡◌, ◌+◌, ◌-◌, ◌≤◌}
 use Rattle.piece_ring.specs.Flat.{flat}
 use Rattle.readers_scanners.specs.Reading.{bytes_of_text}
-use Rattle.readers_scanners.specs.Walking.{IsAt}
+use Rattle.readers_scanners.proofs.Walking.{IsAt}
 use Rattle.text_frames.specs.Lines.{ends_between}
 use Rattle.text_frames.proofs.lines.ends_between.Given as goal
 

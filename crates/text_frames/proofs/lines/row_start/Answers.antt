@@ -1,6 +1,6 @@
 use Rattle.std.proofs.Common.{◌≡◌, ◌+◌, ◌-◌, ◌<◌, arith, sym, ◌∙◌}
 use Rattle.readers_scanners.specs.Reading.{bytes_of_text}
-use Rattle.readers_scanners.specs.Walking.{backward, seen_before}
+use Rattle.readers_scanners.proofs.Walking.{backward, seen_before}
 use Rattle.text_frames.proofs.Greatest.{starts_here, starts_before}
 use Rattle.text_frames.proofs.Near.{starts_above, starts_at_org, starts_at}
 use Rattle.text_frames.proofs.lines.row_start.Goals as goal

@@ -1,6 +1,6 @@
 use Rattle.std.proofs.Common.{◌≡◌, ◌≤◌}
 use Rattle.readers_scanners.specs.Reading.{bytes_of_text}
-use Rattle.readers_scanners.specs.Walking.{IsAt}
+use Rattle.readers_scanners.proofs.Walking.{IsAt}
 use Rattle.text_frames.specs.Lines.{line_start}
 use Rattle.text_frames.proofs.lines.row_start.Given as goal
 

@@ -1,6 +1,6 @@
 use Rattle.std.proofs.Common.{arith, sym, ◌∙◌}
 use Rattle.readers_scanners.specs.Reading.{bytes_of_text}
-use Rattle.readers_scanners.specs.Walking.{backward, seen_before}
+use Rattle.readers_scanners.proofs.Walking.{backward, seen_before}
 use Rattle.text_frames.proofs.Greatest.{starts_here, starts_before}
 use Rattle.text_frames.proofs.lines.to_line_start.Goals as goal
 

@@ -1,7 +1,7 @@
 use Rattle.std.proofs.Common.{◌≡◌, ◌≤◌}
 use Rattle.readers_scanners.specs.Reading.{bytes_of_text}
 use Rattle.text_frames.specs.Lines.{line_start}
-use Rattle.readers_scanners.specs.Walking.{IsAt}
+use Rattle.readers_scanners.proofs.Walking.{IsAt}
 use Rattle.text_frames.proofs.lines.to_line_start.Given as goal
 
 abbrev pub invariant-loop-at : goal.invariant-loop-at

@@ -4,7 +4,7 @@ use Rattle.std.proofs.lemmas.List.Edits.{length-between}
 use Rattle.sector_disk.specs.Trail.{now}
 use Rattle.sector_disk.proofs.Confinement.{joined}
 use Rattle.sector_streams.specs.Filling.{HasTaken}
-use Rattle.sector_streams.specs.FillingLaws.{sectors_are}
+use Rattle.sector_streams.proofs.FillingLaws.{sectors_are}
 use Rattle.sector_streams.proofs.Filled.{carried, goes_on}
 use Rattle.sector_streams.proofs.filling.Filling.put_over.Goals as goal
 

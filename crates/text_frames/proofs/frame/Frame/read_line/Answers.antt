@@ -1,5 +1,5 @@
 use Rattle.std.proofs.Common.{rules}
-use Rattle.text_frames.specs.RowLaws.{rows_still}
+use Rattle.text_frames.proofs.RowLaws.{rows_still}
 use Rattle.text_frames.proofs.frame.Frame.read_line.Goals as goal
 
 pub returns-then-row-rows-clause-read : goal.returns-then-row-rows-clause-read
