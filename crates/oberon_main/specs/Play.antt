@@ -67,11 +67,11 @@ pub record IsCutOff (word script : List ℕ) (left : Option (List ℕ)) (before 
 
 -- The text of a script that ends so, with this word last. There is none for an output that fails.
 abbrev pub TextOf : PlayEnd → List ℕ → List ℕ → Option (List ℕ) → Session → Session → List ℕ → Type 0
-TextOf Done word script left before session_after text = IsPlayed script before session_after text
-TextOf Fault word script left before session_after text = IsStopped word script before text
-TextOf Memory word script left before session_after text = IsStopped word script before text
-TextOf Input word script left before session_after text = IsCutOff word script left before session_after text
-TextOf Output word script left before session_after text = ⊥
+TextOf Done word script left before after text = IsPlayed script before after text
+TextOf Fault word script left before after text = IsStopped word script before text
+TextOf Memory word script left before after text = IsStopped word script before text
+TextOf Input word script left before after text = IsCutOff word script left before after text
+TextOf Output word script left before after text = ⊥
 
 -- The text of this end was written as a whole.
 pub record IsEndTold (end : PlayEnd) (word script : List ℕ) (left : Option (List ℕ)) (before after : Session)
@@ -87,22 +87,22 @@ pub record IsHalted (script : List ℕ) (left : Option (List ℕ)) (before : Ses
   pub end : PlayEnd
   pub after : Session
   pub text : List ℕ
-  pub comes : TextOf end (last_word end) script left before session_after text
+  pub comes : TextOf end (last_word end) script left before after text
   pub counts : CountsEnd end failed failed'
   pub written : AppendsFront held held' text
 
 -- what a script that ended so has come to, with this word after the answers
 abbrev pub EndsAs : PlayEnd → List ℕ → List ℕ → Option (List ℕ) → Session → Session → ℕ → ℕ → Option (List ℕ)
     → Option (List ℕ) → Type 0
-EndsAs Done word script left before session_after failed failed' held held' =
-    IsEndTold Done word script left before session_after held held'
-EndsAs Fault word script left before session_after failed failed' held held' =
-    IsEndTold Fault word script left before session_after held held'
-EndsAs Memory word script left before session_after failed failed' held held' =
-    IsEndTold Memory word script left before session_after held held'
-EndsAs Input word script left before session_after failed failed' held held' =
-    IsEndTold Input word script left before session_after held held'
-EndsAs Output word script left before session_after failed failed' held held' =
+EndsAs Done word script left before after failed failed' held held' =
+    IsEndTold Done word script left before after held held'
+EndsAs Fault word script left before after failed failed' held held' =
+    IsEndTold Fault word script left before after held held'
+EndsAs Memory word script left before after failed failed' held held' =
+    IsEndTold Memory word script left before after held held'
+EndsAs Input word script left before after failed failed' held held' =
+    IsEndTold Input word script left before after held held'
+EndsAs Output word script left before after failed failed' held held' =
     IsHalted script left before failed failed' held held'
 
 -- A script was played over a store, and ended so, with what `word` says of an end after the answers.
