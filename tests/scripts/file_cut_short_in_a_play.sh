@@ -11,7 +11,7 @@ cut_short() {
     "$PROGRAM" play desk.disk < script > got 2> said &
     exec 3> script
     head -n "$1" events >&3
-    until [ "$(grep -c '' got)" = "$1" ]; do sleep 0.02; done
+    until [ "$(grep -c '' got 2> /dev/null)" = "$1" ]; do sleep 0.02; done
     truncate -s "$2" desk.disk
     tail -n +$(($1 + 1)) events >&3
     exec 3>&-
