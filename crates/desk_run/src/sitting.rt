@@ -27,7 +27,13 @@ pub(crate) fn sit_at(rt: &HostRuntime, rows: u16, path: &str, greeting: Saying) 
 }
 
 /// The same, in the file of that path, which is locked.
-fn sit_at_locked(rt: &HostRuntime, rows: u16, file: LockedFile, path: &str, greeting: Saying) -> u8 {
+fn sit_at_locked(
+    rt: &HostRuntime,
+    rows: u16,
+    file: LockedFile,
+    path: &str,
+    greeting: Saying,
+) -> u8 {
     match opened_locked(rt, file) {
         Ok(store) => kept(rt, path, sit(rt, rows, store, greeting)),
         Err(trouble) => trouble.say(rt, path),
