@@ -34,3 +34,10 @@ number() { od -An -tu4 --endian=big -j $((2 * 1024 + $1)) -N 4 full.disk | tr -d
 tail=$(($(number 8) % 1024)) length=$(number 12)
 echo "an image of $length bytes, from its last character, $tail, on"
 "$TESTS/each_byte" full.disk 1029 $((tail - 1)) $((length + 1)) 01 10 80
+echo "a store of layout 1"
+gzip -dc "$TESTS/old_stores/version_1.gz" > old.disk
+old() { od -An -tu4 --endian=big -j $((2 * 1024 + $1)) -N 4 old.disk | tr -d ' '; }
+tail=$(($(old 8) % 1024)) length=$(old 12)
+echo "an image of $length bytes, from its last character, $tail, on"
+"$TESTS/each_byte" old.disk 1029 $((tail - 1)) $((length + 1)) 01
+"$OBERON" check old.disk

@@ -1,12 +1,14 @@
 //! A terminal and files of the host's as one keyboard.
-ghost use Rattle.std.specs.Prelude.{◌≡◌, ◌≢◌, ◌++◌, Bool, true, false, None, [], IfOk, IfErr, OnErr};
+ghost use Rattle.std.specs.Prelude.{◌≡◌, ◌≢◌, ◌++◌, Bool, true, false, None, [], IfOk, IfErr, IfSome, IsNone, OnErr};
 ghost use Rattle.std.specs.Io.KnownBytes.{Consumes};
 ghost use Rattle.terminal_keyboard.specs.Hearings.{IsWithinLine, heard_bytes};
-ghost use Rattle.desk_keyboard.specs.Bringing.{is_coming};
+ghost use Rattle.desk_keyboard.specs.Bringing.{IsUntold, TellsFile, is_coming};
+ghost use Rattle.desk_keyboard.specs.declared.keyboard.TheConstants.{MOST_BROUGHT};
 
 use crate::paste::HostPaste;
 use host_files::open_regular;
 use std::fs::File;
+use std::io::Read;
 use terminal_keyboard::{Hearing, KeySource, Keyboard, KeyboardEnd, Trace};
 use terminal_presses::Heard;
 
@@ -50,6 +52,8 @@ impl<'a, K: KeySource> DeskKeyboard<'a, K> {
         ensures terminal { self.new.terminal ≡ self.old.terminal }
         ensures none { is_coming self.old.brought ≡ false → result ≡ None }
         ensures some { is_coming self.old.brought ≡ true → result ≢ None }
+        ensures told { IfSome result (TellsFile ⟦<File as Read>⟧.remaining self.old.brought self.new.brought) }
+        ensures over { IsNone result → is_coming self.new.brought ≡ false }
     {
         match &mut self.brought {
             Some(paste) => paste.next(),
@@ -65,9 +69,11 @@ impl<K: KeySource> Keyboard for DeskKeyboard<'_, K> {
 
     ghost brings = { λ k. is_coming k.brought };
 
+    ghost tells = { λ old new told. TellsFile ⟦<File as Read>⟧.remaining old.brought new.brought told };
+
     ghost ended = { λ k why. K.ended k.terminal why };
 
-    ghost answers = { λ old new _ will. (is_coming new.brought ≡ will) };
+    ghost answers = { λ _ new _ will. will ≡ true → IsUntold MOST_BROUGHT new.brought };
 
     fn hear(&mut self) -> Result<Hearing, KeyboardEnd> {
         let hearing = match self.told_of_file() {

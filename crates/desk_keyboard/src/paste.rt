@@ -2,7 +2,7 @@
 ghost use Rattle.std.specs.Prelude.{◌≡◌, ◌≤◌, ◌<◌, ◌⊎◌, ◌↔◌, false, None, IfSome, IsNone, [], length, map, take};
 ghost use Rattle.std.specs.Io.KnownBytes.{Consumes, IsAtEnd};
 ghost use Rattle.desk_keyboard.specs.HostPastes.{TakesText, harmless};
-ghost use Rattle.desk_keyboard.specs.Bringing.{goes_on as has_more};
+ghost use Rattle.desk_keyboard.specs.Bringing.{TellsNext, goes_on as has_more};
 
 use std::io::{ErrorKind, Read};
 use terminal_keyboard::{Count, Hearing, MOST_HEARD};
@@ -60,9 +60,9 @@ impl<R: Read> HostPaste<R> {
 
     /// What is told next. None where all is told. Where a read fails, the text ends there, and that is told.
     pub fn next(&mut self) -> Option<Hearing>
-        ensures told { IfSome result (λ told. TakesText self.old.stage self.new.stage self.old.left self.new.left
-            (R.remaining self.old.reader) (R.remaining self.new.reader) told) }
+        ensures told { IfSome result (TellsNext R.remaining self.old self.new) }
         ensures none { IsNone result ↔ (has_more self.old.stage ≡ false) }
+        ensures over { IsNone result → has_more self.new.stage ≡ false }
     {
         match self.stage {
             Stage::Begins => Some(self.begin()),

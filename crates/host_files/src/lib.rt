@@ -5,12 +5,14 @@
 ghost use Rattle.std.specs.Prelude.{◌≡◌, ◌≤◌, Ok, IfOk, length};
 
 mod locked_file;
+mod streams;
 mod texts;
 
 pub use locked_file::LockedFile;
 use std::fs::{File, Metadata, OpenOptions, TryLockError};
 use std::io::{ErrorKind, Read};
 use std::{fs, io};
+pub use streams::{HeldStreams, hold_streams};
 pub use texts::{
     files_in, is_folder, length_of, make_file, make_folder, read_input, read_whole, rename_over,
     sync_file,

@@ -1,6 +1,6 @@
 //! Files that a person hands in and takes out: read whole, listed in a folder, and made under a name that nobody has.
 
-use crate::{HostFault, asked};
+use crate::{HostFault, asked, locked, open_regular};
 use std::fs::{File, OpenOptions};
 use std::io::{Read, Take};
 use std::{fs, io};
@@ -78,8 +78,20 @@ pub fn sync_file(file: &File) -> Result<(), HostFault> {
 }
 
 /// Gives the file another name, in place of any other file that has it. A lock on the file stays.
+///
+/// Errors: `InUse` where a program holds a lock on the file that has the name, be it this one; `Missing`, `Refused` and
+/// `NoMemory`.
 pub fn rename_over(rt: &HostRuntime, from: &str, to: &str) -> Result<(), HostFault> {
+    refuse_in_use(rt, to)?;
     asked(fs::rename(rt, from, to))
+}
+
+/// Refuses a regular file on which a lock is held.
+fn refuse_in_use(rt: &HostRuntime, path: &str) -> Result<(), HostFault> {
+    match open_regular(rt, path, u64::MAX) {
+        Ok(file) => locked(file.try_lock()),
+        Err(_) => Ok(()),
+    }
 }
 
 /// How many bytes a file has.

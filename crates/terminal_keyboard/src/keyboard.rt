@@ -55,18 +55,23 @@ pub trait Keyboard {
     /// It has come to this end.
     ghost ended: { Self → KeyboardEnd → Type 0 };
 
+    /// In a hearing from the one to the other this was told of the host file that is on its way in.
+    ghost tells: { Self → Self → List Heard → Type 0 };
+
     /// In a call of `bring` from the one to the other, of this name, this was answered.
     ghost answers: { Self → Self → List ℕ → Bool → Type 0 };
 
     /// Waits for what is heard next. It is of a host file until all of that is told, and of the terminal else, where it
-    /// goes no further than to the end of a line. `Closed`: nothing more will come. `Fault`: what is below failed in
-    /// this call. In both cases nothing was heard.
+    /// goes no further than to the end of a line. No file comes that `bring` wasn't called for. `Closed`: nothing more
+    /// will come. `Fault`: what is below failed in this call. In both cases nothing was heard.
     fn hear(&mut self) -> Result<Hearing, KeyboardEnd>
         ensures told { IfOk result (λ told. heard self.new ≡ heard self.old ++ told) }
         ensures bytes { brings self.old ≡ false
             → IfOk result (λ told. Consumes (left self.old) (left self.new) (heard_bytes told)) }
         ensures line { brings self.old ≡ false → IfOk result IsWithinLine }
-        ensures file { brings self.old ≡ true → IfOk result (λ _. left self.new ≡ left self.old) }
+        ensures file { brings self.old ≡ true
+            → IfOk result (λ told. tells self.old self.new told × (left self.new ≡ left self.old)) }
+        ensures alone { brings self.old ≡ false → brings self.new ≡ false }
         ensures silent { OnErr result (heard self.new ≡ heard self.old) }
         ensures none { OnErr result (Consumes (left self.old) (left self.new) []) }
         ensures cause { IfErr result (λ why. ended self.new why) };

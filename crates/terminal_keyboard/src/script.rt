@@ -44,6 +44,8 @@ impl Keyboard for ScriptedKeyboard<'_> {
 
     ghost brings = { λ _. false };
 
+    ghost tells = { λ _ _ _. ⊥ };
+
     ghost ended = { λ k why. (why ≡ Closed) × (k.told ≡ length k.script.now) };
 
     ghost answers = { λ _ _ _ will. will ≡ false };
