@@ -11,14 +11,16 @@ ARROWS = {'up': b'A', 'down': b'B', 'right': b'C', 'left': b'D'}
 # What a byte below the space is, where it is a key.
 CONTROLS = {3: ('key', 'copy'), 7: ('key', 'escape'), 10: ('type', '\r'), 22: ('key', 'paste'), 24: ('key', 'cut')}
 # The clicks that a function key says, by its spellings.
-FUNCTIONS = {'m': [b'\x1bOQ', b'\x1b[Q', b'\x1b[12~', b'\x1b[[B'], 'r': [b'\x1bOR', b'\x1b[13~', b'\x1b[[C'],
-             'lm': [b'\x1bOS', b'\x1b[14~', b'\x1b[[D'], 'lr': [b'\x1b[15~', b'\x1b[[E'], 'rl': [b'\x1b[17~'],
+FUNCTIONS = {'m': [b'\x1bOQ', b'\x1b[Q', b'\x1b[12~', b'\x1b[[B', b'\x1b2'], 'r': [b'\x1bOR', b'\x1b[13~', b'\x1b[[C', b'\x1b3'],
+             'lm': [b'\x1bOS', b'\x1b[14~', b'\x1b[[D'], 'lr': [b'\x1b[15~', b'\x1b[[E'], 'rl': [b'\x1b[17~', b'\x1b6'],
              'rm': [b'\x1b[18~']}
-MARK = [b'\x1bOP', b'\x1b[P', b'\x1b[11~', b'\x1b[[A']
+MARK = [b'\x1bOP', b'\x1b[P', b'\x1b[11~', b'\x1b[[A', b'\x1b1']
 # What means nothing: a wheel, a motion, a button that goes up alone, keys and answers that are not told apart, a byte
-# amid a letter of another script, and a mouse report of the older form.
+# amid a letter of another script, a mouse report of the older form, a function key that is called off, and Alt with a
+# letter.
 NOTHING = [b'\x1b[<64;3;4M', b'\x1b[<35;3;4M', b'\x1b[<0;7;7m', b'\x1b[1;5H', b'\x1b[?1;2c', b'\x1b[I', b'\x1b[2~',
-           b'\x1b[27u', b'\x80', b'\x1b[M !!', b'\x1bOz', b'\x1b[1;2;3;4;5;6;7z']
+           b'\x1b[27u', b'\x80', b'\x1b[M !!', b'\x1bOz', b'\x1b[1;2;3;4;5;6;7z',
+           b'\x1bOQ\x07', b'\x1b1\x07', b'\x1bx', b'\x1b.']
 # What rings: keys that mean nothing here, and letters of other scripts.
 RINGING = [b'\x01', b'\x00', '\u00e4'.encode(), '\u2014'.encode(), b'\xff']
 
@@ -118,7 +120,7 @@ def press(random, rows, is_whole):
         return random.choice([(b'\x1b[5~', [('page', 'up')]), (b'\x1b[6~', [('page', 'down')])])
     if kind == 14:
         letter = random.choice('abxyz. ')
-        return b'\x1b' + letter.encode(), [('key', 'escape'), ('type', letter)]
+        return b'\x1b' + letter.encode(), []
     if kind == 15:
         return random.choice([called_off, brought])(random)
     if kind == 16 and not is_whole:

@@ -28,7 +28,7 @@ use Rattle.terminal_presses.specs.declared.place.Numbers.{Numbers}
 use Rattle.terminal_presses.specs.declared.place.SequencePlace.{SequencePlace}
 use Rattle.terminal_presses.specs.declared.place.SequencePlace.TheVariants as place
 use Rattle.terminal_presses.specs.declared.parser.Parser.{Parser}
-use Rattle.terminal_presses.specs.Presses.{single, grounded, preceded, press_alone, function_at, arrow_at, lettered, numbered_key}
+use Rattle.terminal_presses.specs.Presses.{single, grounded, press_alone, function_at, arrow_at, lettered, numbered_key}
 use Rattle.terminal_presses.specs.Presses.{longer, with_digit, with_number, mouse_mark, reported_press, moused, sized, unmarked_press}
 use Rattle.terminal_presses.specs.Presses.{sequence_end, after_ground, after_escape, after_shift, after_console}
 use Rattle.terminal_presses.specs.Presses.{after_sequence, after_byte, after_quiet, sequence_after, at_rest, heard_by, in_order}
@@ -37,6 +37,7 @@ use Rattle.terminal_presses.specs.Spelling.{value_from, IsNumeral, report_number
 use Rattle.terminal_presses.specs.Spelling.{IsLongCharacter}
 use Rattle.terminal_presses.specs.Spelling.{is_control, letter_alone, shifted_sequence, arrow_letter, page_spelling}
 use Rattle.terminal_presses.specs.Spelling.{function_spellings, key_sequence, IsOneOf, SpellsPress, bytes_heard, IsPressHeard}
+use Rattle.terminal_presses.specs.Spelling.{is_alone_with_alt}
 use Rattle.terminal_presses.specs.Spelling.{AreHeard}
 use Rattle.terminal_presses.specs.Runs.{Corner, moved_with, report_with}
 use Rattle.terminal_presses.proofs.Pieces.{parser_of_both, pressed_of_both}
@@ -59,6 +60,10 @@ neither false false h = (refl, refl)
 none_of : (a b : Bool) → a || b ≡ false → (a ≡ false) × (b ≡ false)
 none_of true b h = absurd cc
 none_of false b h = (refl, h)
+
+pub is_not : (b : Bool) → not b ≡ true → b ≡ false
+is_not true is = absurd cc
+is_not false is = refl
 
 -- ---- single bytes
 
@@ -197,13 +202,13 @@ page_found page.Down = (refl, refl)
 function_found : (key : FunctionKey) → AllFound (Function key) (function_spellings key)
 unfolding heard_by sequence_after after_byte after_ground grounded after_escape after_shift after_sequence after_console
     is_digit with_digit longer sequence_end unmarked_press lettered numbered_key function_at
-function_found F1 = ((refl, refl), ((refl, refl), ((refl, refl), ((refl, refl), tt))))
-function_found F2 = ((refl, refl), ((refl, refl), ((refl, refl), ((refl, refl), tt))))
-function_found F3 = ((refl, refl), ((refl, refl), ((refl, refl), ((refl, refl), tt))))
-function_found F4 = ((refl, refl), ((refl, refl), ((refl, refl), ((refl, refl), tt))))
-function_found F5 = ((refl, refl), ((refl, refl), tt))
-function_found F6 = ((refl, refl), tt)
-function_found F7 = ((refl, refl), tt)
+function_found F1 = ((refl, refl), ((refl, refl), ((refl, refl), ((refl, refl), ((refl, refl), tt)))))
+function_found F2 = ((refl, refl), ((refl, refl), ((refl, refl), ((refl, refl), ((refl, refl), tt)))))
+function_found F3 = ((refl, refl), ((refl, refl), ((refl, refl), ((refl, refl), ((refl, refl), tt)))))
+function_found F4 = ((refl, refl), ((refl, refl), ((refl, refl), ((refl, refl), ((refl, refl), tt)))))
+function_found F5 = ((refl, refl), ((refl, refl), ((refl, refl), tt)))
+function_found F6 = ((refl, refl), ((refl, refl), tt))
+function_found F7 = ((refl, refl), ((refl, refl), tt))
 function_found F8 = ((refl, refl), tt)
 function_found F9 = ((refl, refl), tt)
 function_found F10 = ((refl, refl), tt)
@@ -458,24 +463,19 @@ all_found (press ∷ presses) heard is =
 
 -- ---- an escape byte that begins no other spelling
 
-preceded_is : (next : SequencePlace × Option Press)
-    → ((preceded Escape next).0 ≡ (press_alone next).0)
-    × (in_order (preceded Escape next).1 ≡ Escape ∷ in_order (press_alone next).1)
-unfolding preceded
-preceded_is (at, None) = (refl, refl)
-preceded_is (at, Some press) = (refl, refl)
-
-abbrev standing : SequencePlace → Parser
-standing at = record { place = at }
-
-pub escape_alone : (b : ℕ) (more : List Heard) → (b ≡ 91 → ⊥) → (b ≡ 79 → ⊥)
-    → presses_heard at_rest (Byte 27 ∷ Byte b ∷ more) ≡ Escape ∷ presses_heard at_rest (Byte b ∷ more)
+pub escape_twice : (more : List Heard)
+    → presses_heard at_rest (Byte 27 ∷ Byte 27 ∷ more) ≡ Escape ∷ presses_heard at_rest (Byte 27 ∷ more)
 unfolding heard_by sequence_after after_byte after_ground grounded after_escape
-escape_alone b more no_bracket no_letter =
-    let p : nat_eq b 91 ≡ false = grind (arith, nat_tests) in
-    let q : nat_eq b 79 ≡ false = grind (arith, nat_tests) in
-    let e = preceded_is (grounded b) in
-    rw (p, q, e.0, e.1) refl
+escape_twice more = refl
+
+pub alt_alone : (b : ℕ) (more : List Heard) → is_alone_with_alt b ≡ true
+    → presses_heard at_rest (Byte 27 ∷ Byte b ∷ more) ≡ Unknown ∷ presses_heard at_rest more
+unfolding heard_by sequence_after after_byte after_ground grounded after_escape
+alt_alone b more is =
+    let (escape, others) = none_of (b == 27) ((b == 79) || ((b == 91) || lies_within 49 55 b)) (is_not _ is) in
+    let (letter, rest) = none_of (b == 79) ((b == 91) || lies_within 49 55 b) others in
+    let (bracket, digit) = none_of (b == 91) (lies_within 49 55 b) rest in
+    rw (bracket, letter, escape, digit) refl
 
 -- ---- what is pasted
 
@@ -486,10 +486,6 @@ single_grounded b no_escape = rw no_escape refl
 some_first : (o : Option Press) (l : List Press) → in_some o ++ l ≡ cons_option o l
 some_first None l = refl
 some_first (Some press) l = refl
-
-pub is_not : (b : Bool) → not b ≡ true → b ≡ false
-is_not true is = absurd cc
-is_not false is = refl
 
 -- bytes among which no escape byte is are what each says by itself
 pub bytes_found : (text : List ℕ) → list_all (λ b. not (b == 27)) text ≡ true

@@ -54,9 +54,10 @@ control b =
     (if b == 25 then Redo else
     (if b == 26 then Undo else Ring)))))))
 
--- the next click is what it says by itself
+-- Where a function key has said what the next click is, the click is what it says by itself again, and no more.
 unfoldable pub hand_after_escape : Hand → Hand × Action
-hand_after_escape hand = (record hand { armed = None }, Post (Key key.Escape))
+hand_after_escape hand =
+    if is_some hand.armed then (record hand { armed = None }, Nothing) else (hand, Post (Key key.Escape))
 
 -- the name of a host file is asked for
 abbrev pub asks : Hand → Hand × Action

@@ -83,6 +83,10 @@ pub record IsLongCharacter (text : List ℕ) : Type 0 where
 abbrev pub is_control : ℕ → Bool
 is_control b = nat_lt b 32 && not (is_text_byte b || ((b == 8) || (b == 27)))
 
+-- a byte that goes on with no spelling of a key behind an escape byte
+abbrev pub is_alone_with_alt : ℕ → Bool
+is_alone_with_alt b = not ((b == 27) || ((b == 79) || ((b == 91) || lies_within 49 55 b)))
+
 -- an escape byte and [, and those bytes
 abbrev pub key_sequence : List ℕ → List ℕ
 key_sequence bytes = 27 ∷ 91 ∷ bytes
@@ -90,6 +94,10 @@ key_sequence bytes = 27 ∷ 91 ∷ bytes
 -- an escape byte and O, and that letter
 abbrev pub shifted_sequence : ℕ → List ℕ
 shifted_sequence letter = 27 ∷ 79 ∷ letter ∷ []
+
+-- an escape byte and a digit, as the key Alt spells them
+abbrev pub with_alt_digit : ℕ → List ℕ
+with_alt_digit digit = 27 ∷ digit ∷ []
 
 -- an escape byte and [, and that letter
 abbrev pub letter_alone : ℕ → List ℕ
@@ -118,13 +126,13 @@ abbrev pub by_console : ℕ → List ℕ
 by_console letter = key_sequence (91 ∷ letter ∷ [])
 
 abbrev pub function_spellings : FunctionKey → List (List ℕ)
-function_spellings F1 = by_letter 80 (by_number 49 49 ∷ by_console 65 ∷ [])
-function_spellings F2 = by_letter 81 (by_number 49 50 ∷ by_console 66 ∷ [])
-function_spellings F3 = by_letter 82 (by_number 49 51 ∷ by_console 67 ∷ [])
-function_spellings F4 = by_letter 83 (by_number 49 52 ∷ by_console 68 ∷ [])
-function_spellings F5 = by_number 49 53 ∷ by_console 69 ∷ []
-function_spellings F6 = by_number 49 55 ∷ []
-function_spellings F7 = by_number 49 56 ∷ []
+function_spellings F1 = by_letter 80 (by_number 49 49 ∷ by_console 65 ∷ with_alt_digit 49 ∷ [])
+function_spellings F2 = by_letter 81 (by_number 49 50 ∷ by_console 66 ∷ with_alt_digit 50 ∷ [])
+function_spellings F3 = by_letter 82 (by_number 49 51 ∷ by_console 67 ∷ with_alt_digit 51 ∷ [])
+function_spellings F4 = by_letter 83 (by_number 49 52 ∷ by_console 68 ∷ with_alt_digit 52 ∷ [])
+function_spellings F5 = by_number 49 53 ∷ by_console 69 ∷ with_alt_digit 53 ∷ []
+function_spellings F6 = by_number 49 55 ∷ with_alt_digit 54 ∷ []
+function_spellings F7 = by_number 49 56 ∷ with_alt_digit 55 ∷ []
 function_spellings F8 = by_number 49 57 ∷ []
 function_spellings F9 = by_number 50 48 ∷ []
 function_spellings F10 = by_number 50 49 ∷ []

@@ -305,12 +305,15 @@ impl Hand {
         }
     }
 
-    /// The key Escape. The next click is what it says by itself.
+    /// The key Escape. Where a function key has said what the next click is, it does no more than call that off.
     #[tactic(auto, unfolding(crate::specs::Hands::hand_after_escape))]
     fn escaped(&mut self) -> Action
         ensures { ComesTo (escaped_by self.old) self.new result }
     {
-        self.armed = None;
+        if self.armed.is_some() {
+            self.armed = None;
+            return Action::Nothing;
+        }
         Action::Post(Event::Key(Key::Escape))
     }
 

@@ -9,7 +9,7 @@ ghost use Rattle.terminal_presses.specs.declared.press.Button.{Button};
 ghost use Rattle.terminal_presses.specs.declared.press.Button.TheVariants.{Left};
 ghost use Rattle.terminal_presses.specs.declared.press.FunctionKey.{FunctionKey};
 ghost use Rattle.terminal_presses.specs.declared.press.Press.{Press};
-ghost use Rattle.terminal_presses.specs.declared.press.Press.TheVariants.{Character, Escape, Function};
+ghost use Rattle.terminal_presses.specs.declared.press.Press.TheVariants.{Character, Escape, Function, Unknown};
 ghost use Rattle.terminal_presses.specs.declared.action.Action.TheVariants.{Nothing, TypeFile};
 ghost use Rattle.terminal_presses.specs.declared.action.Click.{Click};
 ghost use Rattle.terminal_presses.specs.declared.action.Click.TheVariants.{Keys};
@@ -18,7 +18,7 @@ ghost use Rattle.terminal_presses.specs.declared.parser.Parser.{Parser};
 ghost use Rattle.terminal_presses.specs.declared.hand.Hand.{Hand};
 ghost use Rattle.viewer_tracks.specs.declared.display.TheConstants.{COLUMNS};
 ghost use Rattle.terminal_presses.specs.Presses.{at_rest, parser_after, presses_heard};
-ghost use Rattle.terminal_presses.specs.Spelling.{AreHeard};
+ghost use Rattle.terminal_presses.specs.Spelling.{AreHeard, is_alone_with_alt};
 ghost use Rattle.terminal_presses.specs.Hands.{new_hand, idle, asking, handled};
 ghost use Rattle.terminal_presses.specs.HostNames.{is_host_name};
 ghost use Rattle.terminal_presses.specs.Pastes.{return};
@@ -41,14 +41,17 @@ pub fn pieces_do_not_matter()
 {}
 
 /// Presses that are spelled one after another are found again, and nothing of them is left in the parser. The key
-/// Escape is found without a quiet while too, where neither `[` nor `O` follows.
+/// Escape is found without a quiet while too, where another escape byte follows. With a letter right after it, it is the
+/// key Alt, and means nothing.
 pub fn spelled_presses_are_found()
     ensures presses { (presses : List Press) (heard : List Heard) → AreHeard presses heard
         → presses_heard at_rest heard ≡ presses }
     ensures parser { (presses : List Press) (heard : List Heard) → AreHeard presses heard
         → parser_after at_rest heard ≡ at_rest }
-    ensures escape { (b : ℕ) (more : List Heard) → (b ≡ 91 → ⊥) → (b ≡ 79 → ⊥)
-        → presses_heard at_rest (Byte 27 ∷ Byte b ∷ more) ≡ Escape ∷ presses_heard at_rest (Byte b ∷ more) }
+    ensures escape { (more : List Heard)
+        → presses_heard at_rest (Byte 27 ∷ Byte 27 ∷ more) ≡ Escape ∷ presses_heard at_rest (Byte 27 ∷ more) }
+    ensures alt { (b : ℕ) (more : List Heard) → IsTrue (is_alone_with_alt b)
+        → presses_heard at_rest (Byte 27 ∷ Byte b ∷ more) ≡ Unknown ∷ presses_heard at_rest more }
 {}
 
 /// The cell that a terminal's column and row mean is in sight; where they show a cell, it is that one.

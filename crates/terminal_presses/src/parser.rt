@@ -122,8 +122,12 @@ fn after_escape(byte: u8) -> (SequencePlace, Presses)
         (SequencePlace::Sequence(Numbers::none()), Presses::Nothing)
     } else if byte == b'O' {
         (SequencePlace::Shift, Presses::Nothing)
+    } else if byte == ESCAPE {
+        (SequencePlace::Escape, Presses::One(Press::Escape))
+    } else if b'1' <= byte && byte <= b'7' {
+        (SequencePlace::Ground, Presses::One(function(byte - b'1')))
     } else {
-        preceded(Press::Escape, grounded(byte))
+        (SequencePlace::Ground, Presses::One(Press::Unknown))
     }
 }
 

@@ -98,12 +98,7 @@ fn bytes_press(rt: HostRuntime) -> Result<(), Fail> {
         (b"\x1b\xff", &[Press::Escape]),
         (
             b"\x1bx\x1b\x1b\xff",
-            &[
-                Press::Escape,
-                Press::Character(120),
-                Press::Escape,
-                Press::Escape,
-            ],
+            &[Press::Unknown, Press::Escape, Press::Escape],
         ),
         (
             b"\x1b[A\x1bOB\x1b[C\x1bOD",
@@ -115,12 +110,13 @@ fn bytes_press(rt: HostRuntime) -> Result<(), Fail> {
             ],
         ),
         (
-            b"\x1bOP\x1b[[B\x1b[13~\x1b[21~",
+            b"\x1bOP\x1b[[B\x1b[13~\x1b[21~\x1b7",
             &[
                 Press::Function(FunctionKey::F1),
                 Press::Function(FunctionKey::F2),
                 Press::Function(FunctionKey::F3),
                 Press::Function(FunctionKey::F10),
+                Press::Function(FunctionKey::F7),
             ],
         ),
         (
@@ -220,11 +216,13 @@ fn acted(alloc: Global, bytes: &[u8], sight: Sight) -> Result<Vec<u8>, AllocErro
 
 #[test]
 fn presses_make_events(rt: HostRuntime) -> Result<(), Fail> {
-    let table: [(&[u8], &[u8]); 24] = [
+    let table: [(&[u8], &[u8]); 25] = [
         (b"a", b"\x01\x00\x01a"),
         (b"\n", b"\x01\x00\x01\x0d"),
         (b"\x08\x03\x18\x16", b"\x02\x00\x02\x01\x02\x03\x02\x02"),
         (b"\x1b\xff\x07", b"\x02\x04\x02\x04"),
+        // Escape after F2 calls that off, and does no more.
+        (b"\x1bOQ\x1b\xff\x1b\xff", b"\x02\x04"),
         (b"\x0c\x11\x01", b"NLR"),
         (b"\x1b[5~\x1b[6~\x1b[A\x1b[8;24;80t", b"UDSZ"),
         // A click, and a drag from a corner to beyond the opposite one.
