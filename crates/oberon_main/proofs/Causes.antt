@@ -1,84 +1,81 @@
--- Why a script ends by `Input` or `Output`: its reader or its writer failed.
-use Rattle.std.proofs.Common.{◌≡◌, inl, inr, ℕ, ◌+◌, ◌<◌, ◌≤◌, Result, Err, [], ◌∷◌, arith, refl, sym, ◌∙◌, subst}
+-- Why a script ends: what of it was counted as a failure.
+use Rattle.std.proofs.Common.{◌≡◌, ◌≢◌, inl, inr, ℕ, ◌+◌, ◌<◌, ◌≤◌, ◌⊎◌, Result, Err, [], ◌∷◌, arith, refl, sym, ap, ◌∙◌, subst}
 use Rattle.sector_disk.specs.Faults.{FailsAs, OneOf}
-use Rattle.script_lines.specs.Reading.{IsReadFault}
+use Rattle.script_streams.specs.Counting.{RisesWhere}
 use Rattle.oberon_main.specs.declared.playing.PlayEnd.{PlayEnd}
 use Rattle.oberon_main.specs.declared.playing.PlayEnd.TheVariants.{Done, Fault, Memory, Input, Output}
-use Rattle.oberon_main.specs.Play.{CountsInput, CountsOutput}
 
--- ---- the reader
+-- ---- the ends of a line
+
+-- an end as the call of one line returned it
+pub rises_in_line : (cause end : PlayEnd) (line : Result Unit PlayEnd) (named : PlayEnd → Type 0) (failed failed' : ℕ)
+    → line ≡ Err end → FailsAs cause named line failed failed' → RisesWhere (end ≡ cause) failed failed'
+rises_in_line cause end line named failed failed' is counts = record {
+  rose = λ same. counts.rose (is ∙ ap (λ e. Err e) same);
+  calm = λ other. counts.calm (λ wrong. other (cc (wrong, is)));
+}
+
+-- what a line ends by isn't an end at which the store can be used on
+pub only_failures : (end : PlayEnd) → OneOf (Fault ∷ Memory ∷ Output ∷ []) end → (end ≡ Done) ⊎ (end ≡ Input) → ⊥
+only_failures Done (inl is) ends = cc
+only_failures Done (inr (inl is)) ends = cc
+only_failures Done (inr (inr is)) ends = cc
+only_failures Fault named (inl is) = cc
+only_failures Fault named (inr is) = cc
+only_failures Memory named (inl is) = cc
+only_failures Memory named (inr is) = cc
+only_failures Input (inl is) ends = cc
+only_failures Input (inr (inl is)) ends = cc
+only_failures Input (inr (inr is)) ends = cc
+only_failures Output named (inl is) = cc
+only_failures Output named (inr is) = cc
+
+-- ---- counts, one after another
+
+-- nothing had failed before
+pub rises_from : (when : Type 0) (first failed failed' : ℕ) → failed ≡ first → RisesWhere when failed failed'
+    → RisesWhere when first failed'
+rises_from when first failed failed' same counts = subst (λ n. RisesWhere when n failed') same counts
+
+-- nothing fails afterwards
+pub rises_before : (when : Type 0) (failed failed' last : ℕ) → RisesWhere when failed failed' → last ≡ failed'
+    → RisesWhere when failed last
+rises_before when failed failed' last counts same = subst (λ n. RisesWhere when failed n) (sym same) counts
+
+-- nothing fails
+pub never_rises : (when : Type 0) (failed failed' : ℕ) → (when → ⊥) → failed' ≡ failed → RisesWhere when failed failed'
+never_rises when failed failed' never calm = record { rose = λ wrong. absurd (never wrong); calm = λ _. calm }
+
+-- the output fails in the last word, and had not failed before
+pub output_lost : (why : PlayEnd) (failed failed' failed'' : ℕ) → why ≢ Output → RisesWhere (why ≡ Output) failed failed'
+    → failed' < failed'' → RisesWhere (Output ≡ Output) failed failed''
+output_lost why failed failed' failed'' other counts rose = record {
+  rose = λ _. let same : failed' ≡ failed = counts.calm other in omega (arith, same, rose);
+  calm = λ wrong. absurd (wrong refl);
+}
+
+-- ---- reads
 
 -- what was read and what may still be read come to what might be read at first
 pub few_reads : (before most now rest : ℕ) → now + rest ≡ before + most → now ≤ before + most
 few_reads before most now rest all = omega (arith, all)
 
--- an end that isn't `Input`
-pub input_of_rest : (end : PlayEnd) (most reads reads' failed failed' : ℕ) → (end ≡ Input → ⊥) → failed' ≡ failed
-    → CountsInput most end reads reads' failed failed'
-input_of_rest Done most reads reads' failed failed' other calm = calm
-input_of_rest Fault most reads reads' failed failed' other calm = calm
-input_of_rest Memory most reads reads' failed failed' other calm = calm
-input_of_rest Input most reads reads' failed failed' other calm = absurd (other refl)
-input_of_rest Output most reads reads' failed failed' other calm = omega (arith, calm)
-
--- an end as the call of one line returned it
-not_input : (end : PlayEnd) → OneOf (Fault ∷ Memory ∷ Output ∷ []) end → end ≡ Input → ⊥
-not_input Done named is = cc
-not_input Fault named is = cc
-not_input Memory named is = cc
-not_input Input (inl is) same = cc
-not_input Input (inr (inl is)) same = cc
-not_input Input (inr (inr is)) same = cc
-not_input Output named is = cc
-
-pub input_of_line : (end : PlayEnd) (most reads reads' failed failed' : ℕ) → OneOf (Fault ∷ Memory ∷ Output ∷ []) end
-    → failed' ≡ failed → CountsInput most end reads reads' failed failed'
-input_of_line end most reads reads' failed failed' named calm =
-    input_of_rest end most reads reads' failed failed' (not_input end named) calm
+-- the reads of the lines so far, and then those of one more
+pub blank_after : (calls reads calls' reads' more calls0 reads0 : ℕ) → calls + reads0 ≡ calls0 + reads
+    → calls' + reads ≤ calls + reads' + more → calls' + reads0 ≤ calls0 + reads' + more
+blank_after calls reads calls' reads' more calls0 reads0 before now = omega (arith, before, now)
 
 -- a read failed, or none was left
-pub input_failed : (most reads reads' left failed failed' failed'' : ℕ) → failed' ≡ failed
-    → reads' + left ≡ reads + most → IsReadFault left failed' failed''
-    → CountsInput most Input reads reads' failed failed''
-input_failed most reads reads' left failed failed' failed'' calm all (inl rose) = inl (omega (arith, calm, rose))
-input_failed most reads reads' left failed failed' failed'' calm all (inr none) =
-    inr (omega (arith, all, none.0), none.1 ∙ calm)
+pub input_failed : {when : Type 0} (most reads reads' left failed failed' failed'' : ℕ) → when → failed' ≡ failed
+    → reads' + left ≡ reads + most → RisesWhere (when × (left ≢ 0)) failed' failed''
+    → RisesWhere ((Input ≡ Input) × (reads' ≢ reads + most)) failed failed''
+input_failed most reads reads' left failed failed' failed'' holds calm all counts = record {
+  rose = λ wrong. let rises : failed' < failed'' = counts.rose (holds, λ none. wrong.1 (all_read none)) in
+      omega (arith, calm, rises);
+  calm = λ never. counts.calm (λ wrong. never (refl, λ some. wrong.1 (none_left some))) ∙ calm;
+} where
+  all_read : left ≡ 0 → reads' ≡ reads + most
+  all_read none = omega (arith, all, none)
 
--- ---- the writer
-
-pub output_of_line : (end : PlayEnd) (line : Result Unit PlayEnd) (named : PlayEnd → Type 0) (failed failed' : ℕ)
-    → line ≡ Err end → FailsAs Output named line failed failed' → CountsOutput end failed failed'
-output_of_line Done line named failed failed' is counts = counts.calm (λ wrong. cc)
-output_of_line Fault line named failed failed' is counts = counts.calm (λ wrong. cc)
-output_of_line Memory line named failed failed' is counts = counts.calm (λ wrong. cc)
-output_of_line Input line named failed failed' is counts = counts.calm (λ wrong. cc)
-output_of_line Output line named failed failed' is counts = counts.rose is
-
--- nothing had failed before
-pub output_from : (end : PlayEnd) (failed failed' failed'' : ℕ) → failed' ≡ failed → CountsOutput end failed' failed''
-    → CountsOutput end failed failed''
-output_from end failed failed' failed'' calm counts = subst (λ n. CountsOutput end n failed'') calm counts
-
--- nothing fails after it
-pub output_then : (end : PlayEnd) (failed failed' failed'' : ℕ) → CountsOutput end failed failed' → failed'' ≡ failed'
-    → CountsOutput end failed failed''
-output_then end failed failed' failed'' counts calm = subst (λ n. CountsOutput end failed n) (sym calm) counts
-
--- ---- the writer fails in the last word, whatever the end was
-
-pub output_lost : (end : PlayEnd) (failed failed' failed'' : ℕ) → CountsOutput end failed failed' → failed' < failed''
-    → CountsOutput Output failed failed''
-output_lost Done failed failed' failed'' counts rose = omega (arith, counts, rose)
-output_lost Fault failed failed' failed'' counts rose = omega (arith, counts, rose)
-output_lost Memory failed failed' failed'' counts rose = omega (arith, counts, rose)
-output_lost Input failed failed' failed'' counts rose = omega (arith, counts, rose)
-output_lost Output failed failed' failed'' counts rose = omega (arith, counts, rose)
-
-pub input_lost : (end : PlayEnd) (most reads reads' failed failed' : ℕ) → CountsInput most end reads reads' failed failed'
-    → CountsInput most Output reads reads' failed failed'
-input_lost Done most reads reads' failed failed' counts = omega (arith, counts)
-input_lost Fault most reads reads' failed failed' counts = omega (arith, counts)
-input_lost Memory most reads reads' failed failed' counts = omega (arith, counts)
-input_lost Input most reads reads' failed failed' (inl rose) = omega (arith, rose)
-input_lost Input most reads reads' failed failed' (inr none) = let same = none.1 in omega (arith, same)
-input_lost Output most reads reads' failed failed' counts = counts
+  none_left : reads' ≡ reads + most → left ≡ 0
+  none_left some = omega (arith, all, some)

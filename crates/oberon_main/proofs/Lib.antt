@@ -1,9 +1,11 @@
 pub mod ByLines
 pub mod Causes
 pub mod Ends
+pub mod Lines
 pub mod Moments
 pub mod Played
-pub mod Promised
+pub mod Runs
 pub mod Sessions
 pub mod Surviving
+pub mod Told
 pub mod Working

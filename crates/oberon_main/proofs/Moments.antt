@@ -12,17 +12,19 @@ use Rattle.desk_journal.proofs.Passing.{at_start}
 use Rattle.script_lines.specs.Script.{IsLine, BeginsWith}
 use Rattle.script_lines.specs.Request.{request_of}
 use Rattle.oberon_main.specs.declared.playing.PlayEnd.{PlayEnd}
-use Rattle.oberon_main.specs.declared.playing.PlayEnd.TheVariants.{Done, Fault, Memory, Input, Output}
 use Rattle.desk_journal.specs.Session.{Session}
 use Rattle.oberon_main.specs.Answers.{session_after, after_all}
 use Rattle.desk_journal.specs.Session.{session_of}
 use Rattle.oberon_main.specs.Surviving.{led_to}
-use Rattle.oberon_main.specs.ByLines.{IsNextLine, Lasts, LeavesLine, ServesLine, IsLineRun, ScriptStops, EndsSaid, PlaysByLines}
-use Rattle.oberon_main.specs.Moments.{AreAnswered, LeavesLines}
+use Rattle.oberon_main.specs.Play.{PlayState, play_state}
+use Rattle.oberon_main.specs.ByLines.{IsNextLine, Lasts, LeavesLine, ServesLine, IsLineRun, ScriptStops}
+use Rattle.oberon_main.specs.ByLines.{faulty, starved, cut_short, at_end, cut_off, at_line}
+use Rattle.oberon_main.specs.Laws.{ScriptsAreCutOff}
+use Rattle.oberon_main.specs.Moments.{AreAnswered}
 use Rattle.oberon_main.specs.Moments.AreAnswered.{none, one_more}
-use Rattle.oberon_main.proofs.Played.{all_both, after_both}
+use Rattle.oberon_main.proofs.Lines.{all_both, after_both, begins_all, begins_came}
+use Rattle.oberon_main.proofs.Runs.{run_session, run_size}
 use Rattle.oberon_main.proofs.Surviving.{lines_steps, lasting_means}
-use Rattle.oberon_main.proofs.ByLines.{begins_all, begins_came, run_session, run_size}
 
 -- ---- the same meaning in other words
 
@@ -78,24 +80,18 @@ module _ {D : Type 0} (d : Ghosts D) where
       moments = leaves;
     }
 
-    tail_at : (why : PlayEnd) (left : Option (List ℕ)) → Lasts d mid → ScriptStops d why from left answered mid new
-        → IsTail from answered mid new
-    tail_at Done left lasts stops = nothing_begun lasts stops.0 (begins_all from answered stops.1)
-    tail_at Fault left lasts stops = line_begun stops.line stops.follows stops.leaves
-    tail_at Memory left lasts stops = line_begun stops.line stops.follows
-        (weakened stops.leaves (λ c means. inl means))
-    tail_at Input left lasts stops = nothing_begun lasts stops.0 (begins_came from left answered stops.1)
-    tail_at Output left lasts stops = absurd stops
-
-    tail_of : (end : PlayEnd) (left held held' : Option (List ℕ)) (failed failed' : ℕ) → Lasts d mid
-        → EndsSaid d end from left answered mid new failed failed' held held' → IsTail from answered mid new
-    tail_of Done left held held' failed failed' lasts ends = tail_at Done left lasts ends.0
-    tail_of Fault left held held' failed failed' lasts ends = tail_at Fault left lasts ends.0
-    tail_of Memory left held held' failed failed' lasts ends = tail_at Memory left lasts ends.0
-    tail_of Input left held held' failed failed' lasts ends = tail_at Input left lasts ends.0
-    tail_of Output left held held' failed failed' lasts (inl cut) =
-        line_begun cut.0.line cut.0.follows cut.0.serves.any_moment
-    tail_of Output left held held' failed failed' lasts (inr unsaid) = tail_at unsaid.why left lasts unsaid.stops
+  tail_of : (from : Option (List ℕ)) (answered : List (List ℕ)) (mid new : PlayState D) {why : PlayEnd}
+      → Lasts d mid.store → ScriptStops d from answered mid new why → IsTail from answered mid.store new.store
+  tail_of from answered mid new lasts (at_end silent are) =
+      nothing_begun from answered mid.store new.store lasts silent.store (begins_all from answered are)
+  tail_of from answered mid new lasts (cut_off silent came) =
+      nothing_begun from answered mid.store new.store lasts silent.store (begins_came from new.left answered came)
+  tail_of from answered mid new lasts (at_line line follows (faulty silent leaves)) =
+      line_begun from answered mid.store new.store line follows leaves
+  tail_of from answered mid new lasts (at_line line follows (starved silent leaves)) =
+      line_begun from answered mid.store new.store line follows (weakened leaves (λ c means. inl means))
+  tail_of from answered mid new lasts (at_line line follows (cut_short serves front)) =
+      line_begun from answered mid.store new.store line follows serves.any_moment
 
   -- ---- the lines before it
 
@@ -154,33 +150,35 @@ module _ {D : Type 0} (d : Ghosts D) where
 
   -- ---- a script
 
-  pub leaves_lines : (end : PlayEnd) (from left held held' : Option (List ℕ)) (old new : StoreView D)
-      → PlaysByLines d end from left held held' old new → LeavesLines d from old new
-  leaves_lines end from left held held' old new played =
-      let mid : StoreView D = played.mid in
+  pub scripts_cut : ScriptsAreCutOff d
+  scripts_cut why end before new played =
+      let old : StoreView D = before.store in
+      let mid : StoreView D = played.lines.mid.store in
+      let answered : List (List ℕ) = played.lines.answered in
+      let run : IsLineRun d answered old mid = played.lines.run in
       let s : Session = session_of old in
-      let trail : Trail = d.trail new.disk in
-      let session : session_of mid ≡ after_all s played.answered = run_session d played.answered old mid played.run in
-      let as_large : d.size mid.disk ≡ d.size old.disk = run_size d played.answered old mid played.run in
-      let tail : IsTail from played.answered mid new = tail_of from played.answered mid new end left played.held_mid
-      held' (d.failures old.disk) (d.failures new.disk) (run_lasts played.answered old mid played.lasts played.run)
-      played.ends in
+      let trail : Trail = d.trail new.store.disk in
+      let session : session_of mid ≡ after_all s answered = run_session d answered old mid run in
+      let as_large : d.size mid.disk ≡ d.size old.disk = run_size d answered old mid run in
+      let tail : IsTail before.left answered mid new.store = tail_of before.left answered played.lines.mid
+      (play_state new.left played.held_mid new.store) (run_lasts answered old mid played.lines.lasts run)
+      played.lines.stops in
       let on : GoesOn trail mid = record { later = tail.moments.later; kept = tail.moments.kept } in
       record {
-        answered = played.answered;
+        answered = answered;
         begun = tail.begun;
         one = tail.one;
-        plain = all_both played.answered tail.begun played.plain tail.plain;
+        plain = all_both answered tail.begun played.lines.plain tail.plain;
         begins = tail.begins;
-        past = (run_goes_on trail played.answered old mid played.run on).kept;
+        past = (run_goes_on trail answered old mid run on).kept;
         last = (d.trail mid.disk).clock;
-        each = all_answered trail (d.size old.disk) s (d.trail old.disk).clock [] played.answered old mid none refl
-            refl played.run on;
+        each = all_answered trail (d.size old.disk) s (d.trail old.disk).clock [] answered old mid none refl
+            refl run on;
         later = tail.moments.later;
         rest = λ t above below c image. moved_either (d.size mid.disk) (d.size old.disk) mid.desktop
-            (after_all (session_of mid) tail.begun).desktop (led_to s played.answered)
-            (led_to s (played.answered ++ tail.begun)) c (sym as_large)
-            (led_here s (session_of mid) played.answered session)
-            (led_on s (session_of mid) played.answered tail.begun session)
+            (after_all (session_of mid) tail.begun).desktop (led_to s answered)
+            (led_to s (answered ++ tail.begun)) c (sym as_large)
+            (led_here s (session_of mid) answered session)
+            (led_on s (session_of mid) answered tail.begun session)
             (tail.moments.each t above below c image);
       }

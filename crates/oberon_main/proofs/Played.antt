@@ -1,578 +1,298 @@
 -- Playing the lines of a script, one after another.
-use Rattle.std.proofs.Common.{◌≡◌, ◌≢◌, ℕ, List, [], ◌∷◌, ◌++◌, Option, None, Some, IfSome, ◌+◌, ◌≤◌, Result, Err}
-use Rattle.std.proofs.Common.{length, length-append, arith, refl, sym, ap, ◌∙◌, subst, append_assoc, append-nil, ◌⊎◌}
-use Rattle.std.proofs.Common.{inl, inr}
+use Rattle.std.proofs.Common.{◌≡◌, ◌≢◌, ℕ, List, [], ◌∷◌, ◌++◌, Option, None, Some, IfSome, ◌+◌, ◌≤◌}
+use Rattle.std.proofs.Common.{length, length-append, arith, refl, sym, ap, ◌∙◌, subst, inl, inr}
 use Rattle.std.specs.List.{AllByRecursion, flat_map}
 use Rattle.std.specs.Io.KnownBytes.{Appends, Consumes, Keeps, IsAtEnd}
 use Rattle.std.proofs.KnownBytes.{Consumes-nil, Consumes-trans, Appends-nil, Appends-trans, Appends-kept}
-use Rattle.std.proofs.lemmas.List.Concat.{flat_map-append}
-use Rattle.sector_disk.specs.Faults.{FailsAs, OneOf}
-use Rattle.oberon_main.specs.declared.playing.PlayEnd.{PlayEnd}
-use Rattle.oberon_main.specs.declared.playing.PlayEnd.TheVariants.{Done, Fault, Memory, Input, Output}
-use Rattle.script_lines.specs.declared.request.Request.TheVariants.{Malformed}
+use Rattle.sector_disk.specs.declared.disk.Disk.{Ghosts}
+use Rattle.sector_disk.specs.Trail.{LeavesOnly}
+use Rattle.store_layout.specs.Meaning.{MeansEither}
+use Rattle.screen_cells.specs.Sent.{AppendsFront}
+use Rattle.desk_journal.specs.Session.{Session, session_of}
+use Rattle.desk_journal.specs.View.{StoreView, IsDurable}
 use Rattle.script_lines.specs.declared.line.Line.{Line}
+use Rattle.script_lines.specs.declared.request.Request.{Request}
+use Rattle.script_lines.specs.declared.request.Request.TheVariants.{Malformed}
 use Rattle.script_lines.specs.Script.{script_line, IsLine, IsSplit, lines_at_end, BeginsWith}
 use Rattle.script_lines.specs.Reading.{HoldsLine, Unplayed, TakesLine, TakesRest, ComesInPieces, most_bytes}
 use Rattle.script_lines.specs.Request.{request_of}
-use Rattle.screen_cells.specs.Sent.{AppendsFront}
-use Rattle.desk_journal.specs.Session.{Session}
-use Rattle.oberon_main.specs.Answers.{answer, session_after, answers_to, after_all}
-use Rattle.oberon_main.specs.Play.{IsPlayed, IsStopped, IsCutOff, TextOf, IsEndTold, IsHalted, EndsAs, CountsEnd}
-use Rattle.oberon_main.specs.Play.{CountsPlay, last_word, IsRequestAnswered, LineEndsAs}
-use Rattle.oberon_main.specs.Play.{RestEndsAs}
-use Rattle.script_lines.proofs.Splitting.{some_split}
+use Rattle.oberon_main.specs.declared.playing.PlayEnd.{PlayEnd}
+use Rattle.oberon_main.specs.declared.playing.PlayEnd.TheVariants.{Done, Memory, Input, Output}
+use Rattle.oberon_main.specs.Answers.{answer, session_after, answers_to}
+use Rattle.oberon_main.specs.Play.{PlayState, play_state, last_word}
+use Rattle.oberon_main.specs.Surviving.{LeavesFirst, Withstands, SparesRequest}
+use Rattle.oberon_main.specs.Worked.{IsWorkEnd}
+use Rattle.oberon_main.specs.ByLines.{AreLines, CameWhole, IsUnanswered, LeavesLine, ServesLine, AnswersLine}
+use Rattle.oberon_main.specs.ByLines.{EndsAt, EndsInRest, IsLineRun, ScriptStops, PlaysLines, PlaysByLines}
+use Rattle.oberon_main.specs.ByLines.{faulty, starved, no_line, answered, ended, at_end, cut_off, at_line, said, unsaid}
+use Rattle.oberon_main.proofs.Lines.{all_both, out_both, out_one, last_line, lines_then, plain_rest, begins_read}
+use Rattle.oberon_main.proofs.Lines.{begins_rest, split_rest, parts_more, all_read}
+use Rattle.oberon_main.proofs.Runs.{run_session, run_more, run_both, answers_more}
 
--- ---- lists of lines
+pub keeps_same : (held : Option (List ℕ)) → Keeps held held
+keeps_same None = tt
+keeps_same (Some bytes) = refl
 
-pub all_both : (lines more : List (List ℕ)) → AllByRecursion IsLine lines → AllByRecursion IsLine more
-    → AllByRecursion IsLine (lines ++ more)
-all_both [] more p q = q
-all_both (line ∷ lines) more p q = (p.0, all_both lines more p.1 q)
+module _ {D : Type 0} (d : Ghosts D) where
+  -- ---- one line
 
-pub out_both : (s : Session) (lines more : List (List ℕ)) → answers_to s (lines ++ more) ≡ answers_to s lines
-    ++ answers_to (after_all s lines) more
-out_both s [] more = refl
-out_both s (line ∷ lines) more = ap (λ l. answer s (request_of line) ++ l)
-    (out_both (session_after s (request_of line)) lines more)
-    ∙ sym (append_assoc (answer s (request_of line)) (answers_to (session_after s (request_of line)) lines)
-    (answers_to (after_all (session_after s (request_of line)) lines) more))
+  left_in : (end : PlayEnd) (line : List ℕ) (held held' : Option (List ℕ)) (old new : StoreView D) → IsWorkEnd end
+      → IsUnanswered line held held' → LeavesLine d line old new → (end ≡ Memory → LeavesFirst d old new)
+      → EndsAt d line held held' old new end
+  left_in end line held held' old new (inl is) none either spared =
+      subst (λ e. EndsAt d line held held' old new e) (sym is) (faulty none either)
+  left_in end line held held' old new (inr is) none either spared =
+      subst (λ e. EndsAt d line held held' old new e) (sym is) (starved none (spared is))
 
-pub after_both : (s : Session) (lines more : List (List ℕ))
-    → after_all s (lines ++ more) ≡ after_all (after_all s lines) more
-after_both s [] more = refl
-after_both s (line ∷ lines) more = after_both (session_after s (request_of line)) lines more
+  -- what a request leaves, for the line that asks it
+  pub moments_of : (held : Line) (request : Request) (old new : StoreView D)
+      → ((line : List ℕ) → HoldsLine held line → request ≡ request_of line) → Withstands d request old new
+      → IsDurable d old → d.honest old.disk → (line : List ℕ) → HoldsLine held line → LeavesLine d line old new
+  moments_of held request old new asked withstands durable honest line holds =
+      subst (λ r. LeavesOnly (d.trail old.disk) (d.trail new.disk)
+      (MeansEither (d.size old.disk) old.desktop (session_after (session_of old) r).desktop)) (asked line holds)
+      (withstands.any_moment durable honest)
 
-pub out_one : (s : Session) (line : List ℕ) → answers_to s (line ∷ []) ≡ answer s (request_of line)
-out_one s line = append-nil (answer s (request_of line))
+  pub line_ended : (line : Line) (request : Request) (end : PlayEnd) (held : Option (List ℕ)) (old new : StoreView D)
+      → ((bytes : List ℕ) → HoldsLine line bytes → request ≡ request_of bytes) → IsWorkEnd end
+      → (request ≡ Malformed → ⊥) → Withstands d request old new → (end ≡ Memory → SparesRequest d old new)
+      → IsDurable d old → d.honest old.disk → (bytes : List ℕ) → HoldsLine line bytes
+      → EndsAt d bytes held held old new end
+  line_ended line request end held old new asked named plain withstands spared durable honest bytes holds =
+      left_in end bytes held held old new named
+      (record { asked = λ is. plain (asked bytes holds ∙ is); kept = keeps_same held })
+      (moments_of line request old new asked withstands durable honest bytes holds)
+      (λ is. spared is durable honest)
 
-lines_both : (lines more : List (List ℕ)) (rest : List ℕ) → lines_at_end (lines ++ more) rest ≡ lines
-    ++ lines_at_end more rest
-lines_both lines more [] = refl
-lines_both lines more (b ∷ bs) = append_assoc lines more ((b ∷ bs) ∷ [])
+  pub line_served : (line : Line) (request : Request) (old new : StoreView D)
+      → ((bytes : List ℕ) → HoldsLine line bytes → request ≡ request_of bytes)
+      → (d.honest old.disk → session_of new ≡ session_after (session_of old) request)
+      → IsDurable d new → (d.honest old.disk → d.honest new.disk) → Withstands d request old new
+      → IsDurable d old → d.honest old.disk → (bytes : List ℕ) → HoldsLine line bytes → ServesLine d bytes old new
+  line_served line request old new asked session lasting still withstands durable honest bytes holds = record {
+    any_moment = moments_of line request old new asked withstands durable honest bytes holds;
+    session = session honest ∙ ap (session_after (session_of old)) (asked bytes holds);
+    lasts = lasting (still honest);
+    as_large = withstands.as_large;
+  }
 
-pub lines_then : (lines : List (List ℕ)) (rest : List ℕ) → lines_at_end lines rest ≡ lines ++ lines_at_end [] rest
-lines_then lines [] = sym (append-nil lines)
-lines_then lines (b ∷ bs) = refl
+  -- ---- the loop
 
-pub last_line : (rest : List ℕ) → rest ≢ [] → lines_at_end [] rest ≡ rest ∷ []
-last_line [] there = absurd (there refl)
-last_line (b ∷ bs) there = refl
+  -- The lines that came so far were answered; what stands in no line yet is pending.
+  pub record HasPlayed (old now : StoreView D) (left left' held held' : Option (List ℕ)) (most : ℕ)
+      (unplayed : Unplayed) : Type 0 where
+    pub lines : List (List ℕ)
+    pub read : List ℕ
+    pub came : Consumes left left' read
+    pub few : length read + most_bytes unplayed.reads ≤ most_bytes most
+    pub each : AllByRecursion IsLine lines
+    pub parts : read ≡ flat_map script_line lines ++ unplayed.pending
+    pub run : d.honest old.disk → IsLineRun d lines old now
+    pub written : d.honest old.disk → Appends held held' (answers_to (session_of old) lines)
 
--- ---- what was read is a prefix of the script
+  pub played_none : (store : StoreView D) (left held : Option (List ℕ)) (most : ℕ) (u : Unplayed)
+      → u.pending ≡ [] → u.reads ≡ most → HasPlayed store store left left held held most u
+  played_none store left held most u none reads = record {
+    lines = [];
+    read = [];
+    came = Consumes-nil left;
+    few = omega (arith, reads);
+    each = tt;
+    parts = sym none;
+    run = λ _. refl;
+    written = λ _. Appends-nil held;
+  }
 
-begins_split : (script pending : List ℕ) (lines : List (List ℕ)) → AllByRecursion IsLine lines
-    → script ≡ flat_map script_line lines ++ pending
-    → ((more : List (List ℕ)) × (rest : List ℕ) × IsSplit pending more rest) → BeginsWith script lines
-begins_split script pending lines each whole (more, rest, split) = record {
-  ends = lines ++ more;
-  rest = rest;
-  split = record {
-    whole = whole ∙ ap (λ l. flat_map script_line lines ++ l) split.whole
-        ∙ sym (append_assoc (flat_map script_line lines) (flat_map script_line more) rest)
-        ∙ ap (λ l. l ++ rest) (sym (flat_map-append script_line lines more));
-    each = all_both lines more each split.each;
-    last = split.last;
-  };
-  more = lines_at_end more rest;
-  first = lines_both lines more rest;
-}
+  few_both : (read read' all old new most : ℕ) → all ≡ read + read' → read + old ≤ most → read' + new ≤ old
+      → all + new ≤ most
+  few_both read read' all old new most is before now = omega (arith, is, before, now)
 
-pub begins_read : (script : List ℕ) (left : Option (List ℕ)) (read pending : List ℕ) (lines : List (List ℕ))
-    → Consumes (Some script) left read
-    → AllByRecursion IsLine lines → read ≡ flat_map script_line lines ++ pending → BeginsWith script lines
-begins_read script None read pending lines came each parts = absurd came
-begins_read script (Some left) read pending lines came each parts =
-    begins_split script (pending ++ left) lines each (came ∙ ap (λ l. l ++ left) parts
-    ∙ append_assoc (flat_map script_line lines) pending left) (some_split (pending ++ left))
-
-all_read : (script : List ℕ) (left : Option (List ℕ)) (read : List ℕ) → Consumes (Some script) left read
-    → IsAtEnd left → script ≡ read
-all_read script None read came end = absurd came
-all_read script (Some left) read came end = came ∙ ap (λ l. read ++ l) end ∙ append-nil read
-
--- ---- the loop
-
--- The lines that came so far were answered, and more is known of them; what stands in no line yet is pending.
-pub record HasPlayed (Honest : Type 0) (Known : List (List ℕ) → Type 0) (before now : Session)
-    (left left' held held' : Option (List ℕ)) (most : ℕ) (unplayed : Unplayed) : Type 0 where
-  pub lines : List (List ℕ)
-  pub read : List ℕ
-  pub came : Consumes left left' read
-  pub few : length read + most_bytes unplayed.reads ≤ most_bytes most
-  pub each : AllByRecursion IsLine lines
-  pub parts : read ≡ flat_map script_line lines ++ unplayed.pending
-  pub written : Honest → Appends held held' (answers_to before lines)
-  pub session : Honest → now ≡ after_all before lines
-  pub known : Known lines
-
-pub played_none : (Honest : Type 0) {Known : List (List ℕ) → Type 0} (s : Session) (left held : Option (List ℕ))
-    (most : ℕ) (u : Unplayed)
-    → u.pending ≡ [] → u.reads ≡ most → Known []
-    → HasPlayed Honest Known s s left left held held most u
-played_none Honest s left held most u none reads known = record {
-  lines = [];
-  read = [];
-  came = Consumes-nil left;
-  few = omega (arith, reads);
-  each = tt;
-  parts = sym none;
-  written = λ _. Appends-nil held;
-  session = λ _. refl;
-  known = known;
-}
-
--- what came with one line more
-parts_more : (read read' pending pending' line : List ℕ) (lines : List (List ℕ)) → read ≡ flat_map script_line lines
-    ++ pending → pending ++ read' ≡ script_line line ++ pending'
-    → read ++ read' ≡ flat_map script_line (lines ++ line ∷ []) ++ pending'
-parts_more read read' pending pending' line lines before now =
-    ap (λ l. l ++ read') before ∙ append_assoc (flat_map script_line lines) pending read'
-    ∙ ap (λ l. flat_map script_line lines ++ l) now
-    ∙ sym (append_assoc (flat_map script_line lines) (script_line line) pending')
-    ∙ ap (λ l. l ++ pending') (ap (λ l. flat_map script_line lines ++ l) (sym (append-nil (script_line line)))
-    ∙ sym (flat_map-append script_line lines (line ∷ [])))
-
-few_both : (read read' all old new most : ℕ) → all ≡ read + read' → read + old ≤ most → read' + new ≤ old
-    → all + new ≤ most
-few_both read read' all old new most is before now = omega (arith, is, before, now)
-
-pub played_more : (Honest : Type 0) {Known Next : List (List ℕ) → Type 0} (before now now' : Session)
-    (left left' left'' held held' held'' : Option (List ℕ)) (most : ℕ) (old new : Unplayed) (line : Line)
-    → (so_far : HasPlayed Honest Known before now left left' held held' most old)
-    → (taken : TakesLine old new left' left'' line)
-    → (Honest → (bytes : List ℕ) → HoldsLine line bytes → IsRequestAnswered (request_of bytes) now now' held' held'')
-    → Next (so_far.lines ++ taken.line ∷ [])
-    → HasPlayed Honest Next before now' left left'' held held'' most new
-played_more Honest before now now' left left' left'' held held' held'' most old new line so_far taken answered next =
-    record {
-      lines = so_far.lines ++ taken.line ∷ [];
-      read = so_far.read ++ taken.read;
-      came = Consumes-trans left left' left'' so_far.read taken.read so_far.came taken.came;
-      few = few_both (length so_far.read) (length taken.read) _ (most_bytes old.reads) (most_bytes new.reads)
-          (most_bytes most) (length-append so_far.read taken.read) so_far.few taken.few;
-      each = all_both so_far.lines (taken.line ∷ []) so_far.each (taken.plain, tt);
-      parts = parts_more so_far.read taken.read old.pending new.pending taken.line so_far.lines so_far.parts
-          taken.parts;
-      written = λ honest.
-          let one : IsRequestAnswered (request_of taken.line) now now' held' held'' = answered honest taken.line taken.holds in
-          let same : answer now (request_of taken.line) ≡ answers_to (after_all before so_far.lines) (taken.line ∷ [])
-          = ap (λ (s : Session). answer s (request_of taken.line)) (so_far.session honest)
-          ∙ sym (out_one (after_all before so_far.lines) taken.line) in
-          subst (Appends held held'') (ap (λ l. answers_to before so_far.lines ++ l) same
-          ∙ sym (out_both before so_far.lines (taken.line ∷ [])))
-          (Appends-trans held held' held'' (answers_to before so_far.lines) (answer now (request_of taken.line))
-          (so_far.written honest) one.written);
-      session = λ honest.
-          let one : IsRequestAnswered (request_of taken.line) now now' held' held'' = answered honest taken.line taken.holds in
-          one.session ∙ ap (λ (s : Session). session_after s (request_of taken.line)) (so_far.session honest)
-          ∙ sym (after_both before so_far.lines (taken.line ∷ []));
-      known = next;
-    }
-
--- ---- in how many pieces the script came
-
-pub pieces_with : {Honest : Type 0} {Known : List (List ℕ) → Type 0} {before now : Session}
-    {left left' held held' : Option (List ℕ)} {most : ℕ} {u : Unplayed} (left'' : Option (List ℕ))
-    (read : List ℕ) (more : ℕ) → HasPlayed Honest Known before now left left' held held' most u → Consumes left' left'' read
-    → length read + more ≤ most_bytes u.reads → ComesInPieces most left left''
-pieces_with {left = left} {left' = left'} {most = most} {u = u} left'' read more so_far came few = record {
-  read = so_far.read ++ read;
-  came = Consumes-trans left left' left'' so_far.read read so_far.came came;
-  few = at_most (length so_far.read) (length read) _ (most_bytes u.reads) more (most_bytes most)
-      (length-append so_far.read read) so_far.few few;
-} where
-  at_most : (read read' all old new most : ℕ) → all ≡ read + read' → read + old ≤ most → read' + new ≤ old → all ≤ most
-  at_most read read' all old new most is before now = omega (arith, is, before, now)
-
--- ---- how failures are counted
-
--- an end as the call of one line returned it
-pub counts_of_line : (end : PlayEnd) (line : Result Unit PlayEnd) (named : PlayEnd → Type 0) (failed failed' : ℕ)
-    → line ≡ Err end → FailsAs Fault named line failed failed'
-    → CountsEnd end failed failed'
-counts_of_line Done line named failed failed' is counts = counts.calm (λ wrong. cc)
-counts_of_line Fault line named failed failed' is counts = counts.rose is
-counts_of_line Memory line named failed failed' is counts = counts.calm (λ wrong. cc)
-counts_of_line Input line named failed failed' is counts = counts.calm (λ wrong. cc)
-counts_of_line Output line named failed failed' is counts = counts.calm (λ wrong. cc)
-
--- what a line ends by isn't an end at which the store can be used on
-pub only_failures : (end : PlayEnd) → OneOf (Fault ∷ Memory ∷ Output ∷ []) end → (end ≡ Done) ⊎ (end ≡ Input) → ⊥
-only_failures Done (inl is) ends = cc
-only_failures Done (inr (inl is)) ends = cc
-only_failures Done (inr (inr is)) ends = cc
-only_failures Fault named (inl is) = cc
-only_failures Fault named (inr is) = cc
-only_failures Memory named (inl is) = cc
-only_failures Memory named (inr is) = cc
-only_failures Input (inl is) ends = cc
-only_failures Input (inr (inl is)) ends = cc
-only_failures Input (inr (inr is)) ends = cc
-only_failures Output named (inl is) = cc
-only_failures Output named (inr is) = cc
-
--- from a count that was equal to the one before it
-pub counts_from : (end : PlayEnd) (first failed failed' : ℕ) → failed ≡ first → CountsEnd end failed failed'
-    → CountsEnd end first failed'
-counts_from end first failed failed' same counts = subst (λ n. CountsEnd end n failed') same counts
-
-pub counts_played : (end : PlayEnd) (failed failed' : ℕ) → CountsEnd end failed failed' → CountsPlay end failed failed'
-counts_played Done failed failed' counts = counts
-counts_played Fault failed failed' counts = counts
-counts_played Memory failed failed' counts = counts
-counts_played Input failed failed' counts = counts
-counts_played Output failed failed' counts = omega (arith, counts)
-
-pub counts_halted : (end : PlayEnd) (failed failed' : ℕ) → CountsEnd end failed failed'
-    → CountsPlay Output failed failed'
-counts_halted Done failed failed' counts = omega (arith, counts)
-counts_halted Fault failed failed' counts = omega (arith, counts)
-counts_halted Memory failed failed' counts = omega (arith, counts)
-counts_halted Input failed failed' counts = omega (arith, counts)
-counts_halted Output failed failed' counts = omega (arith, counts)
-
--- ---- a line that wasn't answered
-
-stopped_at : (end : PlayEnd) (script : List ℕ) (before : Session) (held held' held'' : Option (List ℕ))
-    (lines : List (List ℕ)) (failed : List ℕ)
-    → BeginsWith script (lines ++ failed ∷ []) → Appends held held' (answers_to before lines)
-    → Keeps held' held'' × (request_of failed ≢ Malformed)
-    → (text : List ℕ) × IsStopped [] script before text × Appends held held'' text
-stopped_at end script before held held' held'' lines failed begins written (kept, asked) = (
-  answers_to before lines,
-  record {
-    lines = lines;
-    failed = failed;
-    asked = asked;
-    begins = begins;
-    answers = sym (append-nil (answers_to before lines));
-  },
-  Appends-kept held held' held'' (answers_to before lines) written kept,
-)
-
--- the answers to the first lines are a prefix of those to all lines
-answers_begin : (script : List ℕ) (before : Session) (lines : List (List ℕ)) (begins : BeginsWith script lines)
-    → answers_to before (lines_at_end begins.ends begins.rest) ≡ answers_to before lines ++ answers_to (after_all before lines) begins.more
-answers_begin script before lines begins = ap (λ ls. answers_to before ls) begins.first ∙ out_both before lines begins.more
-
-halted_in : (script : List ℕ) (left : Option (List ℕ)) (before now : Session) (failed failed' : ℕ)
-    (held held' held'' : Option (List ℕ)) (lines : List (List ℕ)) (line : List ℕ)
-    → BeginsWith script (lines ++ line ∷ []) → Appends held held' (answers_to before lines) → now ≡ after_all before lines
-    → failed' ≡ failed
-    → AppendsFront held' held'' (answer now (request_of line)) → IsHalted script left before failed failed' held held''
-halted_in script left before now failed failed' held held' held'' lines line begins written session calm front =
-    let same : answer now (request_of line) ≡ answers_to (after_all before lines) (line ∷ [])
-    = ap (λ (s : Session). answer s (request_of line)) session ∙ sym (out_one (after_all before lines) line) in
-    let later : List ℕ = answers_to (after_all before (lines ++ line ∷ [])) begins.more in
-    let this : answers_to before (lines ++ line ∷ []) ≡ answers_to before lines ++ (front.front ++ front.back)
-    = out_both before lines (line ∷ []) ∙ ap (λ l. answers_to before lines ++ l) (sym same ∙ front.parts) in
-    record {
-      end = Done;
-      after = after_all before (lines_at_end begins.ends begins.rest);
-      text = answers_to before (lines_at_end begins.ends begins.rest);
-      comes = record {
-        lines = begins.ends;
-        rest = begins.rest;
-        split = begins.split;
-        answers = refl;
-        session = refl;
-      };
-      counts = calm;
-      written = record {
-        front = answers_to before lines ++ front.front;
-        back = front.back ++ later;
-        parts = answers_begin script before (lines ++ line ∷ []) begins
-            ∙ ap (λ l. l ++ later) (this ∙ sym (append_assoc (answers_to before lines) front.front front.back))
-            ∙ append_assoc (answers_to before lines ++ front.front) front.back later;
-        taken = Appends-trans held held' held'' (answers_to before lines) front.front written front.taken;
-      };
-    }
-
-line_ends : (end : PlayEnd) (script : List ℕ) (left : Option (List ℕ)) (before now now' : Session)
-    (failed failed' : ℕ) (held held' held'' : Option (List ℕ)) (lines : List (List ℕ)) (line : List ℕ)
-    → BeginsWith script (lines ++ line ∷ []) → Appends held held' (answers_to before lines) → now ≡ after_all before lines
-    → CountsEnd end failed failed'
-    → LineEndsAs end (request_of line) now held' held''
-    → EndsAs end [] script left before now' failed failed' held held''
-line_ends Done script left before now now' failed failed' held held' held'' lines line begins written session counts
-    why = absurd why
-line_ends Fault script left before now now' failed failed' held held' held'' lines line begins written session counts
-    why =
-    let told = stopped_at Fault script before held held' held'' lines line begins written why in
-    record { text = told.0; comes = told.1; written = told.2 }
-line_ends Memory script left before now now' failed failed' held held' held'' lines line begins written session counts
-    why =
-    let told = stopped_at Memory script before held held' held'' lines line begins written why in
-    record { text = told.0; comes = told.1; written = told.2 }
-line_ends Input script left before now now' failed failed' held held' held'' lines line begins written session counts
-    why = absurd why
-line_ends Output script left before now now' failed failed' held held' held'' lines line begins written session counts
-    why =
-    halted_in script left before now failed failed' held held' held'' lines line begins written session counts why
-
-pub begins_with_line : {Honest : Type 0} {Known : List (List ℕ) → Type 0} {before now : Session}
-    {left' left'' held held' : Option (List ℕ)} {most : ℕ} {old new : Unplayed} {line : Line} (script : List ℕ)
-    → (so_far : HasPlayed Honest Known before now (Some script) left' held held' most old)
-    → (taken : TakesLine old new left' left'' line) → BeginsWith script (so_far.lines ++ taken.line ∷ [])
-begins_with_line {left' = left'} {left'' = left''} {old = old} {new = new} script so_far taken =
-    begins_read script left'' (so_far.read ++ taken.read) new.pending (so_far.lines ++ taken.line ∷ [])
-    (Consumes-trans (Some script) left' left'' so_far.read taken.read so_far.came taken.came)
-    (all_both so_far.lines (taken.line ∷ []) so_far.each (taken.plain, tt))
-    (parts_more so_far.read taken.read old.pending new.pending taken.line so_far.lines so_far.parts taken.parts)
-
-pub stopped_in_line : (Honest : Type 0) {Known : List (List ℕ) → Type 0} (end : PlayEnd)
-    (before now now' : Session) (failed failed' : ℕ)
-    (left left' left'' held held' held'' : Option (List ℕ)) (most : ℕ) (old new : Unplayed) (line : Line)
-    → HasPlayed Honest Known before now left left' held held' most old → TakesLine old new left' left'' line
-    → CountsEnd end failed failed'
-    → (Honest → (bytes : List ℕ) → HoldsLine line bytes → LineEndsAs end (request_of bytes) now held' held'')
-    → Honest → IfSome left (λ script. EndsAs end [] script left'' before now' failed failed' held held'')
-stopped_in_line Honest end before now now' failed failed' None left' left'' held held' held'' most old new line so_far
-    taken counts why honest = tt
-stopped_in_line Honest end before now now' failed failed'
-    (Some script) left' left'' held held' held'' most old new line so_far taken counts why honest =
-    line_ends end script left'' before now now' failed failed' held held' held'' so_far.lines taken.line
-    (begins_with_line script so_far taken)
-    (so_far.written honest) (so_far.session honest) counts (why honest taken.line taken.holds)
-
--- ---- the end of the script
-
-pub begins_rest : (script : List ℕ) (lines : List (List ℕ)) (rest : List ℕ) → IsSplit script lines rest → rest ≢ []
-    → BeginsWith script (lines ++ rest ∷ [])
-begins_rest script lines rest split there = record {
-  ends = lines;
-  rest = rest;
-  split = split;
-  more = [];
-  first = lines_then lines rest ∙ ap (λ ls. lines ++ ls) (last_line rest there) ∙ sym (append-nil (lines ++ rest ∷ []));
-}
-
-rest_ends : (end : PlayEnd) (script : List ℕ) (left : Option (List ℕ)) (before now now' : Session)
-    (failed failed' : ℕ) (held held' held'' : Option (List ℕ)) (lines : List (List ℕ)) (rest : List ℕ)
-    → IsSplit script lines rest → Appends held held' (answers_to before lines) → now ≡ after_all before lines
-    → CountsEnd end failed failed'
-    → RestEndsAs end rest now now' held' held'' → EndsAs end [] script left before now' failed failed' held held''
-rest_ends Done script left before now now' failed failed' held held' held'' lines rest split written session counts
-    last = record {
-      text = answers_to before (lines_at_end lines rest);
-      comes = record {
-        lines = lines;
-        rest = rest;
-        split = split;
-        answers = refl;
-        session = last.session ∙ ap (λ (s : Session). after_all s (lines_at_end [] rest)) session
-            ∙ sym (after_both before lines (lines_at_end [] rest))
-            ∙ ap (λ ls. after_all before ls) (sym (lines_then lines rest));
-      };
-      written = subst (Appends held held'')
-          (ap (λ (s : Session). answers_to before lines ++ answers_to s (lines_at_end [] rest)) session
-          ∙ sym (out_both before lines (lines_at_end [] rest))
-          ∙ ap (λ ls. answers_to before ls) (sym (lines_then lines rest)))
-          (Appends-trans held held' held'' (answers_to before lines) (answers_to now (lines_at_end [] rest)) written last.written);
-    }
-rest_ends Fault script left before now now' failed failed' held held' held'' lines rest split written session counts
-    last =
-    line_ends Fault script left before now now' failed failed' held held' held'' lines rest
-    (begins_rest script lines rest split last.there) written session counts last.why
-rest_ends Memory script left before now now' failed failed' held held' held'' lines rest split written session counts
-    last =
-    line_ends Memory script left before now now' failed failed' held held' held'' lines rest
-    (begins_rest script lines rest split last.there) written session counts last.why
-rest_ends Input script left before now now' failed failed' held held' held'' lines rest split written session counts
-    last = absurd last
-rest_ends Output script left before now now' failed failed' held held' held'' lines rest split written session counts
-    last =
-    line_ends Output script left before now now' failed failed' held held' held'' lines rest
-    (begins_rest script lines rest split last.there) written session counts last.why
-
--- all that came, with a rest after the last line feed
-pub split_rest : (read read' pending rest : List ℕ) (lines : List (List ℕ)) → read ≡ flat_map script_line lines ++ pending
-    → pending ++ read' ≡ rest
-    → read ++ read' ≡ flat_map script_line lines ++ rest
-split_rest read read' pending rest lines before now = ap (λ l. l ++ read') before
-    ∙ append_assoc (flat_map script_line lines) pending read' ∙ ap (λ l. flat_map script_line lines ++ l) now
-
-pub split_with_rest : {Honest : Type 0} {Known : List (List ℕ) → Type 0} {before now : Session}
-    {left' left'' held held' : Option (List ℕ)} {most : ℕ} {old new : Unplayed} {line : Line} (script : List ℕ)
-    → (so_far : HasPlayed Honest Known before now (Some script) left' held held' most old)
-    → (taken : TakesRest old new left' left'' line) → IsAtEnd left'' → IsSplit script so_far.lines taken.rest
-split_with_rest {left' = left'} {left'' = left''} {old = old} script so_far taken at_end = record {
-  whole = all_read script left'' (so_far.read ++ taken.read)
-      (Consumes-trans (Some script) left' left'' so_far.read taken.read so_far.came taken.came) at_end
-      ∙ split_rest so_far.read taken.read old.pending taken.rest so_far.lines so_far.parts taken.parts;
-  each = so_far.each;
-  last = taken.plain;
-}
-
-pub ended_with_rest : (Honest : Type 0) {Known : List (List ℕ) → Type 0} (end : PlayEnd)
-    (before now now' : Session) (failed failed' : ℕ)
-    (left left' left'' held held' held'' : Option (List ℕ)) (most : ℕ) (old new : Unplayed) (line : Line)
-    → HasPlayed Honest Known before now left left' held held' most old → TakesRest old new left' left'' line
-    → IsAtEnd left'' → CountsEnd end failed failed'
-    → (Honest → (rest : List ℕ) → HoldsLine line rest → RestEndsAs end rest now now' held' held'')
-    → Honest → IfSome left (λ script. EndsAs end [] script left'' before now' failed failed' held held'')
-ended_with_rest Honest end before now now' failed failed' None left' left'' held held' held'' most old new line so_far
-    taken at_end counts last honest = tt
-ended_with_rest Honest end before now now' failed failed'
-    (Some script) left' left'' held held' held'' most old new line so_far taken at_end counts last honest =
-    rest_ends end script left'' before now now' failed failed' held held' held'' so_far.lines taken.rest
-    (split_with_rest script so_far taken at_end)
-    (so_far.written honest) (so_far.session honest) counts (last honest taken.rest taken.holds)
-
-pub cut_off : (Honest : Type 0) {Known : List (List ℕ) → Type 0} (before now : Session) (failed failed' : ℕ)
-    (left left' left'' held held' : Option (List ℕ)) (most : ℕ) (old new : Unplayed) (line : Line)
-    → HasPlayed Honest Known before now left left' held held' most old → TakesRest old new left' left'' line
-    → Honest → IfSome left (λ script. EndsAs Input [] script left'' before now failed failed' held held')
-cut_off Honest before now failed failed' None left' left'' held held' most old new line so_far taken honest = tt
-cut_off Honest before now failed failed' (Some script) left' left'' held held' most old new line so_far taken honest =
-    record {
-      text = answers_to before so_far.lines;
-      comes = record {
+  pub played_more : {old mid : StoreView D} {left left' left'' held held' : Option (List ℕ)} {most : ℕ}
+      {u u' : Unplayed} {line : Line} (held'' : Option (List ℕ)) (new : StoreView D)
+      → (so_far : HasPlayed old mid left left' held held' most u) → (taken : TakesLine u u' left' left'' line)
+      → (d.honest old.disk → AnswersLine d taken.line held' held'' mid new)
+      → HasPlayed old new left left'' held held'' most u'
+  played_more {old = old} {mid = mid} {left = left} {left' = left'} {left'' = left''} {held = held} {held' = held'}
+      {most = most} {u = u} {u' = u'} held'' new so_far taken answers = record {
+        lines = so_far.lines ++ taken.line ∷ [];
         read = so_far.read ++ taken.read;
-        came = Consumes-trans (Some script) left' left'' so_far.read taken.read so_far.came taken.came;
-        lines = so_far.lines;
-        rest = taken.rest;
-        split = record {
-          whole = split_rest so_far.read taken.read old.pending taken.rest so_far.lines so_far.parts taken.parts;
-          each = so_far.each;
-          last = taken.plain;
-        };
-        answers = sym (append-nil (answers_to before so_far.lines));
-        session = so_far.session honest;
-      };
-      written = so_far.written honest;
+        came = Consumes-trans left left' left'' so_far.read taken.read so_far.came taken.came;
+        few = few_both (length so_far.read) (length taken.read) _ (most_bytes u.reads) (most_bytes u'.reads)
+            (most_bytes most) (length-append so_far.read taken.read) so_far.few taken.few;
+        each = all_both so_far.lines (taken.line ∷ []) so_far.each (taken.plain, tt);
+        parts = parts_more so_far.read taken.read u.pending u'.pending taken.line so_far.lines so_far.parts taken.parts;
+        run = λ honest. run_more d so_far.lines taken.line old mid new (so_far.run honest) (answers honest).serves;
+        written = λ honest. subst (Appends held held'')
+            (answers_more d so_far.lines taken.line old mid (so_far.run honest))
+            (Appends-trans held held' held'' (answers_to (session_of old) so_far.lines)
+            (answer (session_of mid) (request_of taken.line)) (so_far.written honest) (answers honest).written);
+      }
+
+  -- ---- in how many pieces the script came
+
+  at_most : (read read' all old more most : ℕ) → all ≡ read + read' → read + old ≤ most → read' + more ≤ old
+      → all ≤ most
+  at_most read read' all old more most is before now = omega (arith, is, before, now)
+
+  pub pieces_with : {old mid : StoreView D} {left left' held held' : Option (List ℕ)} {most : ℕ} {u : Unplayed}
+      (left'' : Option (List ℕ)) (read : List ℕ) (more : ℕ) → HasPlayed old mid left left' held held' most u
+      → Consumes left' left'' read → length read + more ≤ most_bytes u.reads → ComesInPieces most left left''
+  pieces_with {left = left} {left' = left'} {most = most} {u = u} left'' read more so_far came few = record {
+    read = so_far.read ++ read;
+    came = Consumes-trans left left' left'' so_far.read read so_far.came came;
+    few = at_most (length so_far.read) (length read) _ (most_bytes u.reads) more (most_bytes most)
+        (length-append so_far.read read) so_far.few few;
+  }
+
+  -- ---- the lines of the script
+
+  module _ {old mid : StoreView D} {left' left'' held held' : Option (List ℕ)} {most : ℕ} {u u' : Unplayed}
+      {line : Line} where
+    begins_with_line : (script : List ℕ) → (so_far : HasPlayed old mid (Some script) left' held held' most u)
+        → (taken : TakesLine u u' left' left'' line) → BeginsWith script (so_far.lines ++ taken.line ∷ [])
+    begins_with_line script so_far taken =
+        begins_read script left'' (so_far.read ++ taken.read) u'.pending (so_far.lines ++ taken.line ∷ [])
+        (Consumes-trans (Some script) left' left'' so_far.read taken.read so_far.came taken.came)
+        (all_both so_far.lines (taken.line ∷ []) so_far.each (taken.plain, tt))
+        (parts_more so_far.read taken.read u.pending u'.pending taken.line so_far.lines so_far.parts taken.parts)
+
+    split_with_rest : (script : List ℕ) → (so_far : HasPlayed old mid (Some script) left' held held' most u)
+        → (taken : TakesRest u u' left' left'' line) → IsAtEnd left'' → IsSplit script so_far.lines taken.rest
+    split_with_rest script so_far taken at_its_end = record {
+      whole = all_read script left'' (so_far.read ++ taken.read)
+          (Consumes-trans (Some script) left' left'' so_far.read taken.read so_far.came taken.came) at_its_end
+          ∙ split_rest so_far.read taken.read u.pending taken.rest so_far.lines so_far.parts taken.parts;
+      each = so_far.each;
+      last = taken.plain;
     }
 
--- ---- the last word
+    begins_next : (from : Option (List ℕ)) → (so_far : HasPlayed old mid from left' held held' most u)
+        → (taken : TakesLine u u' left' left'' line)
+        → IfSome from (λ script. BeginsWith script (so_far.lines ++ taken.line ∷ []))
+    begins_next None so_far taken = tt
+    begins_next (Some script) so_far taken = begins_with_line script so_far taken
 
-stopped_with : (word script : List ℕ) (before : Session) (text : List ℕ) → IsStopped [] script before text
-    → IsStopped word script before (text ++ word)
-stopped_with word script before text stopped = record {
-  lines = stopped.lines;
-  failed = stopped.failed;
-  asked = stopped.asked;
-  begins = stopped.begins;
-  answers = ap (λ l. l ++ word) (stopped.answers ∙ append-nil (answers_to before stopped.lines));
-}
+    begins_last : (from : Option (List ℕ)) → (so_far : HasPlayed old mid from left' held held' most u)
+        → (taken : TakesRest u u' left' left'' line) → IsAtEnd left'' → taken.rest ≢ []
+        → IfSome from (λ script. BeginsWith script (so_far.lines ++ taken.rest ∷ []))
+    begins_last None so_far taken at_its_end there = tt
+    begins_last (Some script) so_far taken at_its_end there =
+        begins_rest script so_far.lines taken.rest (split_with_rest script so_far taken at_its_end) there
 
-cut_off_with : (word script : List ℕ) (left : Option (List ℕ)) (before now : Session) (text : List ℕ)
-    → IsCutOff [] script left before now text
-    → IsCutOff word script left before now (text ++ word)
-cut_off_with word script left before now text cut = record {
-  read = cut.read;
-  came = cut.came;
-  lines = cut.lines;
-  rest = cut.rest;
-  split = cut.split;
-  answers = ap (λ l. l ++ word) (cut.answers ∙ append-nil (answers_to before cut.lines));
-  session = cut.session;
-}
+    are_all : (from : Option (List ℕ)) → (so_far : HasPlayed old mid from left' held held' most u)
+        → (taken : TakesRest u u' left' left'' line) → IsAtEnd left''
+        → IfSome from (λ script. AreLines script (so_far.lines ++ lines_at_end [] taken.rest))
+    are_all None so_far taken at_its_end = tt
+    are_all (Some script) so_far taken at_its_end = record {
+      ends = so_far.lines;
+      rest = taken.rest;
+      split = split_with_rest script so_far taken at_its_end;
+      are = sym (lines_then so_far.lines taken.rest);
+    }
 
--- the text with its last word
-text_with : (end : PlayEnd) (script : List ℕ) (left : Option (List ℕ)) (before now : Session) (text : List ℕ)
-    → TextOf end [] script left before now text
-    → TextOf end (last_word end) script left before now (text ++ last_word end)
-text_with Done script left before now text comes = subst (IsPlayed script before now) (sym (append-nil text)) comes
-text_with Fault script left before now text comes = stopped_with (last_word Fault) script before text comes
-text_with Memory script left before now text comes = stopped_with (last_word Memory) script before text comes
-text_with Input script left before now text comes = cut_off_with (last_word Input) script left before now text comes
-text_with Output script left before now text comes = absurd comes
+    came_whole : (from : Option (List ℕ)) → (so_far : HasPlayed old mid from left' held held' most u)
+        → (taken : TakesRest u u' left' left'' line) → IfSome from (λ script. CameWhole script left'' so_far.lines)
+    came_whole None so_far taken = tt
+    came_whole (Some script) so_far taken = record {
+      read = so_far.read ++ taken.read;
+      came = Consumes-trans (Some script) left' left'' so_far.read taken.read so_far.came taken.came;
+      rest = taken.rest;
+      split = record {
+        whole = split_rest so_far.read taken.read u.pending taken.rest so_far.lines so_far.parts taken.parts;
+        each = so_far.each;
+        last = taken.plain;
+      };
+    }
 
-told_with : (end : PlayEnd) (script : List ℕ) (left : Option (List ℕ)) (before now : Session)
-    (held held' held'' : Option (List ℕ))
-    → IsEndTold end [] script left before now held held' → Appends held' held'' (last_word end)
-    → IsEndTold end (last_word end) script left before now held held''
-told_with end script left before now held held' held'' told said = record {
-  text = told.text ++ last_word end;
-  comes = text_with end script left before now told.text told.comes;
-  written = Appends-trans held held' held'' told.text (last_word end) told.written said;
-}
+  -- ---- how the script ends after the lines so far
 
--- The output failed in the last word.
-halted_after : (end : PlayEnd) (script : List ℕ) (left : Option (List ℕ)) (before now : Session) (failed failed' : ℕ)
-    (held held' held'' : Option (List ℕ))
-    → IsEndTold end [] script left before now held held' → CountsEnd end failed failed'
-    → AppendsFront held' held'' (last_word end)
-    → IsHalted script left before failed failed' held held''
-halted_after cause script left before now failed failed' held held' held'' told counts front = record {
-  end = cause;
-  after = now;
-  text = told.text ++ last_word cause;
-  comes = text_with cause script left before now told.text told.comes;
-  counts = counts;
-  written = record {
-    front = told.text ++ front.front;
-    back = front.back;
-    parts = ap (λ l. told.text ++ l) front.parts ∙ sym (append_assoc told.text front.front front.back);
-    taken = Appends-trans held held' held'' told.text front.front told.written front.taken;
-  };
-}
+  module _ {old mid : StoreView D} {from left' held held' : Option (List ℕ)} {most : ℕ} {u : Unplayed} where
+    stops_after : (end : PlayEnd) (left'' held'' : Option (List ℕ)) (new : StoreView D)
+        → (so_far : HasPlayed old mid from left' held held' most u) → IsDurable d old → d.honest old.disk
+        → ScriptStops d from so_far.lines (play_state left' held' mid) (play_state left'' held'' new) end
+        → PlaysLines d end (play_state from held old) (play_state left'' held'' new)
+    stops_after end left'' held'' new so_far durable honest stops = record {
+      lasts = durable honest;
+      answered = so_far.lines;
+      plain = so_far.each;
+      mid = play_state left' held' mid;
+      run = so_far.run honest;
+      written = so_far.written honest;
+      stops = stops;
+    }
 
--- The output had failed already, and nothing more was written.
-still_halted : (script : List ℕ) (left : Option (List ℕ)) (before : Session) (failed failed' : ℕ)
-    (held held' held'' : Option (List ℕ))
-    → IsHalted script left before failed failed' held held' → Appends held' held'' []
-    → IsHalted script left before failed failed' held held''
-still_halted script left before failed failed' held held' held'' halted said = record {
-  end = halted.end;
-  after = halted.after;
-  text = halted.text;
-  comes = halted.comes;
-  counts = halted.counts;
-  written = record {
-    front = halted.written.front;
-    back = halted.written.back;
-    parts = halted.written.parts;
-    taken = subst (Appends held held'') (append-nil halted.written.front)
-        (Appends-trans held held' held'' halted.written.front [] halted.written.taken said);
-  };
-}
+    module _ {left'' : Option (List ℕ)} {u' : Unplayed} {line : Line} where
+      -- at a line
+      pub ended_by_line : (end : PlayEnd) (held'' : Option (List ℕ)) (new : StoreView D)
+          → (so_far : HasPlayed old mid from left' held held' most u) → (taken : TakesLine u u' left' left'' line)
+          → IsDurable d old → d.honest old.disk → EndsAt d taken.line held' held'' mid new end
+          → PlaysLines d end (play_state from held old) (play_state left'' held'' new)
+      ended_by_line end held'' new so_far taken durable honest ends =
+          stops_after end left'' held'' new so_far durable honest
+          (at_line taken.line (record { plain = taken.plain; begins = begins_next from so_far taken }) ends)
 
-said_for : (end : PlayEnd) (script : List ℕ) (left : Option (List ℕ)) (before now : Session) (failed failed' : ℕ)
-    (held held' held'' : Option (List ℕ))
-    → EndsAs end [] script left before now failed failed' held held' → Appends held' held'' (last_word end)
-    → EndsAs end (last_word end) script left before now failed failed' held held''
-said_for Done script left before now failed failed' held held' held'' ends said =
-    told_with Done script left before now held held' held'' ends said
-said_for Fault script left before now failed failed' held held' held'' ends said =
-    told_with Fault script left before now held held' held'' ends said
-said_for Memory script left before now failed failed' held held' held'' ends said =
-    told_with Memory script left before now held held' held'' ends said
-said_for Input script left before now failed failed' held held' held'' ends said =
-    told_with Input script left before now held held' held'' ends said
-said_for Output script left before now failed failed' held held' held'' ends said =
-    still_halted script left before failed failed' held held' held'' ends said
+      -- all lines were answered, and these are the last ones
+      all_answered : (held'' : Option (List ℕ)) (new : StoreView D)
+          → (so_far : HasPlayed old mid from left' held held' most u) → (taken : TakesRest u u' left' left'' line)
+          → IsAtEnd left'' → IsDurable d old → d.honest old.disk → IsLineRun d (lines_at_end [] taken.rest) mid new
+          → Appends held' held'' (answers_to (session_of mid) (lines_at_end [] taken.rest))
+          → PlaysLines d Done (play_state from held old) (play_state left'' held'' new)
+      all_answered held'' new so_far taken at_its_end durable honest run written =
+          let more : List (List ℕ) = lines_at_end [] taken.rest in
+          let s : Session = session_of old in
+          record {
+            lasts = durable honest;
+            answered = so_far.lines ++ more;
+            plain = all_both so_far.lines more so_far.each (plain_rest taken.rest taken.plain);
+            mid = play_state left'' held'' new;
+            run = run_both d so_far.lines more old mid new (so_far.run honest) run;
+            written = subst (Appends held held'')
+                (ap (λ (t : Session). answers_to s so_far.lines ++ answers_to t more)
+                (run_session d so_far.lines old mid (so_far.run honest)) ∙ sym (out_both s so_far.lines more))
+                (Appends-trans held held' held'' (answers_to s so_far.lines) (answers_to (session_of mid) more)
+                (so_far.written honest) written);
+            stops = at_end (record { store = refl; held = keeps_same held'' }) (are_all from so_far taken at_its_end);
+          }
 
-pub said : (end : PlayEnd) (from left : Option (List ℕ)) (before now : Session) (failed failed' : ℕ)
-    (held held' held'' : Option (List ℕ))
-    → IfSome from (λ script. EndsAs end [] script left before now failed failed' held held')
-    → Appends held' held'' (last_word end)
-    → IfSome from (λ script. EndsAs end (last_word end) script left before now failed failed' held held'')
-said end None left before now failed failed' held held' held'' ends word = tt
-said end (Some script) left before now failed failed' held held' held'' ends word =
-    said_for end script left before now failed failed' held held' held'' ends word
+      -- in what stands after the last line feed
+      pub ended_by_rest : (end : PlayEnd) (held'' : Option (List ℕ)) (new : StoreView D)
+          → (so_far : HasPlayed old mid from left' held held' most u) → (taken : TakesRest u u' left' left'' line)
+          → IsAtEnd left'' → IsDurable d old → d.honest old.disk → EndsInRest d taken.rest held' held'' mid new end
+          → PlaysLines d end (play_state from held old) (play_state left'' held'' new)
+      ended_by_rest Done held'' new so_far taken at_its_end durable honest (no_line none keeps same) =
+          all_answered held'' new so_far taken at_its_end durable honest
+          (subst (λ bs. IsLineRun d (lines_at_end [] bs) mid new) (sym none) same)
+          (subst (λ bs. Appends held' held'' (answers_to (session_of mid) (lines_at_end [] bs))) (sym none)
+          (Appends-kept held' held' held'' [] (Appends-nil held') keeps))
+      ended_by_rest Done held'' new so_far taken at_its_end durable honest (answered there answers) =
+          all_answered held'' new so_far taken at_its_end durable honest
+          (subst (λ ls. IsLineRun d ls mid new) (sym (last_line taken.rest there)) (new, answers.serves, refl))
+          (subst (λ ls. Appends held' held'' (answers_to (session_of mid) ls)) (sym (last_line taken.rest there))
+          (subst (Appends held' held'') (sym (out_one (session_of mid) taken.rest)) answers.written))
+      ended_by_rest end held'' new so_far taken at_its_end durable honest (ended there ends) =
+          stops_after end left'' held'' new so_far durable honest
+          (at_line taken.rest (record {
+            plain = taken.plain;
+            begins = begins_last from so_far taken at_its_end there;
+          }) ends)
 
-unsaid_for : (end : PlayEnd) (script : List ℕ) (left : Option (List ℕ)) (before now : Session) (failed failed' : ℕ)
-    (held held' held'' : Option (List ℕ))
-    → (end ≡ Output → ⊥) → EndsAs end [] script left before now failed failed' held held'
-    → CountsEnd end failed failed' → AppendsFront held' held'' (last_word end)
-    → IsHalted script left before failed failed' held held''
-unsaid_for Done script left before now failed failed' held held' held'' output ends counts front =
-    halted_after Done script left before now failed failed' held held' held'' ends counts front
-unsaid_for Fault script left before now failed failed' held held' held'' output ends counts front =
-    halted_after Fault script left before now failed failed' held held' held'' ends counts front
-unsaid_for Memory script left before now failed failed' held held' held'' output ends counts front =
-    halted_after Memory script left before now failed failed' held held' held'' ends counts front
-unsaid_for Input script left before now failed failed' held held' held'' output ends counts front =
-    halted_after Input script left before now failed failed' held held' held'' ends counts front
-unsaid_for Output script left before now failed failed' held held' held'' output ends counts front = absurd
-    (output refl)
+      -- a read failed
+      pub ended_by_read : (so_far : HasPlayed old mid from left' held held' most u)
+          → (taken : TakesRest u u' left' left'' line) → IsDurable d old → d.honest old.disk
+          → PlaysLines d Input (play_state from held old) (play_state left'' held' mid)
+      ended_by_read so_far taken durable honest = stops_after Input left'' held' mid so_far durable honest
+          (cut_off (record { store = refl; held = keeps_same held' }) (came_whole from so_far taken))
 
-pub unsaid : (end : PlayEnd) (from left : Option (List ℕ)) (before now : Session) (failed failed' : ℕ)
-    (held held' held'' : Option (List ℕ)) → (end ≡ Output → ⊥)
-    → IfSome from (λ script. EndsAs end [] script left before now failed failed' held held')
-    → CountsEnd end failed failed' → AppendsFront held' held'' (last_word end)
-    → IfSome from (λ script. EndsAs Output (last_word Output) script left before now failed failed' held held'')
-unsaid end None left before now failed failed' held held' held'' output ends counts front = tt
-unsaid end (Some script) left before now failed failed' held held' held'' output ends counts front =
-    unsaid_for end script left before now failed failed' held held' held'' output ends counts front
+  -- ---- the last word
+
+  pub said_by_lines : (end : PlayEnd) (old : PlayState D) (left held held' : Option (List ℕ)) (new : StoreView D)
+      → PlaysLines d end old (play_state left held new) → Appends held held' (last_word end)
+      → PlaysByLines d end end old (play_state left held' new)
+  said_by_lines end old left held held' new lines word =
+      record { held_mid = held; lines = lines; word = said word }
+
+  pub unsaid_by_lines : (why : PlayEnd) (old : PlayState D) (left held held' : Option (List ℕ)) (new : StoreView D)
+      → why ≢ Done → why ≢ Output → PlaysLines d why old (play_state left held new)
+      → AppendsFront held held' (last_word why) → PlaysByLines d why Output old (play_state left held' new)
+  unsaid_by_lines why old left held held' new early output lines front =
+      record { held_mid = held; lines = lines; word = unsaid early output front }

@@ -1,17 +1,15 @@
 -- What a crash leaves of lines that are served, one after another, in events.
-use Rattle.std.proofs.Common.{◌≡◌, inl, inr, ℕ, ◌+◌, ◌≤◌, Bool, true, false, List, [], ◌∷◌, ◌++◌, length, take}
-use Rattle.std.proofs.Common.{refl, sym, ◌∙◌, ap, subst, arith, append_assoc, append-nil}
+use Rattle.std.proofs.Common.{◌≡◌, inl, inr, ℕ, ◌+◌, Bool, true, false, List, [], ◌∷◌, ◌++◌}
+use Rattle.std.proofs.Common.{refl, sym, ◌∙◌, ap, subst, append_assoc, append-nil}
 use Rattle.std.specs.Prelude.{if◌then◌else◌}
 use Rattle.std.proofs.lemmas.Bool.{cond-true, cond-false}
 use Rattle.sector_disk.specs.declared.disk.Disk.{Ghosts}
 use Rattle.sector_disk.specs.Trail.{Content, now, Leaves, LeavesOnly}
 use Rattle.sector_disk.proofs.Touching.{weakened, chained, at_last}
 use Rattle.event_bytes.specs.declared.event.Event.{Event}
-use Rattle.desktop_definitions.specs.Desktop.{Desktop}
 use Rattle.desktop_definitions.specs.Step.{step, steps}
 use Rattle.store_layout.proofs.Bits.{true_or_false}
 use Rattle.store_layout.specs.Meaning.{Means, MeansEither}
-use Rattle.store_layout.specs.declared.layout.TheConstants.{JOURNAL_EVENTS}
 use Rattle.desk_journal.specs.Checkpointing.{LeavesDesktop}
 use Rattle.desk_journal.specs.Device.{IsOnlyRead, IsSameDevice}
 use Rattle.desk_journal.specs.Posting.{LeavesEither, IsDueBefore, TurnsAway, IsLast}

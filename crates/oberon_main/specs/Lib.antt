@@ -4,6 +4,8 @@ pub mod Worked
 pub mod Surviving
 pub mod Moments
 pub mod ByLines
+pub mod Told
 pub mod Report
 pub mod Promised
+pub mod Laws
 pub mod Files

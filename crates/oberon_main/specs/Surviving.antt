@@ -17,7 +17,7 @@ use Rattle.script_lines.specs.Request.{request_of}
 use Rattle.desk_journal.specs.Session.{Session, is_worn}
 use Rattle.oberon_main.specs.Answers.{session_after, answers_to, after_all}
 use Rattle.desk_journal.specs.Session.{session_of}
-use Rattle.oberon_main.specs.Play.{last_word}
+use Rattle.oberon_main.specs.Play.{PlayState, last_word}
 
 -- ---- the events of lines
 
@@ -85,12 +85,11 @@ HasTakenAnswers held held' answers = (end : PlayEnd) × AppendsFront held held' 
 -- At every moment each image that a crash may leave means the desktop after a prefix of the events that the lines of
 -- the script post and that are accepted. At the end this prefix holds each event whose answer was worked out, and so
 -- each whose answer was written, in whole or in part.
-pub record ScriptSurvives {D : Type 0} (d : Ghosts D) (script : List ℕ) (held held' : Option (List ℕ))
-    (old new : StoreView D) : Type 0 where
+pub record ScriptSurvives {D : Type 0} (d : Ghosts D) (script : List ℕ) (old new : PlayState D) : Type 0 where
   -- the first lines of the script, whose answers were worked out
   pub answered : List (List ℕ)
   pub begins : BeginsWith script answered
   -- what was written of their answers
-  pub written : HasTakenAnswers held held' (answers_to (session_of old) answered)
+  pub written : HasTakenAnswers old.held new.held (answers_to (session_of old.store) answered)
   -- the desktop after a prefix of the events of all its lines, which at last holds those of the lines answered
-  pub kept : KeepsAnswered d answered (lines_at_end begins.ends begins.rest) old new
+  pub kept : KeepsAnswered d answered (lines_at_end begins.ends begins.rest) old.store new.store

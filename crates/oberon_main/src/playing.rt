@@ -1,17 +1,15 @@
 //! Playing a script over a store.
-ghost use Rattle.std.specs.Prelude.{◌≡◌, ◌+◌, ◌≤◌, ◌↔◌, ℕ, List, [], ◌∷◌, false, OnOk, IsOk};
+ghost use Rattle.std.specs.Prelude.{◌≡◌, ◌⊎◌, ◌↔◌, ℕ, List, [], ◌∷◌, false, OnOk, IsOk, IsErrOf};
 ghost use Rattle.sector_disk.specs.Faults.{FailsAs, OneOf};
 ghost use Rattle.screen_cells.specs.Sent.{Sends};
 ghost use Rattle.oberon_main.specs.declared.playing.PlayEnd.TheVariants as ends;
-ghost use Rattle.script_lines.specs.Reading.{HoldsLine, ComesInPieces};
-ghost use Rattle.desk_journal.specs.Session.{session_of};
-ghost use Rattle.oberon_main.specs.Play.{Plays, CountsEnd, CountsInput, CountsOutput, PlaysLine};
-ghost use Rattle.oberon_main.specs.Play.{RestEndsAs, last_word, no_word};
-ghost use Rattle.script_streams.specs.Counting.{CountsFault};
-ghost use Rattle.oberon_main.specs.Promised.{PlaysScript};
-ghost use Rattle.oberon_main.specs.ByLines.{PlaysLines, LineSurvives, RestSurvives};
-ghost use Rattle.oberon_main.specs.Worked.{play_end_of};
+ghost use Rattle.script_lines.specs.Reading.{HoldsLine};
+ghost use Rattle.script_streams.specs.Counting.{CountsFault, RisesWhere};
 ghost use Rattle.desk_journal.specs.View.{IsDurable};
+ghost use Rattle.oberon_main.specs.Play.{play_state, last_word};
+ghost use Rattle.oberon_main.specs.ByLines.{PlaysLines, PlaysLine, EndsInRest};
+ghost use Rattle.oberon_main.specs.Promised.{PlaysScript, ReadsScript, WritesAnswers};
+ghost use Rattle.oberon_main.specs.Worked.{play_end_of};
 
 use crate::answering::work_out;
 use desk_journal::{Error, Store};
@@ -85,8 +83,8 @@ pub fn play<R: ScriptReader, W: AnswerWriter, D: Disk>(
     store: &mut Store<D>,
 ) -> PlayEnd
     requires { store.old.must_reopen ≡ false }
-    ensures { PlaysScript R.ScriptReader W.AnswerWriter D.Disk MOST_READS result reader.old reader.new
-        writer.old writer.new store.old store.new }
+    ensures { PlaysScript R.ScriptReader W.AnswerWriter D.Disk MOST_READS result
+        reader.old reader.new writer.old writer.new store.old store.new }
 {
     play_bounded(alloc, reader, writer, store, MOST_READS)
 }
@@ -115,6 +113,7 @@ fn say<W: AnswerWriter>(writer: &mut W, end: PlayEnd) -> Result<(), OutputFault>
     ensures said { Sends result (W.contents writer.old) (W.contents writer.new) (last_word end) }
     ensures done { end ≡ ends.Done → IsOk result }
     ensures output { end ≡ ends.Output → IsOk result }
+    ensures handed { OnOk result (W.unflushed writer.old ≡ 0 → W.unflushed writer.new ≡ 0) }
     ensures cause { CountsFault result (W.failures writer.old) (W.failures writer.new) }
 {
     match end {
@@ -134,16 +133,15 @@ fn play_lines<R: ScriptReader, W: AnswerWriter, D: Disk>(
     store: &mut Store<D>,
 ) -> PlayEnd
     requires { store.old.must_reopen ≡ false }
-    ensures played { Plays no_word D.Disk result (R.remaining reader.old) (R.remaining reader.new)
-        (W.contents writer.old) (W.contents writer.new) store.old store.new }
-    ensures pieces { ComesInPieces reads (R.remaining reader.old) (R.remaining reader.new) }
-    ensures limit { R.reads reader.new ≤ R.reads reader.old + reads }
-    ensures faults { CountsEnd result (D.failures store.old.disk) (D.failures store.new.disk) }
-    ensures input { CountsInput reads result (R.reads reader.old) (R.reads reader.new)
-        (R.failures reader.old) (R.failures reader.new) }
-    ensures output { CountsOutput result (W.failures writer.old) (W.failures writer.new) }
-    ensures by_lines { D.honest store.old.disk → PlaysLines D.Disk result (R.remaining reader.old)
-        (R.remaining reader.new) (W.contents writer.old) (W.contents writer.new) store.old store.new }
+    ensures by_lines { D.honest store.old.disk → PlaysLines D.Disk result
+        (play_state (R.remaining reader.old) (W.contents writer.old) store.old)
+        (play_state (R.remaining reader.new) (W.contents writer.new) store.new) }
+    ensures usable { (result ≡ ends.Done) ⊎ (result ≡ ends.Input) → store.new.must_reopen ≡ false }
+    ensures premise { D.honest store.new.disk ↔ D.honest store.old.disk }
+    ensures reading { ReadsScript R.ScriptReader reads result reader.old reader.new }
+    ensures writing { WritesAnswers W.AnswerWriter result writer.old writer.new }
+    ensures faults { RisesWhere (result ≡ ends.Fault)
+        (D.failures store.old.disk) (D.failures store.new.disk) }
 {
     // What the store shows is what a crash would leave now.
     let _ = store.info();
@@ -172,15 +170,16 @@ fn play_rest<W: AnswerWriter, D: Disk>(
     store: &mut Store<D>,
 ) -> PlayEnd
     requires { store.old.must_reopen ≡ false }
-    ensures told { D.honest store.old.disk → (rest : List ℕ) → HoldsLine line.now rest
-        → RestEndsAs result rest (session_of store.old) (session_of store.new)
-        (W.contents writer.old) (W.contents writer.new) }
+    ensures by_lines { IsDurable D.Disk store.old → D.honest store.old.disk
+        → (rest : List ℕ) → HoldsLine line.now rest
+        → EndsInRest D.Disk rest (W.contents writer.old) (W.contents writer.new)
+        store.old store.new result }
     ensures usable { result ≡ ends.Done → store.new.must_reopen ≡ false }
     ensures no_input { result ≡ ends.Input → ⊥ }
     ensures premise { D.honest store.new.disk ↔ D.honest store.old.disk }
-    ensures faults { CountsEnd result (D.failures store.old.disk) (D.failures store.new.disk) }
-    ensures output { CountsOutput result (W.failures writer.old) (W.failures writer.new) }
-    ensures survives { RestSurvives D.Disk line.now result store.old store.new }
+    ensures writing { WritesAnswers W.AnswerWriter result writer.old writer.new }
+    ensures faults { RisesWhere (result ≡ ends.Fault)
+        (D.failures store.old.disk) (D.failures store.new.disk) }
 {
     if line.is_empty() {
         return PlayEnd::Done;
@@ -201,15 +200,17 @@ fn play_line<W: AnswerWriter, D: Disk>(
     store: &mut Store<D>,
 ) -> Result<(), PlayEnd>
     requires { store.old.must_reopen ≡ false }
-    ensures played { PlaysLine D.Disk line.now result (W.contents writer.old) (W.contents writer.new)
-        store.old store.new }
-    ensures faults { FailsAs ends.Fault (OneOf (ends.Fault ∷ ends.Memory ∷ ends.Output ∷ [])) result
-        (D.failures store.old.disk) (D.failures store.new.disk) }
-    ensures output { FailsAs ends.Output (OneOf (ends.Fault ∷ ends.Memory ∷ ends.Output ∷ [])) result
-        (W.failures writer.old) (W.failures writer.new) }
-    ensures survives { LineSurvives D.Disk line.now result store.old store.new }
+    ensures by_lines { PlaysLine D.Disk line.now result
+        (W.contents writer.old) (W.contents writer.new) store.old store.new }
+    ensures usable { OnOk result (store.new.must_reopen ≡ false) }
     ensures durable { OnOk result (IsDurable D.Disk store.new) }
-    ensures as_large { D.size store.new.disk ≡ D.size store.old.disk }
+    ensures premise { D.honest store.new.disk ↔ D.honest store.old.disk }
+    ensures handed { (IsErrOf result ends.Output → ⊥)
+        → W.unflushed writer.old ≡ 0 → W.unflushed writer.new ≡ 0 }
+    ensures faults { FailsAs ends.Fault (OneOf (ends.Fault ∷ ends.Memory ∷ ends.Output ∷ []))
+        result (D.failures store.old.disk) (D.failures store.new.disk) }
+    ensures output { FailsAs ends.Output (OneOf (ends.Fault ∷ ends.Memory ∷ ends.Output ∷ []))
+        result (W.failures writer.old) (W.failures writer.new) }
 {
     line.ask(request);
     let answer = work_out(alloc, request, store)?;

@@ -1,9 +1,9 @@
 //! What is said of a store, and the statuses of the program.
-ghost use Rattle.std.specs.Prelude.{◌≡◌, ◌⊎◌, ◌++◌, false};
+ghost use Rattle.std.specs.Prelude.{◌≡◌, ◌⊎◌, false};
 ghost use Rattle.std.specs.Io.KnownBytes.{Appends};
 ghost use Rattle.oberon_main.specs.declared.playing.PlayEnd.TheVariants as ends;
 ghost use Rattle.screen_cells.specs.Sent.{AppendsFront, Sends};
-ghost use Rattle.oberon_main.specs.Play.{CountsOutput};
+ghost use Rattle.script_streams.specs.Counting.{RisesWhere};
 ghost use Rattle.oberon_main.specs.Report.{check_line, error_line, refusal_status, end_status};
 
 use crate::playing::PlayEnd;
@@ -16,12 +16,15 @@ use sector_disk::Disk;
 /// Says the layout, the epoch and the number of events of a store that can be used.
 pub fn check<W: AnswerWriter, D: Disk>(writer: &mut W, store: &Store<D>) -> PlayEnd
     requires { store.now.must_reopen ≡ false }
-    ensures done { result ≡ ends.Done → Appends (W.contents writer.old) (W.contents writer.new)
+    ensures done { result ≡ ends.Done
+        → Appends (W.contents writer.old) (W.contents writer.new)
         (check_line store.now.layout store.now.epoch store.now.events) }
-    ensures output { result ≡ ends.Output → AppendsFront (W.contents writer.old) (W.contents writer.new)
+    ensures output { result ≡ ends.Output
+        → AppendsFront (W.contents writer.old) (W.contents writer.new)
         (check_line store.now.layout store.now.epoch store.now.events) }
     ensures named { (result ≡ ends.Done) ⊎ (result ≡ ends.Output) }
-    ensures cause { CountsOutput result (W.failures writer.old) (W.failures writer.new) }
+    ensures cause { RisesWhere (result ≡ ends.Output)
+        (W.failures writer.old) (W.failures writer.new) }
 {
     let Ok(info) = store.info() else {
         unreachable!()
@@ -67,7 +70,8 @@ pub fn status(end: &PlayEnd) -> u8
 /// there is no store or a damaged one, 5 for want of memory, else 4.
 pub fn refuse<W: AnswerWriter>(writer: &mut W, error: &Error) -> u8
     ensures status { result ≡ refusal_status error.now }
-    ensures said { AppendsFront (W.contents writer.old) (W.contents writer.new) (error_line error.now) }
+    ensures said { AppendsFront (W.contents writer.old) (W.contents writer.new)
+        (error_line error.now) }
 {
     let _ = say_refusal(writer, error);
     match error {

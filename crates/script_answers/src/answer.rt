@@ -86,7 +86,8 @@ pub fn text_bytes(alloc: Global, text: &[(u8, Look)]) -> Result<Vec<u8>, AllocEr
 /// Adds the line of a stretch: its look and its bytes.
 fn push_stretch(text: &mut Vec<u8>, look: Look, stretch: &[(u8, Look)]) -> Result<(), AllocError>
     ensures { OnOk result (text.new.items
-        ≡ text.old.items ++ stretch_line (record { look = look; bytes = stretch_bytes stretch.now })) }
+        ≡ text.old.items
+        ++ stretch_line (record { look = look; bytes = stretch_bytes stretch.now })) }
 {
     push_look(text, look)?;
     push_shown(text, stretch)?;
@@ -152,7 +153,8 @@ fn push_signed(text: &mut Vec<u8>, number: i8) -> Result<(), AllocError>
 
 /// Adds the characters' bytes as a script spells them.
 fn push_shown(text: &mut Vec<u8>, characters: &[(u8, Look)]) -> Result<(), AllocError>
-    ensures { OnOk result (text.new.items ≡ text.old.items ++ escaped_answer (stretch_bytes characters.now)) }
+    ensures { OnOk result (text.new.items
+        ≡ text.old.items ++ escaped_answer (stretch_bytes characters.now)) }
 {
     for character in characters {
         text.extend_from_slice(shown_bytes(character.0).as_slice())?;
@@ -222,7 +224,8 @@ fn push_entry(text: &mut Vec<u8>, entry: &Entry) -> Result<(), AllocError>
 
 /// Adds what is said of a file: its name and its length.
 fn push_file(text: &mut Vec<u8>, name: &[u8], len: u32) -> Result<(), AllocError>
-    ensures { OnOk result (text.new.items ≡ text.old.items ++ (codes "file " ++ name.now ++ 32 ∷ decimal len)) }
+    ensures { OnOk result (text.new.items
+        ≡ text.old.items ++ (codes "file " ++ name.now ++ 32 ∷ decimal len)) }
 {
     text.extend_from_slice(b"file ")?;
     text.extend_from_slice(name)?;
@@ -239,7 +242,8 @@ fn push_viewer(
     name: &[u8],
     len: u32,
 ) -> Result<(), AllocError>
-    ensures { OnOk result (text.new.items ≡ text.old.items ++ (codes "viewer " ++ decimal x ++ 32 ∷ decimal bottom
+    ensures { OnOk result (text.new.items
+        ≡ text.old.items ++ (codes "viewer " ++ decimal x ++ 32 ∷ decimal bottom
         ++ 32 ∷ decimal top ++ 32 ∷ escaped_answer name.now ++ 32 ∷ decimal len)) }
 {
     text.extend_from_slice(b"viewer ")?;
@@ -253,7 +257,8 @@ fn push_viewer(
 
 /// Adds what is said of a track over others: its column, and how many tracks there are up to it.
 fn push_over(text: &mut Vec<u8>, x: u8, depth: u8) -> Result<(), AllocError>
-    ensures { OnOk result (text.new.items ≡ text.old.items ++ (codes "over " ++ decimal x ++ 32 ∷ decimal depth)) }
+    ensures { OnOk result (text.new.items
+        ≡ text.old.items ++ (codes "over " ++ decimal x ++ 32 ∷ decimal depth)) }
 {
     text.extend_from_slice(numbered(b"over ", x as u32).as_slice())?;
     text.extend_from_slice(numbered(b" ", depth as u32).as_slice())?;

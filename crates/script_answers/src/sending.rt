@@ -1,14 +1,16 @@
 //! Writing an answer.
+ghost use Rattle.std.specs.Prelude.{◌≡◌, OnOk};
 ghost use Rattle.output_bytes.specs.Sent.{Sends};
 ghost use Rattle.script_streams.specs.Counting.{CountsFault};
 
 use output_bytes::OutputFault;
 use script_streams::AnswerWriter;
 
-/// Writes all of the bytes and flushes the writer. It fails where a write or the flush does; then a prefix of the
-/// bytes may have been taken.
+/// Writes all of the bytes and then flushes the writer, so that nothing waits in it. It fails where a write or the flush
+/// does; then a prefix of the bytes may have been taken.
 pub fn send<W: AnswerWriter>(writer: &mut W, bytes: &[u8]) -> Result<(), OutputFault>
     ensures sent { Sends result (W.contents writer.old) (W.contents writer.new) bytes.now }
+    ensures handed { OnOk result (W.unflushed writer.new ≡ 0) }
     ensures cause { CountsFault result (W.failures writer.old) (W.failures writer.new) }
 {
     let mut rest = bytes;

@@ -1,6 +1,6 @@
 -- How lines come from a reader.
-use Rattle.std.specs.Prelude.{◌≡◌, ◌⊎◌, ℕ, ◌+◌, ◌*◌, ◌<◌, ◌≤◌, List, [], ◌++◌, length, true, false, Option}
-use Rattle.std.specs.Io.KnownBytes.{Consumes}
+use Rattle.std.specs.Prelude.{◌≡◌, ℕ, ◌+◌, ◌*◌, ◌<◌, ◌≤◌, List, [], ◌++◌, length, true, false, Option, Some, MatchOption}
+use Rattle.std.specs.Io.KnownBytes.{Consumes, IsAtEnd}
 use Rattle.script_lines.specs.Request.{longest_line}
 use Rattle.script_lines.specs.Script.{script_line, IsLine}
 use Rattle.script_lines.specs.declared.line.Line.{Line}
@@ -29,9 +29,12 @@ pub record ComesInPieces (reads : ℕ) (left left' : Option (List ℕ)) : Type 0
   pub came : Consumes left left' read
   pub few : length read ≤ most_bytes reads
 
--- Why a script gives no more: a read failed, or none is left, and none has failed.
-abbrev pub IsReadFault : ℕ → ℕ → ℕ → Type 0
-IsReadFault reads failed failed' = (failed < failed') ⊎ ((reads ≡ 0) × (failed' ≡ failed))
+-- A piece was read, of so many bytes: none at the end of the script. No number: the read failed, or would be one too many.
+pub record ReadsPiece (result : Option ℕ) (left left' : Option (List ℕ)) (pending : List ℕ) : Type 0 where
+  pub came : Consumes left left' pending
+  pub count : MatchOption result (pending ≡ []) (λ n. (length pending ≡ n))
+  pub most : length pending ≤ longest_piece
+  pub end : result ≡ Some 0 → IsAtEnd left'
 
 -- a bound on the lines that can still come
 abbrev pub most_lines : Unplayed → ℕ

@@ -12,5 +12,6 @@ pub fn one_split()
 
 /// A word of a script spells a number from 0 to 255 exactly where it is that number in decimal digits.
 pub fn numbers_are_decimal()
-    ensures { (word : List ℕ) (n : ℕ) → (to_number word ≡ Some n) ↔ ((n ≤ 255) × (word ≡ decimal n)) }
+    ensures { (word : List ℕ) (n : ℕ)
+        → (to_number word ≡ Some n) ↔ ((n ≤ 255) × (word ≡ decimal n)) }
 {}

@@ -1,7 +1,7 @@
 //! Taking the lines of a script from a reader, in whatever pieces it gives them.
-ghost use Rattle.std.specs.Prelude.{◌≡◌, ◌==◌, ℕ, List, [], ◌∷◌, ◌+◌, ◌<◌, ◌≤◌, ◌++◌, ◌↔◌, length, position, IsTrue};
-ghost use Rattle.std.specs.Prelude.{true, false, Some, None, IfSome, MatchOption};
-ghost use Rattle.std.specs.Io.KnownBytes.{Consumes, IsAtEnd};
+ghost use Rattle.std.specs.Prelude.{◌≡◌, ◌≢◌, ◌==◌, ℕ, List, [], ◌+◌, ◌<◌, ◌≤◌, ◌++◌, ◌↔◌, length, position, IsTrue};
+ghost use Rattle.std.specs.Prelude.{true, false, Some, None, IfSome};
+ghost use Rattle.std.specs.Io.KnownBytes.{IsAtEnd};
 ghost use Rattle.script_lines.specs.Script.{script_line, IsLine};
 ghost use Rattle.script_lines.specs.Request.{request_of};
 
@@ -58,7 +58,8 @@ impl Line {
 
     /// Adds bytes at its end.
     fn extend(&mut self, bytes: &[u8])
-        ensures { (line : List ℕ) → HoldsLine self.old line → HoldsLine self.new (line ++ bytes.now) }
+        ensures { (line : List ℕ) → HoldsLine self.old line
+            → HoldsLine self.new (line ++ bytes.now) }
     {
         match self.bytes.try_extend_from_slice(bytes) {
             Ok(()) => {}
@@ -102,7 +103,8 @@ impl Model for Script {
 }
 
 impl Script {
-    ghost use Rattle.script_lines.specs.Reading.{HoldsLine, TakesLine, TakesRest, most_lines, IsReadFault};
+    ghost use Rattle.script_lines.specs.Reading.{HoldsLine, TakesLine, TakesRest, ReadsPiece, most_lines};
+    ghost use Rattle.script_streams.specs.Counting.{RisesWhere};
 
     /// A script of which nothing is read yet, and that may take so many reads before the one that says that it is at
     /// its end.
@@ -118,18 +120,23 @@ impl Script {
         }
     }
 
-    /// Takes the next line from the reader. It ends at a line feed, at the end of the script, or where a read fails.
+    /// Takes the next line from the reader. It ends at a line feed, at the end of the script, or where a read fails. The
+    /// read that gave no byte was the last one: none follows the end of the script, nor a read that failed.
     pub fn take_line<R: ScriptReader>(&mut self, line: &mut Line, reader: &mut R) -> LineEnd
-        ensures line { result ≡ LineEnd.Feed
-            → TakesLine self.old self.new (R.remaining reader.old) (R.remaining reader.new) line.new }
+        ensures line { result ≡ LineEnd.Feed → TakesLine self.old self.new
+            (R.remaining reader.old) (R.remaining reader.new) line.new }
         ensures fewer { result ≡ LineEnd.Feed → most_lines self.new < most_lines self.old }
-        ensures rest { (result ≡ LineEnd.Feed → ⊥)
-            → TakesRest self.old self.new (R.remaining reader.old) (R.remaining reader.new) line.new }
+        ensures rest { (result ≡ LineEnd.Feed → ⊥) → TakesRest self.old self.new
+            (R.remaining reader.old) (R.remaining reader.new) line.new }
         ensures end { result ≡ LineEnd.End → IsAtEnd (R.remaining reader.new) }
-        ensures counted { R.reads reader.new + self.new.reads ≡ R.reads reader.old + self.old.reads }
-        ensures calm { (result ≡ LineEnd.Fault → ⊥) → R.failures reader.new ≡ R.failures reader.old }
-        ensures fault { result ≡ LineEnd.Fault
-            → IsReadFault self.new.reads (R.failures reader.old) (R.failures reader.new) }
+        ensures counted { R.reads reader.new + self.new.reads
+            ≡ R.reads reader.old + self.old.reads }
+        ensures given { result ≡ LineEnd.Feed
+            → R.calls reader.new + R.reads reader.old ≡ R.calls reader.old + R.reads reader.new }
+        ensures one_blank { R.calls reader.new + R.reads reader.old
+            ≤ R.calls reader.old + R.reads reader.new + 1 }
+        ensures cause { RisesWhere ((result ≡ LineEnd.Fault) × (self.new.reads ≢ 0))
+            (R.failures reader.old) (R.failures reader.new) }
     {
         line.clear();
         while !self.take_pending(line) {
@@ -146,9 +153,11 @@ impl Script {
     fn take_pending(&mut self, line: &mut Line) -> bool
         ensures feed { IsTrue result → (front : List ℕ) × IsLine front
             × (self.old.pending ≡ script_line front ++ self.new.pending)
-            × ((before : List ℕ) → HoldsLine line.old before → HoldsLine line.new (before ++ front)) }
+            × ((before : List ℕ) → HoldsLine line.old before
+            → HoldsLine line.new (before ++ front)) }
         ensures none { result ≡ false → (self.new.pending ≡ []) × IsLine self.old.pending
-            × ((before : List ℕ) → HoldsLine line.old before → HoldsLine line.new (before ++ self.old.pending)) }
+            × ((before : List ℕ) → HoldsLine line.old before
+            → HoldsLine line.new (before ++ self.old.pending)) }
         ensures reads { self.new.reads ≡ self.old.reads }
     {
         let pending = &self.piece[self.next..self.end];
@@ -170,16 +179,18 @@ impl Script {
     /// failed or would be one too many.
     fn read_piece<R: ScriptReader>(&mut self, reader: &mut R) -> Option<usize>
         requires { self.old.pending ≡ [] }
-        ensures came { Consumes (R.remaining reader.old) (R.remaining reader.new) self.new.pending }
-        ensures count { MatchOption result (self.new.pending ≡ []) (λ n. (length self.new.pending ≡ n)) }
-        ensures most { length self.new.pending ≤ 8192 }
-        ensures end { result ≡ Some 0 → IsAtEnd (R.remaining reader.new) }
+        ensures piece { ReadsPiece result (R.remaining reader.old) (R.remaining reader.new)
+            self.new.pending }
         ensures reads { IfSome result (λ n. 0 < n → self.new.reads + 1 ≡ self.old.reads) }
         ensures no_more { self.new.reads ≤ self.old.reads }
-        ensures counted { R.reads reader.new + self.new.reads ≡ R.reads reader.old + self.old.reads }
-        ensures calm { IfSome result (λ _. R.failures reader.new ≡ R.failures reader.old) }
-        ensures fault { result ≡ None
-            → IsReadFault self.new.reads (R.failures reader.old) (R.failures reader.new) }
+        ensures counted { R.reads reader.new + self.new.reads
+            ≡ R.reads reader.old + self.old.reads }
+        ensures given { IfSome result (λ n. 0 < n
+            → R.calls reader.new + R.reads reader.old ≡ R.calls reader.old + R.reads reader.new) }
+        ensures one_blank { R.calls reader.new + R.reads reader.old
+            ≤ R.calls reader.old + R.reads reader.new + 1 }
+        ensures cause { RisesWhere ((result ≡ None) × (self.new.reads ≢ 0))
+            (R.failures reader.old) (R.failures reader.new) }
     {
         if self.reads == 0 {
             return None;

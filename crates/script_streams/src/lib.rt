@@ -4,10 +4,8 @@
 //! them a call that says that its reader or its writer failed has to say so truly.
 #![tactic(auto)]
 
-mod counted;
 mod reader;
 mod writer;
 
-pub use counted::{Counted, InputFault};
-pub use reader::{CountedReader, ScriptReader};
+pub use reader::{CountedReader, InputFault, ScriptReader};
 pub use writer::{AnswerWriter, CountedWriter};

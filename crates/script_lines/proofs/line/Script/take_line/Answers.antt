@@ -11,18 +11,23 @@ loop-self-preserved g c =
       arith,
       one_less,
       c.take_pending.ensures.reads,
-      c.read_piece.ensures.most,
+      c.read_piece.ensures.piece.most,
     ) in
     record {
       gathered = gathered_more _ _ _ _ _ _ _ _ c.loop-self.invariant.gathered
           (c.take_pending.ensures.none c.loop-self-test.true).1
           (c.take_pending.ensures.none c.loop-self-test.true).2
-          c.read_piece.ensures.came c.read_piece.ensures.most (one_less ∙ c.take_pending.ensures.reads) fewer;
+          c.read_piece.ensures.piece.came c.read_piece.ensures.piece.most (one_less ∙ c.take_pending.ensures.reads) fewer;
       counted = omega (
         arith,
         c.loop-self.invariant.counted,
         c.take_pending.ensures.reads,
         c.read_piece.ensures.counted,
       );
-      calm = c.in-Some.ensures.calm ∙ c.loop-self.invariant.calm;
+      called = omega (
+        arith,
+        c.loop-self.invariant.called,
+        c.in-Some.ensures.given (omega (arith, c.in-Some.field-0-test.1)),
+      );
+      calm = c.read_piece.ensures.cause.calm (λ none. cc (none.0, c.in-Some.is)) ∙ c.loop-self.invariant.calm;
     }
