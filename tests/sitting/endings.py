@@ -462,6 +462,10 @@ def new_store(trial):
     """Where there is no file a store is made, whose first screen has words to click."""
     sitting = trial.sit(trial.path)
     trial.check('System.Tool' in sitting.terminal.line(0), 'no tool text is shown')
+    trial.refused(4, trial.path, says=['my.disk', 'another program'])
+    sitting.press(b'\x1a')  # there is nothing to take back
+    trial.check(sitting.wait(lambda: sitting.terminal.bells > 0, 5), 'no bell')
+    trial.check(sitting.look_anew() and 'System.Tool' in sitting.terminal.line(0), 'the tool text was taken back')
     trial.leaves(sitting)
     trial.check(os.listdir(trial.folder) == ['my.disk'], f'there are {os.listdir(trial.folder)}')
     again = trial.sit(trial.path)
@@ -532,6 +536,24 @@ def appears(trial):
         trial.check(os.listdir(trial.folder) == ['my.disk'], f'there are {os.listdir(trial.folder)}')
         return
     trial.check(False, 'the store was always made first')
+
+
+def killed_amid_making(trial):
+    """Where the program is killed while it makes a store, or as soon as that has its name, it is whole or not there."""
+    for turn in range(8):
+        sitting = trial.begin(trial.desk, trial.path, rows=33, columns=80)
+        end = time.monotonic() + 10
+        first = trial.path + '.new' if turn % 2 else trial.path
+        while not os.path.exists(first) and not os.path.exists(trial.path) and time.monotonic() < end:
+            pass
+        time.sleep(trial.chance.random() * 0.03 if turn % 2 else 0)
+        os.kill(sitting.program(), signal.SIGKILL)
+        sitting.end()
+        trial.check(turn % 2 or os.path.exists(trial.path), 'no store was made')
+        if os.path.exists(trial.path):
+            trial.check(trial.oberon_says('check', trial.path).startswith('ok'), 'it is no whole store')
+        for name in os.listdir(trial.folder):
+            os.remove(f'{trial.folder}/{name}')
 
 
 def two_makers(trial):
@@ -639,6 +661,7 @@ TRIALS = {
     'names that are taken': not_taken,
     'a link to nothing': dangling,
     'a file that appears': appears,
+    'signal 9 amid the making of a store': killed_amid_making,
     'two at once': two_makers,
     'words of the first text': first_words,
     'no path': in_memory,

@@ -13,11 +13,21 @@ use desk_documents::{
 };
 use desk_session::Saying;
 use desk_stores::{Trouble, picture};
+use host_files::hold_streams;
 
 /// Does what the arguments of the program ask for, and returns the status: 0 when done, 1 where a document is refused,
 /// 2 for other arguments, 3 where the file holds no store or a damaged one, 4 where there is no file, the host refuses
 /// it, or the disk, the input or the output failed, and 5 for want of memory.
 pub fn run(rt: &HostRuntime) -> u8 {
+    // No file takes the place of a standard stream that is closed.
+    match hold_streams(rt) {
+        Ok(_held) => begin(rt),
+        Err(fault) => Trouble::Host(fault).say(rt, "/dev/null"),
+    }
+}
+
+/// Does what the arguments ask for, where each standard stream has its place.
+fn begin(rt: &HostRuntime) -> u8 {
     let words = match words(rt) {
         Ok(words) => words,
         Err(refusal) => return decline(rt, refusal),

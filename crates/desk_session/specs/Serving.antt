@@ -1,6 +1,6 @@
 -- A sitting over a store, turn by turn: the scene is shown, something is heard, and what is pressed is done. `d` is
 -- what is known of a disk.
-use Rattle.std.specs.Prelude.{◌≡◌, ◌≢◌, ◌<◌, ◌+◌, ℕ, Bool, true, false, List, [], ◌++◌, Option}
+use Rattle.std.specs.Prelude.{◌≡◌, ◌≢◌, ◌<◌, ◌+◌, ◌-◌, ◌^◌, ℕ, Bool, true, false, List, [], ◌++◌, Option}
 use Rattle.std.specs.Prelude.{Result, MatchResult, OnOk, IfErr}
 use Rattle.sector_disk.specs.declared.disk.Disk.{Ghosts}
 use Rattle.event_bytes.specs.declared.event.Event.{Event}
@@ -20,7 +20,6 @@ use Rattle.desk_sitting.specs.Doing.{Breaks, DoesPresses, seat_of}
 use Rattle.desk_sitting.specs.Sittings.{accepted_events, accepted_of, after_fetch, looked, new_sitting}
 use Rattle.desk_session.specs.declared.ending.SittingEnd.{SittingEnd}
 use Rattle.desk_session.specs.declared.ending.SittingEnd.TheVariants.{Left, Closed, Input, TooLong, Output, Fault, Memory}
-use Rattle.desk_session.specs.declared.serving.TheConstants.{MOST_TURNS}
 use Rattle.desk_session.specs.Scenes.{IsSceneShown, IsSceneCutShort}
 
 -- where a sitting stands between two turns: the parser, the sitting, the store, all that was heard so far, what is
@@ -162,11 +161,11 @@ module _ {D : Type 0} (d : Ghosts D) where
   abbrev pub HasStopped : SittingEnd → TurnState D → TurnState D → Type 0
   HasStopped end old new = (events : List Event) × (begun : List Event) × SittingStops end events begun old new
 
-  -- It ends so after so many turns, or because there were as many as there may be.
+  -- It ends so after so many turns, or because there were as many as can be counted.
   pub data Ends : SittingEnd → ℕ → List Event → List Event → TurnState D → TurnState D → Type 0 where
     stopped : {end : SittingEnd} {count : ℕ} {events begun : List Event} {old new : TurnState D}
         → SittingStops end events begun old new → Ends end count events begun old new
-    too_long : {place : TurnState D} → Ends TooLong MOST_TURNS [] [] place place
+    too_long : {place : TurnState D} → Ends TooLong (2 ^ 64 - 1) [] [] place place
 
   -- All that a turn promises that returns this.
   pub record TakesTurn {T : Type 0} (result : Result T SittingEnd) (old new : TurnState D) : Type 0 where

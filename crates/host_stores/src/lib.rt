@@ -4,17 +4,18 @@
 //! locked before it is opened, and until the store is gone.
 #![tactic(auto)]
 
-ghost use Rattle.std.specs.Prelude.{◌≡◌, IfErr, IfOk, false};
+ghost use Rattle.std.specs.Prelude.{◌≡◌, IfErr, IfOk, false, true};
 ghost use Rattle.sector_disk.specs.Trail.{Leaves, now};
 ghost use Rattle.desktop_definitions.specs.Desktop.{empty_desktop};
 ghost use Rattle.store_layout.specs.Meaning.{Shows};
 ghost use Rattle.store_layout.specs.declared.layout.TheConstants.{LAYOUT};
 ghost use Rattle.desk_journal.specs.Opening.{IsOpened, IsNoStore};
+ghost use Rattle.host_stores.specs.Found.{IsFoundIn, IsNoneIn};
 
 pub use desk_journal::{Error, Store};
 use host_files::{HostFault, LockedFile, empty};
 use screen_cells::Screen;
-use sector_disk::FILE_SECTORS;
+use sector_disk::{FILE_SECTORS, HostFile};
 pub use sector_disk::{Disk, FileDisk, MemoryDisk};
 
 /// The store on a disk. A disk that is refused is left as it is: it isn't formatted.
@@ -44,14 +45,17 @@ pub fn formatted<D: Disk + Drop>(disk: D) -> Result<D, Error>
     }
 }
 
-/// The store in a file that is locked.
+/// The store in a file, which stays locked, if it is, as long as there is the store.
 ///
 /// Errors: those of `Store::open`.
-pub fn in_locked_file(
+pub fn in_locked_file<F: HostFile + Drop>(
     rt: &HostRuntime,
-    file: LockedFile,
-) -> Result<Store<FileDisk<LockedFile>>, Error>
-    ensures { IfOk result (λ store. store.must_reopen ≡ false) }
+    file: F,
+) -> Result<Store<FileDisk<F>>, Error>
+    requires { F.intact file ≡ true }
+    ensures usable { IfOk result (λ store. store.must_reopen ≡ false) }
+    ensures ok { IfOk result (IsFoundIn F.HostFile file) }
+    ensures no_store { IfErr result (IsNoneIn F.HostFile file) }
 {
     opened(rt, FileDisk::new(file))
 }
@@ -68,15 +72,6 @@ pub fn emptied(file: LockedFile) -> Result<FileDisk<LockedFile>, Error> {
     }
 }
 
-/// The store in a file, of which the caller has the lock where it has to be locked.
-///
-/// Errors: those of `Store::open`; `Fault`, also where the host has no such file that can be read and written.
-pub fn in_file(rt: &HostRuntime, path: &str) -> Result<Store<FileDisk>, Error>
-    ensures { IfOk result (λ store. store.must_reopen ≡ false) }
-{
-    opened(rt, FileDisk::open(rt, path)?)
-}
-
 /// A new store in memory, on as many sectors as one in a file has.
 ///
 /// Errors: `NoMemory`.
@@ -86,11 +81,12 @@ pub fn new_in_memory(rt: &HostRuntime) -> Result<Store<MemoryDisk>, Error>
     opened(rt, formatted(MemoryDisk::new(rt.alloc(), FILE_SECTORS)?)?)
 }
 
-/// Paints the screen of the store in a file that is locked.
+/// Paints the screen of the store in a file.
 ///
 /// Errors: those of `in_locked_file` and `Store::screen`.
-pub fn show(rt: &HostRuntime, file: LockedFile, screen: &mut Screen) -> Result<(), Error> {
+pub fn show<F: HostFile + Drop>(rt: &HostRuntime, file: F, screen: &mut Screen) -> Result<(), Error>
+    requires { F.intact file ≡ true }
+{
     let mut store = in_locked_file(rt, file)?;
-    store.screen(rt.alloc(), screen)?;
-    Ok(())
+    store.screen(rt.alloc(), screen)
 }

@@ -4,7 +4,9 @@
 
 ghost use Rattle.std.specs.Prelude.{◌≡◌, false};
 
-use host_files::{HostFault, LockedFile, lock_alone, lock_or_make, lock_shared, sync_folder};
+use host_files::{
+    HostFault, LockedFile, hold_streams, lock_alone, lock_or_make, lock_shared, sync_folder,
+};
 use host_stores::{Disk, emptied, formatted, in_locked_file, new_in_memory, show};
 use oberon_arguments::{Order, Refusal, order_of, words};
 use oberon_main::{CountedReader, CountedWriter, Error, Store, check, play, refuse, status};
@@ -20,6 +22,15 @@ const FAULT: u8 = 4;
 /// Does what the arguments of the program ask for, and returns the status: 0 when done, 2 for other arguments, 3 where
 /// there is no store or a damaged one, 4 after a fault of the disk, the input or the output, and 5 for want of memory.
 pub fn run(rt: &HostRuntime) -> u8 {
+    // No file takes the place of a standard stream that is closed.
+    match hold_streams(rt) {
+        Ok(_held) => follow(rt),
+        Err(fault) => refuse(&mut CountedWriter::new(rt.stderr()), &store_error(fault)),
+    }
+}
+
+/// Does what the arguments ask for, where each standard stream has its place.
+fn follow(rt: &HostRuntime) -> u8 {
     let words = match words(rt) {
         Ok(words) => words,
         Err(refusal) => return decline(rt, refusal),

@@ -1,0 +1,26 @@
+-- What is found in a file when the store in it is opened. `f` is what is known of a file.
+use Rattle.std.specs.Prelude.{◌≡◌, ℕ}
+use Rattle.sector_disk.specs.declared.host_file.HostFile.{Ghosts}
+use Rattle.sector_disk.specs.declared.file.FileDisk.{FileDisk}
+use Rattle.sector_disk.specs.declared.file.TheConstants.{FILE_SECTORS}
+use Rattle.sector_disk.specs.Trail.{Content, now}
+use Rattle.sector_disk.specs.FileSectors.{sectors_of}
+use Rattle.store_layout.specs.Finding.{IsForeign, IsDamagedAt}
+use Rattle.store_layout.specs.Meaning.{Shows}
+use Rattle.desk_journal.specs.Errors.{Error, NotAStore, Damaged}
+use Rattle.desk_journal.specs.View.{StoreView}
+
+module _ {F : Type 0} (f : Ghosts F) where
+  -- what the sectors of a file read as
+  abbrev pub content_of : F → Content
+  content_of file = (now (sectors_of (f.trail file))).reads
+
+  -- the store shows what stands in the file
+  abbrev pub IsFoundIn : F → StoreView (FileDisk F f) → Type 0
+  IsFoundIn file store = f.honest file
+      → Shows FILE_SECTORS store.layout store.epoch store.events store.desktop (content_of file)
+
+  -- what stands there is no store, or a damaged one
+  pub record IsNoneIn (file : F) (error : Error) : Type 0 where
+    pub foreign : error ≡ NotAStore → f.honest file → IsForeign FILE_SECTORS (content_of file)
+    pub damaged : (n : ℕ) → error ≡ Damaged n → f.honest file → IsDamagedAt FILE_SECTORS (content_of file) n
