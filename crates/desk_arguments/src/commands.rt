@@ -36,6 +36,7 @@ fn export<'a>(alloc: Global) -> Result<Command<'a>, AllocError> {
     of_store(alloc, "export")?
         .arg(listed(alloc, "names"))?
         .arg(Arg::new(alloc, "all").long("all").action(ArgAction::Set))?
+        .arg(flag(alloc, "join"))?
         .arg(flag(alloc, "replace"))
 }
 
@@ -45,7 +46,9 @@ fn import<'a>(alloc: Global) -> Result<Command<'a>, AllocError> {
         .arg(listed(alloc, "files").required(true))?
         .arg(flag(alloc, "replace"))?
         .arg(flag(alloc, "dry-run"))?
-        .arg(flag(alloc, "ascii"))
+        .arg(flag(alloc, "ascii"))?
+        .arg(flag(alloc, "collect"))?
+        .arg(Arg::new(alloc, "fill").long("fill").action(ArgAction::Set))
 }
 
 /// An argument that a command must have.

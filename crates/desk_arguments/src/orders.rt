@@ -54,6 +54,8 @@ pub struct Export<'a> {
     pub all: Option<&'a str>,
     /// Whether files that are there may be replaced.
     pub replace: bool,
+    /// Whether each line that ends with a blank is to be joined to the next.
+    pub join: bool,
 }
 
 /// Documents on their way in.
@@ -69,6 +71,10 @@ pub struct Import<'a> {
     pub dry_run: bool,
     /// Whether what isn't ASCII is to be replaced by what is like it.
     pub ascii: bool,
+    /// How many columns a line is to have at most, if lines are to be broken.
+    pub fill: Option<u8>,
+    /// Whether System.Collect is to be done where it makes the room that is wanted.
+    pub collect: bool,
 }
 
 /// What the words ask for: one of the commands with what belongs to it, after the program's name.
@@ -126,13 +132,29 @@ fn importing<'a>(alloc: Global, given: &ArgMatches<'a>) -> Result<Option<Order<'
     let Some(path) = given.get_str("path") else {
         return Ok(None);
     };
+    let Some(fill) = width_of(given.get_str("fill")) else {
+        return Ok(None);
+    };
     Ok(Some(Order::Import(Import {
         path,
         words: words_of(alloc, given, "files")?,
         replace: given.get_flag("replace"),
         dry_run: given.get_flag("dry-run"),
         ascii: given.get_flag("ascii"),
+        fill,
+        collect: given.get_flag("collect"),
     })))
+}
+
+/// The number of columns that a word is, 1 to 255, if there is a word. None where it is no such number.
+fn width_of(word: Option<&str>) -> Option<Option<u8>> {
+    match word {
+        None => Some(None),
+        Some(word) => match word.parse::<u8>().ok()? {
+            0 => None,
+            width => Some(Some(width)),
+        },
+    }
 }
 
 /// The order of an export.
@@ -149,6 +171,7 @@ fn exporting<'a>(alloc: Global, given: &ArgMatches<'a>) -> Result<Option<Order<'
         names: words_of(alloc, given, "names")?,
         all,
         replace: given.get_flag("replace"),
+        join: given.get_flag("join"),
     })))
 }
 

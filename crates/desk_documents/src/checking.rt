@@ -1,14 +1,14 @@
 //! How a store is.
 
 use crate::sentences::Stop;
-use desk_journal::{Error, Info, STORE_SECTORS};
+use desk_journal::{Error, Info};
 use desk_stores::{Trouble, looked_at};
 use desktop_definitions::MOST_WRITTEN;
 use host_files::length_of;
 use host_stores::{FileDisk, opened};
 use sector_disk::{FILE_SECTORS, SECTOR_BYTES};
 use std::io;
-use store_documents::{Examined, SlotState, examine};
+use store_documents::{Examined, Part, SlotState, examine, part_of};
 use store_layout::{JOURNAL_EVENTS, LAST_EPOCH};
 
 /// How many bytes the file of a store has.
@@ -17,11 +17,8 @@ const WHOLE: u64 = FILE_SECTORS as u64 * SECTOR_BYTES as u64;
 /// Tells how the store in a file is: how long its file is, what its label and both slots say, and whether it opens. The
 /// file is locked beside other programs that look, and nothing is written.
 pub fn check(rt: &HostRuntime, path: &str) -> Result<(), Stop> {
-    let _lock = looked_at(rt, path)?;
+    let mut disk = FileDisk::new(looked_at(rt, path)?);
     let Ok(length) = length_of(rt, path) else {
-        return Err(faulty());
-    };
-    let Ok(mut disk) = FileDisk::open(rt, path) else {
         return Err(faulty());
     };
     let Ok(found) = examine(&mut disk) else {
@@ -33,14 +30,14 @@ pub fn check(rt: &HostRuntime, path: &str) -> Result<(), Stop> {
     }
     let store = match opened(rt, disk) {
         Ok(store) => store,
-        Err(error) => return Err(cannot_open(rt, path, error)),
+        Err(error) => return Err(cannot_open(rt, error)),
     };
     let info = store.info()?;
     printed(tell_info(rt, &info))?;
     if length < WHOLE {
-        let _ = println!(rt;
-            "what is missing at the end of the file reads as zeros: make a copy by desk backup, and go on with that"
-        );
+        printed(println!(rt;
+            "the store opens, but characters of its documents may be among what is missing: go on with an earlier backup, or look at what desk export gives"
+        ))?;
     }
     Ok(())
 }
@@ -61,7 +58,9 @@ fn printed(lines: io::Result<()>) -> Result<(), Stop> {
 /// Tells what is in the file.
 fn tell_file(rt: &HostRuntime, length: u64, found: &Examined) -> io::Result<()> {
     if length < WHOLE {
-        println!(rt; "file: {length} bytes; it was cut short, since a store's file has {WHOLE}")?;
+        println!(rt;
+            "file: {length} bytes; it was cut short, since a store's file has {WHOLE}; what is missing reads as zeros"
+        )?;
     } else {
         println!(rt; "file: {length} bytes, whole")?;
     }
@@ -101,21 +100,30 @@ fn tell_info(rt: &HostRuntime, info: &Info) -> io::Result<()> {
 }
 
 /// Says what an opening says of damage.
-fn cannot_open(rt: &HostRuntime, path: &str, error: Error) -> Stop {
+fn cannot_open(rt: &HostRuntime, error: Error) -> Stop {
     if let Error::Damaged(sector) = error {
-        let part = part_of(sector);
-        let _ = println!(rt;
-            "sector {sector}, {part}, is damaged: the store does not open; go on with a backup of it"
-        );
+        let _ = tell_damage(rt, sector);
     }
-    let _ = path;
     Stop::Trouble(Trouble::Store(error))
 }
 
-/// What a sector of a store is.
-fn part_of(sector: u32) -> &'static str {
-    if sector >= STORE_SECTORS {
-        return "past the store";
+/// Tells in which part of a store a damaged sector stands, and what to do.
+fn tell_damage(rt: &HostRuntime, sector: u32) -> io::Result<()> {
+    match part_of(sector) {
+        Part::Label => println!(rt; "damage: the label (sector {sector})")?,
+        Part::Slot(slot) => println!(rt; "damage: the head of slot {slot} (sector {sector})")?,
+        Part::Journal(slot) => println!(rt;
+            "damage: the journal of slot {slot} (sector {sector}): an event in it can't be read"
+        )?,
+        Part::Image(slot) => println!(rt;
+            "damage: the image of slot {slot} (sector {sector}): it is no desktop"
+        )?,
+        Part::Characters(area) => println!(rt;
+            "damage: area {area} of characters (sector {sector})"
+        )?,
+        Part::Unused => println!(rt; "damage: sector {sector}, in which nothing should stand")?,
     }
-    "of the store"
+    println!(rt;
+        "the store does not open: go on with a backup of it, and keep this file for whoever can look into it"
+    )
 }

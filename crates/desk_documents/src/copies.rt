@@ -2,11 +2,14 @@
 
 use crate::sentences::{HOST, Stop};
 use desk_journal::Error;
-use desk_stores::{Trouble, looked_at, opened};
-use host_files::{is_there, make_file, remove, rename_new, sync_folder};
-use host_stores::FileDisk;
+use desk_stores::{Trouble, looked_at, opened_locked};
+use host_files::{LockedFile, is_there, lock_new, remove, rename_new, sync_folder};
+use host_stores::{FileDisk, opened as opened_on};
 use sector_disk::FILE_SECTORS;
 use store_documents::{are_same, copy};
+
+/// A disk in a file that is locked.
+type Locked = FileDisk<LockedFile>;
 
 /// Copies the store in a file, which is locked beside other programs that look, into a new file. It is written under
 /// another name, synced, opened as a store and compared before it gets its own, and is durable under it when this has
@@ -18,16 +21,20 @@ pub fn backup(rt: &HostRuntime, path: &str, to: &str) -> Result<(), Stop> {
         );
         return Err(HOST);
     }
-    let _lock = looked_at(rt, path)?;
-    let info = opened(rt, path)?.info()?;
+    let store = opened_locked(rt, looked_at(rt, path)?)?;
+    let info = store.info()?;
+    let mut disk = store.close();
     let aside = format!(in rt.alloc(); "{to}.desk-copy")?;
-    if make_file(rt, aside.as_str()).is_err() {
+    let Ok(file) = lock_new(rt, aside.as_str()) else {
         let _ = eprintln!(rt;
             "desk: {to:?} could not be made: there is no right to, or there is {aside:?} already"
         );
         return Err(HOST);
+    };
+    let mut made = copied(rt, path, &mut disk, FileDisk::new(file));
+    if made.is_ok() {
+        made = name_copy(rt, aside.as_str(), to);
     }
-    let made = copy_and_name(rt, path, aside.as_str(), to);
     if made.is_err() {
         let _ = remove(rt, aside.as_str());
         return made;
@@ -42,16 +49,25 @@ pub fn backup(rt: &HostRuntime, path: &str, to: &str) -> Result<(), Stop> {
     }
 }
 
-/// Copies the store, compares, and gives the copy its name.
-fn copy_and_name(rt: &HostRuntime, path: &str, aside: &str, to: &str) -> Result<(), Stop> {
-    copy_disk(rt, path, aside)?;
-    if !is_copy(rt, path, aside)? {
+/// Copies a store onto a disk, waits until all is there for good, compares, and opens the copy.
+fn copied(rt: &HostRuntime, path: &str, disk: &mut Locked, copy_disk: Locked) -> Result<(), Stop> {
+    let mut other = copy_disk;
+    if copy(disk, &mut other, FILE_SECTORS).is_err() {
+        let _ = eprintln!(rt; "desk: copying {path:?} failed; a copy needs 16 MB");
+        return Err(HOST);
+    }
+    if !are_same(disk, &mut other, FILE_SECTORS).map_err(faulty)? {
         let _ = eprintln!(rt;
             "desk: the copy of {path:?} reads as something else, so it was taken away"
         );
         return Err(HOST);
     }
-    opened(rt, aside)?;
+    opened_on(rt, other)?;
+    Ok(())
+}
+
+/// Gives the copy its name.
+fn name_copy(rt: &HostRuntime, aside: &str, to: &str) -> Result<(), Stop> {
     if rename_new(rt, aside, to).is_err() {
         let _ = eprintln!(rt;
             "desk: there is something called {to:?} by now, so the copy was taken away"
@@ -65,24 +81,6 @@ fn copy_and_name(rt: &HostRuntime, path: &str, aside: &str, to: &str) -> Result<
         return Err(HOST);
     }
     Ok(())
-}
-
-/// Copies each sector, and waits until all are there for good.
-fn copy_disk(rt: &HostRuntime, path: &str, aside: &str) -> Result<(), Stop> {
-    let mut from = FileDisk::open(rt, path).map_err(faulty)?;
-    let mut to = FileDisk::open(rt, aside).map_err(faulty)?;
-    if copy(&mut from, &mut to, FILE_SECTORS).is_err() {
-        let _ = eprintln!(rt; "desk: copying {path:?} failed; a copy needs 16 MB");
-        return Err(HOST);
-    }
-    Ok(())
-}
-
-/// Whether both files have the same sectors.
-fn is_copy(rt: &HostRuntime, path: &str, aside: &str) -> Result<bool, Stop> {
-    let mut one = FileDisk::open(rt, path).map_err(faulty)?;
-    let mut other = FileDisk::open(rt, aside).map_err(faulty)?;
-    are_same(&mut one, &mut other, FILE_SECTORS).map_err(faulty)
 }
 
 /// A disk that fails.

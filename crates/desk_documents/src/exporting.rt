@@ -2,19 +2,25 @@
 
 use crate::sentences::{HOST, REFUSED, Stop, cut_off, refused_folder, word_of};
 use desk_journal::Store;
-use desk_stores::{Trouble, looked_at, opened};
+use desk_stores::{Trouble, looked_at, opened_locked};
 use desktop_definitions::Entry;
 use event_bytes::Name;
 use host_files::{
-    is_there, make_file, make_folder, remove, rename_new, rename_over, sync_file, sync_folder,
+    LockedFile, is_there, make_file, make_folder, remove, rename_new, rename_over, sync_file,
+    sync_folder,
 };
 use host_stores::FileDisk;
 use std::io::IsTerminal;
-use store_documents::{Reader, export};
+use store_documents::{Form, Reader, export};
 
 /// Prints documents of the store in a file one after another, with LF at the end of each line. The file is locked beside
 /// other programs that look. Nothing is printed where there is no document of one of the names.
-pub fn export_names(rt: &HostRuntime, path: &str, words: &[&str]) -> Result<(), Stop> {
+pub fn export_names(
+    rt: &HostRuntime,
+    path: &str,
+    words: &[&str],
+    is_joined: bool,
+) -> Result<(), Stop> {
     let mut names = Vec::new(rt.alloc());
     for word in words {
         match Name::new(word.as_bytes()) {
@@ -22,15 +28,14 @@ pub fn export_names(rt: &HostRuntime, path: &str, words: &[&str]) -> Result<(), 
             None => return Err(Stop::Trouble(Trouble::Name)),
         }
     }
-    let _lock = looked_at(rt, path)?;
-    let mut store = opened(rt, path)?;
+    let mut store = opened_locked(rt, looked_at(rt, path)?)?;
     for name in &names {
         if store.file(rt.alloc(), name)?.is_none() {
             return Err(no_document(rt, path, name));
         }
     }
     for name in &names {
-        print(rt, path, &mut store, name)?;
+        print(rt, path, &mut store, name, is_joined)?;
     }
     Ok(())
 }
@@ -46,8 +51,9 @@ fn no_document(rt: &HostRuntime, path: &str, name: &Name) -> Stop {
 fn print(
     rt: &HostRuntime,
     path: &str,
-    store: &mut Store<FileDisk>,
+    store: &mut Store<FileDisk<LockedFile>>,
     name: &Name,
+    is_joined: bool,
 ) -> Result<(), Stop> {
     let mut output = rt.stdout();
     let reader = if output.is_terminal() {
@@ -55,29 +61,43 @@ fn print(
     } else {
         Reader::Program
     };
-    match export(rt.alloc(), store, name, reader, &mut output) {
+    let form = Form { reader, is_joined };
+    match export(rt.alloc(), store, name, form, &mut output) {
         Ok(true) => Ok(()),
         Ok(false) => Err(no_document(rt, path, name)),
         Err(fault) => Err(cut_off(fault)),
     }
 }
 
+/// How documents become files.
+#[derive(Clone, Copy, Debug, PartialEq, Eq)]
+pub struct Putting {
+    /// Files that are there may be replaced.
+    pub replace: bool,
+    /// Each line that ends with a blank is joined to the next.
+    pub is_joined: bool,
+}
+
 /// Makes each document of the store in a file a file in a folder, which is made where there is none, and tells each on a
 /// line. A file that is there is replaced only if that is asked for: otherwise it is named, and nothing is done. Each
 /// file is written under another name first, and is durable when it gets its own.
-pub fn export_all(rt: &HostRuntime, path: &str, folder: &str, replace: bool) -> Result<(), Stop> {
-    let _lock = looked_at(rt, path)?;
-    let mut store = opened(rt, path)?;
+pub fn export_all(
+    rt: &HostRuntime,
+    path: &str,
+    folder: &str,
+    putting: Putting,
+) -> Result<(), Stop> {
+    let mut store = opened_locked(rt, looked_at(rt, path)?)?;
     let names = names_of(rt, &mut store)?;
     let folder = folder.trim_end_matches('/');
     if let Err(fault) = make_folder(rt, folder) {
         return Err(refused_folder(rt, folder, fault));
     }
-    if !replace {
+    if !putting.replace {
         refuse_files(rt, folder, &names)?;
     }
     for name in &names {
-        put_out(rt, &mut store, folder, name, replace)?;
+        put_out(rt, &mut store, folder, name, putting)?;
     }
     match names.first() {
         Some(name) => settle(rt, folder, name),
@@ -86,7 +106,7 @@ pub fn export_all(rt: &HostRuntime, path: &str, folder: &str, replace: bool) -> 
 }
 
 /// The names of the documents of a store.
-fn names_of(rt: &HostRuntime, store: &mut Store<FileDisk>) -> Result<Vec<Name>, Stop> {
+fn names_of(rt: &HostRuntime, store: &mut Store<FileDisk<LockedFile>>) -> Result<Vec<Name>, Stop> {
     let mut names = Vec::new(rt.alloc());
     for entry in &store.list(rt.alloc())? {
         if let Entry::File { name, len: _ } = entry {
@@ -115,19 +135,19 @@ fn refuse_files(rt: &HostRuntime, folder: &str, names: &[Name]) -> Result<(), St
 /// Makes a document a file in a folder, and tells it.
 fn put_out(
     rt: &HostRuntime,
-    store: &mut Store<FileDisk>,
+    store: &mut Store<FileDisk<LockedFile>>,
     folder: &str,
     name: &Name,
-    replace: bool,
+    putting: Putting,
 ) -> Result<(), Stop> {
     let word = word_of(name);
     let aside = format!(in rt.alloc(); "{folder}/.{word}.desk")?;
     let file = format!(in rt.alloc(); "{folder}/{word}")?;
-    let done = write_aside(rt, store, name, aside.as_str());
+    let done = write_aside(rt, store, name, aside.as_str(), putting.is_joined);
     if let Err(stop) = done {
         return Err(stop);
     }
-    let named = if replace {
+    let named = if putting.replace {
         rename_over(rt, aside.as_str(), file.as_str())
     } else {
         rename_new(rt, aside.as_str(), file.as_str())
@@ -145,14 +165,19 @@ fn put_out(
 /// Writes a document into a new file, and waits until it is there for good. Where that fails there is no such file.
 fn write_aside(
     rt: &HostRuntime,
-    store: &mut Store<FileDisk>,
+    store: &mut Store<FileDisk<LockedFile>>,
     name: &Name,
     aside: &str,
+    is_joined: bool,
 ) -> Result<(), Stop> {
+    let form = Form {
+        reader: Reader::Program,
+        is_joined,
+    };
     let Ok(mut file) = make_file(rt, aside) else {
         return Err(not_made(rt, aside));
     };
-    let done = match export(rt.alloc(), store, name, Reader::Program, &mut file) {
+    let done = match export(rt.alloc(), store, name, form, &mut file) {
         Ok(_) if sync_file(&file).is_ok() => Ok(()),
         Ok(_) => Err(not_made(rt, aside)),
         Err(fault) => Err(cut_off(fault)),

@@ -2,9 +2,9 @@
 
 use crate::copies::backup;
 use crate::sentences::{REFUSED, Stop, word_of};
-use desk_stores::{Trouble, looked_at, opened};
+use desk_stores::{Trouble, looked_at, opened_locked};
 use event_bytes::{Event, Key, Keys};
-use host_files::lock_alone;
+use host_files::{LockedFile, lock_alone};
 use std::alloc::{AllocError, Global};
 use std::io;
 use std::str::from_utf8;
@@ -12,8 +12,7 @@ use std::str::from_utf8;
 /// Prints the events of the store in a file that can be taken back, the last one first, each as a line of a script
 /// behind its number.
 pub fn events_back(rt: &HostRuntime, path: &str) -> Result<(), Stop> {
-    let _lock = looked_at(rt, path)?;
-    let mut store = opened(rt, path)?;
+    let mut store = opened_locked(rt, looked_at(rt, path)?)?;
     let events = store.history(rt.alloc())?;
     let mut number = 0u32;
     for event in events.iter().rev() {
@@ -42,22 +41,21 @@ pub fn earlier(rt: &HostRuntime, path: &str, count: u32, copy: &str) -> Result<(
     }
     backup(rt, path, copy)?;
     match lock_alone(rt, copy) {
-        Ok(_lock) => take_back(rt, copy, count),
+        Ok(file) => take_back(rt, file, count),
         Err(fault) => Err(Stop::Trouble(Trouble::Host(fault))),
     }
 }
 
 /// Takes so many of the last events back in the store in a file, which is locked.
-fn take_back(rt: &HostRuntime, path: &str, count: u32) -> Result<(), Stop> {
-    let mut store = opened(rt, path)?;
+fn take_back(rt: &HostRuntime, file: LockedFile, count: u32) -> Result<(), Stop> {
+    let mut store = opened_locked(rt, file)?;
     let _events = store.undo(rt.alloc(), count)?;
     Ok(())
 }
 
 /// How many events can be taken back.
 fn events_of(rt: &HostRuntime, path: &str) -> Result<u32, Stop> {
-    let _lock = looked_at(rt, path)?;
-    let store = opened(rt, path)?;
+    let store = opened_locked(rt, looked_at(rt, path)?)?;
     Ok(store.info()?.events)
 }
 

@@ -1,19 +1,21 @@
 //! Documents on their way in: all that an order names come together, or none.
 
-use crate::ascii::in_ascii;
+use crate::collecting::collect;
 use crate::sentences::{REFUSED, Stop, word_of};
-use crate::sources::{Source, sources_of};
+use crate::sources::{Sources, sources_of};
 use bstr::decode_utf8;
 use desk_journal::{Document, Error, Store};
-use desk_stores::{Trouble, opened};
+use desk_stores::{Trouble, looked_at, opened_locked};
 use desktop_definitions::codes::TOO_MANY_FILES;
 use desktop_definitions::{MOST_FILES, MOST_HELD, MOST_WRITTEN, Reply};
-use host_documents::{MOST_BYTES, Place, Unfit, document};
-use host_files::{HostFault, lock_alone, lock_shared};
+use host_documents::{MOST_BYTES, Place, Unfit};
+use host_files::lock_alone;
 use host_stores::{FileDisk, opened as opened_on};
 use sector_disk::{Disk, FILE_SECTORS, MemoryDisk};
 use std::io;
-use store_documents::{Sorted, copy, sort};
+use store_documents::{
+    Coming, FirstUnfit, Imported, copy, documents_of, import as bring_in, named_before,
+};
 
 // A document may have as many characters as a desktop may hold.
 const _: () = prove!(MOST_BYTES == MOST_HELD as usize);
@@ -27,17 +29,22 @@ pub struct Manner {
     pub dry_run: bool,
     /// What isn't ASCII is replaced by what is like it.
     pub ascii: bool,
+    /// Lines are broken at blanks, so that none passes so many columns.
+    pub fill: Option<usize>,
+    /// System.Collect is done where the count of written characters alone is in the way.
+    pub collect: bool,
 }
 
 /// Makes documents of files of the host's in the store in a file, which is locked for this program alone, and tells each
 /// of them on a line. All are durable when this has returned, or none has come.
 pub fn import(rt: &HostRuntime, path: &str, words: &[&str], manner: Manner) -> Result<(), Stop> {
-    let documents = documents_of(rt, words, manner)?;
+    let sources = sources_of(rt, words, manner.ascii)?;
+    let documents = documents_in(rt, &sources, manner.fill)?;
     if manner.dry_run {
         return try_out(rt, path, documents, manner);
     }
     match lock_alone(rt, path) {
-        Ok(_lock) => bring_into(rt, opened(rt, path)?, path, documents, manner),
+        Ok(file) => bring_into(rt, opened_locked(rt, file)?, path, documents, manner),
         Err(fault) => Err(Stop::Trouble(Trouble::Host(fault))),
     }
 }
@@ -49,13 +56,7 @@ fn try_out(
     documents: Vec<Document>,
     manner: Manner,
 ) -> Result<(), Stop> {
-    let _lock = match lock_shared(rt, path) {
-        Ok(lock) => lock,
-        Err(fault) => return Err(Stop::Trouble(Trouble::Host(fault))),
-    };
-    let Ok(mut file) = FileDisk::open(rt, path) else {
-        return Err(Stop::Trouble(Trouble::Host(HostFault::Refused)));
-    };
+    let mut file = FileDisk::new(looked_at(rt, path)?);
     let mut memory = MemoryDisk::new(rt.alloc(), FILE_SECTORS)?;
     if copy(&mut file, &mut memory, FILE_SECTORS).is_err() {
         return Err(Stop::Trouble(Trouble::Store(Error::Fault)));
@@ -63,7 +64,8 @@ fn try_out(
     bring_into(rt, opened_on(rt, memory)?, path, documents, manner)
 }
 
-/// Brings documents into a store and tells them.
+/// Brings documents into a store and tells them. Where the count of written characters alone is in the way, and the
+/// person asks for it, that is brought down first.
 fn bring_into<D: Disk + Drop>(
     rt: &HostRuntime,
     store: Store<D>,
@@ -72,34 +74,45 @@ fn bring_into<D: Disk + Drop>(
     manner: Manner,
 ) -> Result<(), Stop> {
     let mut store = store;
-    let sorted = sort(rt.alloc(), &mut store, documents)?;
-    if !manner.replace && !sorted.other.is_empty() {
-        return Err(refused_others(rt, path, &sorted));
+    match bring_in(rt.alloc(), &mut store, documents, manner.replace)? {
+        Imported::Kept(others) => Err(refused_others(rt, path, others.as_slice())),
+        Imported::Told(Reply::Done, coming) => told(tell(rt, &coming)),
+        Imported::Told(Reply::No(TOO_MANY_FILES), _) => Err(refused_number(rt, path)),
+        Imported::Told(Reply::No(_), coming) => {
+            let written = store.info()?.written;
+            if manner.collect && is_worn(written, coming.documents.as_slice()) {
+                collect(rt, &mut store)?;
+                return bring_again(rt, &mut store, path, coming);
+            }
+            Err(refused_length(rt, path, written, coming.documents.as_slice()))
+        }
     }
-    let Sorted { fresh, same, other } = sorted;
-    let mut coming = fresh;
-    let new = coming.len();
-    for document in other {
-        coming.push(document)?;
-    }
-    bring_all(rt, &mut store, path, coming.as_slice())?;
-    told(tell(rt, coming.as_slice(), new, same.as_slice()))
 }
 
-/// Brings documents into a store, if there are any.
-fn bring_all<D: Disk + Drop>(
+/// Brings documents into a store behind a System.Collect.
+fn bring_again<D: Disk + Drop>(
     rt: &HostRuntime,
     store: &mut Store<D>,
     path: &str,
-    documents: &[Document],
+    coming: Coming,
 ) -> Result<(), Stop> {
-    if documents.is_empty() {
-        return Ok(());
-    }
-    match store.bring(rt.alloc(), documents)? {
-        Reply::Done => Ok(()),
-        Reply::No(TOO_MANY_FILES) => Err(refused_number(rt, path)),
-        Reply::No(_) => Err(refused_length(rt, path, store.info()?.written, documents)),
+    let Coming {
+        documents,
+        fresh: _,
+        same,
+    } = coming;
+    match bring_in(rt.alloc(), store, documents, true)? {
+        Imported::Told(Reply::Done, mut coming) => {
+            coming.same = same;
+            told(tell(rt, &coming))
+        }
+        Imported::Told(Reply::No(_), coming) => Err(refused_length(
+            rt,
+            path,
+            store.info()?.written,
+            coming.documents.as_slice(),
+        )),
+        Imported::Kept(others) => Err(refused_others(rt, path, others.as_slice())),
     }
 }
 
@@ -111,13 +124,20 @@ fn told(lines: io::Result<()>) -> Result<(), Stop> {
     }
 }
 
-/// Tells each document on a line: the first so many are new, the others that came have replaced one, and then those
-/// that were there already.
-fn tell(rt: &HostRuntime, came: &[Document], fresh: usize, same: &[Document]) -> io::Result<()> {
-    for (index, document) in came.iter().enumerate() {
-        tell_one(rt, document, if index < fresh { "new" } else { "replaced" })?;
+/// Tells each document on a line.
+fn tell(rt: &HostRuntime, coming: &Coming) -> io::Result<()> {
+    for (index, document) in coming.documents.iter().enumerate() {
+        tell_one(
+            rt,
+            document,
+            if index < coming.fresh {
+                "new"
+            } else {
+                "replaced"
+            },
+        )?;
     }
-    for document in same {
+    for document in &coming.same {
         tell_one(rt, document, "the same already")?;
     }
     Ok(())
@@ -131,8 +151,8 @@ fn tell_one(rt: &HostRuntime, document: &Document, what: &str) -> io::Result<()>
 }
 
 /// Says which documents would be replaced.
-fn refused_others(rt: &HostRuntime, path: &str, sorted: &Sorted) -> Stop {
-    for document in &sorted.other {
+fn refused_others(rt: &HostRuntime, path: &str, others: &[Document]) -> Stop {
+    for document in others {
         let name = word_of(document.name());
         let _ = eprintln!(rt;
             "desk: {path:?} has another document {name} already, so nothing was done; --replace replaces it"
@@ -149,15 +169,20 @@ fn refused_number(rt: &HostRuntime, path: &str) -> Stop {
     REFUSED
 }
 
-/// Says which limit on characters is passed, where so many were written.
-fn refused_length(rt: &HostRuntime, path: &str, written: u32, documents: &[Document]) -> Stop {
+/// Whether the documents would pass the limit on written characters, where so many were written.
+fn is_worn(written: u32, documents: &[Document]) -> bool {
     let mut count = u64::from(written);
     for document in documents {
         count = count.saturating_add(document.as_bytes().len() as u64);
     }
-    let _ = if count > u64::from(MOST_WRITTEN) {
+    count > u64::from(MOST_WRITTEN)
+}
+
+/// Says which limit on characters is passed, where so many were written.
+fn refused_length(rt: &HostRuntime, path: &str, written: u32, documents: &[Document]) -> Stop {
+    let _ = if is_worn(written, documents) {
         eprintln!(rt;
-            "desk: {path:?} counts {written} characters as written, of {MOST_WRITTEN}, so nothing was done; System.Collect at the desk makes room"
+            "desk: {path:?} counts {written} characters as written, of {MOST_WRITTEN}, so nothing was done; System.Collect at the desk makes room, and --collect has it done"
         )
     } else {
         eprintln!(rt;
@@ -167,45 +192,40 @@ fn refused_length(rt: &HostRuntime, path: &str, written: u32, documents: &[Docum
     REFUSED
 }
 
-/// The documents of the files that the words mean.
-fn documents_of(rt: &HostRuntime, words: &[&str], manner: Manner) -> Result<Vec<Document>, Stop> {
-    let mut documents: Vec<Document> = Vec::new(rt.alloc());
-    for source in sources_of(rt, words)? {
-        let document = document_of(rt, source, manner)?;
-        if let Some(other) = documents
-            .iter()
-            .find(|other| other.name() == document.name())
-        {
-            let name = word_of(other.name());
+/// The documents of files.
+fn documents_in(
+    rt: &HostRuntime,
+    sources: &Sources,
+    fill: Option<usize>,
+) -> Result<Vec<Document>, Stop> {
+    let documents = match documents_of(rt.alloc(), sources.handed.as_slice(), fill) {
+        Ok(documents) => documents,
+        Err(first) => return Err(refused_unfit(rt, sources, first)),
+    };
+    if let Some(index) = named_before(documents.as_slice()) {
+        if let Some(document) = documents.get(index) {
+            let name = word_of(document.name());
             let _ = eprintln!(rt;
                 "desk: two of the files are to be the document {name}, so nothing was done"
             );
-            return Err(REFUSED);
         }
-        documents.push(document)?;
+        return Err(REFUSED);
     }
     Ok(documents)
 }
 
-/// The document of a file.
-fn document_of(rt: &HostRuntime, source: Source, manner: Manner) -> Result<Document, Stop> {
-    let Source { name, file, bytes } = source;
-    let bytes = if manner.ascii {
-        in_ascii(rt, file.as_str(), bytes.as_slice())?
-    } else {
-        bytes
-    };
-    match document(rt.alloc(), bytes.as_slice()) {
-        Ok(text) => match Document::new(name, text) {
-            Some(document) => Ok(document),
-            None => Err(REFUSED),
-        },
-        Err(Unfit::NoMemory) => Err(Stop::Trouble(Trouble::Memory)),
-        Err(unfit) => {
-            let _ = say_unfit(rt, file.as_str(), bytes.as_slice(), unfit);
-            Err(REFUSED)
-        }
+/// Says which file is no document, and why.
+fn refused_unfit(rt: &HostRuntime, sources: &Sources, first: FirstUnfit) -> Stop {
+    if matches!(first.why, Unfit::NoMemory) {
+        return Stop::Trouble(Trouble::Memory);
     }
+    if let (Some(file), Some(handed)) = (
+        sources.files.get(first.index),
+        sources.handed.get(first.index),
+    ) {
+        let _ = say_unfit(rt, file.as_str(), handed.as_bytes(), first.why);
+    }
+    REFUSED
 }
 
 /// Says why a file is no document.

@@ -1,22 +1,24 @@
 //! Documents between a store and files of the host's, and what a person asks of a store's file from the shell: files
 //! in (`sources`, `importing`), documents out (`exporting`), a list of them (`listing`), a copy of a store (`copies`),
-//! what can be taken back (`history`), and how a store is (`checking`). The bytes are the matter of `host_documents`, the store that of `store_documents`;
-//! what is refused is said in one sentence here (`sentences`).
+//! what can be taken back (`history`), and how a store is (`checking`). The bytes are the matter of `host_documents`, the
+//! store that of `store_documents`; what is refused is said in one sentence here (`sentences`).
 #![tactic(auto)]
 
 mod ascii;
 mod checking;
+mod collecting;
 mod copies;
 mod exporting;
 mod history;
 mod importing;
 mod listing;
+mod progress;
 mod sentences;
 mod sources;
 
 pub use checking::check;
 pub use copies::backup;
-pub use exporting::{export_all, export_names};
+pub use exporting::{Putting, export_all, export_names};
 pub use history::{earlier, events_back};
 pub use importing::{Manner, import};
 pub use listing::{list, list_json};

@@ -1,11 +1,14 @@
 //! The files that a person hands in: the words of the order are read.
 
+use crate::ascii::in_ascii;
+use crate::progress::Progress;
 use crate::sentences::{HOST, REFUSED, Stop, refused_file};
 use desk_stores::Trouble;
 use event_bytes::Name;
 use host_documents::MOST_BYTES;
 use host_files::{HostFault, files_in, is_folder, is_there, read_input, read_whole};
 use std::path::Path;
+use store_documents::Handed;
 
 /// The most bytes that are read of a file: more than four for each character of a document.
 const MOST_READ: u64 = 1_048_577;
@@ -13,29 +16,103 @@ const MOST_READ: u64 = 1_048_577;
 // What isn't read of a file makes it no document that it wouldn't be.
 const _: () = prove!(4 * (MOST_BYTES as u64) < MOST_READ);
 
-/// A file of the host's that is to be a document.
+/// Files of the host's that are to be documents.
 #[derive(Drop)]
-pub(crate) struct Source {
-    /// The document's name.
-    pub(crate) name: Name,
-    /// How the person named the file.
-    pub(crate) file: String,
-    /// What it has.
-    pub(crate) bytes: Vec<u8>,
+pub(crate) struct Sources {
+    /// How the person named each file.
+    pub(crate) files: Vec<String>,
+    /// The name of each document, and what its file has.
+    pub(crate) handed: Vec<Handed>,
 }
 
 /// The files that the words mean, in the order of the words: FILE, NAME=FILE, a folder, or `-`, standard input, and
-/// NAME FILE where there are just two words and the first is no file.
-pub(crate) fn sources_of(rt: &HostRuntime, words: &[&str]) -> Result<Vec<Source>, Stop> {
-    let mut sources = Vec::new(rt.alloc());
+/// NAME FILE where there are just two words and the first is no file. With `ascii`, what isn't ASCII is replaced.
+pub(crate) fn sources_of(rt: &HostRuntime, words: &[&str], ascii: bool) -> Result<Sources, Stop> {
+    let mut reading = Reading {
+        sources: Sources {
+            files: Vec::new(rt.alloc()),
+            handed: Vec::new(rt.alloc()),
+        },
+        ascii,
+        progress: Progress::new(rt),
+    };
     if words.len() == 2 && !is_given(rt, words[0]) {
-        sources.push(read(rt, named(rt, words[0])?, words[1])?)?;
-        return Ok(sources);
+        let name = named(rt, words[0])?;
+        reading.read(rt, name, words[1])?;
+        return Ok(reading.end(rt));
     }
     for word in words {
-        read_word(rt, word, &mut sources)?;
+        reading.read_word(rt, word)?;
     }
-    Ok(sources)
+    Ok(reading.end(rt))
+}
+
+/// Files that are being read.
+#[derive(Drop)]
+struct Reading {
+    sources: Sources,
+    ascii: bool,
+    progress: Progress,
+}
+
+impl Reading {
+    /// What was read.
+    fn end(self, rt: &HostRuntime) -> Sources {
+        let Reading {
+            sources,
+            ascii: _,
+            progress,
+        } = self;
+        progress.end(rt);
+        sources
+    }
+
+    /// Reads the files that a word means.
+    fn read_word(&mut self, rt: &HostRuntime, word: &str) -> Result<(), Stop> {
+        if let Some((name, file)) = word.split_once('=') {
+            let name = named(rt, name)?;
+            return self.read(rt, name, file);
+        }
+        if is_folder(rt, word) {
+            return self.read_folder(rt, word);
+        }
+        let name = name_of(rt, word)?;
+        self.read(rt, name, word)
+    }
+
+    /// Reads the files of a folder.
+    fn read_folder(&mut self, rt: &HostRuntime, folder: &str) -> Result<(), Stop> {
+        let names = files_of(rt, folder)?;
+        let folder = folder.trim_end_matches('/');
+        for name in &names {
+            let name = name.as_str();
+            let path = format!(in rt.alloc(); "{folder}/{name}")?;
+            let name = name_of(rt, path.as_str())?;
+            self.read(rt, name, path.as_str())?;
+        }
+        Ok(())
+    }
+
+    /// Reads a file.
+    fn read(&mut self, rt: &HostRuntime, name: Name, file: &str) -> Result<(), Stop> {
+        let bytes = match bytes_of(rt, file) {
+            Ok(bytes) => bytes,
+            Err(HostFault::NoMemory) => return Err(Stop::Trouble(Trouble::Memory)),
+            Err(fault) => return Err(refused_file(rt, file, fault)),
+        };
+        let bytes = if self.ascii {
+            in_ascii(rt, file, bytes.as_slice())?
+        } else {
+            bytes
+        };
+        self.sources
+            .files
+            .push(String::from_str(rt.alloc(), file)?)?;
+        self.sources.handed.push(Handed::new(name, bytes))?;
+        self.progress
+            .tell(rt, "files read", self.sources.files.len());
+        Ok(())
+    }
 }
 
 /// Whether a word means a file, or a name with a file.
@@ -43,21 +120,8 @@ fn is_given(rt: &HostRuntime, word: &str) -> bool {
     word == "-" || word.contains('=') || matches!(is_there(rt, word), Ok(true))
 }
 
-/// Reads the files that a word means.
-fn read_word(rt: &HostRuntime, word: &str, sources: &mut Vec<Source>) -> Result<(), Stop> {
-    if let Some((name, file)) = word.split_once('=') {
-        sources.push(read(rt, named(rt, name)?, file)?)?;
-        return Ok(());
-    }
-    if is_folder(rt, word) {
-        return read_folder(rt, word, sources);
-    }
-    sources.push(read(rt, name_of(rt, word)?, word)?)?;
-    Ok(())
-}
-
-/// Reads the files of a folder.
-fn read_folder(rt: &HostRuntime, folder: &str, sources: &mut Vec<Source>) -> Result<(), Stop> {
+/// The names of the files of a folder, of which there must be some.
+fn files_of(rt: &HostRuntime, folder: &str) -> Result<Vec<String>, Stop> {
     let names = match files_in(rt, folder) {
         Ok(names) => names,
         Err(fault) => return Err(refused_file(rt, folder, fault)),
@@ -66,13 +130,7 @@ fn read_folder(rt: &HostRuntime, folder: &str, sources: &mut Vec<Source>) -> Res
         let _ = eprintln!(rt; "desk: the folder {folder:?} has no file, so nothing was done");
         return Err(HOST);
     }
-    let folder = folder.trim_end_matches('/');
-    for name in &names {
-        let name = name.as_str();
-        let path = format!(in rt.alloc(); "{folder}/{name}")?;
-        sources.push(read(rt, name_of(rt, path.as_str())?, path.as_str())?)?;
-    }
-    Ok(())
+    Ok(names)
 }
 
 /// The name that the person gave to a document.
@@ -103,19 +161,6 @@ fn name_of(rt: &HostRuntime, file: &str) -> Result<Name, Stop> {
             );
             Err(REFUSED)
         }
-    }
-}
-
-/// Reads a file.
-fn read(rt: &HostRuntime, name: Name, file: &str) -> Result<Source, Stop> {
-    match bytes_of(rt, file) {
-        Ok(bytes) => Ok(Source {
-            name,
-            file: String::from_str(rt.alloc(), file)?,
-            bytes,
-        }),
-        Err(HostFault::NoMemory) => Err(Stop::Trouble(Trouble::Memory)),
-        Err(fault) => Err(refused_file(rt, file, fault)),
     }
 }
 

@@ -8,8 +8,8 @@ mod sitting;
 use crate::sitting::{sit_at, sit_in_memory};
 use desk_arguments::{Export, Import, Order, Refusal, order_of, words};
 use desk_documents::{
-    Manner, Stop, backup, check, earlier, events_back, export_all, export_names, import, list,
-    list_json,
+    Manner, Putting, Stop, backup, check, earlier, events_back, export_all, export_names, import,
+    list, list_json,
 };
 use desk_session::Saying;
 use desk_stores::{Trouble, picture};
@@ -87,8 +87,16 @@ fn follow_over_documents(rt: &HostRuntime, order: &Order<'_>) -> u8 {
 /// Puts documents out.
 fn put_out(rt: &HostRuntime, order: &Export<'_>) -> Result<(), Stop> {
     match order.all {
-        None => export_names(rt, order.path, order.names.as_slice()),
-        Some(folder) => export_all(rt, order.path, folder, order.replace),
+        None => export_names(rt, order.path, order.names.as_slice(), order.join),
+        Some(folder) => export_all(
+            rt,
+            order.path,
+            folder,
+            Putting {
+                replace: order.replace,
+                is_joined: order.join,
+            },
+        ),
     }
 }
 
@@ -98,6 +106,8 @@ fn take_in(rt: &HostRuntime, order: &Import<'_>) -> Result<(), Stop> {
         replace: order.replace,
         dry_run: order.dry_run,
         ascii: order.ascii,
+        fill: order.fill.map(usize::from),
+        collect: order.collect,
     };
     import(rt, order.path, order.words.as_slice(), manner)
 }

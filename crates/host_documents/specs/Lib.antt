@@ -1,1 +1,2 @@
 pub mod HostText
+pub mod Filling

@@ -37,6 +37,21 @@ pub fn printable_text(alloc: Global, characters: &[(u8, Look)]) -> Result<Vec<u8
         .collect(alloc)
 }
 
+/// The text of a document as a file of the host's, of its bytes. It fails for want of memory alone.
+pub fn host_bytes(alloc: Global, text: &[u8]) -> Result<Vec<u8>, AllocError>
+    ensures { IfOk result (λ file. file.items ≡ exported text.now) }
+{
+    text.iter().map(|byte| fed(*byte)).collect(alloc)
+}
+
+/// The same for a terminal, as `printable_text` has it.
+#[tactic(auto, using(crate::proofs::Texts::map_twice))]
+pub fn printable_bytes(alloc: Global, text: &[u8]) -> Result<Vec<u8>, AllocError>
+    ensures { IfOk result (λ printed. printed.items ≡ printable text.now) }
+{
+    text.iter().map(|byte| printed(fed(*byte))).collect(alloc)
+}
+
 /// What a document's byte is to the host.
 fn fed(byte: u8) -> u8
     ensures { result ≡ fed_byte byte }

@@ -1,5 +1,5 @@
 //! The way in.
-ghost use Rattle.std.specs.Prelude.{◌≡◌, ◌<◌, Ok, Err, Some, IfOk, IfErr, IfSome, IsTrue, length};
+ghost use Rattle.std.specs.Prelude.{◌≡◌, ◌<◌, ◌≤◌, Ok, Err, Some, IfOk, IfErr, IfSome, IsTrue, length};
 ghost use Rattle.std.specs.List.{list_all, list_any};
 ghost use Rattle.event_bytes.specs.Bytes.{is_text_byte as text_byte};
 ghost use Rattle.host_documents.specs.HostText.{document_of, imported, first_strange, has_nul as nul_in, place_in};
@@ -44,6 +44,7 @@ impl From<AllocError> for Unfit {
 pub fn document(alloc: Global, file: &[u8]) -> Result<Vec<u8>, Unfit>
     ensures text { IfOk result (λ text. imported file.now ≡ Ok text.items) }
     ensures plain { IfOk result (λ text. IsTrue (list_all text_byte text.items)) }
+    ensures short { IfOk result (λ text. length text.items ≤ MOST_BYTES) }
     ensures why { IfErr result (λ unfit. ¬ (unfit ≡ Unfit.NoMemory) → imported file.now ≡ Err unfit) }
 {
     let text = document_text(alloc, file)?;

@@ -1,2 +1,5 @@
 pub mod Looks
 pub mod SortedLaws
+mod Imports
+mod PartLaws
+mod Takings

@@ -10,7 +10,7 @@ use Rattle.desk_journal.specs.View.{StoreView}
 use Rattle.store_documents.specs.Standings.{HasOnlyLooked}
 
 module _ {D : Type 0} (d : Ghosts D) where
-  read_twice : {old mid new : D} → IsOnlyRead d old mid → IsOnlyRead d mid new → IsOnlyRead d old new
+  pub read_twice : {old mid new : D} → IsOnlyRead d old mid → IsOnlyRead d mid new → IsOnlyRead d old new
   read_twice first second = record {
     device = record {
       as_large = second.device.as_large ∙ first.device.as_large;

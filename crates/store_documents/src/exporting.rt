@@ -1,12 +1,14 @@
 //! A document on its way out.
 ghost use Rattle.std.specs.Prelude.{◌≡◌, Some, IfOk, IfErr};
 ghost use Rattle.desktop_definitions.specs.Desktop.{file_of};
-ghost use Rattle.store_documents.specs.Exporting.{IsExported, IsExportCutOff, text_for_reader};
+ghost use Rattle.store_documents.specs.Exporting.{IsExported, IsExportCutOff, text_in_form, with_lines};
+ghost use Rattle.store_documents.specs.Standings.{bytes_of};
 ghost use Rattle.store_documents.specs.Standings.{HasOnlyLooked};
 
+use crate::sorting::text_of;
 use desk_journal::{Error, Store};
 use event_bytes::Name;
-use host_documents::{host_text, printable_text};
+use host_documents::{host_bytes, joined, printable_bytes};
 use output_bytes::{flush, send};
 use piece_ring::Look;
 use sector_disk::Disk;
@@ -20,6 +22,15 @@ pub enum Reader {
     Program,
     /// A terminal: it gets a question mark in the place of each byte that it might take for an order.
     Terminal,
+}
+
+/// How a document comes out.
+#[derive(Clone, Copy, Debug, PartialEq, Eq)]
+pub struct Form {
+    /// Who reads it.
+    pub reader: Reader,
+    /// Whether each line that ends with a blank is joined to the next.
+    pub is_joined: bool,
 }
 
 /// Why a document did not come out whole.
@@ -49,18 +60,18 @@ pub fn export<D: Disk, W: Write>(
     alloc: Global,
     store: &mut Store<D>,
     name: &Name,
-    reader: Reader,
+    form: Form,
     output: &mut W,
 ) -> Result<bool, ExportFault>
     ensures done { IfOk result (λ found. D.honest store.old.disk
-        → IsExported reader (file_of store.old.desktop name.now) found (W.contents output.old) (W.contents output.new)) }
+        → IsExported form (file_of store.old.desktop name.now) found (W.contents output.old) (W.contents output.new)) }
     ensures stopped { IfErr result (λ fault. D.honest store.old.disk
-        → IsExportCutOff reader (file_of store.old.desktop name.now) fault (W.contents output.old) (W.contents output.new)) }
+        → IsExportCutOff form (file_of store.old.desktop name.now) fault (W.contents output.old) (W.contents output.new)) }
     ensures looked { HasOnlyLooked D.Disk store.old store.new }
 {
     match store.file(alloc, name)? {
         None => Ok(false),
-        Some(characters) => write_text(alloc, characters.as_slice(), reader, output),
+        Some(characters) => write_text(alloc, characters.as_slice(), form, output),
     }
 }
 
@@ -68,15 +79,15 @@ pub fn export<D: Disk, W: Write>(
 fn write_text<W: Write>(
     alloc: Global,
     characters: &[(u8, Look)],
-    reader: Reader,
+    form: Form,
     output: &mut W,
 ) -> Result<bool, ExportFault>
-    ensures done { IfOk result (λ found. IsExported reader (Some characters.now) found
+    ensures done { IfOk result (λ found. IsExported form (Some characters.now) found
         (W.contents output.old) (W.contents output.new)) }
-    ensures stopped { IfErr result (λ fault. IsExportCutOff reader (Some characters.now) fault
+    ensures stopped { IfErr result (λ fault. IsExportCutOff form (Some characters.now) fault
         (W.contents output.old) (W.contents output.new)) }
 {
-    let Ok(text) = text_for(alloc, characters, reader) else {
+    let Ok(text) = text_for(alloc, characters, form) else {
         return Err(ExportFault::Store(Error::NoMemory));
     };
     if send(output, text.as_slice()).is_err() {
@@ -88,12 +99,29 @@ fn write_text<W: Write>(
     }
 }
 
-/// The bytes of characters as a reader gets them.
-fn text_for(alloc: Global, characters: &[(u8, Look)], reader: Reader) -> Result<Vec<u8>, AllocError>
-    ensures { IfOk result (λ text. text.items ≡ text_for_reader reader characters.now) }
+/// The bytes of characters as they come out.
+fn text_for(alloc: Global, characters: &[(u8, Look)], form: Form) -> Result<Vec<u8>, AllocError>
+    ensures { IfOk result (λ text. text.items ≡ text_in_form form characters.now) }
 {
-    match reader {
-        Reader::Program => host_text(alloc, characters),
-        Reader::Terminal => printable_text(alloc, characters),
+    let text = lines_of(alloc, characters, form.is_joined)?;
+    match form.reader {
+        Reader::Program => host_bytes(alloc, &text),
+        Reader::Terminal => printable_bytes(alloc, &text),
+    }
+}
+
+/// Characters without their looks, and with their lines joined if they are to be.
+fn lines_of(
+    alloc: Global,
+    characters: &[(u8, Look)],
+    is_joined: bool,
+) -> Result<Vec<u8>, AllocError>
+    ensures { IfOk result (λ text. text.items ≡ with_lines is_joined (bytes_of characters.now)) }
+{
+    let text = text_of(alloc, characters)?;
+    if is_joined {
+        joined(alloc, &text)
+    } else {
+        Ok(text)
     }
 }

@@ -5,9 +5,13 @@
 mod copying;
 mod examining;
 mod exporting;
+mod handing;
+mod importing;
 mod sorting;
 
 pub use copying::{are_same, copy};
-pub use examining::{Examined, SlotState, examine};
-pub use exporting::{ExportFault, Reader, export};
+pub use examining::{Examined, Part, SlotState, examine, part_of, parts_are_of_layout};
+pub use exporting::{ExportFault, Form, Reader, export};
+pub use handing::{FirstUnfit, Handed, documents_of, named_before};
+pub use importing::{Coming, Imported, import};
 pub use sorting::{Sorted, Standing, sort, standing_in};

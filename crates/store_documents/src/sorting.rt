@@ -59,7 +59,7 @@ fn beside(alloc: Global, characters: &[(u8, Look)], bytes: &[u8]) -> Result<Stan
 }
 
 /// Characters without their looks.
-fn text_of(alloc: Global, characters: &[(u8, Look)]) -> Result<Vec<u8>, AllocError>
+pub(crate) fn text_of(alloc: Global, characters: &[(u8, Look)]) -> Result<Vec<u8>, AllocError>
     ensures { IfOk result (λ text. text.items ≡ bytes_of characters.now) }
 {
     characters
