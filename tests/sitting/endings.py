@@ -10,7 +10,7 @@ import subprocess
 import tempfile
 import time
 
-from model import GREETING, ROWS, UNREAD, Screen
+from model import GREETING, KEYS, NO_KEY, ROWS, UNREAD, Screen
 from sitting import Ended, Sitting
 
 LETTERS = 'abcdefghijklmnopqrstuvwxyz'
@@ -341,14 +341,14 @@ def hole(trial):
         wanted = '900 characters typed, the rest dropped: refused (6): no room'
         trial.check(sitting.wait(lambda: sitting.terminal.line(ROWS) == wanted, 5), sitting.terminal.line(ROWS))
         sitting.press(b'\x7f')
-        trial.check(sitting.wait(lambda: sitting.terminal.line(ROWS) == '', 5), sitting.terminal.line(ROWS))
+        trial.check(sitting.wait(lambda: sitting.terminal.line(ROWS) == KEYS, 5), sitting.terminal.line(ROWS))
         trial.leaves(sitting)
         answers = trial.oberon_says('play', trial.path, lines=['type ' + 'x' * 181, 'type x']).split()
         trial.check(answers == ['ok', 'no', '6'], f'there is another room: {answers}')
     room_for(trial, 100)
     sitting = trial.sit(trial.path)
     sitting.press(paste + b'b')
-    trial.check(sitting.wait(lambda: sitting.terminal.line(ROWS) == '', 5), sitting.terminal.line(ROWS))
+    trial.check(sitting.wait(lambda: sitting.terminal.line(ROWS) == KEYS, 5), sitting.terminal.line(ROWS))
     trial.leaves(sitting)
     answers = trial.oberon_says('play', trial.path, lines=['type ' + 'x' * 99, 'type x']).split()
     trial.check(answers == ['ok', 'no', '6'], f'there is another room: {answers}')
@@ -385,18 +385,23 @@ def outside(trial):
 
 
 def ringing(trial):
-    """A ring leaves no older reason on the line below."""
+    """A ring has its reason on the line below, and no older one."""
     sitting = trial.sit_anew()
     sitting.press(b'\x18')
     trial.check(sitting.wait(lambda: 'refused (2)' in sitting.terminal.line(ROWS), 5), 'nothing was refused')
     sitting.press(b'\x01')
-    trial.check(sitting.wait(lambda: sitting.terminal.line(ROWS) == '', 5), sitting.terminal.line(ROWS))
+    trial.check(sitting.wait(lambda: sitting.terminal.line(ROWS) == NO_KEY, 5), sitting.terminal.line(ROWS))
     trial.leaves(sitting)
 
 
 def under_the_marker(trial):
     """The marker on the caret doesn't stop the arrows."""
-    typed_by(trial, b'ab\x1bOP\x1b[<0;4;2M\x1b[<0;4;2m\x1b[DX', b'aXb')
+    trial.store()
+    trial.oberon_says('play', trial.path, lines=['type ab', 'mark 3 30'])
+    sitting = trial.sit(trial.path)
+    sitting.press(b'\x1b[DX')
+    kept = trial.stored(sitting)
+    trial.check(kept == b'aXb', f'{kept!r} is kept')
 
 
 # ---- windows
@@ -411,7 +416,7 @@ def resized_amid_paste(trial):
     trial.check(sitting.wait(lambda: sitting.terminal.scenes > 0, 5), 'no scene')
     sitting.press(b'def\x1b[201~')
     trial.check(sitting.look_anew(), 'no scene')
-    trial.check(sitting.wait(lambda: sitting.terminal.line(23) == '', 5), sitting.terminal.line(23))
+    trial.check(sitting.wait(lambda: sitting.terminal.line(23) == KEYS, 5), sitting.terminal.line(23))
     trial.check(sitting.terminal.line(22) != '', 'the display has other rows')
     trial.leaves(sitting)
     trial.kept('abcdef', 'abcdef')
@@ -423,7 +428,7 @@ def narrow(trial):
     sitting.resize(33, 70)
     trial.check(sitting.wait(lambda: 'fewer than 80 columns' in sitting.terminal.line(ROWS), 5), 'it is not told')
     sitting.resize(33, 80)
-    trial.check(sitting.wait(lambda: sitting.terminal.line(ROWS) == '', 5), sitting.terminal.line(ROWS))
+    trial.check(sitting.wait(lambda: sitting.terminal.line(ROWS) == KEYS, 5), sitting.terminal.line(ROWS))
     trial.leaves(sitting)
 
 
@@ -452,6 +457,9 @@ def no_terminal(trial):
     ran = subprocess.run([trial.desk, trial.path], stdin=subprocess.DEVNULL, capture_output=True, check=False)
     trial.check(ran.returncode == 2 and not ran.stdout, f'status {ran.returncode}')
     trial.check(ran.stderr.startswith(b'desk: ') and ran.stderr.count(b'\n') == 1, f'it says {ran.stderr}')
+    ran = subprocess.run([trial.desk, trial.path], stdin=subprocess.DEVNULL, capture_output=True, check=False,
+                         env={**os.environ, 'TERM': 'dumb'})
+    trial.check(ran.returncode == 2 and b'dumb' in ran.stderr, f'status {ran.returncode}, it says {ran.stderr}')
     trial.check(not os.path.exists(trial.path), 'a store was made')
 
 
@@ -595,6 +603,10 @@ def in_memory(trial):
     sitting = trial.sit()
     trial.check('System.Tool' in sitting.terminal.line(0), 'no tool text is shown')
     trial.check('memory' in sitting.terminal.line(ROWS), f'the line below is {sitting.terminal.line(ROWS)!r}')
+    sitting.press(b'\x11')
+    trial.check(sitting.wait(lambda: 'Ctrl-Q again leaves' in sitting.terminal.line(ROWS), 5), 'nothing is asked')
+    sitting.press(b'\x01\x11')
+    trial.check(sitting.wait(lambda: 'Ctrl-Q again leaves' in sitting.terminal.line(ROWS), 5), 'another key answers')
     sitting.press(b'\x11')
     trial.check(sitting.end() == 0 and not os.listdir(trial.folder), f'status {sitting.status}')
 

@@ -8,18 +8,23 @@ COLUMNS, ROWS = 80, 32
 WIDTHS = {0: 50, 50: 30}  # of the tracks, by their left columns
 GREETING = 'Middle button, or F2 and then a click, calls the word there; Ctrl-Q leaves'
 UNREAD = "The host's file can't be read, and nothing was typed."
-# What the line below says of a refusal, by its code.
+# What the line below says where nothing else is to be said.
+KEYS = 'F1 marker, F2 calls, F3 selects, Ctrl-Z undo, Ctrl-O file, Ctrl-Q leaves'
+NO_KEY = 'That key means nothing here.'
+NO_TEXT = 'There is no text on that side of the caret, or no caret in sight.'
+TOO_LOW = 'This window is too low: it has fewer than 12 rows.'
+# What it says of a refusal, by its code.
 REASONS = {
-    1: 'no viewer has the caret',
-    2: 'nothing is selected',
+    1: 'no viewer has the caret; a left click in a text sets it',
+    2: 'nothing is selected; the right button, drawn over a text, selects',
     3: 'a parameter is missing or of another kind',
-    4: "the word is no command's",
-    5: 'there is no such file, or it is named twice',
-    6: 'no room for more characters',
-    7: 'no viewer is at the marker, or none was closed',
-    8: 'there are 256 files',
+    4: "the word there is no command's",
+    5: 'there is no document of that name, or it is named twice',
+    6: '262,144 characters held, or 4,194,304 written: System.Collect',
+    7: 'no viewer is at the marker (F1 and a click set it), or none closed',
+    8: 'there are 256 documents; System.DeleteFiles makes room',
     9: 'the cell lies outside the display',
-    10: "it isn't there from the caret on",
+    10: "what is searched isn't there from the caret on",
     11: 'there is no such font, colour or offset',
     13: "a viewer of one row can't be parted",
 }
@@ -115,7 +120,7 @@ class Model:
         reply = self.ask(line)
         if reply == 'ok':
             self.follows = True
-            self.saying = ''
+            self.saying = KEYS
             return True
         code = int(reply.removeprefix('no '))
         self.saying = f'refused ({code}): {REASONS[code]}'
@@ -139,7 +144,8 @@ class Model:
         elif kind == 'key':
             self.post('key ' + rest[0])
         elif kind == 'mark':
-            self.post('mark %d %d' % self.spot(*rest))
+            x, y = self.spot(*rest)
+            self.post(f'mark {x} {self.middle(x, y)}')
         elif kind == 'point' and (rest[1] > COLUMNS or rest[2] > self.rows):
             pass  # (it begins outside the display)
         elif kind == 'point':
@@ -150,9 +156,14 @@ class Model:
             self.bring(rest[0])
         elif kind == 'fit':
             self.fit(rest[0])
+            if rest[0] < 12 or self.saying == TOO_LOW:
+                self.saying = TOO_LOW if rest[0] < 12 else KEYS
         elif kind == 'ring':
-            self.saying = ''
+            self.saying = NO_KEY
+        elif kind == 'ring at a name':
+            self.saying = KEYS
         else:
+            self.saying = KEYS
             self.move(rest[0])
 
     def bring(self, name):
@@ -160,14 +171,14 @@ class Model:
         if name not in FILES:
             self.saying = UNREAD
             return
-        self.saying = ''
+        self.saying = KEYS
         self.paste(told(FILES[name]), looks=True)
 
     def step(self, word):
         """A left click beside the caret, where a text is shown there."""
         screen = self.screen()
         start = screen.place('c') or screen.place('m')
-        self.saying = ''
+        self.saying = NO_TEXT
         if not start:
             return
         x, y = start
@@ -181,3 +192,14 @@ class Model:
         viewers = [line.split(' ') for line in self.lines('list') if line.startswith('viewer ')]
         spans = [(int(v[1]), int(v[2]), int(v[3])) for v in viewers]
         return any(left < x < left + WIDTHS[left] and bottom <= y < top - 1 for left, bottom, top in spans)
+
+    def middle(self, x, y):
+        """The row in the middle of the viewer that is seen at a cell, or else the row of the cell."""
+        left, found = (0 if x < 50 else 50), None
+        for line in self.lines('list'):
+            kind, *numbers = line.split(' ')
+            if kind == 'over' and int(numbers[0]) == left:
+                found = None
+            if kind == 'viewer' and int(numbers[0]) == left and int(numbers[1]) <= y < int(numbers[2]):
+                found = int(numbers[1]), int(numbers[2])
+        return sum(found, -1) // 2 if found else y

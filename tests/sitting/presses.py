@@ -1,7 +1,7 @@
 """Random presses: the bytes that a terminal sends for them, and what they mean.
 
 A meaning is a tuple: ('type', text), ('paste', texts), ('key', word), ('mark', column, row), ('point', keys, column, row, column, row),
-('arrow', word), ('page', word), ('fit', rows), ('file', name) or ('ring',). Columns and rows are those of the terminal,
+('arrow', word), ('page', word), ('fit', rows), ('file', name), ('ring',) or ('ring at a name',). Columns and rows are those of the terminal,
 from 1 at the upper left."""
 
 PRINTED = [chr(code) for code in range(32, 127)]
@@ -86,7 +86,7 @@ def brought(random):
     name = random.choice([*FILES, *NO_FILES])
     pasted_name = f'\x1b[200~{name}\r\x11\x1b[201~'
     typed = random.choice([name, 'x\x7f' + name, name + 'xy\b\b', pasted_name])
-    rings = [('ring',)] if typed == pasted_name else []
+    rings = [('ring at a name',)] if typed == pasted_name else []
     return random.choice([b'\x0f', b'\x1b[19~']) + typed.encode() + random.choice([b'\r', b'\n']), [*rings, ('file', name)]
 
 
@@ -94,7 +94,7 @@ def called_off(random):
     """A name of a host file is asked for, and nothing comes of it."""
     name, rings = random.choice([(b'', 0), (b'n', 0), (b'a name.txt', 0), (b'x\x7f\x7f', 1), (b'\xff\x18', 1), (b'\x1b[A', 1),
                                  (b'\x1b[<0;3;4M\x1b[<0;3;4m', 0), (b'\x1b[200~x\n\x1b[201~', 1)])
-    return random.choice([b'\x0f', b'\x1b[19~']) + name + b'\x07', [('ring',)] * rings
+    return random.choice([b'\x0f', b'\x1b[19~']) + name + b'\x07', [('ring at a name',)] * rings
 
 
 def press(random, rows, is_whole):

@@ -3,7 +3,7 @@
 use crate::sentences::{HOST, Stop};
 use desk_journal::Error;
 use desk_stores::{Trouble, looked_at, opened_locked};
-use host_files::{LockedFile, is_there, lock_new, remove, rename_new, sync_folder};
+use host_files::{HostFault, LockedFile, is_there, lock_new, remove, rename_new, sync_folder};
 use host_stores::{FileDisk, opened as opened_on};
 use sector_disk::FILE_SECTORS;
 use store_documents::{are_same, copy};
@@ -25,11 +25,17 @@ pub fn backup(rt: &HostRuntime, path: &str, to: &str) -> Result<(), Stop> {
     let info = store.info()?;
     let mut disk = store.close();
     let aside = format!(in rt.alloc(); "{to}.desk-copy")?;
-    let Ok(file) = lock_new(rt, aside.as_str()) else {
-        let _ = eprintln!(rt;
-            "desk: {to:?} could not be made: there is no right to, or there is {aside:?} already"
-        );
-        return Err(HOST);
+    let file = match lock_new(rt, aside.as_str()) {
+        Ok(file) => file,
+        Err(fault) => {
+            if fault != HostFault::Taken {
+                let _ = remove(rt, aside.as_str());
+            }
+            let _ = eprintln!(rt;
+                "desk: {to:?} could not be made: there is no right to, or there is {aside:?} already"
+            );
+            return Err(HOST);
+        }
     };
     let mut made = copied(rt, path, &mut disk, FileDisk::new(file));
     if made.is_ok() {

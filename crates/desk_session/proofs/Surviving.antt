@@ -23,7 +23,7 @@ use Rattle.terminal_presses.specs.Hands.{handled}
 use Rattle.desk_sitting.specs.declared.sitting.Sitting.{Sitting}
 use Rattle.desk_sitting.specs.Doing.{Breaks, DoesPresses, IsDone, seat_of, none as no_press, one_more as one_press}
 use Rattle.desk_sitting.specs.Sittings.{Seat, PressesAreSteps, accepted_events, accepted_of, after_press, after_presses}
-use Rattle.desk_sitting.specs.Sittings.{click_at, posts}
+use Rattle.desk_sitting.specs.Sittings.{asks_first, click_at, posts, posts_unasked}
 use Rattle.desk_session.specs.declared.ending.SittingEnd.{SittingEnd}
 use Rattle.desk_session.specs.declared.ending.SittingEnd.TheVariants.{Left, Closed, Input, TooLong, Output, Fault, Memory}
 use Rattle.desk_session.specs.Serving.{TurnState, IsLookedAt, Turns, IsTurnRun, Broke, SittingStops, Ends, sitting_shown}
@@ -75,8 +75,8 @@ few_posts action.FileFailed d = omega arith
 few_accepted : (press : Press) (d : Seat) → length (accepted_of press d) ≤ 1
 few_accepted press d =
     let a : Action = (handled d.sitting.sight press d.sitting.hand).1 in
-    none_or d.sitting.leaves (if is_worn d.session then [] else posts a d)
-    (none_or (is_worn d.session) (posts a d) (few_posts a d))
+    none_or d.sitting.leaves (if is_worn d.session then [] else posts_unasked a d)
+    (none_or (is_worn d.session) (posts_unasked a d) (none_or (asks_first a d.sitting) (posts a d) (few_posts a d)))
 
 module _ {D : Type 0} (d : Ghosts D) where
   -- ---- one after another

@@ -30,7 +30,8 @@ use Rattle.desk_sitting.specs.declared.saying.Saying.TheVariants as saying
 use Rattle.desk_sitting.specs.declared.sitting.Sitting.{Sitting}
 use Rattle.desk_sitting.specs.Aims.{aimed}
 use Rattle.desk_sitting.specs.Doing.{OfPresses, ComesToSeat, seat_of}
-use Rattle.desk_sitting.specs.Sittings.{Seat, acted, after_press, after_click, after_post, replied, turned_away, with_hand}
+use Rattle.desk_sitting.specs.Sittings.{Seat, acted, after_press, after_click, after_post, done_by, replied, turned_away}
+use Rattle.desk_sitting.specs.Sittings.{with_hand}
 use Rattle.desk_sitting.proofs.Sessions.{session_parts, is_it_worn, not_worn, taken_steps, is_taken}
 
 -- a seat by its two parts
@@ -201,7 +202,7 @@ module _ {D : Type 0} (d : Ghosts D) where
   -- ---- a look at the screen comes first
 
   module _ {A : Type 0} {result : Result A Error} {old mid : StoreView D} (looks : OnlyLooks d result old mid) where
-    same_session : d.honest old.disk → session_of mid ≡ session_of old
+    pub same_session : d.honest old.disk → session_of mid ≡ session_of old
     same_session honest =
         session_parts (session_of mid) (session_of old) (looks.desktop honest) looks.layout looks.epoch looks.events
 
@@ -284,8 +285,8 @@ module _ {D : Type 0} (d : Ghosts D) where
   pub seen_step : {A : Type 0} (value : A) (arrow : Arrow) (at : Option (ℕ × ℕ)) (screen : List (List Cell))
       (s : Sitting) (old mid : StoreView D) → OnlyLooks d (Ok value) old mid → at ≡ aimed arrow screen
       → (d.honest old.disk → screen ≡ shown_screen old.desktop) → d.honest old.disk
-      → after_click at (seat_of s mid) ≡ acted (action.Step arrow) (seat_of s old)
-  unfolding acted
+      → after_click at (seat_of s mid) ≡ done_by (action.Step arrow) (seat_of s old)
+  unfolding done_by
   seen_step value arrow at screen s old mid looks is shown honest =
       ap (λ place. after_click place (seat_of s mid)) (is ∙ ap (aimed arrow) (shown honest))
       ∙ ap (λ session. after_click (aimed arrow (shown_screen old.desktop)) (record { sitting = s; session = session }))

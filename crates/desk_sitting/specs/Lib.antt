@@ -2,6 +2,8 @@ pub mod Windows
 pub mod Aims
 pub mod Deeds
 pub mod Sayings
+pub mod Questions
+pub mod Listed
 pub mod Again
 pub mod Sittings
 pub mod Doing

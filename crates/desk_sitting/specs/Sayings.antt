@@ -8,9 +8,12 @@ use Rattle.event_bytes.specs.declared.keys.Keys.TheVariants.{MiddleRight, Right,
 use Rattle.terminal_presses.specs.declared.action.Click.{Click}
 use Rattle.terminal_presses.specs.declared.action.Click.TheVariants.{Mark, Keys}
 use Rattle.desk_sitting.specs.declared.saying.Saying.{Saying}
-use Rattle.desk_sitting.specs.declared.saying.Saying.TheVariants.{Nothing, Greeting, Unproved, InMemory, Refused, CutShort}
-use Rattle.desk_sitting.specs.declared.saying.Saying.TheVariants.{Worn, Unread, Unfinished, TooNarrow, TookBack, DidAgain}
+use Rattle.desk_sitting.specs.declared.saying.Saying.TheVariants.{Greeting, Unproved, InMemory, Keys as ForKeys, Asks, NoKey, NoText, ToolFiled}
+use Rattle.desk_sitting.specs.declared.saying.Saying.TheVariants.{Refused, CutShort}
+use Rattle.desk_sitting.specs.declared.saying.Saying.TheVariants.{Worn, Unread, Unfinished, TooNarrow, TooLow, TookBack, DidAgain}
 use Rattle.desk_sitting.specs.declared.saying.Saying.TheVariants.{NothingBack, NothingAgain, NotBack}
+use Rattle.desk_sitting.specs.declared.question.Question.{Question}
+use Rattle.desk_sitting.specs.declared.question.Question.TheVariants.{Leaving}
 use Rattle.desk_sitting.specs.declared.deed.Deed.{Deed}
 use Rattle.desk_sitting.specs.declared.deed.Deed.TheVariants as deed
 use Rattle.desk_sitting.specs.Deeds.{deed_words}
@@ -19,16 +22,16 @@ use Rattle.desk_sitting.specs.Deeds.{deed_words}
 abbrev pub reasons : List (List ℕ)
 reasons =
     codes "refused" ∷
-    codes "refused (1): no viewer has the caret" ∷
-    codes "refused (2): nothing is selected" ∷
+    codes "refused (1): no viewer has the caret; a left click in a text sets it" ∷
+    codes "refused (2): nothing is selected; the right button, drawn over a text, selects" ∷
     codes "refused (3): a parameter is missing or of another kind" ∷
-    codes "refused (4): the word is no command's" ∷
-    codes "refused (5): there is no such file, or it is named twice" ∷
-    codes "refused (6): no room for more characters; System.Collect may make some" ∷
-    codes "refused (7): no viewer is at the marker, or none was closed" ∷
-    codes "refused (8): there are 256 files" ∷
+    codes "refused (4): the word there is no command's" ∷
+    codes "refused (5): there is no document of that name, or it is named twice" ∷
+    codes "refused (6): 262,144 characters held, or 4,194,304 written: System.Collect" ∷
+    codes "refused (7): no viewer is at the marker (F1 and a click set it), or none closed" ∷
+    codes "refused (8): there are 256 documents; System.DeleteFiles makes room" ∷
     codes "refused (9): the cell lies outside the display" ∷
-    codes "refused (10): it isn't there from the caret on" ∷
+    codes "refused (10): what is searched isn't there from the caret on" ∷
     codes "refused (11): there is no such font, colour or offset" ∷
     codes "refused (12): the column has eight tracks over one another" ∷
     codes "refused (13): a viewer of one row can't be parted" ∷ []
@@ -48,19 +51,19 @@ cut_short typed code = decimal typed ++ codes " characters typed, the rest dropp
 
 -- with which keys the next click is
 abbrev pub keys_words : MouseKeys → List ℕ
-keys_words Left = codes "the next click: left"
-keys_words LeftMiddle = codes "the next click: left and middle"
-keys_words LeftRight = codes "the next click: left and right"
-keys_words Middle = codes "the next click: middle"
-keys_words MiddleLeft = codes "the next click: middle and left"
-keys_words MiddleRight = codes "the next click: middle and right"
-keys_words Right = codes "the next click: right"
-keys_words RightLeft = codes "the next click: right and left"
-keys_words RightMiddle = codes "the next click: right and middle"
+keys_words Left = codes "the next click sets the caret; Escape calls it off"
+keys_words LeftMiddle = codes "the next click copies the selection there; Escape calls it off"
+keys_words LeftRight = codes "the next click gives the selection the look there; Escape calls it off"
+keys_words Middle = codes "the next click calls the word there; Escape calls it off"
+keys_words MiddleLeft = codes "the next click: middle and left; Escape calls it off"
+keys_words MiddleRight = codes "the next click: middle and right; Escape calls it off"
+keys_words Right = codes "what is drawn over next is selected; Escape calls it off"
+keys_words RightLeft = codes "what is drawn over next is deleted; Escape calls it off"
+keys_words RightMiddle = codes "what is drawn over next is copied to the caret; Escape calls it off"
 
 -- what the next click is, where a function key has said so
 abbrev pub click_words : Click → List ℕ
-click_words Mark = codes "the next click sets the marker"
+click_words Mark = codes "the next click sets the marker in the viewer there; Escape calls it off"
 click_words (Keys keys) = keys_words keys
 
 -- of what was typed it is said how many characters these were
@@ -72,17 +75,25 @@ typed_count _ = []
 unfoldable pub told : List ℕ → Deed → List ℕ
 told before what = before ++ typed_count what ++ deed_words what
 
+abbrev pub question_words : Question → List ℕ
+question_words Leaving = codes "This desktop is in memory: Ctrl-Q again leaves, and then it is gone."
+
 unfoldable pub words : Saying → List ℕ
-words Nothing = []
 words Greeting = codes "Middle button, or F2 and then a click, calls the word there; Ctrl-Q leaves"
 words Unproved = codes "Compiled, not proved yet: ./prove does it. F2+click calls a word; Ctrl-Q leaves"
 words InMemory = codes "This desktop is in memory: when you leave (Ctrl-Q) it is gone."
+words ForKeys = codes "F1 marker, F2 calls, F3 selects, Ctrl-Z undo, Ctrl-O file, Ctrl-Q leaves"
+words (Asks question) = question_words question
+words NoKey = codes "That key means nothing here."
+words NoText = codes "There is no text on that side of the caret, or no caret in sight."
+words ToolFiled = codes "System.Tool was gone, and is a document again: the same click opens it."
 words (Refused code) = reason code
 words (CutShort typed code) = cut_short typed code
 words Worn = codes "This store takes no more events: its epochs are used up."
 words Unread = codes "The host's file can't be read, and nothing was typed."
 words Unfinished = codes "The host's file can't be read to its end; what came of it is typed."
 words TooNarrow = codes "This window is too narrow: it has fewer than 80 columns."
+words TooLow = codes "This window is too low: it has fewer than 12 rows."
 words (TookBack what) = told (codes "took back: ") what
 words (DidAgain what) = told (codes "did again: ") what
 words NothingBack = codes "There is nothing to take back."
@@ -93,8 +104,13 @@ words NotBack = codes "What was before can't be read, and nothing was taken back
 abbrev pub question : List ℕ → List ℕ
 question name = codes "Type which file? " ++ drop (length name - 63) name
 
--- the line below: a name that is asked for goes before all else, then the next click
+-- the line between two presses: a name that is asked for, or else what the next click does, or what is said
+abbrev pub line_by_hand : Option (List ℕ) → Option Click → Saying → List ℕ
+line_by_hand (Some name) armed saying = question name
+line_by_hand None (Some click) saying = click_words click
+line_by_hand None None saying = words saying
+
+-- the line below: a question goes before all else
 unfoldable pub line_of : Option (List ℕ) → Option Click → Saying → List ℕ
-line_of (Some name) armed saying = question name
-line_of None (Some click) saying = click_words click
-line_of None None saying = words saying
+line_of asked armed (Asks question) = question_words question
+line_of asked armed saying = line_by_hand asked armed saying

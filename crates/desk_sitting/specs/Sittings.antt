@@ -1,12 +1,13 @@
 -- What presses come to, one after another: a sitting, and the session of the store before which it is.
-use Rattle.std.specs.Prelude.{◌≡◌, ℕ, ◌+◌, ◌-◌, ◌^◌, Bool, true, false, ◌==◌, if◌then◌else◌, List, [], ◌∷◌, ◌++◌}
+use Rattle.std.specs.Prelude.{◌≡◌, ℕ, ◌+◌, ◌-◌, ◌^◌, Bool, true, false, ◌==◌, ◌&&◌, not, if◌then◌else◌, List, [], ◌∷◌, ◌++◌}
 use Rattle.std.specs.Prelude.{Option, Some, None, is_some, length, min, option_map, unwrap_or}
 use Rattle.event_bytes.specs.declared.event.Event.{Event}
-use Rattle.event_bytes.specs.declared.event.Event.TheVariants.{Point, Typed}
+use Rattle.event_bytes.specs.declared.event.Event.TheVariants.{File, Point, Typed}
 use Rattle.event_bytes.specs.declared.keys.Keys.TheVariants.{Left}
 use Rattle.screen_pictures.specs.declared.cell.Cell.{Cell}
 use Rattle.desktop_definitions.specs.declared.reply.Reply.{Reply}
 use Rattle.desktop_definitions.specs.declared.reply.Reply.TheVariants.{Done, No}
+use Rattle.desktop_definitions.specs.Listing.{entries_of}
 use Rattle.desktop_definitions.specs.Shown.{shown_screen}
 use Rattle.desktop_definitions.specs.Step.{step, steps}
 use Rattle.terminal_presses.specs.declared.press.Press.{Press}
@@ -16,14 +17,16 @@ use Rattle.terminal_presses.specs.declared.hand.Hand.{Hand}
 use Rattle.terminal_presses.specs.Hands.{dropping, handled, new_hand, pastes_text}
 use Rattle.viewer_tracks.specs.declared.display.TheConstants.{ROWS}
 use Rattle.desk_sitting.specs.declared.saying.Saying.{Saying}
-use Rattle.desk_sitting.specs.declared.saying.Saying.TheVariants.{Nothing, Refused, CutShort, Worn, Unread}
-use Rattle.desk_sitting.specs.declared.saying.Saying.TheVariants.{Unfinished, TooNarrow}
+use Rattle.desk_sitting.specs.declared.saying.Saying.TheVariants.{NoKey, NoText, Refused, CutShort, Worn, Unread}
+use Rattle.desk_sitting.specs.declared.saying.Saying.TheVariants.{Unfinished, TooNarrow, TooLow, ToolFiled}
 use Rattle.desk_sitting.specs.declared.sitting.Sitting.{Sitting}
 use Rattle.desk_sitting.specs.declared.sitting.Travel.TheVariants.{Back, Again}
 use Rattle.desk_sitting.specs.Again.{no_again}
+use Rattle.desk_sitting.specs.Listed.{event_meant}
+use Rattle.desk_sitting.specs.Questions.{questioned, comes_first, question_of, resting_of, unasked}
 use Rattle.desk_sitting.specs.Aims.{aimed, caret_cell}
 use Rattle.desk_journal.specs.Session.{Session, is_worn, taken}
-use Rattle.desk_sitting.specs.Windows.{fitted, following_sight, height_told, is_narrow, moved_sight}
+use Rattle.desk_sitting.specs.Windows.{fitted, following_sight, height_told, is_low, is_narrow, moved_sight}
 
 -- a sitting, and the session of the store before which it is
 pub record Seat : Type 0 where
@@ -38,6 +41,8 @@ new_sitting height greeting = record {
   hand = new_hand;
   sight = fitted height (record { top = ROWS - 1; rows = ROWS });
   saying = greeting;
+  resting = resting_of greeting;
+  question = None;
   rings = false;
   follows = true;
   forgets = false;
@@ -79,10 +84,15 @@ turned_by (Some n) saying s = refused (came_to n saying) (record s { hand = drop
 abbrev pub turned_away : Saying → Sitting → Sitting
 turned_away saying s = turned_by s.typed saying s
 
+-- what the line below says once an event is done: of the text of all commands, that it is there again
+abbrev pub done_saying : Event → Saying → Saying
+done_saying (File name bytes) rest = ToolFiled
+done_saying event rest = rest
+
 -- after the reply to an event: what was done is followed by the rows in sight
 unfoldable pub replied : Event → Reply → Sitting → Sitting
 replied event Done s = record s {
-  saying = Nothing;
+  saying = done_saying event s.resting;
   follows = true;
   typed = option_map (typed_more event) s.typed;
 }
@@ -100,7 +110,7 @@ looked screen s = record s {
 
 -- after the keyboard was asked for the text of a host file, where one is wanted: it will be heard, or it can't be read
 abbrev pub fetched : Bool → Sitting → Sitting
-fetched true s = record s { wanted = None; saying = Nothing }
+fetched true s = record s { wanted = None; saying = s.resting }
 fetched false s = refused Unread (record s { wanted = None })
 
 unfoldable pub after_fetch : Bool → Sitting → Sitting
@@ -117,21 +127,26 @@ after_post event seat = record {
 
 -- a left click at a place, or a ring where there is none
 unfoldable pub after_click : Option (ℕ × ℕ) → Seat → Seat
-after_click None seat = record seat { sitting = refused Nothing seat.sitting }
+after_click None seat = record seat { sitting = refused NoText seat.sitting }
 after_click (Some place) seat = after_post (Point Left place.0 place.1 place.0 place.1) seat
 
--- what the line below says once the terminal has told its size: where it is narrower than the display, that
-abbrev pub is_too_narrow : Saying → Bool
-is_too_narrow TooNarrow = true
-is_too_narrow _ = false
+-- what the line below says once the terminal has told its size: where that is too small, that
+abbrev pub is_too_small : Saying → Bool
+is_too_small TooNarrow = true
+is_too_small TooLow = true
+is_too_small _ = false
 
-abbrev pub fitted_saying : Bool → Saying → Saying
-fitted_saying narrow saying =
-    if narrow then TooNarrow else (if is_too_narrow saying then Nothing else saying)
+abbrev pub fitted_saying : Bool → Bool → Saying → Saying → Saying
+fitted_saying narrow low rest saying =
+    if narrow then TooNarrow else (if low then TooLow else (if is_too_small saying then rest else saying))
 
--- what a press comes to that posts nothing; a ring leaves no older reason on the line below
+-- why the terminal rings: where a name is asked for, that stands on the line below
+abbrev pub ring_reason : Sitting → Saying
+ring_reason s = if is_some s.hand.asked then s.resting else NoKey
+
+-- what a press comes to that posts nothing
 unfoldable pub acted_alone : Action → Sitting → Sitting
-acted_alone action.Ring s = refused Nothing s
+acted_alone action.Ring s = refused (ring_reason s) s
 acted_alone action.LookAnew s = record s { forgets = true; asks = true }
 acted_alone action.Leave s = record s { leaves = true }
 acted_alone action.Undo s = record s { travels = Some Back }
@@ -140,16 +155,26 @@ acted_alone (action.TypeFile name) s = record s { wanted = Some name }
 acted_alone (action.Move page) s = record s { sight = moved_sight page s.sight; follows = false }
 acted_alone (action.Fit rows columns) s = record s {
   sight = fitted (height_told rows columns) s.sight;
-  saying = fitted_saying (is_narrow rows columns) s.saying;
+  saying = fitted_saying (is_narrow rows columns) (is_low rows columns) s.resting s.saying;
   forgets = true;
 }
 acted_alone action.FileFailed s = refused Unfinished s
 acted_alone _ s = s
 
+unfoldable pub done_by : Action → Seat → Seat
+done_by (action.Post event) seat = after_post (event_meant (entries_of seat.session.desktop) event) seat
+done_by (action.Step arrow) seat = after_click (aimed arrow (shown_screen seat.session.desktop)) seat
+done_by alone seat = record seat { sitting = acted_alone alone seat.sitting }
+
+-- whether a question is asked, and no more is done
+abbrev pub asks_first : Action → Sitting → Bool
+asks_first a s = comes_first s.question (question_of a s)
+
+-- What would lose something is asked about first. What does anything else forgets the question.
 unfoldable pub acted : Action → Seat → Seat
-acted (action.Post event) seat = after_post event seat
-acted (action.Step arrow) seat = after_click (aimed arrow (shown_screen seat.session.desktop)) seat
-acted alone seat = record seat { sitting = acted_alone alone seat.sitting }
+acted a seat =
+    if asks_first a seat.sitting then record seat { sitting = questioned (question_of a seat.sitting) seat.sitting }
+    else done_by a (record seat { sitting = unasked a seat.sitting })
 
 -- Once the hand has taken a press: where that is amid a text that is pasted, it is counted how many of its characters
 -- are typed.
@@ -176,14 +201,18 @@ click_at None = []
 click_at (Some place) = Point Left place.0 place.1 place.0 place.1 ∷ []
 
 abbrev pub posts : Action → Seat → List Event
-posts (action.Post event) seat = event ∷ []
+posts (action.Post event) seat = event_meant (entries_of seat.session.desktop) event ∷ []
 posts (action.Step arrow) seat = click_at (aimed arrow (shown_screen seat.session.desktop))
 posts _ seat = []
+
+-- a question posts none
+abbrev pub posts_unasked : Action → Seat → List Event
+posts_unasked a seat = if asks_first a seat.sitting then [] else posts a seat
 
 -- the events of a press that are accepted
 abbrev pub accepted_of : Press → Seat → List Event
 accepted_of press seat = if seat.sitting.leaves then [] else (if is_worn seat.session then [] else
-    posts (handled seat.sitting.sight press seat.sitting.hand).1 seat)
+    posts_unasked (handled seat.sitting.sight press seat.sitting.hand).1 seat)
 
 abbrev pub accepted_events : List Press → Seat → List Event
 accepted_events [] seat = []
@@ -193,3 +222,20 @@ accepted_events (press ∷ presses) seat = accepted_of press seat ++ accepted_ev
 abbrev pub PressesAreSteps : Type 0
 PressesAreSteps = (presses : List Press) (seat : Seat)
     → (after_presses presses seat).session.desktop ≡ steps seat.session.desktop (accepted_events presses seat)
+
+-- ---- questions
+
+-- a press asks a question
+abbrev pub asks_by : Press → Seat → Bool
+asks_by press seat = not seat.sitting.leaves && asks_first (handled seat.sitting.sight press seat.sitting.hand).1 seat.sitting
+
+-- A press that asks posts nothing, and leaves what it is asked about as it is.
+abbrev pub QuestionsPostNothing : Type 0
+QuestionsPostNothing = (press : Press) (seat : Seat) → asks_by press seat ≡ true
+    → (accepted_of press seat ≡ []) × ((after_press press seat).session ≡ seat.session)
+    × ((after_press press seat).sitting.leaves ≡ false)
+
+-- It is asked once: what would lose something does it where it comes right after its question.
+abbrev pub QuestionsComeOnce : Type 0
+QuestionsComeOnce = (a : Action) (s : Sitting) → asks_first a s ≡ true
+    → asks_first a (questioned (question_of a s) s) ≡ false

@@ -3,6 +3,7 @@ use Rattle.std.specs.Prelude.{ℕ, ◌+◌, ◌-◌, Bool, ◌&&◌, not, nat_lt
 use Rattle.std.specs.Prelude.{max}
 use Rattle.viewer_tracks.specs.declared.display.TheConstants.{COLUMNS, ROWS}
 use Rattle.terminal_presses.specs.Sights.{Sight}
+use Rattle.desk_sitting.specs.declared.window.TheConstants.{LEAST_HEIGHT}
 use Rattle.terminal_presses.specs.declared.press.Page.{Page as PageKey}
 use Rattle.terminal_presses.specs.declared.press.Page.TheVariants.{Up, Down}
 
@@ -14,6 +15,10 @@ height_told rows columns = if nat_lt columns COLUMNS && nat_le COLUMNS rows then
 -- whether it has fewer columns than the display
 unfoldable pub is_narrow : ℕ → ℕ → Bool
 is_narrow rows columns = nat_lt columns COLUMNS && not (nat_le COLUMNS rows)
+
+-- whether it has fewer rows than a person can sit down at
+unfoldable pub is_low : ℕ → ℕ → Bool
+is_low rows columns = nat_lt (height_told rows columns) LEAST_HEIGHT
 
 -- how many there are in a terminal of so many rows: one is the line below them
 abbrev pub rows_in : ℕ → ℕ

@@ -1,7 +1,14 @@
 //! What holds of all sittings.
-ghost use Rattle.desk_sitting.specs.Sittings.{PressesAreSteps};
+ghost use Rattle.desk_sitting.specs.Sittings.{PressesAreSteps, QuestionsComeOnce, QuestionsPostNothing};
 
 /// Presses lead to the desktop to which the events lead that are accepted of them.
 pub fn presses_are_steps()
     ensures { PressesAreSteps }
+{}
+
+/// A press that asks posts nothing and changes nothing of the desktop, and nobody leaves by it. Pressed again it asks no
+/// more.
+pub fn questions_post_nothing()
+    ensures nothing { QuestionsPostNothing }
+    ensures once { QuestionsComeOnce }
 {}

@@ -1,9 +1,12 @@
 //! What the line below the screen says.
 ghost use Rattle.std.specs.Prelude.{◌≡◌, ◌≤◌, length, option_map};
-ghost use Rattle.desk_sitting.specs.Sayings.{click_words, cut_short, keys_words, line_of, question, reason};
+ghost use Rattle.desk_sitting.specs.Sayings.{click_words, cut_short, keys_words, line_by_hand, line_of, question};
+ghost use Rattle.desk_sitting.specs.Sayings.{question_words, reason};
+ghost use Rattle.desk_sitting.specs.Questions.{is_in_memory as memory_said, resting_of as rest_after};
 ghost use Rattle.desk_sitting.specs.Sayings.{short_reason, told, words};
 
 use crate::deed::Deed;
+use crate::question::Question;
 use arrayvec::ArrayVec;
 use event_bytes::Keys;
 use terminal_presses::Click;
@@ -11,14 +14,22 @@ use terminal_presses::Click;
 /// What the line below the screen says, where it neither asks for a name nor says what the next click is.
 #[derive(Clone, Copy, Debug, PartialEq, Eq)]
 pub enum Saying {
-    /// Nothing.
-    Nothing,
     /// How to go on.
     Greeting,
     /// How to go on, and that the program isn't proved.
     Unproved,
     /// The desktop is gone when the person leaves.
     InMemory,
+    /// The keys that are needed most.
+    Keys,
+    /// A press would lose something.
+    Asks(Question),
+    /// A key that means nothing.
+    NoKey,
+    /// An arrow that leads to no text.
+    NoText,
+    /// The text of all commands was gone, and is a document again.
+    ToolFiled,
     /// An event was refused, with this code.
     Refused(u8),
     /// Of a paste or a host file so many characters were typed. Then a piece was refused, with the code, and the rest
@@ -37,6 +48,8 @@ pub enum Saying {
     Unfinished,
     /// The terminal has fewer columns than the display.
     TooNarrow,
+    /// The terminal has fewer rows than a person can sit down at.
+    TooLow,
     /// This was taken back.
     TookBack(Deed),
     /// This was done again.
@@ -52,16 +65,16 @@ pub enum Saying {
 /// Why an event was refused, by the code of the refusal.
 const REASONS: [&[u8]; 14] = [
     b"refused",
-    b"refused (1): no viewer has the caret",
-    b"refused (2): nothing is selected",
+    b"refused (1): no viewer has the caret; a left click in a text sets it",
+    b"refused (2): nothing is selected; the right button, drawn over a text, selects",
     b"refused (3): a parameter is missing or of another kind",
-    b"refused (4): the word is no command's",
-    b"refused (5): there is no such file, or it is named twice",
-    b"refused (6): no room for more characters; System.Collect may make some",
-    b"refused (7): no viewer is at the marker, or none was closed",
-    b"refused (8): there are 256 files",
+    b"refused (4): the word there is no command's",
+    b"refused (5): there is no document of that name, or it is named twice",
+    b"refused (6): 262,144 characters held, or 4,194,304 written: System.Collect",
+    b"refused (7): no viewer is at the marker (F1 and a click set it), or none closed",
+    b"refused (8): there are 256 documents; System.DeleteFiles makes room",
     b"refused (9): the cell lies outside the display",
-    b"refused (10): it isn't there from the caret on",
+    b"refused (10): what is searched isn't there from the caret on",
     b"refused (11): there is no such font, colour or offset",
     b"refused (12): the column has eight tracks over one another",
     b"refused (13): a viewer of one row can't be parted",
@@ -110,7 +123,7 @@ fn click_words(click: Click) -> &'static [u8]
     ensures short { length result.now ≤ 80 }
 {
     match click {
-        Click::Mark => b"the next click sets the marker",
+        Click::Mark => b"the next click sets the marker in the viewer there; Escape calls it off",
         Click::Keys(keys) => keys_words(keys),
     }
 }
@@ -121,15 +134,46 @@ fn keys_words(keys: Keys) -> &'static [u8]
     ensures short { length result.now ≤ 80 }
 {
     match keys {
-        Keys::Left => b"the next click: left",
-        Keys::LeftMiddle => b"the next click: left and middle",
-        Keys::LeftRight => b"the next click: left and right",
-        Keys::Middle => b"the next click: middle",
-        Keys::MiddleLeft => b"the next click: middle and left",
-        Keys::MiddleRight => b"the next click: middle and right",
-        Keys::Right => b"the next click: right",
-        Keys::RightLeft => b"the next click: right and left",
-        Keys::RightMiddle => b"the next click: right and middle",
+        Keys::Left => b"the next click sets the caret; Escape calls it off",
+        Keys::LeftMiddle => b"the next click copies the selection there; Escape calls it off",
+        Keys::LeftRight =>
+            b"the next click gives the selection the look there; Escape calls it off",
+        Keys::Middle => b"the next click calls the word there; Escape calls it off",
+        Keys::MiddleLeft => b"the next click: middle and left; Escape calls it off",
+        Keys::MiddleRight => b"the next click: middle and right; Escape calls it off",
+        Keys::Right => b"what is drawn over next is selected; Escape calls it off",
+        Keys::RightLeft => b"what is drawn over next is deleted; Escape calls it off",
+        Keys::RightMiddle => b"what is drawn over next is copied to the caret; Escape calls it off",
+    }
+}
+
+/// What is asked.
+fn question_words(question: Question) -> &'static [u8]
+    ensures value { result.now ≡ question_words question }
+    ensures short { length result.now ≤ 80 }
+{
+    match question {
+        Question::Leaving => {
+            b"This desktop is in memory: Ctrl-Q again leaves, and then it is gone."
+        }
+    }
+}
+
+/// Whether it says that the desktop is in memory.
+pub(crate) fn is_in_memory(saying: Saying) -> bool
+    ensures { result ≡ memory_said saying }
+{
+    matches!(saying, Saying::InMemory)
+}
+
+/// What is said where nothing else is, in a sitting with this greeting.
+pub(crate) fn resting_of(greeting: Saying) -> Saying
+    ensures { result ≡ rest_after greeting }
+{
+    if is_in_memory(greeting) {
+        Saying::InMemory
+    } else {
+        Saying::Keys
     }
 }
 
@@ -140,7 +184,6 @@ impl Saying {
         ensures { result.items ≡ words self }
     {
         match self {
-            Saying::Nothing => line(b""),
             Saying::Greeting => line(
                 b"Middle button, or F2 and then a click, calls the word there; Ctrl-Q leaves",
             ),
@@ -150,6 +193,17 @@ impl Saying {
             Saying::InMemory => line(
                 b"This desktop is in memory: when you leave (Ctrl-Q) it is gone.",
             ),
+            Saying::Keys => line(
+                b"F1 marker, F2 calls, F3 selects, Ctrl-Z undo, Ctrl-O file, Ctrl-Q leaves",
+            ),
+            Saying::Asks(question) => line(question_words(question)),
+            Saying::NoKey => line(b"That key means nothing here."),
+            Saying::NoText => line(
+                b"There is no text on that side of the caret, or no caret in sight.",
+            ),
+            Saying::ToolFiled => line(
+                b"System.Tool was gone, and is a document again: the same click opens it.",
+            ),
             Saying::Refused(code) => line(reason(code)),
             Saying::CutShort { typed, code } => cut_short(typed, code),
             Saying::Worn => line(b"This store takes no more events: its epochs are used up."),
@@ -158,6 +212,7 @@ impl Saying {
                 b"The host's file can't be read to its end; what came of it is typed.",
             ),
             Saying::TooNarrow => line(b"This window is too narrow: it has fewer than 80 columns."),
+            Saying::TooLow => line(b"This window is too low: it has fewer than 12 rows."),
             Saying::TookBack(deed) => told(b"took back: ", deed),
             Saying::DidAgain(deed) => told(b"did again: ", deed),
             Saying::NothingBack => line(b"There is nothing to take back."),
@@ -170,10 +225,20 @@ impl Saying {
 /// The line below a screen, of 80 characters at most.
 pub type SayingLine = ArrayVec<u8, 80>;
 
-/// The text of the line below: a name that is asked for goes before all else, then the next click.
+/// The text of the line below: a question goes before all else.
 #[tactic(auto, unfolding(crate::specs::Sayings::line_of))]
 pub(crate) fn line_of(asked: Option<&[u8]>, armed: Option<Click>, saying: Saying) -> SayingLine
     ensures { result.items ≡ line_of (option_map (λ name. name.now) asked.entry) armed saying }
+{
+    match saying {
+        Saying::Asks(question) => line(question_words(question)),
+        other => line_by_hand(asked, armed, other),
+    }
+}
+
+/// The same where no question is asked: a name that is asked for, or else what the next click does.
+fn line_by_hand(asked: Option<&[u8]>, armed: Option<Click>, saying: Saying) -> SayingLine
+    ensures { result.items ≡ line_by_hand (option_map (λ name. name.now) asked.entry) armed saying }
 {
     if let Some(name) = asked {
         return question(name);

@@ -3,14 +3,18 @@ ghost use Rattle.std.specs.Prelude.{◌≡◌, ◌≢◌, false, OnOk, IfErr};
 ghost use Rattle.terminal_presses.specs.Hands.{handled};
 ghost use Rattle.desk_sitting.specs.Doing.{ComesToSeat, seat_of};
 ghost use Rattle.desk_sitting.specs.Sayings.{line_of};
+ghost use Rattle.desk_sitting.specs.Questions.{is_nothing, is_of_terminal, question_of, questioned, unasked};
 ghost use Rattle.desk_sitting.specs.Sittings.{acted, acted_alone, after_press, after_fetch, after_click, looked, new_sitting};
+ghost use Rattle.desk_sitting.specs.Sittings.{done_by, done_saying, ring_reason};
 ghost use Rattle.desk_sitting.specs.Sittings.{came_to, fitted_saying, after_post, refused, replied, turned_away};
 ghost use Rattle.desk_sitting.specs.Sittings.{typed_more, with_hand};
 
 use crate::again::Again;
 use crate::aim::{aimed, caret_of};
-use crate::saying::{Saying, SayingLine, line_of};
-use crate::window::{fitted, followed, height_told, is_narrow, moved};
+use crate::listed::{event_meant, is_by_list};
+use crate::question::{Question, comes_first};
+use crate::saying::{Saying, SayingLine, is_in_memory, line_of, resting_of};
+use crate::window::{fitted, followed, height_told, is_low, is_narrow, moved};
 use desk_journal::{Error, Store};
 use desktop_definitions::Reply;
 use event_bytes::{Event, Keys};
@@ -39,6 +43,10 @@ pub struct Sitting {
     pub sight: Sight,
     /// What the line below says, where no name is asked for and no function key has said what the next click is.
     pub saying: Saying,
+    /// What it says where there is nothing else to be said.
+    pub resting: Saying,
+    /// What was asked by the last press that did anything.
+    pub question: Option<Question>,
     /// The terminal rings.
     pub rings: bool,
     /// The rows in sight follow the caret.
@@ -68,6 +76,8 @@ impl Sitting {
             hand: Hand::new(),
             sight: fitted(height, Sight::whole()),
             saying: greeting,
+            resting: resting_of(greeting),
+            question: None,
             rings: false,
             follows: true,
             forgets: false,
@@ -117,7 +127,7 @@ impl Sitting {
         if self.wanted.is_some() {
             self.wanted = None;
             if will_be_heard {
-                self.saying = Saying::Nothing;
+                self.saying = self.resting;
             } else {
                 self.refuse(Saying::Unread);
             }
@@ -145,7 +155,7 @@ impl Sitting {
     {
         match reply {
             Reply::Done => {
-                self.saying = Saying::Nothing;
+                self.saying = done_saying(event, self.resting);
                 self.follows = true;
                 if let Some(typed) = self.typed {
                     self.typed = Some(typed_more(event, typed));
@@ -188,13 +198,71 @@ impl Sitting {
         self.hand.take(self.sight, press)
     }
 
-    /// Does what a press comes to.
+    /// Does what a press comes to, or asks first.
     fn act<D: Disk>(&mut self, alloc: Global, action: Action, store: &mut Store<D>) -> Doing
         requires { store.old.must_reopen ≡ false }
         ensures { ComesToSeat D.Disk (acted action (seat_of self.old store.old)) result self.new store.old store.new }
     {
+        let question = self.question_of(&action);
+        if comes_first(self.question, question) {
+            self.ask(question);
+            return Ok(());
+        }
+        self.unask(&action);
+        self.do_action(alloc, action, store)
+    }
+
+    /// What a press would lose.
+    #[tactic(auto, unfolding(crate::specs::Questions::question_of))]
+    fn question_of(&self, action: &Action) -> Option<Question>
+        ensures { result ≡ question_of action.now self.now }
+    {
         match action {
-            Action::Post(event) => self.post(alloc, &event, store),
+            Action::Leave if is_in_memory(self.resting) => Some(Question::Leaving),
+            _ => None,
+        }
+    }
+
+    /// The question is asked: the terminal rings, and the line below says it.
+    fn ask(&mut self, question: Option<Question>)
+        ensures { self.new ≡ questioned question self.old }
+    {
+        if let Some(question) = question {
+            self.question = Some(question);
+            self.refuse(Saying::Asks(question));
+        }
+    }
+
+    /// A question that isn't answered is forgotten, and what was said before it is old.
+    #[tactic(auto, unfolding(crate::specs::Questions::unasked))]
+    fn unask(&mut self, action: &Action)
+        ensures { self.new ≡ unasked action.now self.old }
+    {
+        if is_of_terminal(action) || is_nothing(action) && self.question.is_none() {
+            return;
+        }
+        self.question = None;
+        self.saying = self.resting;
+    }
+
+    /// Why the terminal rings: where a name is asked for, that stands on the line below.
+    fn ring_reason(&self) -> Saying
+        ensures { result ≡ ring_reason self.now }
+    {
+        if self.hand.asked().is_some() {
+            self.resting
+        } else {
+            Saying::NoKey
+        }
+    }
+
+    /// Does what a press comes to.
+    fn do_action<D: Disk>(&mut self, alloc: Global, action: Action, store: &mut Store<D>) -> Doing
+        requires { store.old.must_reopen ≡ false }
+        ensures { ComesToSeat D.Disk (done_by action (seat_of self.old store.old)) result self.new store.old store.new }
+    {
+        match action {
+            Action::Post(event) => self.post_meant(alloc, event, store),
             Action::Step(arrow) => self.step(alloc, arrow, store),
             alone => {
                 self.act_alone(alone);
@@ -210,7 +278,10 @@ impl Sitting {
     {
         match action {
             Action::Nothing | Action::Post(_) | Action::Step(_) => {}
-            Action::Ring => self.refuse(Saying::Nothing),
+            Action::Ring => {
+                let reason = self.ring_reason();
+                self.refuse(reason);
+            }
             Action::FileFailed => self.refuse(Saying::Unfinished),
             Action::TypeFile(name) => self.wanted = Some(name),
             Action::LookAnew => {
@@ -226,16 +297,35 @@ impl Sitting {
             }
             Action::Fit(rows, columns) => {
                 self.sight = fitted(height_told(rows, columns), self.sight);
-                self.saying = fitted_saying(is_narrow(rows, columns), self.saying);
+                self.saying = fitted_saying(
+                    is_narrow(rows, columns),
+                    is_low(rows, columns),
+                    self.resting,
+                    self.saying,
+                );
                 self.forgets = true;
             }
         }
     }
 
+    /// Posts what an event of the hand is at the desk, by the list of the desktop where that is asked for it.
+    fn post_meant<D: Disk>(&mut self, alloc: Global, event: Event, store: &mut Store<D>) -> Doing
+        requires { store.old.must_reopen ≡ false }
+        ensures { ComesToSeat D.Disk (done_by (Action.Post event) (seat_of self.old store.old)) result self.new
+            store.old store.new }
+    {
+        if !is_by_list(&event) {
+            return self.post(alloc, &event, store);
+        }
+        let entries = store.list(alloc)?;
+        let event = event_meant(entries.as_slice(), event);
+        self.post(alloc, &event, store)
+    }
+
     /// A left click beside the caret, as the screen has it, or a ring where no text is shown there.
     fn step<D: Disk>(&mut self, alloc: Global, arrow: Arrow, store: &mut Store<D>) -> Doing
         requires { store.old.must_reopen ≡ false }
-        ensures { ComesToSeat D.Disk (acted (Action.Step arrow) (seat_of self.old store.old)) result self.new store.old
+        ensures { ComesToSeat D.Disk (done_by (Action.Step arrow) (seat_of self.old store.old)) result self.new store.old
             store.new }
     {
         let mut screen = Screen::new();
@@ -255,7 +345,7 @@ impl Sitting {
     {
         match place {
             None => {
-                self.refuse(Saying::Nothing);
+                self.refuse(Saying::NoText);
                 Ok(())
             }
             Some((x, y)) => {
@@ -325,13 +415,38 @@ fn came_to(typed: u32, why: Saying) -> Saying
     }
 }
 
+/// Whether a press comes to nothing.
+fn is_nothing(action: &Action) -> bool
+    ensures { result ≡ is_nothing action.now }
+{
+    matches!(action, Action::Nothing)
+}
+
+/// Whether it is done to the terminal alone.
+fn is_of_terminal(action: &Action) -> bool
+    ensures { result ≡ is_of_terminal action.now }
+{
+    matches!(action, Action::Fit(_, _) | Action::LookAnew)
+}
+
+/// What the line below says once an event is done.
+fn done_saying(event: &Event, resting: Saying) -> Saying
+    ensures { result ≡ done_saying event.now resting }
+{
+    match event {
+        Event::File { .. } => Saying::ToolFiled,
+        _ => resting,
+    }
+}
+
 /// What the line below says once the terminal has told its size.
-fn fitted_saying(narrow: bool, saying: Saying) -> Saying
-    ensures { result ≡ fitted_saying narrow saying }
+fn fitted_saying(narrow: bool, low: bool, resting: Saying, saying: Saying) -> Saying
+    ensures { result ≡ fitted_saying narrow low resting saying }
 {
     match saying {
         _ if narrow => Saying::TooNarrow,
-        Saying::TooNarrow => Saying::Nothing,
+        _ if low => Saying::TooLow,
+        Saying::TooNarrow | Saying::TooLow => resting,
         other => other,
     }
 }

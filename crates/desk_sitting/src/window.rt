@@ -1,9 +1,12 @@
 //! The rows of the display that are in sight in a terminal.
 ghost use Rattle.std.specs.Prelude.{◌≡◌, ◌<◌, ◌≤◌, IfSome};
-ghost use Rattle.desk_sitting.specs.Windows.{height_told, is_narrow, rows_in, fitted, moved_sight, following_sight};
+ghost use Rattle.desk_sitting.specs.Windows.{height_told, is_low, is_narrow, rows_in, fitted, moved_sight, following_sight};
 
 use terminal_presses::{Page, Sight};
 use viewer_tracks::{COLUMNS, ROWS};
+
+/// How many rows a terminal has at least at which a person sits down.
+pub(crate) const LEAST_HEIGHT: u16 = 12;
 
 /// How many rows a terminal has that tells these two numbers for its rows and columns. At fewer than 80 columns nobody
 /// sits down, so there it has told them in the other order, as tmux 3.3 does.
@@ -26,6 +29,14 @@ pub(crate) fn is_narrow(rows: u16, columns: u16) -> bool
 {
     let width = u16::from(COLUMNS);
     columns < width && !(width <= rows)
+}
+
+/// Whether a terminal that tells these two numbers for its rows and columns has fewer rows than a person can sit down at.
+#[tactic(auto, unfolding(crate::specs::Windows::is_low))]
+pub(crate) fn is_low(rows: u16, columns: u16) -> bool
+    ensures { result ≡ is_low rows columns }
+{
+    height_told(rows, columns) < LEAST_HEIGHT
 }
 
 /// How many rows are in sight in a terminal of so many rows: one is the line below them.

@@ -1,38 +1,19 @@
-use Rattle.std.proofs.Common.{◌≡◌, ◌≢◌, refl, ap, ◌∙◌}
-use Rattle.event_bytes.specs.declared.event.Event.{Event}
-use Rattle.terminal_presses.specs.declared.action.Action.{Action}
-use Rattle.terminal_presses.specs.declared.action.Action.TheVariants as action
-use Rattle.terminal_presses.specs.declared.press.Arrow.{Arrow}
-use Rattle.desk_sitting.specs.declared.sitting.Sitting.{Sitting}
+use Rattle.std.proofs.Common.{◌∙◌, ap, sym}
 use Rattle.desk_sitting.specs.Doing.{seat_of}
-use Rattle.desk_sitting.specs.Sittings.{Seat, acted, acted_alone}
+use Rattle.desk_sitting.specs.Questions.{questioned}
+use Rattle.desk_sitting.proofs.Asked.{asked_so, asking_seat, done_seat}
 use Rattle.desk_sitting.proofs.Taking.{takes_alone}
 use Rattle.desk_sitting.proofs.sitting.Sitting.act.Goals as goal
 
--- what posts nothing changes the sitting alone
-alone_is : (a : Action) (d : Seat) → ((event : Event) → a ≢ action.Post event)
-    → ((arrow : Arrow) → a ≢ action.Step arrow) → record d { sitting = acted_alone a d.sitting } ≡ acted a d
-unfolding acted
-alone_is action.Nothing d posts steps = refl
-alone_is (action.Post event) d posts steps = absurd (posts event refl)
-alone_is action.Ring d posts steps = refl
-alone_is (action.TypeFile name) d posts steps = refl
-alone_is action.LookAnew d posts steps = refl
-alone_is action.Leave d posts steps = refl
-alone_is action.Undo d posts steps = refl
-alone_is action.Redo d posts steps = refl
-alone_is (action.Move page) d posts steps = refl
-alone_is (action.Step arrow) d posts steps = absurd (steps arrow refl)
-alone_is (action.Fit rows columns) d posts steps = refl
-alone_is action.FileFailed d posts steps = refl
-
-pub returns-in-Post : goal.returns-in-Post
-unfolding acted
-returns-in-Post g c = rw c.in-Post.is c.post.ensures
-
-pub returns-in_default : goal.returns-in_default
-returns-in_default g c =
+pub returns-then-comes_first : goal.returns-then-comes_first
+returns-then-comes_first g c =
     let store = c.args.store.now in
     takes_alone g.D.Disk tt _ _ store c.requires
-    (ap (λ (s : Sitting). seat_of s store) c.act_alone.ensures
-    ∙ alone_is c.args.action (seat_of c.args.self.now store) c.in_default.not-Post c.in_default.not-Step)
+    (asking_seat c.args.action (seat_of c.args.self.now store) c.ask.new.self
+    (asked_so c.args.self.now _ _ c.question_of-question.ensures ∙ sym c.comes_first.ensures ∙ c.if-comes_first.true)
+    (c.ask.ensures ∙ ap (λ o. questioned o c.args.self.now) c.question_of-question.ensures))
+
+pub returns : goal.returns
+returns g c = rw (← done_seat c.args.action (seat_of c.args.self.now c.args.store.now) c.unask.new.self
+    (asked_so c.args.self.now _ _ c.question_of-question.ensures ∙ sym c.comes_first.ensures ∙ c.if-comes_first.false)
+    c.unask.ensures) c.do_action.ensures
