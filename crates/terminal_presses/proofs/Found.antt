@@ -1,7 +1,7 @@
 -- Spelled presses are found again.
-use Rattle.std.proofs.Common.{◌≡◌, ℕ, ◌+◌, ◌-◌, ◌*◌, ◌≤◌, Bool, true, false, List, [], ◌∷◌, ◌++◌}
+use Rattle.std.proofs.Common.{◌≡◌, ℕ, ◌+◌, ◌-◌, ◌*◌, ◌<◌, ◌≤◌, Bool, true, false, List, [], ◌∷◌, ◌++◌}
 use Rattle.std.proofs.Common.{Some, None, nat_eq, refl, sym, ap, subst, ◌∙◌, arith, inl, inr, min}
-use Rattle.std.specs.Prelude.{◌&&◌, ◌||◌, ◌==◌, not, nat_lt, Option}
+use Rattle.std.specs.Prelude.{◌&&◌, ◌||◌, ◌==◌, not, nat_le, nat_lt, Option}
 use Rattle.std.specs.List.{list_all, filter_map, cons_option}
 use Rattle.std.proofs.lemmas.Bool.Decides.{nat_tests}
 use Rattle.event_bytes.specs.Bytes.{lies_within, is_digit, is_text_byte}
@@ -28,7 +28,7 @@ use Rattle.terminal_presses.specs.declared.place.Numbers.{Numbers}
 use Rattle.terminal_presses.specs.declared.place.SequencePlace.{SequencePlace}
 use Rattle.terminal_presses.specs.declared.place.SequencePlace.TheVariants as place
 use Rattle.terminal_presses.specs.declared.parser.Parser.{Parser}
-use Rattle.terminal_presses.specs.Presses.{single, grounded, press_alone, function_at, arrow_at, lettered, numbered_key}
+use Rattle.terminal_presses.specs.Presses.{single, grounded, preceded, press_alone, function_at, arrow_at, lettered, numbered_key}
 use Rattle.terminal_presses.specs.Presses.{longer, with_digit, with_number, mouse_mark, reported_press, moused, sized, unmarked_press}
 use Rattle.terminal_presses.specs.Presses.{sequence_end, after_ground, after_escape, after_shift, after_console}
 use Rattle.terminal_presses.specs.Presses.{after_sequence, after_byte, after_quiet, sequence_after, at_rest, heard_by, in_order}
@@ -463,19 +463,32 @@ all_found (press ∷ presses) heard is =
 
 -- ---- an escape byte that begins no other spelling
 
-pub escape_twice : (more : List Heard)
-    → presses_heard at_rest (Byte 27 ∷ Byte 27 ∷ more) ≡ Escape ∷ presses_heard at_rest (Byte 27 ∷ more)
+preceded_is : (next : SequencePlace × Option Press)
+    → ((preceded Escape next).0 ≡ (press_alone next).0)
+    × (in_order (preceded Escape next).1 ≡ Escape ∷ in_order (press_alone next).1)
+unfolding preceded
+preceded_is (at, None) = (refl, refl)
+preceded_is (at, Some press) = (refl, refl)
+
+pub escape_alone : (b : ℕ) (more : List Heard) → b < 32
+    → presses_heard at_rest (Byte 27 ∷ Byte b ∷ more) ≡ Escape ∷ presses_heard at_rest (Byte b ∷ more)
 unfolding heard_by sequence_after after_byte after_ground grounded after_escape
-escape_twice more = refl
+escape_alone b more low =
+    let bracket : nat_eq b 91 ≡ false = grind (arith, nat_tests) in
+    let letter : nat_eq b 79 ≡ false = grind (arith, nat_tests) in
+    let digit : nat_le 49 b ≡ false = grind (arith, nat_tests) in
+    let below : nat_lt b 32 ≡ true = grind (arith, nat_tests) in
+    let e = preceded_is (grounded b) in
+    rw (bracket, letter, digit, below, e.0, e.1) refl
 
 pub alt_alone : (b : ℕ) (more : List Heard) → is_alone_with_alt b ≡ true
     → presses_heard at_rest (Byte 27 ∷ Byte b ∷ more) ≡ Unknown ∷ presses_heard at_rest more
 unfolding heard_by sequence_after after_byte after_ground grounded after_escape
 alt_alone b more is =
-    let (escape, others) = none_of (b == 27) ((b == 79) || ((b == 91) || lies_within 49 55 b)) (is_not _ is) in
+    let (high, others) = none_of (nat_lt b 32) ((b == 79) || ((b == 91) || lies_within 49 55 b)) (is_not _ is) in
     let (letter, rest) = none_of (b == 79) ((b == 91) || lies_within 49 55 b) others in
     let (bracket, digit) = none_of (b == 91) (lies_within 49 55 b) rest in
-    rw (bracket, letter, escape, digit) refl
+    rw (bracket, letter, digit, high) refl
 
 -- ---- what is pasted
 

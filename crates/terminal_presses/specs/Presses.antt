@@ -164,14 +164,14 @@ press_alone (at, Some press) = (at, One press)
 unfoldable pub after_ground : ℕ → SequencePlace × Presses
 after_ground b = press_alone (grounded b)
 
--- [ or O go on with a spelling, and a digit from 1 to 7 is Alt with it: a function key. The escape byte was a key of its
--- own where another one follows. With any other byte it is the key Alt, and means nothing.
+-- [ or O go on with a spelling, and a digit from 1 to 7 is Alt with it: a function key. With any other byte from the
+-- space on it is the key Alt, and means nothing. Before a byte below that it was a key of its own.
 unfoldable pub after_escape : ℕ → SequencePlace × Presses
 after_escape b =
     if b == 91 then (place.Sequence no_numbers, Nothing) else
     (if b == 79 then (place.Shift, Nothing) else
-    (if b == escape_byte then (place.Escape, One Escape) else
-    (if lies_within 49 55 b then (place.Ground, One (function_at (b - 49))) else (place.Ground, One Unknown))))
+    (if lies_within 49 55 b then (place.Ground, One (function_at (b - 49))) else
+    (if nat_lt b 32 then preceded Escape (grounded b) else (place.Ground, One Unknown))))
 
 unfoldable pub after_shift : ℕ → SequencePlace × Presses
 after_shift b = if lies_within 32 126 b then (place.Ground, One (lettered b)) else cut_off b

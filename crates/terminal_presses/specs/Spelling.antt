@@ -83,9 +83,9 @@ pub record IsLongCharacter (text : List ℕ) : Type 0 where
 abbrev pub is_control : ℕ → Bool
 is_control b = nat_lt b 32 && not (is_text_byte b || ((b == 8) || (b == 27)))
 
--- a byte that goes on with no spelling of a key behind an escape byte
+-- a byte that is pressed with Alt, and goes on with no spelling of a key
 abbrev pub is_alone_with_alt : ℕ → Bool
-is_alone_with_alt b = not ((b == 27) || ((b == 79) || ((b == 91) || lies_within 49 55 b)))
+is_alone_with_alt b = not (nat_lt b 32 || ((b == 79) || ((b == 91) || lies_within 49 55 b)))
 
 -- an escape byte and [, and those bytes
 abbrev pub key_sequence : List ℕ → List ℕ

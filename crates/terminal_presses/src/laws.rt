@@ -41,15 +41,15 @@ pub fn pieces_do_not_matter()
 {}
 
 /// Presses that are spelled one after another are found again, and nothing of them is left in the parser. The key
-/// Escape is found without a quiet while too, where another escape byte follows. With a letter right after it, it is the
-/// key Alt, and means nothing.
+/// Escape is found without a quiet while too, where a byte below the space follows. With a letter right after it, it is
+/// the key Alt, and means nothing.
 pub fn spelled_presses_are_found()
     ensures presses { (presses : List Press) (heard : List Heard) → AreHeard presses heard
         → presses_heard at_rest heard ≡ presses }
     ensures parser { (presses : List Press) (heard : List Heard) → AreHeard presses heard
         → parser_after at_rest heard ≡ at_rest }
-    ensures escape { (more : List Heard)
-        → presses_heard at_rest (Byte 27 ∷ Byte 27 ∷ more) ≡ Escape ∷ presses_heard at_rest (Byte 27 ∷ more) }
+    ensures escape { (b : ℕ) (more : List Heard) → b < 32
+        → presses_heard at_rest (Byte 27 ∷ Byte b ∷ more) ≡ Escape ∷ presses_heard at_rest (Byte b ∷ more) }
     ensures alt { (b : ℕ) (more : List Heard) → IsTrue (is_alone_with_alt b)
         → presses_heard at_rest (Byte 27 ∷ Byte b ∷ more) ≡ Unknown ∷ presses_heard at_rest more }
 {}

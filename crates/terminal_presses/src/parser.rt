@@ -122,10 +122,10 @@ fn after_escape(byte: u8) -> (SequencePlace, Presses)
         (SequencePlace::Sequence(Numbers::none()), Presses::Nothing)
     } else if byte == b'O' {
         (SequencePlace::Shift, Presses::Nothing)
-    } else if byte == ESCAPE {
-        (SequencePlace::Escape, Presses::One(Press::Escape))
     } else if b'1' <= byte && byte <= b'7' {
         (SequencePlace::Ground, Presses::One(function(byte - b'1')))
+    } else if byte < b' ' {
+        preceded(Press::Escape, grounded(byte))
     } else {
         (SequencePlace::Ground, Presses::One(Press::Unknown))
     }
