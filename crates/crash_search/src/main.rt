@@ -1,4 +1,4 @@
-//! Looks for a crash that a store doesn't survive (the crate `crash_trials`). The argument is how many images at least
+//! Looks for a crash that a store doesn't survive (`search`). The argument is how many images at least
 //! are tried, or `bring`.
 //!
 //! It prints how many images were tried, at how many calls opening them was stopped, and `all right`; or the first that
@@ -6,7 +6,20 @@
 //! brought, all of them, and anything else.
 #![tactic(auto)]
 
-use crash_trials::{Search, searched, stopped_bringing};
+mod bringing;
+mod call;
+mod fillings;
+mod images;
+mod random;
+mod reopening;
+mod rounds;
+mod search;
+mod stores;
+mod trial;
+
+use crate::bringing::stopped_bringing;
+use crate::rounds::searched;
+use crate::search::Search;
 use std::{env, io};
 
 /// Tells what was found.

@@ -1,7 +1,13 @@
-//! The Oberon desktop at a terminal, as a program: what a run of it does is the library's `desk_run`.
+//! The Oberon desktop at a terminal, as a program: what a run of it does is in `run`.
 #![tactic(auto)]
 
-use desk_run::run;
+mod commands;
+mod endings;
+mod orders;
+mod run;
+mod sitting;
+
+use crate::run::run;
 use std::process::ExitCode;
 
 /// The program. Its status is 0 when done, 1 where a document is refused, 2 for other arguments, 3 where the file holds

@@ -17,10 +17,10 @@ use Rattle.desktop_definitions.specs.Change.{plain_text}
 use Rattle.desktop_definitions.specs.Looks.{AreLooks}
 use Rattle.desktop_definitions.specs.Sound.{IsSound}
 use Rattle.desktop_definitions.specs.Step.{Outcome, filed, fits, outcome_after, outcome_of}
-use Rattle.desktop_laws.proofs.TableLaws.{rising_put}
-use Rattle.desktop_laws.proofs.LookedLaws.{looks_stay, put_looks}
-use Rattle.desktop_laws.proofs.PartSound.{plain_looks}
-use Rattle.desktop_laws.proofs.StepLaws.{AllShown, settled_done, settled_full, fit_written, fit_held}
+use Rattle.desktop_definitions.proofs.TableLaws.{rising_put}
+use Rattle.desktop_definitions.proofs.LookedLaws.{looks_stay, put_looks}
+use Rattle.desktop_definitions.proofs.PartSound.{plain_looks}
+use Rattle.desktop_definitions.proofs.StepLaws.{AllShown, settled_done, settled_full, fit_written, fit_held}
 use Rattle.desk_bringing.specs.Gathered.{AreNamed, IsLoose}
 use Rattle.desk_bringing.specs.Bringing.{Documents, all_filed, has_few_files, all_brought, brought_in}
 

@@ -16,12 +16,12 @@ use Rattle.desktop_definitions.specs.Seen.{seen, seen_text}
 use Rattle.desktop_definitions.specs.Sound.{IsWithin, IsOver}
 use Rattle.desktop_definitions.specs.Outcome.{IsAnswered}
 use Rattle.desktop_definitions.specs.Step.{filed, fits, outcome_after, outcome_of}
-use Rattle.desktop_laws.proofs.TableLaws.{insert_seen, length_seen_text, length_seen, put_within}
-use Rattle.desktop_laws.proofs.SeenLaws.{seen_longer, new_read}
-use Rattle.desktop_laws.proofs.LookedLaws.{default_is_look, run_looks, seen_looks}
-use Rattle.desktop_laws.proofs.OutcomeLaws.{within_longer, acted}
-use Rattle.desktop_laws.proofs.StepLaws.{AllShown}
-use Rattle.desktop_laws.proofs.CollectLaws.{held_in_all}
+use Rattle.desktop_definitions.proofs.TableLaws.{insert_seen, length_seen_text, length_seen, put_within}
+use Rattle.desktop_definitions.proofs.SeenLaws.{seen_longer, new_read}
+use Rattle.desktop_definitions.proofs.LookedLaws.{default_is_look, run_looks, seen_looks}
+use Rattle.desktop_definitions.proofs.OutcomeLaws.{within_longer, acted}
+use Rattle.desktop_definitions.proofs.StepLaws.{AllShown}
+use Rattle.desktop_definitions.proofs.CollectLaws.{held_in_all}
 use Rattle.std.proofs.lemmas.Grind.{flat_map-append}
 use Rattle.std.proofs.lemmas.List.Concat.{flat_map-cons}
 use Rattle.desk_core.specs.Doing.{SettlesBringing}

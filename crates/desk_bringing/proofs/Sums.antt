@@ -18,15 +18,15 @@ use Rattle.piece_ring.specs.Text.{Text}
 use Rattle.desktop_definitions.specs.Tables.{Files, name_cmp, lengths, with_values}
 use Rattle.desktop_definitions.specs.Desktop.{Desktop, KeptDesktop, characters_held}
 use Rattle.desktop_definitions.specs.Sound.{IsKeptWhole, IsSound}
-use Rattle.desktop_laws.proofs.StepLaws.{files_held}
+use Rattle.desktop_definitions.proofs.StepLaws.{files_held}
 use Rattle.std.proofs.lemmas.Bool.{le-leb, lt-leb}
 use Rattle.desktop_definitions.specs.Change.{plain_text}
 use Rattle.desktop_definitions.specs.Limits.{most_files, most_written, most_held}
 use Rattle.desktop_definitions.specs.Seen.{seen, seen_table, seen_text}
 use Rattle.desktop_definitions.specs.Step.{filed, fits}
 use Rattle.piece_ring.specs.Look.{default_look}
-use Rattle.desktop_laws.proofs.OutcomeLaws.{length_in_look}
-use Rattle.desktop_laws.proofs.TableLaws.{insert_seen, length_seen, length_seen_text}
+use Rattle.desktop_definitions.proofs.OutcomeLaws.{length_in_look}
+use Rattle.desktop_definitions.proofs.TableLaws.{insert_seen, length_seen, length_seen_text}
 use Rattle.desk_bringing.specs.Bringing.{Documents, has_few_files, all_filed, file_sizes, many_bytes}
 
 -- ---- the sizes of files that are kept

@@ -16,9 +16,9 @@ use Rattle.desktop_definitions.specs.Limits.{no_command, wrong_symbol, no_viewer
 use Rattle.desktop_definitions.specs.Needs.{needs, given}
 use Rattle.desktop_definitions.specs.Desktop.{Desktop, KeptDesktop}
 use Rattle.desktop_definitions.specs.Change.{bytes_of}
-use Rattle.desktop_laws.proofs.RowLaws.{known_wrong_symbol}
-use Rattle.desktop_laws.proofs.CallLaws.{called_place}
-use Rattle.desktop_laws.proofs.LookedLaws.{font_sets_look, colour_sets_look, offset_sets_look}
+use Rattle.desktop_definitions.proofs.RowLaws.{known_wrong_symbol}
+use Rattle.desktop_definitions.proofs.CallLaws.{called_place}
+use Rattle.desktop_definitions.proofs.LookedLaws.{font_sets_look, colour_sets_look, offset_sets_look}
 use Rattle.desktop_definitions.specs.Seen.{seen}
 use Rattle.desktop_definitions.specs.Sound.{IsOver}
 use Rattle.desktop_definitions.specs.Outcome.{reply_codes}

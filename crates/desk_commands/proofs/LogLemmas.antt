@@ -8,7 +8,7 @@ use Rattle.char_file.specs.declared.source.CharSource.{Ghosts}
 use Rattle.piece_ring.specs.declared.piece.Piece.{Piece}
 use Rattle.piece_ring.specs.Flat.{flat}
 use Rattle.desktop_definitions.specs.Tables.{Files}
-use Rattle.desktop_laws.proofs.TableLaws.{length_seen_text}
+use Rattle.desktop_definitions.proofs.TableLaws.{length_seen_text}
 use Rattle.desktop_definitions.specs.Effects.{size_line}
 use Rattle.desktop_definitions.specs.Seen.{seen_table}
 use Rattle.desktop_definitions.specs.Outcome.{IsSameSource}

@@ -16,15 +16,15 @@ use Rattle.viewer_tracks.specs.Columns.{Columns, IsPlaced, times_placed, times_m
 use Rattle.desktop_definitions.specs.declared.viewer.Viewer.{Viewer}
 use Rattle.desktop_definitions.specs.declared.reply.Reply.{Reply}
 use Rattle.desktop_definitions.specs.Tables.{Texts, lengths}
-use Rattle.desktop_laws.proofs.TableLaws.{lengths_seen, length_seen_text}
+use Rattle.desktop_definitions.proofs.TableLaws.{lengths_seen, length_seen_text}
 use Rattle.desktop_definitions.specs.Desktop.{Desktop, KeptDesktop, characters_held}
 use Rattle.desktop_definitions.specs.Opening.{new_id, new_number, with_new, with_viewer, after_opening, opening_on, without_unshown}
 use Rattle.desktop_definitions.specs.Outcome.{IsAnswered}
 use Rattle.desktop_definitions.specs.Seen.{seen, seen_table}
 use Rattle.desktop_definitions.specs.Sound.{IsKeptWhole}
-use Rattle.desktop_laws.proofs.OpeningDone.{opened_desk, written_opened}
-use Rattle.desktop_laws.specs.DeskWords.{CanOpen, kept_left, still_shown}
-use Rattle.desktop_laws.proofs.LeftLaws.{held_left, left_fewer}
+use Rattle.desktop_definitions.proofs.OpeningDone.{opened_desk, written_opened}
+use Rattle.desktop_definitions.specs.DeskWords.{CanOpen, kept_left, still_shown}
+use Rattle.desktop_definitions.proofs.LeftLaws.{held_left, left_fewer}
 use Rattle.desktop_definitions.specs.Call.{text_called}
 use Rattle.desktop_definitions.specs.Viewers.{text_in, without_viewer, viewer_or_none}
 use Rattle.desktop_definitions.specs.Limits.{most_held}

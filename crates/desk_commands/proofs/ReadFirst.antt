@@ -13,7 +13,7 @@ use Rattle.desktop_definitions.specs.Seen.{seen}
 use Rattle.desktop_definitions.specs.Step.{outcome_after, outcome_of}
 use Rattle.desktop_definitions.specs.Sound.{IsOver}
 use Rattle.desktop_definitions.specs.Outcome.{reply_codes}
-use Rattle.desktop_laws.proofs.OutcomeLaws.{refused}
+use Rattle.desktop_definitions.proofs.OutcomeLaws.{refused}
 use Rattle.desk_core.specs.declared.stop.Stop.{Stop}
 use Rattle.desk_core.specs.declared.stop.Stop.TheVariants.{Fault}
 use Rattle.desk_core.specs.Stops.{IsStop}

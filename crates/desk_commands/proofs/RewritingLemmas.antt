@@ -23,9 +23,9 @@ use Rattle.readers_scanners.specs.Reading.{bytes_of_text}
 use Rattle.readers_scanners.proofs.Counting.{bytes-append, end_within}
 use Rattle.desktop_definitions.specs.Words.{keys_of, Look, Piece, Text, flat}
 use Rattle.desktop_definitions.specs.Sound.{AllWithin}
-use Rattle.desktop_laws.proofs.TableLaws.{kept_lengths}
-use Rattle.desktop_laws.specs.Rewriting.{laid, flats, laid_table, bytes_in}
-use Rattle.desktop_laws.proofs.RewritingLaws.{laid-append, laid-run}
+use Rattle.desktop_definitions.proofs.TableLaws.{kept_lengths}
+use Rattle.desktop_definitions.specs.Rewriting.{laid, flats, laid_table, bytes_in}
+use Rattle.desktop_definitions.proofs.RewritingLaws.{laid-append, laid-run}
 use Rattle.desk_commands.specs.Rewriting.{CanPut, Rewrites}
 
 -- ---- the characters of a piece

@@ -2,7 +2,7 @@
 use Rattle.std.proofs.Common.{◌≡◌, ◌+◌, ◌<◌, ◌≤◌, ◌∙◌, ℕ, List, length, get_or, sum_by, drop, ap}
 use Rattle.std.proofs.Math.ListN.{drop_of_length-le}
 use Rattle.std.proofs.lemmas.List.Sums.{sum_by-cons}
-use Rattle.desktop_laws.proofs.StoreLaws.{next_at}
+use Rattle.desktop_definitions.proofs.StoreLaws.{next_at}
 
 -- nothing is to come behind the last name
 pub sum_end : (size : List ℕ → ℕ) (names : List (List ℕ)) (at : ℕ) → length names ≤ at → sum_by size (drop at names) ≡ 0

@@ -20,11 +20,11 @@ use Rattle.desktop_definitions.specs.Outcome.{IsAnswered}
 use Rattle.desktop_definitions.specs.Seen.{seen, seen_text, seen_table}
 use Rattle.desktop_definitions.specs.Sound.{IsBuilt, IsOver}
 use Rattle.desktop_definitions.specs.Changed.{IsExtended, IsStanding}
-use Rattle.desktop_laws.proofs.RowLaws.{over_built}
-use Rattle.desktop_laws.specs.DeskWords.{has_space}
-use Rattle.desktop_laws.proofs.RowPartLaws.{kept_main_seen, kept_main_long, text_within}
-use Rattle.desktop_laws.proofs.LookedLaws.{kept_text_looks}
-use Rattle.desktop_laws.proofs.StoreLaws.{storing_stands, storing_short, storing_answered}
+use Rattle.desktop_definitions.proofs.RowLaws.{over_built}
+use Rattle.desktop_definitions.specs.DeskWords.{has_space}
+use Rattle.desktop_definitions.proofs.RowPartLaws.{kept_main_seen, kept_main_long, text_within}
+use Rattle.desktop_definitions.proofs.LookedLaws.{kept_text_looks}
+use Rattle.desktop_definitions.proofs.StoreLaws.{storing_stands, storing_short, storing_answered}
 
 module _ (H : Type 0) (old : List ℕ) (d : KeptDesktop) (over : IsOver old d) (name : List ℕ) (v : ℕ) (line : List ℕ)
     (size gone all : ℕ) (room : has_file_room (seen_table old d.files) name ≡ true)

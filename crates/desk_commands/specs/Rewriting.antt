@@ -10,7 +10,7 @@ use Rattle.piece_ring.specs.Text.{Text, AreWithin}
 use Rattle.piece_ring.specs.Flat.{flat}
 use Rattle.readers_scanners.specs.Reading.{bytes_of_text}
 use Rattle.desktop_definitions.specs.Sound.{AllWithin}
-use Rattle.desktop_laws.specs.Rewriting.{kept_lengths, laid, laid_table, flats, bytes_in}
+use Rattle.desktop_definitions.specs.Rewriting.{kept_lengths, laid, laid_table, flats, bytes_in}
 use Rattle.desk_core.specs.declared.stop.Stop.{Stop}
 use Rattle.desk_core.specs.declared.stop.Stop.TheVariants.{Fault}
 use Rattle.desk_core.specs.Words.{IsStop, keys_of}

@@ -8,7 +8,7 @@ ghost use Rattle.desktop_definitions.specs.Call.{as_number, names_of};
 ghost use Rattle.desktop_definitions.specs.Commands.{done_with_name, done_with_number, done_with_viewer, commanded};
 ghost use Rattle.desktop_definitions.specs.Commands.{after_call};
 ghost use Rattle.desktop_definitions.specs.Outcome.{reply_codes as known_codes};
-ghost use Rattle.desktop_laws.specs.DeskWords.{kept_place, kept_menu};
+ghost use Rattle.desktop_definitions.specs.DeskWords.{kept_place, kept_menu};
 ghost use Rattle.desk_commands.specs.Calls.{IsCall, IsViewerOnTop, done_with_value};
 ghost use Rattle.desk_core.specs.Words.{flat, IsOnTop, needs, IsKeptWhole, IsOver, kept_desktop, Does, TellsValue, TellsAs};
 ghost use Rattle.desk_commands.specs.Words.{no_viewer, version_number, given, files_deleted};

@@ -2,7 +2,7 @@
 ghost use Rattle.std.specs.Prelude.{◌≡◌, Ok, option_map};
 ghost use Rattle.viewer_tracks.specs.Display.{left_of};
 ghost use Rattle.desktop_definitions.specs.Effects.{put_away, brought_back};
-ghost use Rattle.desktop_laws.specs.DeskWords.{place_closed};
+ghost use Rattle.desktop_definitions.specs.DeskWords.{place_closed};
 ghost use Rattle.desk_core.specs.Words.{IsOnTop, id_number, needs, IsOver, kept_desktop, Does};
 ghost use Rattle.desk_commands.specs.Calls.{IsViewerOnTop};
 ghost use Rattle.desk_commands.specs.Words.{Track as ATrack, no_viewer, IsClosedPlace};

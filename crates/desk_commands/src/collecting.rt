@@ -1,7 +1,7 @@
 //! The command that gives up the characters that no text has any more.
 ghost use Rattle.std.specs.Prelude.{IfOk, Ok};
 ghost use Rattle.desktop_definitions.specs.Effects.{after_collect};
-ghost use Rattle.desktop_laws.specs.Rewriting.{IsRewritten};
+ghost use Rattle.desktop_definitions.specs.Rewriting.{IsRewritten};
 ghost use Rattle.desk_core.specs.Words.{FailsAs, OnlyReads, IsOver, kept_desktop, IsStop, Does};
 
 use crate::rewriting::{pieces_in, put_pieces, put_table};

@@ -5,7 +5,7 @@ ghost use Rattle.viewer_tracks.specs.Columns.{allocated};
 ghost use Rattle.desktop_definitions.specs.Effects.{opened_on_copy, document_opened, file_opened, log_opened};
 ghost use Rattle.desktop_definitions.specs.Effects.{viewer_copied, viewer_grown};
 ghost use Rattle.desktop_definitions.specs.Gesture.{tool_opened};
-ghost use Rattle.desktop_laws.specs.DeskWords.{IsPlaceOf};
+ghost use Rattle.desktop_definitions.specs.DeskWords.{IsPlaceOf};
 ghost use Rattle.desk_core.specs.Words.{flat, AreWithin, Text as AText, ROWS, COLUMNS, IsOnTop, most_written, without_unshown};
 ghost use Rattle.desk_core.specs.Words.{seen, seen_text, IsKeptWhole, IsOver, kept_desktop};
 ghost use Rattle.desk_core.specs.Words.{Does, DoesBringing};
@@ -13,9 +13,7 @@ ghost use Rattle.desk_commands.specs.Calls.{IsViewerOnTop};
 ghost use Rattle.desk_commands.specs.Words.{AreLooks, file_named, file_of, plain_text, more_written, menu_line, after_opening, fits};
 
 use crate::closings::track_from;
-use crate::openings::{
-    add_text, copy_of, open_on, open_over, opening_fits, opening_on_fits, opening_over_fits,
-};
+use crate::openings::{add_text, copy_of, open_on, open_over, opening_fits, opening_on_fits, opening_over_fits};
 use arrayvec::ArrayVec;
 use char_file::CharSource;
 use desk_core::desk::Desk;

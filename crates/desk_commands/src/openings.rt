@@ -6,7 +6,7 @@ ghost use Rattle.std.specs.BTreeMap.{insert_entry};
 ghost use Rattle.viewer_tracks.specs.Columns.{replaced_at, times_meant};
 ghost use Rattle.desktop_definitions.specs.Opening.{least_unused, with_new, new_id, with_viewer, opening_on};
 ghost use Rattle.desktop_definitions.specs.Opening.{opening_over};
-ghost use Rattle.desktop_laws.specs.DeskWords.{CanOpen, is_taken, still_shown, kept_left};
+ghost use Rattle.desktop_definitions.specs.DeskWords.{CanOpen, is_taken, still_shown, kept_left};
 ghost use Rattle.desk_core.specs.Words.{keys_of, nat_cmp, flat, Text as AText, COLUMNS, DEPTH, id_number, stack_of};
 ghost use Rattle.desk_core.specs.Words.{most_written, most_held, lengths, without_unshown, seen, seen_table, IsKeptWhole, kept_desktop};
 ghost use Rattle.desk_commands.specs.Words.{Track as ATrack, characters_held, viewer_in, without_viewer, more_written, after_opening};

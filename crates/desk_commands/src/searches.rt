@@ -1,7 +1,7 @@
 //! A text is searched, and what was deleted or copied last is put in.
 ghost use Rattle.std.specs.Prelude.{◌≡◌, ◌+◌, ◌<◌, ◌≤◌, length, take, slice_range, IfOk, IfSome, Ok, if◌then◌else◌};
 ghost use Rattle.desktop_definitions.specs.Effects.{found_at, pattern_after, after_search};
-ghost use Rattle.desktop_laws.specs.DeskWords.{start_in};
+ghost use Rattle.desktop_definitions.specs.DeskWords.{start_in};
 ghost use Rattle.desk_core.specs.Words.{CountsFault, OnlyReads, flat, AreWithin, bytes_of_text, needs, IsOver};
 ghost use Rattle.desk_core.specs.Words.{kept_desktop, Does, TellsAs};
 ghost use Rattle.desk_commands.specs.Calls.{IsViewerOnTop};

@@ -1,7 +1,7 @@
 //! Files are stored and deleted, each with a line of the log.
 ghost use Rattle.std.specs.Prelude.{◌≡◌, ◌+◌, ◌≤◌, ℕ, List, [], length, fold, map, IsTrue, IfOk, Ok};
 ghost use Rattle.command_table.specs.Deciding.{is_among, can_be_deleted};
-ghost use Rattle.desktop_laws.specs.DeskWords.{can_go};
+ghost use Rattle.desktop_definitions.specs.DeskWords.{can_go};
 ghost use Rattle.desktop_definitions.specs.Effects.{menu_name, after_store, stored_as, without_file};
 ghost use Rattle.desk_commands.specs.Lines.{bytes_of_lines};
 ghost use Rattle.desk_core.specs.Words.{most_held, unless, lengths, seen_table};

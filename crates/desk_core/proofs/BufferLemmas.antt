@@ -8,9 +8,9 @@ use Rattle.desktop_definitions.specs.Desktop.{KeptDesktop}
 use Rattle.desktop_definitions.specs.Looks.{AreLooks}
 use Rattle.desktop_definitions.specs.Seen.{seen, seen_text}
 use Rattle.desktop_definitions.specs.Sound.{IsOver}
-use Rattle.desktop_laws.proofs.RowLaws.{over_built}
-use Rattle.desktop_laws.proofs.KeyLaws.{copied_small, deleted_small}
-use Rattle.desktop_laws.proofs.LookedLaws.{kept_copied_looks, kept_deleted_looks}
+use Rattle.desktop_definitions.proofs.RowLaws.{over_built}
+use Rattle.desktop_definitions.proofs.KeyLaws.{copied_small, deleted_small}
+use Rattle.desktop_definitions.proofs.LookedLaws.{kept_copied_looks, kept_deleted_looks}
 use Rattle.desk_core.specs.declared.edits.DeskBuffer.{DeskBuffer}
 use Rattle.desk_core.specs.declared.edits.DeskBuffer.TheVariants.{Copied, Deleted}
 use Rattle.desk_core.specs.Buffers.{buffer_of}

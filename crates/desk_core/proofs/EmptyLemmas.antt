@@ -12,7 +12,7 @@ use Rattle.desktop_definitions.specs.Tables.{Texts, Files}
 use Rattle.desktop_definitions.specs.Desktop.{KeptDesktop, empty_desktop}
 use Rattle.desktop_definitions.specs.Seen.{seen, seen_table}
 use Rattle.desktop_definitions.specs.Sound.{IsSound, IsOver, AllWithin}
-use Rattle.desktop_laws.proofs.StepLaws.{empty_sound}
+use Rattle.desktop_definitions.proofs.StepLaws.{empty_sound}
 
 module _ (texts : Texts (List Piece)) (viewers : List (ℕ × Viewer)) (columns : Columns) (selections : List Selection)
     (files : Files (List Piece)) (copied deleted : List Piece) (pattern : List ℕ) (text : List Piece)

@@ -13,7 +13,7 @@ use Rattle.std.proofs.lemmas.Map.Entries.{length-keys_of}
 use Rattle.std.proofs.lemmas.Map.Made.{is_some-lookup}
 use Rattle.desktop_definitions.specs.declared.viewer.Viewer.{Viewer}
 use Rattle.desktop_definitions.specs.Opening.{least_unused}
-use Rattle.desktop_laws.proofs.PlaceLaws.{at_is, any_at}
+use Rattle.desktop_definitions.proofs.PlaceLaws.{at_is, any_at}
 
 same_test : (id k : ℕ) (b : Bool) → (k == id) ≡ b → is_at (nat_cmp id) k ≡ b
 same_test id k b is = at_is id k ∙ is

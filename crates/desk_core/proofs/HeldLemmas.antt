@@ -2,7 +2,7 @@
 use Rattle.std.proofs.Common.{◌≡◌, ℕ, ◌+◌, List, length, arith}
 use Rattle.piece_ring.specs.Flat.{flat}
 use Rattle.desktop_definitions.specs.Tables.{lengths}
-use Rattle.desktop_laws.proofs.TableLaws.{length_seen_text}
+use Rattle.desktop_definitions.proofs.TableLaws.{length_seen_text}
 use Rattle.desktop_definitions.specs.Desktop.{KeptDesktop, characters_held}
 use Rattle.desktop_definitions.specs.Seen.{seen, seen_table}
 

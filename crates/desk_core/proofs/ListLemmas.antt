@@ -8,7 +8,7 @@ use Rattle.desktop_definitions.specs.declared.entry.Entry.TheVariants.{File, Wri
 use Rattle.viewer_tracks.specs.declared.display.Track.TheVariants.{User, System}
 use Rattle.desktop_definitions.specs.Tables.{Files}
 use Rattle.desktop_definitions.specs.Desktop.{KeptDesktop}
-use Rattle.desktop_laws.proofs.TableLaws.{length_seen_text}
+use Rattle.desktop_definitions.proofs.TableLaws.{length_seen_text}
 use Rattle.desktop_definitions.specs.Seen.{seen, seen_table}
 use Rattle.desktop_definitions.specs.Listing.{file_entry, column_entries, entries_of}
 

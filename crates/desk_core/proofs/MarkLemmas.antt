@@ -20,9 +20,9 @@ use Rattle.desktop_definitions.specs.Step.{marked, outcome_after}
 use Rattle.desktop_definitions.specs.Sound.{IsOver}
 use Rattle.desktop_definitions.specs.Changed.{IsChanged}
 use Rattle.desktop_definitions.specs.Outcome.{IsAnswered}
-use Rattle.desktop_laws.proofs.OutcomeLaws.{refused}
-use Rattle.desktop_laws.proofs.RowLaws.{known_outside, fewer_answered, over_built}
-use Rattle.desktop_laws.proofs.MarkLaws.{marked_changed, with_caret_changed, drawn_in_changed}
+use Rattle.desktop_definitions.proofs.OutcomeLaws.{refused}
+use Rattle.desktop_definitions.proofs.RowLaws.{known_outside, fewer_answered, over_built}
+use Rattle.desktop_definitions.proofs.MarkLaws.{marked_changed, with_caret_changed, drawn_in_changed}
 
 pub inside : (x y : ℕ) → is_on_display x y ≡ true → (x < COLUMNS) × (y < ROWS)
 inside x y is = let parts = and_parts _ _ is in (ltb-true x COLUMNS parts.0, ltb-true y ROWS parts.1)

@@ -24,10 +24,10 @@ use Rattle.desktop_definitions.specs.Change.{bytes_of}
 use Rattle.desktop_definitions.specs.Gesture.{region_at, part_of, left, frame_row, IsRegionOf}
 use Rattle.desktop_definitions.specs.Gesture.{text_column, text_row, text_position, stretch_drawn}
 use Rattle.desktop_definitions.specs.Seen.{seen, seen_table}
-use Rattle.desktop_laws.proofs.SeenLaws.{within_counted}
+use Rattle.desktop_definitions.proofs.SeenLaws.{within_counted}
 use Rattle.desktop_definitions.specs.Sound.{IsBuilt, IsKeptWhole, IsOver}
-use Rattle.desktop_laws.proofs.RowLaws.{main_kept, over_built}
-use Rattle.desktop_laws.proofs.TextLaws.{text_in_seen, long_seen, text_within}
+use Rattle.desktop_definitions.proofs.RowLaws.{main_kept, over_built}
+use Rattle.desktop_definitions.proofs.TextLaws.{text_in_seen, long_seen, text_within}
 use Rattle.desk_core.specs.Mouse.{position_in, start_of_row, start_of_share}
 
 -- ---- cells of the display

@@ -12,8 +12,8 @@ use Rattle.desktop_definitions.specs.Seen.{seen}
 use Rattle.desktop_definitions.specs.Step.{outcome_after, Outcome}
 use Rattle.desktop_definitions.specs.Sound.{IsOver}
 use Rattle.desktop_definitions.specs.Outcome.{IsAnswered, IsSameSource}
-use Rattle.desktop_laws.proofs.RowLaws.{row_answered, fewer_answered, changed_as, over_built}
-use Rattle.desktop_laws.proofs.MarkLaws.{with_org_changed}
+use Rattle.desktop_definitions.proofs.RowLaws.{row_answered, fewer_answered, changed_as, over_built}
+use Rattle.desktop_definitions.proofs.MarkLaws.{with_org_changed}
 use Rattle.desk_core.specs.declared.stop.Stop.{Stop}
 
 pub over_read : (old new : List ℕ) (d : KeptDesktop) → length new ≡ length old → IsOver old d → IsOver new d

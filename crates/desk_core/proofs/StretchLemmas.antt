@@ -20,13 +20,13 @@ use Rattle.desktop_definitions.specs.Seen.{seen}
 use Rattle.desktop_definitions.specs.Step.{outcome_after}
 use Rattle.desktop_definitions.specs.Sound.{IsKeptWhole, IsBuilt, IsOver}
 use Rattle.desktop_definitions.specs.Outcome.{IsAnswered, reply_codes}
-use Rattle.desktop_laws.proofs.RowLaws.{over_built, main_kept}
-use Rattle.desktop_laws.proofs.MarkLaws.{with_selection_changed}
-use Rattle.desktop_laws.proofs.RowPartLaws.{kept_caret, kept_newest, copy_long, copy_looks, text_within}
-use Rattle.desktop_laws.proofs.KeyLaws.{refusal_answered, main_small, copy_changed}
+use Rattle.desktop_definitions.proofs.RowLaws.{over_built, main_kept}
+use Rattle.desktop_definitions.proofs.MarkLaws.{with_selection_changed}
+use Rattle.desktop_definitions.proofs.RowPartLaws.{kept_caret, kept_newest, copy_long, copy_looks, text_within}
+use Rattle.desktop_definitions.proofs.KeyLaws.{refusal_answered, main_small, copy_changed}
 use Rattle.desk_core.specs.Mouse.{position_in, start_of_row}
 use Rattle.desk_core.specs.Positions.{IsPosition, CanGo}
-use Rattle.desktop_laws.proofs.PlaceLaws.{on_top_placed}
+use Rattle.desktop_definitions.proofs.PlaceLaws.{on_top_placed}
 use Rattle.desk_core.proofs.PositionLemmas.{start_read}
 use Rattle.desk_core.specs.declared.edits.DeskBuffer.{DeskBuffer}
 use Rattle.desk_core.specs.Buffers.{buffer_of}

@@ -25,17 +25,17 @@ use Rattle.desktop_definitions.specs.Change.{following_viewer, insertion, deleti
 use Rattle.desktop_definitions.specs.Seen.{seen, seen_text}
 use Rattle.desktop_definitions.specs.Sound.{IsBuilt}
 use Rattle.desktop_definitions.specs.Changed.{IsChanged}
-use Rattle.desktop_laws.specs.DeskWords.{CanFollow, AreMoved, IsSet}
-use Rattle.desktop_laws.proofs.EditLaws.{set_there, set_long, set_orgs, set_within, set_changed}
-use Rattle.desktop_laws.proofs.EditLaws.{insertion_seen, deletion_seen, looks_seen, looks_changed_so, unchanged}
-use Rattle.desktop_laws.proofs.EditLaws.{insertion_none, caret_shown_changed}
-use Rattle.desktop_laws.proofs.TextLaws.{long_seen, text_within}
-use Rattle.desktop_laws.proofs.TableLaws.{lookup_seen, is_some_map, length_seen_text}
-use Rattle.desktop_laws.proofs.ChangeLaws.{is_there}
+use Rattle.desktop_definitions.specs.DeskWords.{CanFollow, AreMoved, IsSet}
+use Rattle.desktop_definitions.proofs.EditLaws.{set_there, set_long, set_orgs, set_within, set_changed}
+use Rattle.desktop_definitions.proofs.EditLaws.{insertion_seen, deletion_seen, looks_seen, looks_changed_so, unchanged}
+use Rattle.desktop_definitions.proofs.EditLaws.{insertion_none, caret_shown_changed}
+use Rattle.desktop_definitions.proofs.TextLaws.{long_seen, text_within}
+use Rattle.desktop_definitions.proofs.TableLaws.{lookup_seen, is_some_map, length_seen_text}
+use Rattle.desktop_definitions.proofs.ChangeLaws.{is_there}
 use Rattle.text_frames.specs.Rules.{shown_org}
 use Rattle.desktop_definitions.specs.Looks.{IsLook, AreLooks}
 use Rattle.desk_core.specs.Movable.{IsMovable}
-use Rattle.desktop_laws.proofs.LookedLaws.{inserted_looks, deleted_looks, looks_changed_looks, kept_text_looks}
+use Rattle.desktop_definitions.proofs.LookedLaws.{inserted_looks, deleted_looks, looks_changed_looks, kept_text_looks}
 
 -- the desktop with other texts, whose frames lost caret and selection, and other viewers
 abbrev pub Follows : KeptDesktop → Texts (List Piece) → ℕ → List (ℕ × Viewer) → KeptDesktop → Type 0

@@ -9,8 +9,8 @@ use Rattle.desktop_definitions.specs.Desktop.{KeptDesktop}
 use Rattle.desktop_definitions.specs.Viewers.{viewer_in, viewer_or_none, bare_viewer}
 use Rattle.desktop_definitions.specs.Seen.{seen, seen_table}
 use Rattle.desktop_definitions.specs.Sound.{IsViewer, IsKeptWhole}
-use Rattle.desktop_laws.proofs.TextLaws.{text_there}
-use Rattle.desktop_laws.proofs.ViewLaws.{placed_there, few_selections}
+use Rattle.desktop_definitions.proofs.TextLaws.{text_there}
+use Rattle.desktop_definitions.proofs.ViewLaws.{placed_there, few_selections}
 
 the_one : {X : Type 0} (found : Option X) (other : X) → IsSome found → found ≡ Some (unwrap_or found other)
 the_one None other there = absurd (cc there)

@@ -12,8 +12,8 @@ use Rattle.std.proofs.lemmas.Bool.{cases_eq}
 use Rattle.std.proofs.lemmas.List.{length-set, get_or-set_same, get_or-set_other, get_or_read, take_all, drop_all}
 use Rattle.desktop_definitions.specs.declared.viewer.Viewer.{Viewer}
 use Rattle.desktop_definitions.specs.Viewers.{bare_viewer, viewer_in, viewer_or_none}
-use Rattle.desktop_laws.proofs.ShapeLaws.{at_here, at_other}
-use Rattle.desktop_laws.specs.DeskWords.{IsMoved, AreMoved}
+use Rattle.desktop_definitions.proofs.ShapeLaws.{at_here, at_other}
+use Rattle.desktop_definitions.specs.DeskWords.{IsMoved, AreMoved}
 
 abbrev pub Entries : Type 0
 Entries = List (ℕ × Viewer)

@@ -19,7 +19,7 @@ pub use Rattle.desktop_definitions.specs.Seen.{seen, seen_table, seen_text}
 pub use Rattle.desktop_definitions.specs.Sound.{IsKeptWhole, IsBuilt, IsOver}
 pub use Rattle.desktop_definitions.specs.Changed.{IsChanged}
 pub use Rattle.desktop_definitions.specs.Opening.{without_unshown}
-pub use Rattle.desktop_laws.specs.DeskWords.{AreMoved, CanFollow}
+pub use Rattle.desktop_definitions.specs.DeskWords.{AreMoved, CanFollow}
 pub use Rattle.desk_core.specs.Kept.{kept_desktop}
 pub use Rattle.desk_core.specs.Stops.{IsStop}
 pub use Rattle.desk_core.specs.Positions.{IsPosition, IsOpenAt, CanGo}

@@ -2,7 +2,7 @@
 ghost use Rattle.std.specs.Prelude.{◌≡◌, ◌+◌, ◌-◌, ◌<◌, ◌≤◌, ◌^◌, ◌&&◌, ℕ, List, length, nat_le, IfOk, IfSome, IsSome};
 ghost use Rattle.std.specs.Prelude.{OnOk, is_none, true, Ok, if◌then◌else◌};
 ghost use Rattle.desktop_definitions.specs.Change.{put_in, put_at_caret, cut_out};
-ghost use Rattle.desktop_laws.specs.DeskWords.{has_space};
+ghost use Rattle.desktop_definitions.specs.DeskWords.{has_space};
 ghost use Rattle.desk_core.specs.Words.{stretch, newest, kept_main, CanGo, run, no_caret, FailsAs, OnlyReads, flat};
 ghost use Rattle.desk_core.specs.Words.{most_written, most_held, text_numbered, viewer_or_none, seen, seen_text};
 ghost use Rattle.desk_core.specs.Words.{IsKeptWhole, IsBuilt, IsOver, IsChanged, kept_desktop, IsPosition, IsStop, needs};

@@ -2,7 +2,7 @@
 ghost use Rattle.std.specs.Prelude.{◌≡◌, ◌+◌, ℕ, List, length, map, option_map, IsTrue, OnOk, OnErr, IfOk, IsErrOf};
 ghost use Rattle.event_bytes.specs.Bytes.{is_name};
 ghost use Rattle.desktop_definitions.specs.Tables.{file_named, file_put as with_file, has_file_room as room};
-ghost use Rattle.desktop_laws.specs.DeskWords.{kept_size};
+ghost use Rattle.desktop_definitions.specs.DeskWords.{kept_size};
 ghost use Rattle.desktop_definitions.specs.Listing.{file_entry};
 ghost use Rattle.desk_core.specs.Words.{Text as AText, lengths, seen_table};
 

@@ -7,7 +7,7 @@ ghost use Rattle.piece_ring.specs.Text.{inserted, deleted, looks_changed};
 ghost use Rattle.desktop_definitions.specs.Looks.{IsLook, AreLooks};
 ghost use Rattle.desktop_definitions.specs.Viewers.{shows, rows_of};
 ghost use Rattle.desktop_definitions.specs.Change.{insertion, deletion, looks_set, showing, caret_shown};
-ghost use Rattle.desktop_laws.specs.DeskWords.{IsSet};
+ghost use Rattle.desktop_definitions.specs.DeskWords.{IsSet};
 ghost use Rattle.desk_core.specs.Words.{stretch, with_values, following_viewer, CanFollow, AreMoved, FailsAs, IsOnTop};
 ghost use Rattle.desk_core.specs.Words.{IsPlaced, CountsFault, OnlyReads, flat, AreWithin, bytes_of_text, text_numbered, text_in};
 ghost use Rattle.desk_core.specs.Words.{viewer_or_none, unmarked, seen, seen_text, IsBuilt, IsChanged, kept_desktop, IsStop};
@@ -16,10 +16,7 @@ ghost use Rattle.desk_core.specs.Movable.{IsChangeOf};
 
 use crate::desk::Desk;
 use crate::stop::{NoMemory, Stop};
-use crate::viewers::{
-    TextChange, Texts, caret_outside, follow_text, org_in, select, set_org, unselect,
-    viewer_or_none,
-};
+use crate::viewers::{TextChange, Texts, caret_outside, follow_text, org_in, select, set_org, unselect, viewer_or_none};
 use char_file::{CharSource, Fault};
 use desktop_definitions::{Caret, Selection};
 use piece_ring::Look;

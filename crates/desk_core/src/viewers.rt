@@ -3,7 +3,7 @@ ghost use Rattle.std.specs.Prelude.{◌≡◌, ◌∷◌, [], ◌++◌, ◌+◌,
 ghost use Rattle.std.specs.Map.{set_value};
 ghost use Rattle.text_frames.specs.Rules.{shown_org};
 ghost use Rattle.desktop_definitions.specs.Viewers.{viewer_in};
-ghost use Rattle.desktop_laws.specs.DeskWords.{IsMoved};
+ghost use Rattle.desktop_definitions.specs.DeskWords.{IsMoved};
 ghost use Rattle.desk_core.specs.Movable.{IsMovable, IsChangeOf};
 ghost use Rattle.desk_core.specs.Words.{is_at, with_values, following_viewer, AreMoved, CanFollow, nat_cmp, CountsFault};
 ghost use Rattle.desk_core.specs.Words.{OnlyReads, flat, AreWithin, bytes_of_text, text_numbered, viewer_or_none, text_in};

@@ -20,8 +20,8 @@ use Rattle.desktop_definitions.specs.Desktop.{KeptDesktop}
 use Rattle.desktop_definitions.specs.Seen.{seen}
 use Rattle.desktop_definitions.specs.Viewers.{viewer_in}
 use Rattle.desktop_definitions.specs.Sound.{IsKeptWhole, IsShaped}
-use Rattle.desktop_laws.proofs.PlaceLaws.{at_same, on_top_placed}
-use Rattle.desktop_laws.proofs.ViewLaws.{placed_there}
+use Rattle.desktop_definitions.proofs.PlaceLaws.{at_same, on_top_placed}
+use Rattle.desktop_definitions.proofs.ViewLaws.{placed_there}
 use Rattle.desk_image.specs.declared.picture.Ranked.{Ranked}
 use Rattle.desk_image.specs.declared.picture.ViewerPicture.{ViewerPicture}
 use Rattle.desktop_definitions.specs.Shown.{caret_position}

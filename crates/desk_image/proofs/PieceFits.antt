@@ -11,7 +11,7 @@ use Rattle.piece_ring.proofs.Lengths.{length-run}
 use Rattle.piece_ring.specs.Text.{Text, AreWithin, renamed}
 use Rattle.desktop_definitions.specs.Limits.{most_held}
 use Rattle.desktop_definitions.specs.Looks.{IsLook, AreLooks}
-use Rattle.desktop_laws.proofs.FewLaws.{few_some}
+use Rattle.desktop_definitions.proofs.FewLaws.{few_some}
 use Rattle.desk_image.specs.Image.{AreSome}
 use Rattle.desk_image.specs.Fitting.{Chain, FitsPiece, FitsPieces, less, length_of_pieces}
 

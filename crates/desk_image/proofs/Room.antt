@@ -23,8 +23,8 @@ use Rattle.desktop_definitions.specs.Tables.{Texts, Files}
 use Rattle.desktop_definitions.specs.Desktop.{KeptDesktop, characters_held}
 use Rattle.desktop_definitions.specs.Seen.{seen, seen_text}
 use Rattle.desktop_definitions.specs.Sound.{IsKeptWhole, IsSound}
-use Rattle.desktop_laws.proofs.FewLaws.{few_viewers, few_texts}
-use Rattle.desktop_laws.proofs.TableLaws.{length_seen, length_seen_text, lengths_seen}
+use Rattle.desktop_definitions.proofs.FewLaws.{few_viewers, few_texts}
+use Rattle.desktop_definitions.proofs.TableLaws.{length_seen, length_seen_text, lengths_seen}
 use Rattle.desk_image.specs.declared.limits.TheConstants.{IMAGE_BYTES, MOST_VIEWERS}
 use Rattle.sector_disk.specs.declared.disk.TheConstants.{SECTOR_BYTES}
 use Rattle.desk_image.specs.declared.picture.ViewerPicture.{ViewerPicture}

@@ -20,7 +20,7 @@ use Rattle.desktop_definitions.specs.Looks.{AreLooks}
 use Rattle.desktop_definitions.specs.Tables.{Texts, Files, name_cmp}
 use Rattle.desktop_definitions.specs.Seen.{seen_text, seen_table}
 use Rattle.desktop_definitions.specs.Sound.{AllWithin}
-use Rattle.desktop_laws.proofs.TableLaws.{kept_lengths}
+use Rattle.desktop_definitions.proofs.TableLaws.{kept_lengths}
 use Rattle.desk_image.specs.Image.{InWord, AreSome}
 use Rattle.desk_image.specs.Fitting.{Chain, FitsText, FitsFile, length_of_pieces, totals, after_text, after_file, follows}
 use Rattle.desk_image.proofs.PieceFits.{IsFitting, pieces_fit, length_flat, kept_looks}

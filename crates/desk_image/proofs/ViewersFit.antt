@@ -28,9 +28,9 @@ use Rattle.desktop_definitions.specs.Tables.{Texts, text_numbered, lengths}
 use Rattle.desktop_definitions.specs.Viewers.{viewer_in, viewer_or_none, text_in, main_length}
 use Rattle.desktop_definitions.specs.Sound.{AreViewers, ArePlaces, AreMarks}
 use Rattle.desktop_definitions.specs.Sound.{times_there}
-use Rattle.desktop_laws.proofs.FewLaws.{few_viewers, few_by_depth}
-use Rattle.desktop_laws.proofs.PlaceLaws.{at_same}
-use Rattle.desktop_laws.proofs.ViewLaws.{viewer_at_place, few_selections}
+use Rattle.desktop_definitions.proofs.FewLaws.{few_viewers, few_by_depth}
+use Rattle.desktop_definitions.proofs.PlaceLaws.{at_same}
+use Rattle.desktop_definitions.proofs.ViewLaws.{viewer_at_place, few_selections}
 use Rattle.desk_image.specs.declared.picture.Ranked.{Ranked}
 use Rattle.desk_image.specs.declared.picture.ViewerPicture.{ViewerPicture}
 use Rattle.desk_image.specs.declared.limits.TheConstants.{MOST_VIEWERS}

@@ -20,8 +20,8 @@ use Rattle.desktop_definitions.specs.declared.viewer.Viewer.{Viewer}
 use Rattle.desktop_definitions.specs.declared.viewer.Caret.{Caret}
 use Rattle.desktop_definitions.specs.declared.viewer.Selection.{Selection}
 use Rattle.desktop_definitions.specs.Viewers.{viewer_in}
-use Rattle.desktop_laws.proofs.FewLaws.{all_any}
-use Rattle.desktop_laws.proofs.PlaceLaws.{at_same, at_other}
+use Rattle.desktop_definitions.proofs.FewLaws.{all_any}
+use Rattle.desktop_definitions.proofs.PlaceLaws.{at_same, at_other}
 use Rattle.desk_image.specs.declared.picture.Ranked.{Ranked}
 use Rattle.desk_image.specs.declared.picture.ViewerPicture.{ViewerPicture}
 use Rattle.desktop_definitions.specs.Shown.{caret_position}

@@ -26,7 +26,7 @@ use Rattle.viewer_tracks.specs.Viewers.{Entry, IsTrack}
 use Rattle.viewer_tracks.specs.Columns.{IsStack}
 use Rattle.desktop_definitions.specs.Looks.{IsLook, AreLooks}
 use Rattle.desktop_definitions.specs.Tables.{Texts, Files, name_cmp}
-use Rattle.desktop_laws.proofs.TableLaws.{kept_lengths}
+use Rattle.desktop_definitions.proofs.TableLaws.{kept_lengths}
 use Rattle.desk_image.specs.declared.picture.ViewerPicture.{ViewerPicture}
 use Rattle.desk_image.specs.Image.{InWord, InId, AreSome, has_overlays}
 use Rattle.desk_image.specs.Fitting.{Chain, FitsPiece, FitsText, FitsFile, FitsViewer, FitsEntry, less, length_of_pieces, totals}

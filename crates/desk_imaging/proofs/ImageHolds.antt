@@ -26,8 +26,8 @@ use Rattle.desktop_definitions.specs.Viewers.{viewer_in, viewer_or_none, main_le
 use Rattle.desktop_definitions.specs.Seen.{seen, seen_text, seen_table}
 use Rattle.desktop_definitions.specs.Sound.{IsViewer, AreViewers, ArePlaces, IsCaretPlaced, IsSelection, AreMarks}
 use Rattle.desktop_definitions.specs.Sound.{IsShaped, IsSound}
-use Rattle.desktop_laws.proofs.TextLaws.{text_there, long_seen}
-use Rattle.desktop_laws.proofs.ViewLaws.{placed_there, viewer_at_place, few_selections}
+use Rattle.desktop_definitions.proofs.TextLaws.{text_there, long_seen}
+use Rattle.desktop_definitions.proofs.ViewLaws.{placed_there, viewer_at_place, few_selections}
 use Rattle.desk_image.specs.declared.picture.Ranked.{Ranked}
 use Rattle.desktop_definitions.specs.Shown.{caret_position}
 use Rattle.desk_image.specs.Image.{Image, image_of, picture_of, ranked_in}

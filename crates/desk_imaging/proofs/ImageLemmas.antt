@@ -15,9 +15,9 @@ use Rattle.desktop_definitions.specs.Limits.{newest_version}
 use Rattle.desktop_definitions.specs.Desktop.{KeptDesktop}
 use Rattle.desktop_definitions.specs.Seen.{seen, seen_text, seen_table}
 use Rattle.desktop_definitions.specs.Sound.{IsKeptWhole}
-use Rattle.desktop_laws.proofs.FewLaws.{few_texts}
-use Rattle.desktop_laws.proofs.OpeningDone.{kept_viewers}
-use Rattle.desktop_laws.proofs.TableLaws.{length_seen}
+use Rattle.desktop_definitions.proofs.FewLaws.{few_texts}
+use Rattle.desktop_definitions.proofs.OpeningDone.{kept_viewers}
+use Rattle.desktop_definitions.proofs.TableLaws.{length_seen}
 use Rattle.desk_core.proofs.ViewLemmas.{few}
 use Rattle.desk_image.specs.declared.limits.TheConstants.{IMAGE_BYTES}
 use Rattle.desk_image.specs.Image.{look_bytes, cell_bytes, optional, listed_bytes, text_bytes, file_bytes, pieces_bytes}

@@ -33,9 +33,9 @@ use Rattle.desktop_definitions.specs.Seen.{seen, seen_text, seen_table}
 use Rattle.desktop_definitions.specs.Sound.{IsViewer, AreViewers, ArePlaces, IsClosedPlace, IsCaretPlaced, IsSelection}
 use Rattle.desktop_definitions.specs.Sound.{AreMarks, AreFiles, HasLooks, IsShaped, IsSound, IsWithin}
 use Rattle.desktop_definitions.specs.Looks.{AreLooks}
-use Rattle.desktop_laws.proofs.TableLaws.{length_seen, length_seen_text, lengths_seen}
-use Rattle.desktop_laws.proofs.TextLaws.{there_seen, long_seen}
-use Rattle.desktop_laws.proofs.PlaceLaws.{at_same, at_is}
+use Rattle.desktop_definitions.proofs.TableLaws.{length_seen, length_seen_text, lengths_seen}
+use Rattle.desktop_definitions.proofs.TextLaws.{there_seen, long_seen}
+use Rattle.desktop_definitions.proofs.PlaceLaws.{at_same, at_is}
 use Rattle.desk_image.specs.Image.{Image, image_of, IsSpellable}
 use Rattle.desk_image.specs.Fitting.{FitsImage, FitsStack, FitsClosed, FitsCell, totals, length_of_pieces}
 use Rattle.desk_imaging.specs.Images.{is_desktop, IsDesktopOf, drafted, Levels, times_tracked, are_known, is_on_top}

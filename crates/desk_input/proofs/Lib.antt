@@ -1,2 +1,4 @@
 pub mod BarLemmas
+pub mod Front
+pub mod Kept
 pub mod StillLemmas

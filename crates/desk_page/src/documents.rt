@@ -4,14 +4,14 @@ ghost use Rattle.desktop_definitions.specs.Desktop.{file_of};
 ghost use Rattle.desk_journal.specs.Bringing.{AreBrought, IsUnwritten, LeavesAllOrNone};
 ghost use Rattle.desk_journal.specs.Device.{IsOnlyRead};
 ghost use Rattle.desk_journal.specs.Session.{session_of};
-ghost use Rattle.host_documents.specs.HostText.{exported};
+ghost use Rattle.store_documents.specs.HostText.{exported};
 
 use crate::page::Page;
 use desk_bringing::Document;
 use desk_journal::Error;
 use desktop_definitions::Reply;
 use event_bytes::Name;
-use host_documents::host_text;
+use store_documents::host_text;
 use sector_disk::Disk;
 use std::alloc::Global;
 

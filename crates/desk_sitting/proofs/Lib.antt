@@ -1,7 +1,11 @@
-pub mod Sessions
-pub mod Taking
 pub mod Accepted
+pub mod Between
 pub mod Done
+pub mod Sessions
+pub mod Surviving
+pub mod Taking
+pub mod Turning
+pub mod Whole
 mod Asked
 mod Questions
 mod Travelling

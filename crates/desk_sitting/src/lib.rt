@@ -4,16 +4,24 @@
 //! that the sitting does alone (`specs/Sittings.antt`). `do_presses` does presses one after another over a store
 //! (`specs/Doing.antt`). The rows in sight follow the caret (`window`), an arrow is a click beside it (`aim`), and the
 //! line below says what was refused (`saying`).
+//!
+//! `serve` goes on turn by turn (`specs/Serving.antt`): a scene is shown (`specs/Scenes.antt`), something is heard, and
+//! what is pressed by it is done, each event acknowledged before the next scene. A whole sitting is `Sits` of
+//! `specs/Sitting.antt`. What a crash leaves of it, from any of its places on, is said in `specs/Surviving.antt`, and
+//! `sittings_survive` is the theorem: what was shown is never lost.
 #![tactic(auto)]
 
 mod again;
 mod aim;
 mod deed;
 mod doing;
+mod ending;
 mod laws;
 mod listed;
 mod question;
 mod saying;
+mod serving;
+mod serving_laws;
 mod sitting;
 mod travels;
 mod window;
@@ -21,8 +29,11 @@ mod window;
 pub use again::{Again, MOST_AGAIN, Place};
 pub use deed::Deed;
 pub use doing::do_presses;
+pub use ending::SittingEnd;
 pub use laws::{presses_are_steps, questions_post_nothing};
 pub use question::Question;
 pub use saying::{Saying, SayingLine};
+pub use serving::{MOST_TURNS, serve};
+pub use serving_laws::{sittings_survive, sittings_survive_in_files};
 pub use sitting::{Sitting, Travel};
 pub use travels::travel;

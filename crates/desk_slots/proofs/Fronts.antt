@@ -6,9 +6,9 @@ use Rattle.std.proofs.lemmas.List.{length-take-le, length-drop, take_all}
 use Rattle.sector_disk.specs.Trail.{Content, Moment, written}
 use Rattle.sector_disk.specs.Stored.{stored}
 use Rattle.sector_disk.proofs.StoredLaws.{stored_same, sector_more, length-stored}
-use Rattle.sector_streams.proofs.Filled.{reads_here, reads_elsewhere}
+use Rattle.store_layout.proofs.Filled.{reads_here, reads_elsewhere}
 use Rattle.sector_disk.specs.declared.disk.TheConstants.{SECTOR_BYTES}
-use Rattle.sector_streams.specs.Filling.{InRange}
+use Rattle.store_layout.specs.Filling.{InRange}
 use Rattle.char_pages.specs.declared.pages.Pages.{Pages}
 use Rattle.char_pages.specs.Pages.{base_of, saved_of, saved_sectors, rest_of, paged_characters}
 use Rattle.char_pages.proofs.Paging.{length-paged}

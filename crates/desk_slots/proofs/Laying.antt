@@ -10,11 +10,11 @@ use Rattle.sector_disk.specs.Trail.{Moment, Trail, now, written, after_sync, Tou
 use Rattle.sector_disk.proofs.Touching.{still_reads}
 use Rattle.sector_disk.specs.Stored.{stored, byte_of}
 use Rattle.sector_disk.proofs.StoredLaws.{stored_by_index, none_stored}
-use Rattle.sector_streams.proofs.Filled.{reads_here, reads_elsewhere}
+use Rattle.store_layout.proofs.Filled.{reads_here, reads_elsewhere}
 use Rattle.desktop_definitions.specs.Desktop.{empty_desktop}
 use Rattle.desktop_definitions.specs.Seen.{seen}
 use Rattle.desktop_definitions.specs.Sound.{IsSound, IsWithin, IsKeptWhole}
-use Rattle.desktop_laws.proofs.StepLaws.{empty_sound}
+use Rattle.desktop_definitions.proofs.StepLaws.{empty_sound}
 use Rattle.sector_disk.specs.declared.disk.TheConstants.{SECTOR_BYTES}
 use Rattle.desk_image.specs.declared.empty.TheConstants.{EMPTY_IMAGE, FLAT_EMPTY_IMAGE}
 use Rattle.desk_image.specs.Image.{has_overlays, IsSpellable, Spells}

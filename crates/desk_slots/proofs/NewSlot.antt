@@ -7,7 +7,7 @@ use Rattle.sector_disk.specs.declared.disk.TheConstants.{SECTOR_BYTES}
 use Rattle.sector_disk.specs.Trail.{Moment, written, after_sync}
 use Rattle.sector_disk.specs.Stored.{stored}
 use Rattle.sector_disk.proofs.StoredLaws.{stored_same}
-use Rattle.sector_streams.proofs.Filled.{reads_here, reads_elsewhere}
+use Rattle.store_layout.proofs.Filled.{reads_here, reads_elsewhere}
 use Rattle.command_table.specs.Versions.{newest_version}
 use Rattle.desktop_definitions.specs.Desktop.{Desktop, KeptDesktop}
 use Rattle.desktop_definitions.specs.Limits.{most_written}

@@ -6,9 +6,9 @@ use Rattle.sector_disk.specs.declared.disk.Disk.{Ghosts}
 use Rattle.sector_disk.specs.Confined.{IsConfined}
 use Rattle.sector_disk.specs.Trail.{Content}
 use Rattle.sector_disk.proofs.Confinement.{joined}
-use Rattle.sector_streams.specs.declared.filling.Filling.{Filling}
-use Rattle.sector_streams.specs.Filling.{first_sector, most_sectors, SectorsOf, InRange}
-use Rattle.sector_streams.proofs.FillingLaws.{sectors_are}
+use Rattle.store_layout.specs.declared.filling.Filling.{Filling}
+use Rattle.store_layout.specs.Filling.{first_sector, most_sectors, SectorsOf, InRange}
+use Rattle.store_layout.proofs.FillingLaws.{sectors_are}
 use Rattle.sector_disk.specs.Stored.{HoldsBytes, stored}
 use Rattle.sector_disk.proofs.StoredLaws.{stored_held}
 use Rattle.command_table.specs.Versions.{newest_version}

@@ -3,7 +3,7 @@
 ghost use Rattle.std.specs.Prelude.{◌≡◌, ◌+◌, ◌*◌, ◌<◌, ◌≤◌, ◌++◌, ◌∷◌, [], ℕ, OnOk, IfOk, IsErrOf, length, take, drop};
 ghost use Rattle.sector_disk.specs.Trail.{Content};
 ghost use Rattle.sector_disk.specs.Stored.{stored};
-ghost use Rattle.sector_streams.specs.Draining.{IsSectorLoaded, IsOnDisk, bytes_left};
+ghost use Rattle.store_layout.specs.Draining.{IsSectorLoaded, IsOnDisk, bytes_left};
 ghost use Rattle.char_pages.specs.Pages.{saved_sectors, cached_of};
 ghost use Rattle.command_table.specs.Versions.{version_number};
 ghost use Rattle.desktop_definitions.specs.Desktop.{Desktop as ADesktop};
@@ -25,9 +25,8 @@ use char_pages::Pages;
 use desk_image::{ByteSource, ImageFault};
 use event_loop::{Desktop, Version};
 use sector_disk::{Disk, SECTOR_BYTES, Sector};
-use sector_streams::{Draining, SectorSource};
+use store_layout::{AREAS, Draining, Head, SLOTS, STORE_SECTORS, SectorSource, area_start, image_at};
 use std::alloc::{AllocError as NoMemory, Global};
-use store_layout::{AREAS, Head, SLOTS, STORE_SECTORS, area_start, image_at};
 
 /// Why a store isn't opened, where its image isn't read: it is damaged at the image's first sector, or for the same
 /// reason.

@@ -8,7 +8,7 @@
 //! characters that stand in the area by then are given up in memory.
 ghost use Rattle.std.specs.Prelude.{◌≡◌, ◌+◌, ◌*◌, ◌/◌, ◌<◌, ◌≤◌, ◌++◌, true, false, ℕ, List, length, drop, OnOk, IfOk};
 ghost use Rattle.sector_disk.specs.Stored.{stored};
-ghost use Rattle.sector_streams.specs.Filling.{first_sector, most_sectors, SectorsOf, InRange, HasTaken};
+ghost use Rattle.store_layout.specs.Filling.{first_sector, most_sectors, SectorsOf, InRange, HasTaken};
 ghost use Rattle.command_table.specs.Versions.{newest_version};
 ghost use Rattle.desk_image.specs.Image.{image_of, image_bytes, IsSpellable};
 ghost use Rattle.store_layout.specs.Layout.{slot_gate, image_at, area_at};
@@ -23,11 +23,7 @@ use crate::live::LiveDesktop;
 use crate::place::SlotPlace;
 use desk_image::{IMAGE_BYTES, images_have_room};
 use sector_disk::{Disk, Fault, SECTOR_BYTES};
-use sector_streams::{Filling, SectorSink};
-use store_layout::{
-    AREA_SECTORS, Head, IMAGE_SECTORS, LAYOUT, SLOTS, STORE_SECTORS, area_at, closed_gate, gate,
-    image_at, is_open_gate, open_gate, slot_gate, slot_head,
-};
+use store_layout::{AREA_SECTORS, Filling, Head, IMAGE_SECTORS, LAYOUT, SLOTS, STORE_SECTORS, SectorSink, area_at, closed_gate, gate, image_at, is_open_gate, open_gate, slot_gate, slot_head};
 
 /// Closes the gate of a slot, if it is open. A closed gate isn't written: while such a write is pending a crash could
 /// leave the gate open.

@@ -16,7 +16,7 @@ use Rattle.screen_cells.specs.Shown.{IsShowable, as_read}
 use Rattle.desktop_definitions.specs.declared.viewer.Viewer.{Viewer}
 use Rattle.desktop_definitions.specs.declared.viewer.Caret.{Caret}
 use Rattle.desktop_definitions.specs.declared.viewer.Selection.{Selection}
-use Rattle.desktop_laws.proofs.TableLaws.{length_seen_text}
+use Rattle.desktop_definitions.proofs.TableLaws.{length_seen_text}
 use Rattle.desktop_definitions.specs.Desktop.{KeptDesktop}
 use Rattle.desktop_definitions.specs.Viewers.{text_in, text_of}
 use Rattle.screen_cells.specs.Lines.{AreLinesOf, IsNumbered}
@@ -25,8 +25,8 @@ use Rattle.piece_ring.specs.Text.{Text, AreWithin}
 use Rattle.desktop_definitions.specs.Seen.{seen, seen_table}
 use Rattle.desktop_definitions.specs.Shown.{ranked, selection_in, painted, shown_screen}
 use Rattle.desktop_definitions.specs.Sound.{AllWithin, IsViewer, IsKeptWhole}
-use Rattle.desktop_laws.proofs.TextLaws.{text_there, text_in_seen, text_within}
-use Rattle.desktop_laws.proofs.ViewLaws.{viewer_at_place}
+use Rattle.desktop_definitions.proofs.TextLaws.{text_there, text_in_seen, text_within}
+use Rattle.desktop_definitions.proofs.ViewLaws.{viewer_at_place}
 use Rattle.desk_views.specs.declared.views.View.{View}
 use Rattle.desk_views.specs.Views.{view_in, KeptView, kept_view, shown_view, AreThere}
 

@@ -3,8 +3,8 @@
 //! A desktop is a fold over events. `specs/Desktop.antt` says what it has, and `specs/Step.antt` what one event does to
 //! it: rules over bytes alone. A desktop that is kept has texts of pieces, which name characters of a source;
 //! `specs/Seen.antt` says how it is seen among them, `specs/Sound.antt` what holds of it at all times, and
-//! `specs/Outcome.antt` what a call promises that does an event. Laws are in the crate
-//! `desktop_laws`, the code in those above it, with `event_loop` on top.
+//! `specs/Outcome.antt` what a call promises that does an event. Their laws stand in
+//! `proofs`; the code is in the crates above, with `event_loop` on top.
 #![tactic(auto)]
 
 mod call;
@@ -15,6 +15,7 @@ mod limits;
 mod look_change;
 mod region;
 mod reply;
+mod step_laws;
 mod viewer;
 
 pub use call::{Call, NameCommand, NumberCommand, ViewerCommand};
@@ -27,4 +28,5 @@ pub use limits::{
 pub use look_change::LookChange;
 pub use region::Region;
 pub use reply::Reply;
+pub use step_laws::{empty_is_sound, more_change_nothing, steps_keep_sound, steps_of_more};
 pub use viewer::{Caret, ClosedViewer, Selection, Viewer};

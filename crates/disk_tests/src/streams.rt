@@ -3,7 +3,7 @@ ghost use Rattle.std.specs.Prelude.{◌≡◌};
 
 use desk_image::{ByteSink, ByteSource};
 use sector_disk::{Disk, Fault, MemoryDisk};
-use sector_streams::{Draining, Filling, SectorSink, SectorSource};
+use store_layout::{Draining, Filling, SectorSink, SectorSource};
 use std::alloc::Global;
 use std::test::Fail;
 

@@ -24,7 +24,7 @@ use Rattle.desktop_definitions.specs.Gesture.{is_on_display, region_at, pointed}
 use Rattle.viewer_tracks.specs.declared.display.TheConstants.{COLUMNS, ROWS}
 use Rattle.desktop_definitions.specs.Gesture.{done_in_filler, done_in_menu, done_in_bar, done_at, done_with}
 use Rattle.desktop_definitions.specs.Viewers.{newest}
-use Rattle.desktop_laws.proofs.KeyLaws.{copied_to_none, looks_taken_none}
+use Rattle.desktop_definitions.proofs.KeyLaws.{copied_to_none, looks_taken_none}
 use Rattle.desk_core.specs.declared.stop.Stop.{Stop}
 use Rattle.desk_core.proofs.MarkLemmas.{both_inside}
 use Rattle.desk_core.proofs.PositionLemmas.{region_seen}

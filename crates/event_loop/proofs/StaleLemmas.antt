@@ -8,8 +8,8 @@ use Rattle.desktop_definitions.specs.declared.region.Region.TheVariants.{Bar}
 use Rattle.desktop_definitions.specs.declared.viewer.Viewer.{Viewer}
 use Rattle.desktop_definitions.specs.declared.viewer.Caret.{Caret}
 use Rattle.desktop_definitions.specs.declared.viewer.Selection.{Selection}
-use Rattle.stale_texts.specs.declared.stale.Stale.TheVariants.{Nothing}
-use Rattle.stale_texts.specs.Stale.{stale_by_gesture}
+use Rattle.desk_input.specs.declared.stale.Stale.TheVariants.{Nothing}
+use Rattle.desk_input.specs.Stale.{stale_by_gesture}
 
 pub bar_none : (viewers : List (ℕ × Viewer)) (caret : Option Caret) (latest : Option Selection) (v : ℕ) (keys : Keys)
     → stale_by_gesture viewers caret latest (Bar v) keys ≡ Nothing

@@ -7,9 +7,9 @@ ghost use Rattle.desktop_definitions.specs.declared.viewer.Caret.{Caret as ACare
 ghost use Rattle.desktop_definitions.specs.declared.viewer.Selection.{Selection as ASelection};
 ghost use Rattle.desktop_definitions.specs.Viewers.{newest};
 ghost use Rattle.desktop_definitions.specs.Gesture.{is_on_display, region_at};
-ghost use Rattle.stale_texts.specs.declared.stale.Stale.TheVariants.{Nothing};
-ghost use Rattle.stale_texts.specs.Stale.{is_stale, stale_in, stale_at_caret, stale_selected, stale_by_key};
-ghost use Rattle.stale_texts.specs.Stale.{stale_by_gesture, stale_of, stale_from, position_or_zero};
+ghost use Rattle.desk_input.specs.declared.stale.Stale.TheVariants.{Nothing};
+ghost use Rattle.desk_input.specs.Stale.{is_stale, stale_in, stale_at_caret, stale_selected, stale_by_key};
+ghost use Rattle.desk_input.specs.Stale.{stale_by_gesture, stale_of, stale_from, position_or_zero};
 ghost use Rattle.screen_cells.specs.Lines.{AreLinesOf};
 ghost use Rattle.desk_core.specs.Kept.{kept_desktop};
 
@@ -20,7 +20,7 @@ use desk_input::places::region_under;
 use desktop_definitions::{Caret, Region, Selection};
 use event_bytes::{Event, Key, Keys};
 use screen_cells::KeptLines;
-use stale_texts::Stale;
+use desk_input::Stale;
 
 /// Which texts the event may change.
 pub fn stale_of(desk: &Desk, event: &Event) -> Stale
@@ -55,7 +55,7 @@ fn stale_by_point(desk: &Desk, keys: Keys, from: (u8, u8), to: (u8, u8)) -> Stal
 }
 
 /// Which texts a key of the keyboard may change.
-#[tactic(auto, unfolding(stale_texts::specs::Stale::stale_by_key))]
+#[tactic(auto, unfolding(desk_input::specs::Stale::stale_by_key))]
 fn stale_by_key(
     viewers: &ViewerTable,
     caret: Option<Caret>,
@@ -90,7 +90,7 @@ fn stale_by_gesture(
 }
 
 /// Which texts the keys of the mouse may change in a filler.
-#[tactic(auto, unfolding(stale_texts::specs::Stale::stale_by_gesture))]
+#[tactic(auto, unfolding(desk_input::specs::Stale::stale_by_gesture))]
 fn stale_in_filler(keys: Keys) -> Stale
     ensures { (viewers : List (ℕ × AViewer)) (caret : Option ACaret) (newest : Option ASelection)
         → result ≡ stale_by_gesture viewers caret newest Filler keys }
@@ -102,7 +102,7 @@ fn stale_in_filler(keys: Keys) -> Stale
 }
 
 /// Which texts the keys of the mouse may change in the menu of a viewer.
-#[tactic(auto, unfolding(stale_texts::specs::Stale::stale_by_gesture))]
+#[tactic(auto, unfolding(desk_input::specs::Stale::stale_by_gesture))]
 fn stale_in_menu(keys: Keys) -> Stale
     ensures { (viewers : List (ℕ × AViewer)) (caret : Option ACaret) (newest : Option ASelection) (v : ℕ)
         → result ≡ stale_by_gesture viewers caret newest (Menu v) keys }
@@ -114,7 +114,7 @@ fn stale_in_menu(keys: Keys) -> Stale
 }
 
 /// Which texts the keys of the mouse may change in the main text of a viewer.
-#[tactic(auto, unfolding(stale_texts::specs::Stale::stale_by_gesture))]
+#[tactic(auto, unfolding(desk_input::specs::Stale::stale_by_gesture))]
 fn stale_in_text(
     viewers: &ViewerTable,
     caret: Option<Caret>,
@@ -161,7 +161,7 @@ fn stale_selected(viewers: &ViewerTable, selection: Option<Selection>) -> Stale
 }
 
 /// From which position on the event may change a text.
-#[tactic(auto, unfolding(stale_texts::specs::Stale::stale_from))]
+#[tactic(auto, unfolding(desk_input::specs::Stale::stale_from))]
 pub fn stale_from(desk: &Desk, event: &Event) -> u32
     ensures { result ≡ stale_from (kept_desktop desk.now) event.now }
 {

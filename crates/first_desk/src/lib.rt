@@ -6,7 +6,7 @@
 
 ghost use Rattle.std.specs.Prelude.{◌≡◌, false, OnOk};
 ghost use Rattle.desktop_definitions.specs.Step.{steps};
-ghost use Rattle.first_desk.specs.FirstDesk.{tool_event as tool_filed, help_event as help_filed, opening_click as opening_click, furnishing};
+ghost use Rattle.first_desk.specs.FirstDesk.{tool_event as tool_filed, help_event as help_filed, opening_click, furnishing};
 
 use desk_journal::{Error, Store};
 use event_bytes::{Event, FileBytes, Keys, Name};
@@ -64,7 +64,7 @@ System.Grow gives a viewer its column whole.\r\
 In the bar: left scrolls down, right goes to the\r\
 beginning, middle to that share of the text.\r\
 Ctrl-C, Ctrl-X, Ctrl-V: copy, cut, put in.\r\
-Ctrl-Z takes back what was last, Ctrl-Y does not.\r\
+Ctrl-Z takes back what was last; Ctrl-Y redoes.\r\
 Ctrl-O types a file; Escape drops the caret.\r\
 Colour 0 is white on white; 5, 13, 14 are faint.\r\
 Ctrl-Q leaves. All is in the store at once.\r\

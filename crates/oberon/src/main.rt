@@ -1,7 +1,10 @@
-//! The Oberon desktop as a program: what a run of it does is the library's `oberon_run`.
+//! The Oberon desktop as a program: what a run of it does is in `run`.
 #![tactic(auto)]
 
-use oberon_run::run;
+mod arguments;
+mod run;
+
+use crate::run::run;
 use std::process::ExitCode;
 
 /// The program. Its status is 0 when done, 2 for other arguments, 3 where there is no store or a damaged one, 4 after

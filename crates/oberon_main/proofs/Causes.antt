@@ -1,7 +1,7 @@
 -- Why a script ends: what of it was counted as a failure.
 use Rattle.std.proofs.Common.{◌≡◌, ◌≢◌, inl, inr, ℕ, ◌+◌, ◌<◌, ◌≤◌, ◌⊎◌, Result, Err, [], ◌∷◌, arith, refl, sym, ap, ◌∙◌, subst}
 use Rattle.sector_disk.specs.Faults.{FailsAs, OneOf}
-use Rattle.script_streams.specs.Counting.{RisesWhere}
+use Rattle.byte_streams.specs.Counting.{RisesWhere}
 use Rattle.oberon_main.specs.declared.playing.PlayEnd.{PlayEnd}
 use Rattle.oberon_main.specs.declared.playing.PlayEnd.TheVariants.{Done, Fault, Memory, Input, Output}
 

@@ -10,7 +10,7 @@ use Rattle.desktop_definitions.specs.Step.{step, Outcome, outcome_of}
 use Rattle.store_layout.specs.declared.layout.TheConstants.{LAST_EPOCH, LAYOUT}
 use Rattle.script_lines.specs.declared.request.Request.TheVariants.{Post, Checkpoint}
 use Rattle.script_lines.specs.Script.{script_line}
-use Rattle.script_answers.specs.Answer.{reply_line}
+use Rattle.script_lines.specs.Answer.{reply_line}
 use Rattle.desk_journal.specs.Session.{Session, HasRoomIn, IsDue, is_due, is_last, is_worn, renewed, stepped}
 use Rattle.desk_journal.proofs.Due.{due_or_room, due_is_due, due_parts, room_not_due}
 use Rattle.oberon_main.specs.Answers.{worn_line, answer, session_after}

@@ -10,7 +10,7 @@ use Rattle.script_lines.specs.declared.request.Request.{Request}
 use Rattle.script_lines.specs.declared.request.Request.TheVariants.{Post, Checkpoint, Show, Listing, Display, Malformed}
 use Rattle.script_lines.specs.Script.{script_line}
 use Rattle.script_lines.specs.Request.{request_of}
-use Rattle.script_answers.specs.Answer.{reply_line, show_lines, list_lines}
+use Rattle.script_lines.specs.Answer.{reply_line, show_lines, list_lines}
 
 abbrev pub worn_line : List ℕ
 worn_line = script_line (codes "worn")

@@ -1,9 +1,9 @@
 -- What is promised of a script that is played: its history, and beside it which calls failed and how much was read.
 use Rattle.std.specs.Prelude.{◌≡◌, ◌≢◌, ◌+◌, ◌≤◌, ◌⊎◌, ◌↔◌, ℕ, false}
 use Rattle.sector_disk.specs.declared.disk.Disk.{Ghosts as DiskGhosts}
-use Rattle.script_streams.specs.Counting.{RisesWhere}
-use Rattle.script_streams.specs.declared.reader.ScriptReader.{Ghosts as ReaderGhosts}
-use Rattle.script_streams.specs.declared.writer.AnswerWriter.{Ghosts as WriterGhosts}
+use Rattle.byte_streams.specs.Counting.{RisesWhere}
+use Rattle.byte_streams.specs.declared.reader.ScriptReader.{Ghosts as ReaderGhosts}
+use Rattle.byte_streams.specs.declared.writer.AnswerWriter.{Ghosts as WriterGhosts}
 use Rattle.script_lines.specs.Reading.{ComesInPieces}
 use Rattle.desk_journal.specs.View.{StoreView}
 use Rattle.oberon_main.specs.declared.playing.PlayEnd.{PlayEnd}

@@ -9,10 +9,7 @@ use crate::playing::PlayEnd;
 use desk_journal::{Error, Store};
 use event_bytes::{Event, Name};
 use screen_cells::Screen;
-use script_answers::{
-    ShortLine, list_bytes, refusal_bytes, reply_bytes, screen_bytes, short_line, text_bytes,
-};
-use script_lines::Request;
+use script_lines::{Request, ShortLine, list_bytes, refusal_bytes, reply_bytes, screen_bytes, short_line, text_bytes};
 use sector_disk::Disk;
 use std::alloc::Global;
 

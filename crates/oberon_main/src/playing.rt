@@ -4,7 +4,7 @@ ghost use Rattle.sector_disk.specs.Faults.{FailsAs, OneOf};
 ghost use Rattle.screen_cells.specs.Sent.{Sends};
 ghost use Rattle.oberon_main.specs.declared.playing.PlayEnd.TheVariants as ends;
 ghost use Rattle.script_lines.specs.Reading.{HoldsLine};
-ghost use Rattle.script_streams.specs.Counting.{CountsFault, RisesWhere};
+ghost use Rattle.byte_streams.specs.Counting.{CountsFault, RisesWhere};
 ghost use Rattle.desk_journal.specs.View.{IsDurable};
 ghost use Rattle.oberon_main.specs.Play.{play_state, last_word};
 ghost use Rattle.oberon_main.specs.ByLines.{PlaysLines, PlaysLine, EndsInRest};
@@ -13,9 +13,8 @@ ghost use Rattle.oberon_main.specs.Worked.{play_end_of};
 
 use crate::answering::work_out;
 use desk_journal::{Error, Store};
-use script_answers::{OutputFault, send, short_line};
-use script_lines::{Line, LineEnd, Request, Script};
-use script_streams::{AnswerWriter, ScriptReader};
+use script_lines::{Line, LineEnd, OutputFault, Request, Script, send, short_line};
+use byte_streams::{AnswerWriter, ScriptReader};
 use sector_disk::Disk;
 use std::alloc::{AllocError, Global};
 

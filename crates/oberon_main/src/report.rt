@@ -3,14 +3,14 @@ ghost use Rattle.std.specs.Prelude.{◌≡◌, ◌⊎◌, false};
 ghost use Rattle.std.specs.Io.KnownBytes.{Appends};
 ghost use Rattle.oberon_main.specs.declared.playing.PlayEnd.TheVariants as ends;
 ghost use Rattle.screen_cells.specs.Sent.{AppendsFront, Sends};
-ghost use Rattle.script_streams.specs.Counting.{RisesWhere};
+ghost use Rattle.byte_streams.specs.Counting.{RisesWhere};
 ghost use Rattle.oberon_main.specs.Report.{check_line, error_line, refusal_status, end_status};
 
 use crate::playing::PlayEnd;
 use arrayvec::ArrayVec;
 use desk_journal::{Error, Store};
-use script_answers::{OutputFault, ShortLine, numbered_line, send, short_line};
-use script_streams::AnswerWriter;
+use script_lines::{OutputFault, ShortLine, numbered_line, send, short_line};
+use byte_streams::AnswerWriter;
 use sector_disk::Disk;
 
 /// Says the layout, the epoch and the number of events of a store that can be used.

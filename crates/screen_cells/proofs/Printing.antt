@@ -4,7 +4,7 @@ use Rattle.std.specs.Prelude.{codes}
 use Rattle.std.specs.Io.KnownBytes.{Appends}
 use Rattle.screen_pictures.specs.declared.cell.Cell.{Cell}
 use Rattle.screen_pictures.specs.Printed.{printed, character_lines, mark_lines, ended_line}
-use Rattle.output_bytes.proofs.Taking.{HasTaken, taken_none, taken_part}
+use Rattle.byte_streams.proofs.Taking.{HasTaken, taken_none, taken_part}
 
 -- what is left after the characters, and after the first word
 abbrev pub after_marks : List (List Cell) → List ℕ

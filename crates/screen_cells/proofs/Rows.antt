@@ -6,9 +6,9 @@ use Rattle.std.specs.List.{flat_map, range_with_len}
 use Rattle.std.proofs.lemmas.List.{reverse-append, map-id}
 use Rattle.std.proofs.lemmas.List.FromFn.{map-range_with_len_more}
 use Rattle.std.specs.Io.KnownBytes.{Appends}
-use Rattle.output_bytes.specs.Sent.{AppendsFront}
+use Rattle.byte_streams.specs.Sent.{AppendsFront}
 use Rattle.screen_pictures.specs.Printed.{down_from}
-use Rattle.output_bytes.proofs.Taking.{HasTaken, taken_part, front_part}
+use Rattle.byte_streams.proofs.Taking.{HasTaken, taken_part, front_part}
 
 down_none : down_from 0 ≡ []
 unfolding down_from

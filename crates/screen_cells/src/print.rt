@@ -1,5 +1,5 @@
 //! Printing a screen.
-ghost use Rattle.output_bytes.specs.Sent.{Sends};
+ghost use Rattle.byte_streams.specs.Sent.{Sends};
 ghost use Rattle.screen_pictures.specs.Printed.{printed, character_lines, mark_lines};
 
 use crate::line::{character_line, has_mark_line, mark_line};

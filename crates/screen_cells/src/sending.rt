@@ -1,8 +1,8 @@
 //! Writing all of some bytes, with the fault that a screen's calls return.
 ghost use Rattle.std.specs.Io.KnownBytes.{Keeps};
-ghost use Rattle.output_bytes.specs.Sent.{Sends};
+ghost use Rattle.byte_streams.specs.Sent.{Sends};
 
-use output_bytes::OutputFault;
+use byte_streams::OutputFault;
 use sector_disk::Fault;
 use std::io::Write;
 
@@ -10,7 +10,7 @@ use std::io::Write;
 pub(crate) fn send<W: Write>(writer: &mut W, bytes: &[u8]) -> Result<(), Fault>
     ensures { Sends result (W.contents writer.old) (W.contents writer.new) bytes.now }
 {
-    match output_bytes::send(writer, bytes) {
+    match byte_streams::send(writer, bytes) {
         Ok(()) => Ok(()),
         Err(OutputFault) => Err(Fault),
     }
@@ -20,7 +20,7 @@ pub(crate) fn send<W: Write>(writer: &mut W, bytes: &[u8]) -> Result<(), Fault>
 pub(crate) fn flush<W: Write>(writer: &mut W) -> Result<(), Fault>
     ensures { Keeps (W.contents writer.old) (W.contents writer.new) }
 {
-    match output_bytes::flush(writer) {
+    match byte_streams::flush(writer) {
         Ok(()) => Ok(()),
         Err(OutputFault) => Err(Fault),
     }

@@ -7,8 +7,8 @@ use Rattle.std.specs.Io.KnownBytes.{Appends}
 use Rattle.std.proofs.KnownBytes.{Keeps-refl}
 use Rattle.std.specs.List.{flat_map, range_with_len}
 use denote.Bor.{Bor}
-use Rattle.output_bytes.specs.Sent.{AppendsFront}
-use Rattle.output_bytes.proofs.Taking.{HasTaken, front_part, taken_all, taken_part}
+use Rattle.byte_streams.specs.Sent.{AppendsFront}
+use Rattle.byte_streams.proofs.Taking.{HasTaken, front_part, taken_all, taken_part}
 use Rattle.terminal_painting.specs.declared.face.Face.{Face}
 use Rattle.terminal_painting.specs.declared.pen.Pen.{Pen}
 use Rattle.screen_drawing.specs.Drawn.{drawn_start, drawn_stretch, is_start, pen_at, stretch_at}

@@ -3,7 +3,7 @@ use Rattle.std.specs.Prelude.{ℕ, ◌+◌, ◌-◌, ◌*◌, ◌/◌, ◌%◌, 
 use Rattle.std.specs.Prelude.{codes}
 use denote.Bor.{Bor}
 use Rattle.std.specs.List.{flat_map}
-use Rattle.output_bytes.specs.Digits.{hex_digit}
+use Rattle.byte_streams.specs.Digits.{hex_digit}
 
 -- the width and the height of a cell, how far below its upper edge its characters stand, and the width of a caret, in
 -- units of the drawing

@@ -1,6 +1,6 @@
 //! Drawing a screen.
 ghost use Rattle.std.specs.Prelude.{◌≡◌, ◌<◌, ◌≤◌, ◌*◌, length, position, IfSome};
-ghost use Rattle.output_bytes.specs.Sent.{Sends};
+ghost use Rattle.byte_streams.specs.Sent.{Sends};
 ghost use Rattle.viewer_tracks.specs.declared.display.TheConstants.{COLUMNS as columns, ROWS as rows};
 ghost use Rattle.screen_pictures.specs.Screen.{column_at};
 ghost use Rattle.screen_drawing.specs.Drawn.{background, drawing_of, drawn_caret, drawn_cells, drawn_column, drawn_row};
@@ -12,7 +12,7 @@ ghost use Rattle.screen_drawing.specs.Spelling.{caret_width, cell_height, cell_w
 use crate::pieces::{Drawing, send_all};
 use crate::shapes::{Area, paper_cells, rectangle, text_cells};
 use crate::spelling::{CARET_WIDTH, CELL_HEIGHT, CELL_WIDTH, digits};
-use output_bytes::{OutputFault, flush, send};
+use byte_streams::{OutputFault, flush, send};
 use screen_pictures::{Cell, Mark};
 use std::io::Write;
 use terminal_painting::{BLACK, Face, Pen, Row, Rule, WHITE, row_of_cells};

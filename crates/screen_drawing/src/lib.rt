@@ -10,4 +10,4 @@ mod shapes;
 mod spelling;
 
 pub use drawing::draw;
-pub use output_bytes::OutputFault;
+pub use byte_streams::OutputFault;

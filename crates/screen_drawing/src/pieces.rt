@@ -1,9 +1,9 @@
 //! A text that is written piece by piece.
 ghost use Rattle.std.specs.Prelude.{◌≡◌};
-ghost use Rattle.output_bytes.specs.Sent.{Sends};
+ghost use Rattle.byte_streams.specs.Sent.{Sends};
 ghost use Rattle.screen_drawing.specs.Spelling.{joined_pieces};
 
-use output_bytes::{OutputFault, send};
+use byte_streams::{OutputFault, send};
 use std::io::Write;
 
 /// What drawing comes to: all of it is written, or the output took no more.

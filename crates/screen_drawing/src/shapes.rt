@@ -1,6 +1,6 @@
 //! Rectangles and texts of a drawing.
 ghost use Rattle.std.specs.Prelude.{◌≡◌, ◌<◌, ◌≤◌, length};
-ghost use Rattle.output_bytes.specs.Sent.{Sends};
+ghost use Rattle.byte_streams.specs.Sent.{Sends};
 ghost use Rattle.terminal_painting.specs.declared.face.Face.{Face as AFace};
 ghost use Rattle.screen_drawing.specs.Drawn.{paper_cells, rectangle, rule_text, slant_text, text_cells, weight_text};
 

@@ -6,7 +6,7 @@ ghost use Rattle.screen_drawing.specs.Spelling.{colour_code, escaped_byte, step_
 ghost use Rattle.screen_drawing.specs.Drawn.{escaped_text};
 
 use arrayvec::ArrayVec;
-use output_bytes::hex_digit;
+use byte_streams::hex_digit;
 use terminal_painting::Face;
 
 /// The width of a cell, in units of the drawing.

@@ -5,3 +5,4 @@ pub mod Gathering
 pub mod LongLines
 pub mod Numbers
 pub mod Splitting
+pub mod Stretches

@@ -1,5 +1,7 @@
-pub mod Script
-pub mod Reading
-pub mod Words
+pub mod Answer
 pub mod Percent
+pub mod Reading
 pub mod Request
+pub mod Script
+pub mod Stretch
+pub mod Words

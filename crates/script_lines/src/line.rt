@@ -7,7 +7,7 @@ ghost use Rattle.script_lines.specs.Request.{request_of};
 
 use crate::request::{Request, ask};
 use arrayvec::ArrayVec;
-use script_streams::ScriptReader;
+use byte_streams::ScriptReader;
 use std::marker::Model;
 
 /// A line of a script, as far as it is kept: of a line of more than 4,096 bytes it is only known that it is so long.
@@ -104,7 +104,7 @@ impl Model for Script {
 
 impl Script {
     ghost use Rattle.script_lines.specs.Reading.{HoldsLine, TakesLine, TakesRest, ReadsPiece, most_lines};
-    ghost use Rattle.script_streams.specs.Counting.{RisesWhere};
+    ghost use Rattle.byte_streams.specs.Counting.{RisesWhere};
 
     /// A script of which nothing is read yet, and that may take so many reads before the one that says that it is at
     /// its end.

@@ -1,5 +1,7 @@
 pub mod Looks
 pub mod SortedLaws
+pub mod Texts
 mod Imports
 mod PartLaws
 mod Takings
+mod FillingLaws

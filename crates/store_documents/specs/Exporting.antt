@@ -2,9 +2,9 @@
 use Rattle.std.specs.Prelude.{◌≡◌, ℕ, Bool, true, false, if◌then◌else◌, List, Option, Some, None}
 use Rattle.std.specs.Io.KnownBytes.{Appends, Keeps}
 use Rattle.piece_ring.specs.Text.{Text}
-use Rattle.host_documents.specs.HostText.{exported, printable}
-use Rattle.host_documents.specs.Filling.{joined_text}
-use Rattle.output_bytes.specs.Sent.{AppendsFront}
+use Rattle.store_documents.specs.HostText.{exported, printable}
+use Rattle.store_documents.specs.Filling.{joined_text}
+use Rattle.byte_streams.specs.Sent.{AppendsFront}
 use Rattle.store_documents.specs.Standings.{bytes_of}
 use Rattle.store_documents.specs.declared.exporting.Reader.{Reader}
 use Rattle.store_documents.specs.declared.exporting.Reader.TheVariants.{Program, Terminal}

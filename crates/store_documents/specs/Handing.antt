@@ -4,8 +4,8 @@ use Rattle.std.specs.Prelude.{slice_get}
 use Rattle.std.specs.List.{list_any}
 use Rattle.std.specs.Str.{bytes_eq}
 use Rattle.desk_bringing.specs.Bringing.{Documents}
-use Rattle.host_documents.specs.Filling.{document_laid_out}
-use Rattle.host_documents.specs.declared.importing.Unfit.{Unfit}
+use Rattle.store_documents.specs.Filling.{document_laid_out}
+use Rattle.store_documents.specs.declared.file_bytes.Unfit.{Unfit}
 
 -- a name with a text, or why there is none
 abbrev pub with_name : List ℕ → Result (List ℕ) Unfit → Result (List ℕ × List ℕ) Unfit

@@ -1,6 +1,8 @@
-pub mod Standings
-pub mod Exporting
-pub mod Examining
 pub mod Copying
+pub mod Examining
+pub mod Exporting
+pub mod Filling
 pub mod Handing
+pub mod HostText
 pub mod Importing
+pub mod Standings

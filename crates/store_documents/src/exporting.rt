@@ -6,10 +6,10 @@ ghost use Rattle.store_documents.specs.Standings.{bytes_of};
 ghost use Rattle.store_documents.specs.Standings.{HasOnlyLooked};
 
 use crate::sorting::text_of;
+use crate::{host_bytes, joined, printable_bytes};
+use byte_streams::{flush, send};
 use desk_journal::{Error, Store};
 use event_bytes::Name;
-use host_documents::{host_bytes, joined, printable_bytes};
-use output_bytes::{flush, send};
 use piece_ring::Look;
 use sector_disk::Disk;
 use std::alloc::{AllocError, Global};

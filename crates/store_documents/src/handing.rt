@@ -2,9 +2,9 @@
 ghost use Rattle.std.specs.Prelude.{◌≡◌, ◌<◌, Ok, Err, IfOk, IfErr, IfSome, IsTrue, OnOk, ℕ, false, length};
 ghost use Rattle.store_documents.specs.Handing.{document_of_file, AreTaken, IsFirstUnfit, IsHandedBehind, has_name, is_named_before};
 
+use crate::{Unfit, document_within};
 use desk_journal::Document;
 use event_bytes::Name;
-use host_documents::{Unfit, document_within};
 use std::alloc::{AllocError, Global};
 use std::marker::Model;
 

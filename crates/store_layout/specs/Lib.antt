@@ -1,5 +1,9 @@
+pub mod Draining
+pub mod Filling
+pub mod Finding
+pub mod Footprint
+pub mod Joined
+pub mod JoinedLaws
+pub mod Kept
 pub mod Layout
 pub mod Meaning
-pub mod Footprint
-pub mod Finding
-pub mod Kept

@@ -9,8 +9,8 @@ use Rattle.std.proofs.lemmas.List.FromFn.{get_or-map-range_with_len, length-map-
 use Rattle.std.proofs.lemmas.List.FromFn.{map-range_with_len_more}
 use Rattle.std.specs.Io.KnownBytes.{Appends, Keeps}
 use Rattle.std.proofs.KnownBytes.{Appends-nil, Appends-trans, Appends-kept}
-use Rattle.output_bytes.specs.Sent.{AppendsFront}
-use Rattle.output_bytes.proofs.Taking.{front_part}
+use Rattle.byte_streams.specs.Sent.{AppendsFront}
+use Rattle.byte_streams.proofs.Taking.{front_part}
 use Rattle.viewer_tracks.specs.declared.display.TheConstants.{COLUMNS}
 use Rattle.screen_pictures.specs.Screen.{values}
 use Rattle.terminal_painting.specs.declared.face.Face.{Face}

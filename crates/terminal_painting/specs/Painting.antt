@@ -3,7 +3,7 @@ use Rattle.std.specs.Prelude.{◌≡◌, ℕ, zero, suc, ◌+◌, ◌≤◌, ◌
 use Rattle.std.specs.Prelude.{◌++◌}
 use Rattle.std.specs.Prelude.{Option, Some, None, length, replicate, slice_index_or}
 use Rattle.std.specs.Io.KnownBytes.{Appends}
-use Rattle.output_bytes.specs.Sent.{AppendsFront}
+use Rattle.byte_streams.specs.Sent.{AppendsFront}
 use Rattle.viewer_tracks.specs.declared.display.TheConstants.{COLUMNS}
 use Rattle.terminal_painting.specs.declared.pen.TheConstants.{WHITE}
 use Rattle.terminal_painting.specs.declared.face.Face.{Face}

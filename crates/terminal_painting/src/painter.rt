@@ -1,7 +1,7 @@
 //! What is sent to a terminal so that it shows a scene.
 ghost use Rattle.std.specs.Prelude.{◌≡◌, ◌<◌, ◌≤◌, ◌==◌, [], length, replicate, slice_index_or};
 ghost use Rattle.std.specs.Prelude.{OnOk, OnErr, IfOk, IfSome};
-ghost use Rattle.output_bytes.specs.Sent.{AppendsFront, Sends};
+ghost use Rattle.byte_streams.specs.Sent.{AppendsFront, Sends};
 ghost use Rattle.viewer_tracks.specs.declared.display.TheConstants.{COLUMNS as columns, ROWS as rows};
 ghost use Rattle.terminal_painting.specs.Scene.{scene_row, scene_rows, height_of, IsInSight};
 ghost use Rattle.terminal_painting.specs.Painting.{IsShown, Leads, Paints, PaintsFront};
@@ -16,7 +16,7 @@ use crate::pen::{Pen, WHITE};
 use crate::scene::{Row, Scene};
 use crate::sending::send;
 use arrayvec::ArrayVec;
-use output_bytes::{OutputFault, flush};
+use byte_streams::{OutputFault, flush};
 use std::io::Write;
 use std::marker::Model;
 use std::mem;

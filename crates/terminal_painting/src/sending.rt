@@ -1,12 +1,12 @@
 //! Sending operations.
 ghost use Rattle.std.specs.Prelude.{◌≡◌, ◌≤◌, length};
-ghost use Rattle.output_bytes.specs.Sent.{Sends};
+ghost use Rattle.byte_streams.specs.Sent.{Sends};
 ghost use Rattle.terminal_painting.specs.Spelling.{spelled_all};
 
 use crate::changes::MOST;
 use crate::operation::{LONGEST, Operation};
 use arrayvec::ArrayVec;
-use output_bytes::OutputFault;
+use byte_streams::OutputFault;
 use std::io::Write;
 
 /// The number of bytes that are sent at once, at most.
@@ -25,7 +25,7 @@ pub(crate) fn send<W: Write>(writer: &mut W, operations: &[Operation]) -> Result
     if operations.is_empty() {
         return Ok(());
     }
-    output_bytes::send(writer, spell_all(operations).as_slice())
+    byte_streams::send(writer, spell_all(operations).as_slice())
 }
 
 /// The bytes of the operations, one after another.

@@ -1,7 +1,7 @@
 use Rattle.std.proofs.Common.{List, ℕ, sym, rules}
 use Rattle.desktop_definitions.specs.Limits.{full, too_many_files}
 use Rattle.desktop_definitions.specs.Seen.{seen}
-use Rattle.desktop_laws.proofs.OutcomeLaws.{refused}
+use Rattle.desktop_definitions.proofs.OutcomeLaws.{refused}
 use Rattle.desk_core.specs.Words.{kept_desktop}
 use Rattle.desk_bringing.specs.Bringing.{all_filed}
 use Rattle.desk_bringing.proofs.BringingLaws.{brought_many, brought_full, all_filed_shown}

@@ -12,8 +12,8 @@ use Rattle.desktop_definitions.specs.Change.{bytes_of}
 use Rattle.desktop_definitions.specs.Call.{text_called}
 use Rattle.desktop_definitions.specs.Commands.{command_at, after_call}
 use Rattle.desktop_definitions.specs.Seen.{seen}
-use Rattle.desktop_laws.proofs.RowLaws.{known_no_command}
-use Rattle.desktop_laws.proofs.CallLaws.{called_place, called_read}
+use Rattle.desktop_definitions.proofs.RowLaws.{known_no_command}
+use Rattle.desktop_definitions.proofs.CallLaws.{called_place, called_read}
 use Rattle.desk_core.specs.Kept.{kept_desktop}
 use Rattle.desk_commands.proofs.ReadFirst.{does_after, refused_after}
 use Rattle.desk_commands.proofs.CallLemmas.{called_by, called_none}

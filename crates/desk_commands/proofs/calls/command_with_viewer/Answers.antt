@@ -1,7 +1,7 @@
 use Rattle.std.proofs.Common.{rules}
 use Rattle.desktop_definitions.specs.Limits.{no_viewer}
-use Rattle.desktop_laws.proofs.KeyLaws.{refusal_answered}
-use Rattle.desktop_laws.proofs.RowLaws.{known_no_viewer}
+use Rattle.desktop_definitions.proofs.KeyLaws.{refusal_answered}
+use Rattle.desktop_definitions.proofs.RowLaws.{known_no_viewer}
 use Rattle.desk_core.proofs.ArmLemmas.{outcome_as}
 use Rattle.desk_commands.proofs.CallLemmas.{meant_some, meant_none}
 use Rattle.desk_commands.proofs.calls.command_with_viewer.Goals as goal

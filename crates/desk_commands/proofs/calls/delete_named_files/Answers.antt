@@ -6,7 +6,7 @@ use Rattle.desktop_definitions.specs.Seen.{seen}
 use Rattle.desktop_definitions.specs.Call.{names_of}
 use Rattle.desktop_definitions.specs.Needs.{given}
 use Rattle.desktop_definitions.specs.Effects.{files_deleted}
-use Rattle.desktop_laws.proofs.StoreLaws.{deleted_by_first}
+use Rattle.desktop_definitions.proofs.StoreLaws.{deleted_by_first}
 use Rattle.desk_core.specs.Kept.{kept_desktop}
 use Rattle.desk_commands.proofs.ReadFirst.{refused_after, does_there}
 use Rattle.desk_commands.proofs.calls.delete_named_files.Goals as goal

@@ -2,7 +2,7 @@ use Rattle.std.proofs.Common.{sym, subst}
 use Rattle.std.specs.Prelude.{IsSome}
 use Rattle.desktop_definitions.specs.declared.viewer.Viewer.{Viewer}
 use Rattle.desktop_definitions.specs.Tables.{text_numbered}
-use Rattle.desktop_laws.proofs.PlaceLaws.{on_top_placed}
+use Rattle.desktop_definitions.proofs.PlaceLaws.{on_top_placed}
 use Rattle.desk_core.specs.Kept.{kept_desktop}
 use Rattle.desk_core.proofs.ViewLemmas.{menu_there}
 use Rattle.desk_commands.proofs.calls.menu_at_marker.Goals as goal

@@ -3,7 +3,7 @@ use Rattle.std.proofs.lemmas.Result.{IfOk-weaker}
 use Rattle.piece_ring.specs.Flat.{flat}
 use Rattle.readers_scanners.specs.Reading.{bytes_of_text}
 use Rattle.command_table.specs.Parameters.{value_parameter}
-use Rattle.desktop_laws.proofs.CallLaws.{place_stands, menu_stands, value_read}
+use Rattle.desktop_definitions.proofs.CallLaws.{place_stands, menu_stands, value_read}
 use Rattle.desk_core.specs.Kept.{kept_desktop}
 use Rattle.desk_commands.proofs.CallLemmas.{call_place}
 use Rattle.desk_commands.proofs.calls.value_of.Goals as goal

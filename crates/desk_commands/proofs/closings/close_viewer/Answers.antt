@@ -2,8 +2,8 @@ use Rattle.std.proofs.Common.{rules, ◌==◌, Some, subst, ◌∙◌}
 use Rattle.desktop_definitions.specs.Opening.{without_unshown}
 use Rattle.desktop_definitions.specs.Viewers.{unmarked, without_viewer}
 use Rattle.desktop_definitions.specs.Sound.{IsClosedPlace}
-use Rattle.desktop_laws.proofs.PlacedLaws.{over_columns}
-use Rattle.desktop_laws.proofs.ClosingLaws.{closed_answered}
+use Rattle.desktop_definitions.proofs.PlacedLaws.{over_columns}
+use Rattle.desktop_definitions.proofs.ClosingLaws.{closed_answered}
 use Rattle.desk_core.specs.Kept.{kept_desktop}
 use Rattle.desk_commands.proofs.closings.close_viewer.Goals as goal
 

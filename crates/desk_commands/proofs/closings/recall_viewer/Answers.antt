@@ -3,8 +3,8 @@ use Rattle.viewer_tracks.specs.Display.{left_of}
 use Rattle.desktop_definitions.specs.Opening.{without_unshown}
 use Rattle.desktop_definitions.specs.Viewers.{opened_at}
 use Rattle.desktop_definitions.specs.Effects.{brought_back}
-use Rattle.desktop_laws.proofs.PlacedLaws.{over_columns}
-use Rattle.desktop_laws.proofs.ClosingLaws.{recalled_fresh, none_closed_answered, recalled_answered}
+use Rattle.desktop_definitions.proofs.PlacedLaws.{over_columns}
+use Rattle.desktop_definitions.proofs.ClosingLaws.{recalled_fresh, none_closed_answered, recalled_answered}
 use Rattle.desk_core.specs.Kept.{kept_desktop}
 use Rattle.desk_commands.proofs.closings.recall_viewer.Goals as goal
 

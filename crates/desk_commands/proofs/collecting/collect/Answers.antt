@@ -4,7 +4,7 @@ use Rattle.desktop_definitions.specs.Effects.{after_collect}
 use Rattle.desktop_definitions.specs.Seen.{seen}
 use Rattle.desktop_definitions.specs.Step.{outcome_after}
 use Rattle.desktop_definitions.specs.Outcome.{IsAnswered}
-use Rattle.desktop_laws.proofs.CollectLaws.{all_few, collected_answered}
+use Rattle.desktop_definitions.proofs.CollectLaws.{all_few, collected_answered}
 use Rattle.desk_core.specs.Kept.{kept_desktop}
 use Rattle.desk_commands.proofs.collecting.collect.Goals as goal
 

@@ -2,7 +2,7 @@ use Rattle.std.proofs.Common.{List, length, arith, ap, rules}
 use Rattle.char_file.proofs.Reading.{read_on}
 use Rattle.piece_ring.specs.declared.piece.Piece.{Piece}
 use Rattle.piece_ring.specs.Flat.{flat}
-use Rattle.desktop_laws.proofs.CollectLaws.{all_few, numbers_rise, names_rise}
+use Rattle.desktop_definitions.proofs.CollectLaws.{all_few, numbers_rise, names_rise}
 use Rattle.desk_commands.proofs.collecting.rewritten.Goals as goal
 
 pub put_table-requires : goal.put_table-requires

@@ -2,12 +2,12 @@ use Rattle.std.proofs.Common.{rules, ◌+◌, ◌-◌, ◌/◌, length, sym, ap,
 use Rattle.desktop_definitions.specs.Limits.{too_low}
 use Rattle.desktop_definitions.specs.Effects.{viewer_copied}
 use Rattle.desktop_definitions.specs.Seen.{seen}
-use Rattle.desktop_laws.proofs.KeyLaws.{refusal_answered}
+use Rattle.desktop_definitions.proofs.KeyLaws.{refusal_answered}
 use Rattle.desktop_definitions.specs.Opening.{new_id}
-use Rattle.desktop_laws.proofs.OpeningDone.{new_fresh, can_open, whole_columns}
-use Rattle.desktop_laws.proofs.RowLaws.{known_too_low}
-use Rattle.desktop_laws.proofs.OpeningOnLaws.{half_free, copied_low, copied_full}
-use Rattle.desktop_laws.proofs.OpeningOnLaws.{copied_answered}
+use Rattle.desktop_definitions.proofs.OpeningDone.{new_fresh, can_open, whole_columns}
+use Rattle.desktop_definitions.proofs.RowLaws.{known_too_low}
+use Rattle.desktop_definitions.proofs.OpeningOnLaws.{half_free, copied_low, copied_full}
+use Rattle.desktop_definitions.proofs.OpeningOnLaws.{copied_answered}
 use Rattle.desk_core.specs.Kept.{kept_desktop}
 use Rattle.desk_commands.proofs.OpeningLemmas.{answered_there, menu_is}
 use Rattle.desk_commands.proofs.documents.copy_viewer.Goals as goal

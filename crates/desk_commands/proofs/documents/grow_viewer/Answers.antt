@@ -5,10 +5,10 @@ use Rattle.viewer_tracks.specs.Columns.{track_of, stack_of}
 use Rattle.desktop_definitions.specs.Limits.{too_deep}
 use Rattle.desktop_definitions.specs.Effects.{viewer_grown}
 use Rattle.desktop_definitions.specs.Seen.{seen}
-use Rattle.desktop_laws.proofs.KeyLaws.{refusal_answered}
-use Rattle.desktop_laws.proofs.OpeningDone.{can_open}
-use Rattle.desktop_laws.proofs.RowLaws.{known_too_deep}
-use Rattle.desktop_laws.proofs.GrownLaws.{grown_deep, grown_answered, grown_full}
+use Rattle.desktop_definitions.proofs.KeyLaws.{refusal_answered}
+use Rattle.desktop_definitions.proofs.OpeningDone.{can_open}
+use Rattle.desktop_definitions.proofs.RowLaws.{known_too_deep}
+use Rattle.desktop_definitions.proofs.GrownLaws.{grown_deep, grown_answered, grown_full}
 use Rattle.desk_core.specs.Kept.{kept_desktop}
 use Rattle.desk_commands.proofs.OpeningLemmas.{answered_there, menu_is}
 use Rattle.desk_commands.proofs.documents.grow_viewer.Goals as goal

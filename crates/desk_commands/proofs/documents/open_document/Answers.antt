@@ -1,8 +1,8 @@
 use Rattle.std.proofs.Common.{rules, Ok}
 use Rattle.std.proofs.lemmas.Result.{IfOk-weaker}
 use Rattle.desktop_definitions.specs.Seen.{seen}
-use Rattle.desktop_laws.proofs.KeyLaws.{row_as}
-use Rattle.desktop_laws.proofs.OpeningOnLaws.{document_row}
+use Rattle.desktop_definitions.proofs.KeyLaws.{row_as}
+use Rattle.desktop_definitions.proofs.OpeningOnLaws.{document_row}
 use Rattle.desk_core.specs.Kept.{kept_desktop}
 use Rattle.desk_commands.proofs.documents.open_document.Goals as goal
 

@@ -2,9 +2,9 @@ use Rattle.std.proofs.Common.{rules, sym, ◌∙◌}
 use Rattle.std.proofs.lemmas.Result.{IfOk-weaker}
 use Rattle.desktop_definitions.specs.Limits.{no_file}
 use Rattle.desktop_definitions.specs.Seen.{seen}
-use Rattle.desktop_laws.proofs.RowLaws.{known_no_file}
-use Rattle.desktop_laws.proofs.KeyLaws.{refusal_answered, row_as}
-use Rattle.desktop_laws.proofs.OpeningOnLaws.{file_missing, file_row}
+use Rattle.desktop_definitions.proofs.RowLaws.{known_no_file}
+use Rattle.desktop_definitions.proofs.KeyLaws.{refusal_answered, row_as}
+use Rattle.desktop_definitions.proofs.OpeningOnLaws.{file_missing, file_row}
 use Rattle.desk_core.specs.Kept.{kept_desktop}
 use Rattle.desk_commands.proofs.documents.open_file.Goals as goal
 

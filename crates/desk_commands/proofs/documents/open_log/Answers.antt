@@ -10,10 +10,10 @@ use Rattle.desktop_definitions.specs.Effects.{log_opened}
 use Rattle.desktop_definitions.specs.Seen.{seen}
 use Rattle.desktop_definitions.specs.Step.{fits, outcome_after}
 use Rattle.desktop_definitions.specs.Outcome.{IsAnswered}
-use Rattle.desktop_laws.proofs.OutcomeLaws.{length_in_look}
+use Rattle.desktop_definitions.proofs.OutcomeLaws.{length_in_look}
 use Rattle.desktop_definitions.specs.Opening.{new_id}
-use Rattle.desktop_laws.proofs.OpeningDone.{new_fresh, can_open, written_on, whole_columns}
-use Rattle.desktop_laws.proofs.OpeningOnLaws.{log_full, log_answered}
+use Rattle.desktop_definitions.proofs.OpeningDone.{new_fresh, can_open, written_on, whole_columns}
+use Rattle.desktop_definitions.proofs.OpeningOnLaws.{log_full, log_answered}
 use Rattle.desk_core.specs.Kept.{kept_desktop}
 use Rattle.desk_commands.proofs.documents.open_log.Goals as goal
 

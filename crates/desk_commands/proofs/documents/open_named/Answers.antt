@@ -6,14 +6,14 @@ use Rattle.desktop_definitions.specs.Change.{more_written}
 use Rattle.desktop_definitions.specs.Opening.{menu_line, after_opening, without_unshown}
 use Rattle.desktop_definitions.specs.Seen.{seen}
 use Rattle.desktop_definitions.specs.Step.{fits, outcome_of}
-use Rattle.desktop_laws.proofs.KeyLaws.{row_as}
-use Rattle.desktop_laws.proofs.OpeningOnLaws.{file_within, copy_row, copy_full}
+use Rattle.desktop_definitions.proofs.KeyLaws.{row_as}
+use Rattle.desktop_definitions.proofs.OpeningOnLaws.{file_within, copy_row, copy_full}
 use Rattle.desktop_definitions.specs.Unread.{characters_after}
 use Rattle.desktop_definitions.specs.Step.{outcome_after}
 use Rattle.desk_core.specs.Kept.{kept_desktop}
 use Rattle.desk_core.proofs.UnreadLemmas.{over_all}
 use Rattle.desktop_definitions.specs.Looks.{AreLooks}
-use Rattle.desktop_laws.proofs.OpeningOnLaws.{file_looks}
+use Rattle.desktop_definitions.proofs.OpeningOnLaws.{file_looks}
 use Rattle.desk_commands.proofs.documents.open_named.Goals as goal
 
 pub returns-then-not-opening_fits : goal.returns-then-not-opening_fits

@@ -4,9 +4,9 @@ use Rattle.std.proofs.lemmas.Result.{IfOk-weaker}
 use Rattle.event_bytes.specs.Bytes.{is_letter, is_digit, is_name_byte}
 use Rattle.desktop_definitions.specs.Limits.{no_file}
 use Rattle.desktop_definitions.specs.Seen.{seen}
-use Rattle.desktop_laws.proofs.RowLaws.{known_no_file}
-use Rattle.desktop_laws.proofs.KeyLaws.{refusal_answered, row_as}
-use Rattle.desktop_laws.proofs.OpeningOnLaws.{tool_missing, tool_row}
+use Rattle.desktop_definitions.proofs.RowLaws.{known_no_file}
+use Rattle.desktop_definitions.proofs.KeyLaws.{refusal_answered, row_as}
+use Rattle.desktop_definitions.proofs.OpeningOnLaws.{tool_missing, tool_row}
 use Rattle.desktop_definitions.specs.Opening.{menu_line}
 use Rattle.desktop_definitions.specs.Unread.{characters_after}
 use Rattle.desktop_definitions.specs.Step.{outcome_after, outcome_of}

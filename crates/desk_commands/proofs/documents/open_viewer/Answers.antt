@@ -2,8 +2,8 @@ use Rattle.std.specs.Prelude.{⊤}
 use Rattle.std.proofs.Common.{rules, ◌≡◌, ◌++◌, ℕ, refl, ap, ◌∙◌, arith}
 use Rattle.desktop_definitions.specs.Desktop.{KeptDesktop}
 use Rattle.desktop_definitions.specs.Opening.{new_id}
-use Rattle.desktop_laws.proofs.OpeningDone.{new_fresh, can_open, can_open_more, opened_desk, written_opened}
-use Rattle.desktop_laws.proofs.OpeningDone.{whole_columns, opening_answered}
+use Rattle.desktop_definitions.proofs.OpeningDone.{new_fresh, can_open, can_open_more, opened_desk, written_opened}
+use Rattle.desktop_definitions.proofs.OpeningDone.{whole_columns, opening_answered}
 use Rattle.desk_core.specs.Kept.{kept_desktop}
 use Rattle.desk_core.proofs.UnreadLemmas.{over_all}
 use Rattle.desk_commands.proofs.OpeningLemmas.{answered_there, opened_counted}

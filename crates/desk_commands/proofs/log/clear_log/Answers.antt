@@ -1,5 +1,5 @@
 use Rattle.std.proofs.Common.{rules, ◌≡◌, sym, ◌∙◌, arith}
-use Rattle.desktop_laws.proofs.LogLaws.{empty_cleared, log_was_cleared}
+use Rattle.desktop_definitions.proofs.LogLaws.{empty_cleared, log_was_cleared}
 use Rattle.desk_core.specs.Kept.{kept_desktop}
 use Rattle.desk_commands.proofs.log.clear_log.Goals as goal
 

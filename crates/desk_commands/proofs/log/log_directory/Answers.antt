@@ -2,9 +2,9 @@ use Rattle.std.proofs.Common.{rules, ◌∙◌, List, [], ℕ, refl, length, ap,
 use Rattle.std.proofs.lemmas.List.{length-map}
 use Rattle.arrayvec.specs.ArrayVec.{ArrayVec}
 use Rattle.desktop_definitions.specs.Seen.{seen}
-use Rattle.desktop_laws.proofs.RowLaws.{space_written}
-use Rattle.desktop_laws.specs.DeskWords.{has_space}
-use Rattle.desktop_laws.proofs.LogLaws.{line_bytes_map, directory_full, directory_answered, directory_few}
+use Rattle.desktop_definitions.proofs.RowLaws.{space_written}
+use Rattle.desktop_definitions.specs.DeskWords.{has_space}
+use Rattle.desktop_definitions.proofs.LogLaws.{line_bytes_map, directory_full, directory_answered, directory_few}
 use Rattle.desk_core.specs.Kept.{kept_desktop}
 use Rattle.desk_commands.specs.Lines.{bytes_of_lines, length_of_lines}
 use Rattle.desk_commands.proofs.log.log_directory.Goals as goal

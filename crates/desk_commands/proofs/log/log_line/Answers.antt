@@ -4,11 +4,11 @@ use Rattle.piece_ring.specs.Flat.{flat}
 use Rattle.piece_ring.proofs.Lengths.{length-run}
 use Rattle.piece_ring.proofs.Offsets.{run-AreWithin}
 use Rattle.piece_ring.specs.Text.{AreWithin}
-use Rattle.desktop_laws.proofs.RowLaws.{text_held}
-use Rattle.desktop_laws.proofs.LogLaws.{log_kept, line_put, line_logged}
+use Rattle.desktop_definitions.proofs.RowLaws.{text_held}
+use Rattle.desktop_definitions.proofs.LogLaws.{log_kept, line_put, line_logged}
 use Rattle.desk_core.specs.Kept.{kept_desktop}
 use Rattle.desktop_definitions.specs.Looks.{AreLooks}
-use Rattle.desktop_laws.proofs.LookedLaws.{default_is_look, run_looks}
+use Rattle.desktop_definitions.proofs.LookedLaws.{default_is_look, run_looks}
 use Rattle.desk_commands.proofs.log.log_line.Goals as goal
 
 pub insert-requires-clause-there : goal.insert-requires-clause-there

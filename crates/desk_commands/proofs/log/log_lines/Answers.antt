@@ -2,7 +2,7 @@ use Rattle.std.proofs.Common.{rules, ◌+◌, ◌∙◌, List, ℕ, length, Some
 use Rattle.std.proofs.lemmas.Option.{slice_get-get_or}
 use Rattle.desktop_definitions.specs.Log.{logged}
 use Rattle.desktop_definitions.specs.Changed.{IsExtended}
-use Rattle.desktop_laws.proofs.LogLaws.{logging_more, logging_whole}
+use Rattle.desktop_definitions.proofs.LogLaws.{logging_more, logging_whole}
 use Rattle.desk_core.specs.Kept.{kept_desktop}
 use Rattle.desk_commands.proofs.LogLemmas.{grown_on}
 use Rattle.desk_commands.proofs.log.log_lines.Goals as goal

@@ -1,5 +1,5 @@
 use Rattle.std.proofs.Common.{drop}
-use Rattle.desktop_laws.proofs.LogLaws.{IsLogging}
+use Rattle.desktop_definitions.proofs.LogLaws.{IsLogging}
 use Rattle.desk_core.specs.Kept.{kept_desktop}
 use Rattle.desk_commands.specs.Lines.{bytes_of_lines}
 use Rattle.desk_commands.proofs.LogLemmas.{IsCalm}

@@ -1,6 +1,6 @@
 use Rattle.std.proofs.Common.{rules, arith, ◌∙◌}
 use Rattle.char_file.proofs.Reading.{read_on}
-use Rattle.desktop_laws.proofs.LogLaws.{shown_more, shown_whole}
+use Rattle.desktop_definitions.proofs.LogLaws.{shown_more, shown_whole}
 use Rattle.desk_core.specs.Kept.{kept_desktop}
 use Rattle.desk_commands.proofs.log.show_log_end.Goals as goal
 

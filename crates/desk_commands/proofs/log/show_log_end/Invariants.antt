@@ -1,7 +1,7 @@
 use Rattle.std.proofs.Common.{◌≡◌}
 use Rattle.char_file.specs.Source.{OnlyReads}
 use Rattle.desktop_definitions.specs.Changed.{IsChanged}
-use Rattle.desktop_laws.proofs.LogLaws.{shown_to}
+use Rattle.desktop_definitions.proofs.LogLaws.{shown_to}
 use Rattle.desk_core.specs.Kept.{kept_desktop}
 use Rattle.desk_commands.proofs.log.show_log_end.Given as goal
 

@@ -1,5 +1,5 @@
 use Rattle.std.proofs.Common.{rules, sym, ◌∙◌}
-use Rattle.desktop_laws.proofs.LogLaws.{log_shown_here, log_elsewhere, log_nowhere}
+use Rattle.desktop_definitions.proofs.LogLaws.{log_shown_here, log_elsewhere, log_nowhere}
 use Rattle.desk_core.specs.Kept.{kept_desktop}
 use Rattle.desk_commands.proofs.log.show_log_in.Goals as goal
 use Rattle.desk_commands.proofs.log.show_log_in.Goals.{else-main_of-eq0-via-then-main_of-eq0+else-contains}

@@ -1,6 +1,6 @@
 use Rattle.std.proofs.Common.{rules, sym, ◌∙◌}
-use Rattle.desktop_laws.proofs.LookLaws.{none_set_answered, none_selected_answered, selection_set_answered}
-use Rattle.desktop_laws.proofs.RowLaws.{over_built}
+use Rattle.desktop_definitions.proofs.LookLaws.{none_set_answered, none_selected_answered, selection_set_answered}
+use Rattle.desktop_definitions.proofs.RowLaws.{over_built}
 use Rattle.desk_core.specs.Kept.{kept_desktop}
 use Rattle.desk_commands.proofs.looks.change_look.Goals as goal
 

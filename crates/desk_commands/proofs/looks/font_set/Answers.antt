@@ -2,7 +2,7 @@ use Rattle.std.proofs.Common.{◌∙◌, sym, ap, option_map, rules, tests}
 use Rattle.std.specs.Str.{bytes_eq}
 use Rattle.std.proofs.lemmas.Iterator.{YieldsList-from_slice}
 use Rattle.std.proofs.lemmas.Iterator.Search.{position_from_yields_List}
-use Rattle.desktop_laws.proofs.LookLaws.{font_found, in_font}
+use Rattle.desktop_definitions.proofs.LookLaws.{font_found, in_font}
 use Rattle.desk_commands.proofs.looks.font_set.Goals as goal
 
 pub returns-in_err-font : goal.returns-in_err-font

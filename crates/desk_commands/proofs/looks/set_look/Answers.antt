@@ -1,5 +1,5 @@
 use Rattle.desktop_definitions.specs.Effects.{look_set}
-use Rattle.desktop_laws.proofs.LookLaws.{none_set_answered, look_set_answered}
+use Rattle.desktop_definitions.proofs.LookLaws.{none_set_answered, look_set_answered}
 use Rattle.desktop_definitions.specs.Seen.{seen}
 use Rattle.desk_core.specs.Kept.{kept_desktop}
 use Rattle.std.proofs.Common.{rules, Ok}

@@ -5,7 +5,7 @@ use Rattle.desktop_definitions.specs.Opening.{without_unshown}
 use Rattle.desktop_definitions.specs.Viewers.{without_viewer}
 use Rattle.desktop_definitions.specs.Seen.{seen}
 use Rattle.desktop_definitions.specs.Opening.{new_id}
-use Rattle.desktop_laws.proofs.OpeningDone.{new_fresh, whole_columns}
+use Rattle.desktop_definitions.proofs.OpeningDone.{new_fresh, whole_columns}
 use Rattle.desk_core.specs.Kept.{kept_desktop}
 use Rattle.desk_commands.proofs.OpeningLemmas.{not_taken}
 use Rattle.desk_commands.proofs.openings.held_before.Goals as goal

@@ -5,7 +5,7 @@ use Rattle.std.specs.BTreeMap.{insert_entry}
 use Rattle.desktop_definitions.specs.declared.viewer.Viewer.{Viewer}
 use Rattle.desktop_definitions.specs.Opening.{least_unused, new_id}
 use Rattle.desktop_definitions.specs.Viewers.{viewer_in}
-use Rattle.desktop_laws.proofs.OpenLaws.{unused_none}
+use Rattle.desktop_definitions.proofs.OpenLaws.{unused_none}
 use Rattle.desk_core.specs.Kept.{kept_desktop}
 use Rattle.desk_commands.proofs.openings.join.Goals as goal
 

@@ -2,9 +2,9 @@ use Rattle.std.proofs.Common.{◌≡◌, ◌+◌, ◌==◌, ◌||◌, ℕ, List,
 use Rattle.piece_ring.specs.declared.piece.Piece.{Piece}
 use Rattle.viewer_tracks.specs.Viewers.{id_number}
 use Rattle.desktop_definitions.specs.Tables.{Texts}
-use Rattle.desktop_laws.proofs.TableLaws.{lengths_seen}
-use Rattle.desktop_laws.proofs.LeftLaws.{left_fewer}
-use Rattle.desktop_laws.specs.DeskWords.{still_shown, kept_left}
+use Rattle.desktop_definitions.proofs.TableLaws.{lengths_seen}
+use Rattle.desktop_definitions.proofs.LeftLaws.{left_fewer}
+use Rattle.desktop_definitions.specs.DeskWords.{still_shown, kept_left}
 use Rattle.desk_commands.proofs.OpeningLemmas.{left_step}
 use Rattle.desk_commands.proofs.openings.lengths_left.Goals as goal
 

@@ -1,6 +1,6 @@
 use Rattle.std.proofs.Common.{◌≡◌, ◌+◌, ◌==◌, ◌||◌}
 use Rattle.viewer_tracks.specs.Viewers.{id_number}
-use Rattle.desktop_laws.specs.DeskWords.{still_shown, kept_left}
+use Rattle.desktop_definitions.specs.DeskWords.{still_shown, kept_left}
 use Rattle.desk_commands.proofs.openings.lengths_left.Given as goal
 
 -- what was counted and what is to come

@@ -4,8 +4,8 @@ use Rattle.desktop_definitions.specs.Desktop.{characters_held}
 use Rattle.desktop_definitions.specs.Opening.{without_unshown}
 use Rattle.desktop_definitions.specs.Viewers.{without_viewer}
 use Rattle.desktop_definitions.specs.Seen.{seen}
-use Rattle.desktop_laws.proofs.OpenedLaws.{held_opening}
-use Rattle.desktop_laws.proofs.OpeningDone.{fits_opening}
+use Rattle.desktop_definitions.proofs.OpenedLaws.{held_opening}
+use Rattle.desktop_definitions.proofs.OpeningDone.{fits_opening}
 use Rattle.desk_core.specs.Kept.{kept_desktop}
 use Rattle.desk_commands.proofs.openings.opening_fits.Goals as goal
 

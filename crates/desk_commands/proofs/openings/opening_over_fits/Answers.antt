@@ -1,7 +1,7 @@
 use Rattle.std.proofs.Common.{◌≡◌, ◌+◌, length, refl, sym, ◌∙◌, arith}
 use Rattle.desktop_definitions.specs.Desktop.{characters_held}
 use Rattle.desktop_definitions.specs.Seen.{seen}
-use Rattle.desktop_laws.proofs.GrownLaws.{held_over, fits_over}
+use Rattle.desktop_definitions.proofs.GrownLaws.{held_over, fits_over}
 use Rattle.desk_core.specs.Kept.{kept_desktop}
 use Rattle.desk_commands.proofs.openings.opening_over_fits.Goals as goal
 

@@ -3,7 +3,7 @@ use Rattle.char_file.specs.Source.{OnlyReads}
 use Rattle.piece_ring.specs.Flat.{flat}
 use Rattle.piece_ring.specs.Text.{AreWithin}
 use Rattle.readers_scanners.specs.Reading.{bytes_of_text}
-use Rattle.desktop_laws.specs.Rewriting.{laid}
+use Rattle.desktop_definitions.specs.Rewriting.{laid}
 use Rattle.desk_commands.proofs.rewriting.put_pieces.Given as goal
 
 -- the pieces so far were put, those that are left come behind them, and nothing failed

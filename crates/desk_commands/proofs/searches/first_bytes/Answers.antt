@@ -4,7 +4,7 @@ use Rattle.piece_ring.specs.Flat.{flat}
 use Rattle.readers_scanners.specs.Reading.{bytes_of_text}
 use Rattle.readers_scanners.proofs.Walking.{IsAt, onward, seen}
 use Rattle.desktop_definitions.specs.Limits.{most_pattern}
-use Rattle.desktop_laws.proofs.SearchLaws.{AreRead, read_more, read_pattern}
+use Rattle.desktop_definitions.proofs.SearchLaws.{AreRead, read_more, read_pattern}
 use Rattle.desk_commands.proofs.searches.first_bytes.Goals as goal
 
 pub returns-clause-bytes : goal.returns-clause-bytes

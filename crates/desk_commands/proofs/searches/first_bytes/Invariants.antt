@@ -2,7 +2,7 @@ use Rattle.std.proofs.Common.{◌≡◌, ◌+◌, length}
 use Rattle.piece_ring.specs.Flat.{flat}
 use Rattle.readers_scanners.specs.Reading.{bytes_of_text}
 use Rattle.readers_scanners.proofs.Walking.{IsAt}
-use Rattle.desktop_laws.proofs.SearchLaws.{AreRead}
+use Rattle.desktop_definitions.proofs.SearchLaws.{AreRead}
 use Rattle.desk_commands.proofs.searches.first_bytes.Given as goal
 
 abbrev pub invariant-loop : goal.invariant-loop

@@ -3,7 +3,7 @@ use Rattle.std.specs.Str.{bytes_eq}
 use Rattle.piece_ring.specs.Flat.{flat}
 use Rattle.readers_scanners.specs.Reading.{bytes_of_text}
 use Rattle.readers_scanners.proofs.Walking.{IsAt, onward, seen}
-use Rattle.desktop_laws.proofs.SearchLaws.{IsSought, bytes_long, sought_on, sought_found, sought_next, sought_none}
+use Rattle.desktop_definitions.proofs.SearchLaws.{IsSought, bytes_long, sought_on, sought_found, sought_next, sought_none}
 use Rattle.desk_commands.proofs.searches.found_at.Goals.{then-len-pattern+else-eq, else-len-pattern}
 use Rattle.desk_commands.proofs.searches.found_at.Goals as goal
 

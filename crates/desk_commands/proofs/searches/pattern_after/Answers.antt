@@ -7,9 +7,9 @@ use Rattle.piece_ring.specs.Text.{AreWithin}
 use Rattle.readers_scanners.specs.Reading.{bytes_of_text}
 use Rattle.desktop_definitions.specs.Limits.{most_pattern}
 use Rattle.desktop_definitions.specs.Viewers.{viewer_or_none}
-use Rattle.desktop_laws.proofs.RowLaws.{over_built}
-use Rattle.desktop_laws.proofs.RowPartLaws.{kept_newest, text_within}
-use Rattle.desktop_laws.proofs.SearchLaws.{pattern_old, pattern_selected}
+use Rattle.desktop_definitions.proofs.RowLaws.{over_built}
+use Rattle.desktop_definitions.proofs.RowPartLaws.{kept_newest, text_within}
+use Rattle.desktop_definitions.proofs.SearchLaws.{pattern_old, pattern_selected}
 use Rattle.desk_core.specs.Kept.{kept_desktop}
 use Rattle.desk_commands.proofs.searches.pattern_after.Goals as goal
 

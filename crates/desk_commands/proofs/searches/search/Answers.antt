@@ -6,13 +6,13 @@ use Rattle.piece_ring.specs.Text.{AreWithin}
 use Rattle.desktop_definitions.specs.Limits.{no_selection, not_found}
 use Rattle.desktop_definitions.specs.Viewers.{viewer_or_none, kept_main}
 use Rattle.desktop_definitions.specs.Effects.{after_search}
-use Rattle.desktop_laws.proofs.RowLaws.{known_no_selection, over_built}
+use Rattle.desktop_definitions.proofs.RowLaws.{known_no_selection, over_built}
 use Rattle.desktop_definitions.specs.Sound.{IsBuilt}
-use Rattle.desktop_laws.proofs.RowPartLaws.{text_within}
-use Rattle.desktop_laws.proofs.RowLaws.{known_not_found}
-use Rattle.desktop_laws.proofs.SearchLaws.{searched_none, searched_lost, search_answered}
-use Rattle.desktop_laws.proofs.SearchLaws.{start_within, found_as}
-use Rattle.desktop_laws.proofs.KeyLaws.{main_small}
+use Rattle.desktop_definitions.proofs.RowPartLaws.{text_within}
+use Rattle.desktop_definitions.proofs.RowLaws.{known_not_found}
+use Rattle.desktop_definitions.proofs.SearchLaws.{searched_none, searched_lost, search_answered}
+use Rattle.desktop_definitions.proofs.SearchLaws.{start_within, found_as}
+use Rattle.desktop_definitions.proofs.KeyLaws.{main_small}
 use Rattle.desk_core.specs.Kept.{kept_desktop}
 use Rattle.desk_commands.proofs.ReadFirst.{refused_after}
 use Rattle.char_file.proofs.Reading.{read_on}

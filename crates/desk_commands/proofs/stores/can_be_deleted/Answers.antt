@@ -1,7 +1,7 @@
 use Rattle.std.proofs.Common.{◌∙◌, ◌+◌, ◌&&◌, Bool, drop, sym, ap, arith}
 use Rattle.std.specs.Map.{keys_of}
 use Rattle.command_table.specs.Deciding.{can_be_deleted}
-use Rattle.desktop_laws.proofs.StoreLaws.{can_at, can_end}
+use Rattle.desktop_definitions.proofs.StoreLaws.{can_at, can_end}
 use Rattle.desk_commands.proofs.stores.can_be_deleted.Goals as goal
 
 pub returns-then-not-can_go : goal.returns-then-not-can_go

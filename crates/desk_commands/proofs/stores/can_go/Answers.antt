@@ -1,6 +1,6 @@
 use Rattle.std.proofs.Common.{◌∙◌, ◌&&◌, Bool, not, sym, ap}
 use Rattle.command_table.specs.Deciding.{is_among}
-use Rattle.desktop_laws.proofs.StoreLaws.{named_among}
+use Rattle.desktop_definitions.proofs.StoreLaws.{named_among}
 use Rattle.desk_commands.proofs.stores.can_go.Goals as goal
 
 pub returns-then-contains_key : goal.returns-then-contains_key

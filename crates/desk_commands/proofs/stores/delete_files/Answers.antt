@@ -1,11 +1,11 @@
 use Rattle.std.proofs.Common.{rules, ◌∙◌, ℕ, [], ap, sym, arith}
 use Rattle.arrayvec.specs.ArrayVec.{ArrayVec}
 use Rattle.desktop_definitions.specs.Seen.{seen}
-use Rattle.desktop_laws.proofs.RowLaws.{space_written}
-use Rattle.desktop_laws.specs.DeskWords.{has_space}
-use Rattle.desktop_laws.proofs.LogLaws.{line_bytes_map}
-use Rattle.desktop_laws.proofs.StoreLaws.{files_small, deleting_refused, deleting_full, deleting_stands}
-use Rattle.desktop_laws.proofs.StoreLaws.{deleting_short, deleting_answered}
+use Rattle.desktop_definitions.proofs.RowLaws.{space_written}
+use Rattle.desktop_definitions.specs.DeskWords.{has_space}
+use Rattle.desktop_definitions.proofs.LogLaws.{line_bytes_map}
+use Rattle.desktop_definitions.proofs.StoreLaws.{files_small, deleting_refused, deleting_full, deleting_stands}
+use Rattle.desktop_definitions.proofs.StoreLaws.{deleting_short, deleting_answered}
 use Rattle.desk_core.specs.Kept.{kept_desktop}
 use Rattle.desk_commands.specs.Lines.{bytes_of_lines, length_of_lines}
 use Rattle.desk_commands.proofs.stores.delete_files.Goals as goal

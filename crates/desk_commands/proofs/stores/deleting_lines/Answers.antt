@@ -2,7 +2,7 @@ use Rattle.std.proofs.Common.{◌∙◌, ◌+◌, ◌++◌, List, ℕ, [], ◌�
 use Rattle.std.proofs.lemmas.List.{map-append}
 use Rattle.arrayvec.specs.ArrayVec.{ArrayVec}
 use Rattle.desktop_definitions.specs.Effects.{deleting_line}
-use Rattle.desktop_laws.proofs.StoreLaws.{next_at}
+use Rattle.desktop_definitions.proofs.StoreLaws.{next_at}
 use Rattle.desk_commands.specs.Lines.{bytes_of_lines}
 use Rattle.desk_commands.proofs.stores.deleting_lines.Goals as goal
 

@@ -1,6 +1,6 @@
 use Rattle.std.proofs.Common.{[], arith}
-use Rattle.desktop_laws.proofs.StoreLaws.{lengths_gone}
-use Rattle.desktop_laws.specs.DeskWords.{kept_size}
+use Rattle.desktop_definitions.proofs.StoreLaws.{lengths_gone}
+use Rattle.desktop_definitions.specs.DeskWords.{kept_size}
 use Rattle.desk_commands.proofs.StoredLemmas.{sum_from, sum_end}
 use Rattle.desk_commands.proofs.stores.lengths_of.Goals as goal
 

@@ -1,5 +1,5 @@
 use Rattle.std.proofs.Common.{◌≡◌, ◌+◌, sum_by, drop}
-use Rattle.desktop_laws.specs.DeskWords.{kept_size}
+use Rattle.desktop_definitions.specs.DeskWords.{kept_size}
 use Rattle.desk_commands.proofs.stores.lengths_of.Given as goal
 
 -- what was counted and what is to come

@@ -7,7 +7,7 @@ use Rattle.readers_scanners.specs.Reading.{bytes_of_text}
 use Rattle.command_table.specs.Parameters.{IsTextPlace, name_in}
 use Rattle.desktop_definitions.specs.Change.{bytes_of}
 use Rattle.desktop_definitions.specs.Seen.{seen}
-use Rattle.desktop_laws.proofs.CallLaws.{called_place, called_text_seen}
+use Rattle.desktop_definitions.proofs.CallLaws.{called_place, called_text_seen}
 use Rattle.desk_core.specs.Kept.{kept_desktop}
 use Rattle.desk_commands.proofs.stores.menu_name.Goals as goal
 

@@ -3,7 +3,7 @@ use Rattle.std.proofs.Math.ListN.{drop_of_length-le}
 use Rattle.piece_ring.specs.declared.piece.Piece.{Piece}
 use Rattle.desktop_definitions.specs.Tables.{Files}
 use Rattle.desktop_definitions.specs.Effects.{without_file}
-use Rattle.desktop_laws.proofs.StoreLaws.{next_at}
+use Rattle.desktop_definitions.proofs.StoreLaws.{next_at}
 use Rattle.desk_commands.proofs.stores.remove.Goals as goal
 
 pub loop-name-preserved : goal.loop-name-preserved

@@ -6,7 +6,7 @@ use Rattle.desktop_definitions.specs.Desktop.{Desktop}
 use Rattle.desktop_definitions.specs.Viewers.{main_of}
 use Rattle.desktop_definitions.specs.Seen.{seen}
 use Rattle.desktop_definitions.specs.Effects.{menu_name, after_store, stored_as}
-use Rattle.desktop_laws.proofs.RowLaws.{known_wrong_symbol}
+use Rattle.desktop_definitions.proofs.RowLaws.{known_wrong_symbol}
 use Rattle.desk_core.specs.Kept.{kept_desktop}
 use Rattle.desk_commands.proofs.ReadFirst.{over_after, does_after, refused_after}
 use Rattle.desk_commands.proofs.stores.store.Goals as goal

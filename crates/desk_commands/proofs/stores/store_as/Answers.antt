@@ -3,11 +3,11 @@ use Rattle.std.proofs.Common.{rules, ◌≡◌, ◌∙◌, ◌+◌, length, [], 
 use Rattle.piece_ring.specs.Flat.{flat}
 use Rattle.desktop_definitions.specs.Viewers.{main_of, kept_main}
 use Rattle.desktop_definitions.specs.Seen.{seen}
-use Rattle.desktop_laws.proofs.RowLaws.{space_written}
-use Rattle.desktop_laws.specs.DeskWords.{has_space}
-use Rattle.desktop_laws.proofs.RowPartLaws.{kept_main_long}
-use Rattle.desktop_laws.proofs.KeyLaws.{main_small}
-use Rattle.desktop_laws.proofs.StoreLaws.{files_small, storing_refused, storing_full}
+use Rattle.desktop_definitions.proofs.RowLaws.{space_written}
+use Rattle.desktop_definitions.specs.DeskWords.{has_space}
+use Rattle.desktop_definitions.proofs.RowPartLaws.{kept_main_long}
+use Rattle.desktop_definitions.proofs.KeyLaws.{main_small}
+use Rattle.desktop_definitions.proofs.StoreLaws.{files_small, storing_refused, storing_full}
 use Rattle.desk_core.specs.Kept.{kept_desktop}
 use Rattle.desk_commands.proofs.StoringLemmas.{copy_stands, copy_short, copy_answered}
 use Rattle.desk_commands.proofs.stores.store_as.Goals as goal

@@ -1,6 +1,6 @@
 use Rattle.std.proofs.Common.{refl}
 use Rattle.desktop_definitions.specs.Seen.{seen_text}
-use Rattle.desktop_laws.proofs.TableLaws.{lookup_seen, is_some_map, length_seen}
+use Rattle.desktop_definitions.proofs.TableLaws.{lookup_seen, is_some_map, length_seen}
 use Rattle.desk_core.proofs.files.has_room.Goals as goal
 
 pub returns-then-contains_key : goal.returns-then-contains_key

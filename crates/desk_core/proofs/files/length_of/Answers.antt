@@ -1,6 +1,6 @@
 use Rattle.std.proofs.Common.{◌+◌, ◌∙◌, ap}
 use Rattle.desktop_definitions.specs.Tables.{file_put, lengths}
-use Rattle.desktop_laws.proofs.TableLaws.{gone_size}
+use Rattle.desktop_definitions.proofs.TableLaws.{gone_size}
 use Rattle.desktop_definitions.specs.Seen.{seen_table}
 use Rattle.desk_core.proofs.files.length_of.Goals as goal
 

@@ -1,7 +1,7 @@
 use Rattle.std.proofs.Common.{◌≡◌, ◌+◌, List, arith, [], length, sum_by, subst}
 use Rattle.piece_ring.specs.declared.piece.Piece.{Piece}
 use Rattle.piece_ring.specs.Flat.{flat}
-use Rattle.desktop_laws.proofs.TableLaws.{lengths_seen, kept_lengths}
+use Rattle.desktop_definitions.proofs.TableLaws.{lengths_seen, kept_lengths}
 use Rattle.desk_core.proofs.held.lengths.Goals as goal
 
 pub overflow_add-sum : goal.overflow_add-sum

@@ -1,6 +1,6 @@
 use Rattle.std.proofs.Common.{◌≡◌, ◌+◌, sum_by, length}
 use Rattle.piece_ring.specs.Flat.{flat}
-use Rattle.desktop_laws.proofs.TableLaws.{kept_lengths}
+use Rattle.desktop_definitions.proofs.TableLaws.{kept_lengths}
 use Rattle.desk_core.proofs.held.lengths.Given as goal
 
 -- what was counted and what is to come

@@ -1,8 +1,8 @@
 use Rattle.std.proofs.Common.{◌-◌, ◌∙◌, ap, sym}
 use Rattle.desktop_definitions.specs.Seen.{seen}
-use Rattle.desktop_laws.proofs.RowLaws.{known_no_selection}
-use Rattle.desktop_laws.specs.DeskWords.{has_space}
-use Rattle.desktop_laws.proofs.KeyLaws.{copy_none, copy_full, copy_answered}
+use Rattle.desktop_definitions.proofs.RowLaws.{known_no_selection}
+use Rattle.desktop_definitions.specs.DeskWords.{has_space}
+use Rattle.desktop_definitions.proofs.KeyLaws.{copy_none, copy_full, copy_answered}
 use Rattle.desk_core.specs.Kept.{kept_desktop}
 use Rattle.desk_core.proofs.StretchLemmas.{refused_effect}
 use Rattle.desk_input.proofs.StillLemmas.{does_unread}

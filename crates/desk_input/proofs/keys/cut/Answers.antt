@@ -1,7 +1,7 @@
 use Rattle.std.proofs.Common.{rules, ◌∙◌, sym}
 use Rattle.desktop_definitions.specs.Seen.{seen}
-use Rattle.desktop_laws.proofs.RowLaws.{known_no_selection}
-use Rattle.desktop_laws.proofs.KeyLaws.{cut_none, cut_answered}
+use Rattle.desktop_definitions.proofs.RowLaws.{known_no_selection}
+use Rattle.desktop_definitions.proofs.KeyLaws.{cut_none, cut_answered}
 use Rattle.desk_core.specs.Kept.{kept_desktop}
 use Rattle.desk_input.proofs.StillLemmas.{does_unread}
 use Rattle.desk_core.proofs.StretchLemmas.{refused_effect, copied_built}

@@ -6,7 +6,7 @@ use Rattle.desktop_definitions.specs.Keys.{without_marks, after_key}
 use Rattle.desktop_definitions.specs.Seen.{seen}
 use Rattle.desktop_definitions.specs.Step.{outcome_after}
 use Rattle.desktop_definitions.specs.Outcome.{IsAnswered}
-use Rattle.desktop_laws.proofs.KeyLaws.{escape_answered}
+use Rattle.desktop_definitions.proofs.KeyLaws.{escape_answered}
 use Rattle.desk_core.specs.Kept.{kept_desktop}
 use Rattle.desk_input.proofs.StillLemmas.{does_unread}
 use Rattle.desk_input.proofs.keys.escape.Goals as goal

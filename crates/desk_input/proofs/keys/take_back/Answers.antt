@@ -1,7 +1,7 @@
 use Rattle.std.proofs.Common.{rules, ◌≡◌, ◌∙◌, sym, arith}
 use Rattle.desktop_definitions.specs.Seen.{seen}
-use Rattle.desktop_laws.proofs.RowLaws.{known_no_caret}
-use Rattle.desktop_laws.proofs.KeyLaws.{back_none, back_first, back_answered, stay_answered}
+use Rattle.desktop_definitions.proofs.RowLaws.{known_no_caret}
+use Rattle.desktop_definitions.proofs.KeyLaws.{back_none, back_first, back_answered, stay_answered}
 use Rattle.desk_core.specs.Kept.{kept_desktop}
 use Rattle.desk_core.proofs.StretchLemmas.{refused_effect}
 use Rattle.desk_input.proofs.StillLemmas.{does_unread}

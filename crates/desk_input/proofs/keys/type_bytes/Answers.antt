@@ -10,11 +10,11 @@ use Rattle.desktop_definitions.specs.Keys.{after_typing}
 use Rattle.desktop_definitions.specs.Seen.{seen}
 use Rattle.desktop_definitions.specs.Step.{outcome_after}
 use Rattle.desktop_definitions.specs.Outcome.{IsAnswered}
-use Rattle.desktop_laws.proofs.RowLaws.{known_no_caret, over_built, built_longer, changed_under, space_written}
-use Rattle.desktop_laws.proofs.KeyLaws.{typed_none, typed_full, typed_answered, main_small}
+use Rattle.desktop_definitions.proofs.RowLaws.{known_no_caret, over_built, built_longer, changed_under, space_written}
+use Rattle.desktop_definitions.proofs.KeyLaws.{typed_none, typed_full, typed_answered, main_small}
 use Rattle.desk_core.specs.Kept.{kept_desktop}
 use Rattle.desktop_definitions.specs.Looks.{AreLooks}
-use Rattle.desktop_laws.proofs.LookedLaws.{run_looks, kept_look}
+use Rattle.desktop_definitions.proofs.LookedLaws.{run_looks, kept_look}
 use Rattle.desk_core.proofs.StretchLemmas.{refused_effect}
 use Rattle.desk_input.proofs.StillLemmas.{does_unread}
 use Rattle.desk_input.proofs.keys.type_bytes.Goals as goal

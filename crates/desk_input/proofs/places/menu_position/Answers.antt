@@ -5,7 +5,7 @@ use Rattle.piece_ring.specs.Flat.{flat}
 use Rattle.piece_ring.specs.Text.{AreWithin}
 use Rattle.readers_scanners.specs.Reading.{bytes_of_text}
 use Rattle.text_frames.specs.Cells.{position_at}
-use Rattle.desktop_laws.proofs.CallLaws.{called_place, menu_read}
+use Rattle.desktop_definitions.proofs.CallLaws.{called_place, menu_read}
 use Rattle.desk_core.specs.Kept.{kept_desktop}
 use Rattle.desk_input.proofs.places.menu_position.Goals as goal
 

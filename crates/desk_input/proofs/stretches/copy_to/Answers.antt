@@ -1,7 +1,7 @@
 use Rattle.std.proofs.Common.{rules, ◌∙◌, sym, arith}
 use Rattle.desktop_definitions.specs.Seen.{seen}
-use Rattle.desktop_laws.proofs.RowLaws.{known_no_selection, over_built}
-use Rattle.desktop_laws.proofs.KeyLaws.{copied_to_none, copied_to_full, copied_to_answered}
+use Rattle.desktop_definitions.proofs.RowLaws.{known_no_selection, over_built}
+use Rattle.desktop_definitions.proofs.KeyLaws.{copied_to_none, copied_to_full, copied_to_answered}
 use Rattle.desk_core.specs.Kept.{kept_desktop}
 use Rattle.desk_core.proofs.StretchLemmas.{refused_effect}
 use Rattle.desk_input.proofs.StillLemmas.{does_unread}

@@ -5,8 +5,8 @@ use Rattle.desktop_definitions.specs.Viewers.{with_selection}
 use Rattle.desktop_definitions.specs.Change.{put_at_caret}
 use Rattle.desktop_definitions.specs.Seen.{seen, seen_text}
 use Rattle.desktop_definitions.specs.Changed.{IsChanged}
-use Rattle.desktop_laws.proofs.RowLaws.{known_no_selection, known_no_caret}
-use Rattle.desktop_laws.proofs.KeyLaws.{sent_empty, sent_none, sent_full, sent_answered}
+use Rattle.desktop_definitions.proofs.RowLaws.{known_no_selection, known_no_caret}
+use Rattle.desktop_definitions.proofs.KeyLaws.{sent_empty, sent_none, sent_full, sent_answered}
 use Rattle.desk_core.specs.Kept.{kept_desktop}
 use Rattle.desk_core.proofs.StretchLemmas.{refused_effect, selected_built}
 use Rattle.desk_input.proofs.stretches.send_to_caret.Goals as goal

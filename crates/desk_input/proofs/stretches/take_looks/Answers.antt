@@ -4,9 +4,9 @@ use Rattle.viewer_tracks.specs.Columns.{Columns, IsOnTop}
 use Rattle.desktop_definitions.specs.Looks.{IsLook}
 use Rattle.desktop_definitions.specs.Viewers.{viewer_or_none, kept_main}
 use Rattle.desktop_definitions.specs.Seen.{seen}
-use Rattle.desktop_laws.proofs.RowLaws.{known_no_selection, over_built}
-use Rattle.desktop_laws.proofs.LookedLaws.{look_at_looks, kept_text_looks}
-use Rattle.desktop_laws.proofs.KeyLaws.{looks_taken_none, looks_taken_answered}
+use Rattle.desktop_definitions.proofs.RowLaws.{known_no_selection, over_built}
+use Rattle.desktop_definitions.proofs.LookedLaws.{look_at_looks, kept_text_looks}
+use Rattle.desktop_definitions.proofs.KeyLaws.{looks_taken_none, looks_taken_answered}
 use Rattle.desk_core.specs.Kept.{kept_desktop}
 use Rattle.desk_core.proofs.StretchLemmas.{refused_effect}
 use Rattle.desk_input.proofs.StillLemmas.{does_unread}

@@ -1,6 +1,6 @@
 use Rattle.std.proofs.Common.{rules, refl}
-use Rattle.desktop_laws.proofs.RowLaws.{known_no_selection}
-use Rattle.desktop_laws.proofs.KeyLaws.{taken_out_empty, taken_out_answered}
+use Rattle.desktop_definitions.proofs.RowLaws.{known_no_selection}
+use Rattle.desktop_definitions.proofs.KeyLaws.{taken_out_empty, taken_out_answered}
 use Rattle.desk_core.proofs.StretchLemmas.{refused_effect}
 use Rattle.desk_input.proofs.stretches.take_out.Goals as goal
 

@@ -10,9 +10,9 @@ use Rattle.desktop_definitions.specs.Tables.{text_numbered}
 use Rattle.desktop_definitions.specs.Viewers.{text_in, viewer_or_none}
 use Rattle.desktop_definitions.specs.Listing.{listed_name}
 use Rattle.desktop_definitions.specs.Unread.{without_name}
-use Rattle.desktop_laws.proofs.SeenLaws.{within_counted}
-use Rattle.desktop_laws.proofs.ViewLaws.{viewer_entry_seen}
-use Rattle.desktop_laws.proofs.TextLaws.{text_within}
+use Rattle.desktop_definitions.proofs.SeenLaws.{within_counted}
+use Rattle.desktop_definitions.proofs.ViewLaws.{viewer_entry_seen}
+use Rattle.desktop_definitions.proofs.TextLaws.{text_within}
 use Rattle.desk_core.specs.Kept.{kept_desktop}
 use Rattle.desk_core.proofs.ViewLemmas.{menu_there, main_there}
 use Rattle.desk_views.proofs.views.entry_of.Goals as goal

@@ -9,7 +9,7 @@ use Rattle.desk_views.proofs.Listed.{none_listed, reads_then}
 use Rattle.desktop_definitions.specs.Listing.{viewer_entry}
 use Rattle.desktop_definitions.specs.Unread.{without_name}
 use Rattle.desktop_definitions.specs.Seen.{seen}
-use Rattle.desktop_laws.proofs.ViewLaws.{listed_more, listed_all}
+use Rattle.desktop_definitions.proofs.ViewLaws.{listed_more, listed_all}
 use Rattle.desk_core.specs.Kept.{kept_desktop}
 use Rattle.desk_views.proofs.views.list_level.Goals as goal
 

@@ -1,7 +1,7 @@
 use Rattle.viewer_tracks.specs.Columns.{stack_of, track_on}
 use Rattle.desktop_definitions.specs.Listing.{viewer_entry}
 use Rattle.desktop_definitions.specs.Unread.{without_name}
-use Rattle.desktop_laws.proofs.ViewLaws.{entries_to}
+use Rattle.desktop_definitions.proofs.ViewLaws.{entries_to}
 use Rattle.desk_core.specs.Kept.{kept_desktop}
 use Rattle.desk_views.proofs.Listed.{HasListed}
 use Rattle.desk_views.proofs.views.list_level.Given as goal

@@ -3,7 +3,7 @@ use Rattle.std.proofs.lemmas.Bool.{ne_eqb, eq-eqb}
 use Rattle.char_file.proofs.Reading.{read_on}
 use Rattle.piece_ring.specs.Flat.{flat}
 use Rattle.readers_scanners.specs.Reading.{contents}
-use Rattle.desktop_laws.proofs.ViewLaws.{name_more, name_at_space}
+use Rattle.desktop_definitions.proofs.ViewLaws.{name_more, name_at_space}
 use Rattle.desk_views.proofs.Painted.{not_at_end}
 use Rattle.desk_views.proofs.views.menu_name.Goals as goal
 

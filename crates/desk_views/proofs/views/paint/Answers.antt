@@ -4,7 +4,7 @@ use Rattle.screen_cells.specs.declared.shown.Shown.{Shown}
 use Rattle.screen_pictures.specs.Picture.{picture}
 use Rattle.screen_pictures.specs.Screen.{screen_of}
 use Rattle.screen_cells.specs.Shown.{IsShowable, as_read}
-use Rattle.desktop_laws.proofs.SeenLaws.{within_counted}
+use Rattle.desktop_definitions.proofs.SeenLaws.{within_counted}
 use Rattle.desk_core.specs.Kept.{kept_desktop}
 use Rattle.desk_views.specs.Views.{kept_view, AreThere}
 use Rattle.desk_core.proofs.ViewLemmas.{few}

@@ -2,7 +2,7 @@ use Rattle.std.proofs.Common.{◌≡◌, ◌+◌, ◌-◌, arith, [], ap, sym, �
 use Rattle.desktop_definitions.specs.Desktop.{characters_held}
 use Rattle.desktop_definitions.specs.Seen.{seen}
 use Rattle.desktop_definitions.specs.Step.{filed}
-use Rattle.desktop_laws.proofs.StepLaws.{fits_by, held_filed, files_held}
+use Rattle.desktop_definitions.proofs.StepLaws.{fits_by, held_filed, files_held}
 use Rattle.desk_core.specs.Kept.{kept_desktop}
 use Rattle.event_loop.proofs.events.file_fits.Goals as goal
 

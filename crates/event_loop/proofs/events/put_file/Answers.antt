@@ -8,9 +8,9 @@ use Rattle.desktop_definitions.specs.Seen.{seen}
 use Rattle.desktop_definitions.specs.Step.{step, step_in, raw, outcome_of}
 use Rattle.desktop_definitions.specs.Sound.{IsOver}
 use Rattle.desktop_definitions.specs.Change.{plain_text}
-use Rattle.desktop_laws.proofs.StepLaws.{file_no_room, file_full}
+use Rattle.desktop_definitions.proofs.StepLaws.{file_no_room, file_full}
 use Rattle.desktop_definitions.specs.Outcome.{IsAnswered}
-use Rattle.desktop_laws.proofs.OutcomeLaws.{refused, length_in_look, file_answered}
+use Rattle.desktop_definitions.proofs.OutcomeLaws.{refused, length_in_look, file_answered}
 use Rattle.desktop_definitions.specs.Unread.{characters_brought, StepsUnread}
 use Rattle.desk_core.specs.Kept.{kept_desktop}
 use Rattle.desk_core.proofs.UnreadLemmas.{over_all}

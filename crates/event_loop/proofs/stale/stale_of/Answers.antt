@@ -1,6 +1,6 @@
 use Rattle.std.proofs.Common.{refl, ap, ◌∙◌}
 use Rattle.desk_core.specs.Kept.{kept_desktop}
-use Rattle.stale_texts.specs.Stale.{stale_of, stale_by_key}
+use Rattle.desk_input.specs.Stale.{stale_of, stale_by_key}
 use Rattle.event_loop.proofs.stale.stale_of.Goals as goal
 
 pub returns-in-Typed : goal.returns-in-Typed

@@ -3,8 +3,8 @@ use Rattle.std.specs.Prelude.{codes}
 use Rattle.std.specs.List.{concat}
 use Rattle.std.specs.Io.KnownBytes.{Appends}
 use Rattle.std.proofs.KnownBytes.{Appends-trans}
-use Rattle.output_bytes.specs.Sent.{AppendsFront}
-use Rattle.output_bytes.proofs.Taking.{first_front, front_sent, second_front, whole_sent}
+use Rattle.byte_streams.specs.Sent.{AppendsFront}
+use Rattle.byte_streams.proofs.Taking.{first_front, front_sent, second_front, whole_sent}
 use Rattle.screen_pictures.specs.declared.cell.Cell.{Cell}
 use Rattle.screen_drawing.specs.Drawn.{background, drawing_of, drawn_rows, heading}
 use Rattle.screen_drawing.proofs.drawing.draw.Goals as goal

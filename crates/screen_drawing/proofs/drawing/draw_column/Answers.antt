@@ -1,5 +1,5 @@
 use Rattle.std.proofs.Common.{◌++◌}
-use Rattle.output_bytes.proofs.Taking.{first_front, front_sent, sent_as, then_sent}
+use Rattle.byte_streams.proofs.Taking.{first_front, front_sent, sent_as, then_sent}
 use Rattle.screen_drawing.specs.Drawn.{drawn_caret, drawn_column, drawn_start}
 use Rattle.screen_drawing.proofs.drawing.draw_column.Goals as goal
 

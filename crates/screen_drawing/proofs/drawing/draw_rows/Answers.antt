@@ -1,6 +1,6 @@
 use Rattle.std.proofs.Common.{arith}
 use Rattle.viewer_tracks.specs.declared.display.TheConstants.{ROWS}
-use Rattle.output_bytes.proofs.Taking.{front_sent, taken_none}
+use Rattle.byte_streams.proofs.Taking.{front_sent, taken_none}
 use Rattle.screen_drawing.specs.Drawn.{drawn_row}
 use Rattle.screen_drawing.proofs.Parts.{all_taken, next_front, next_number, next_taken, no_number}
 use Rattle.screen_drawing.proofs.drawing.draw_rows.Goals as goal

@@ -1,7 +1,7 @@
 use Rattle.std.proofs.Common.{◌-◌}
 use Rattle.std.specs.List.{flat_map, range_with_len}
 use Rattle.viewer_tracks.specs.declared.display.TheConstants.{ROWS}
-use Rattle.output_bytes.proofs.Taking.{HasTaken}
+use Rattle.byte_streams.proofs.Taking.{HasTaken}
 use Rattle.screen_drawing.specs.Drawn.{drawn_row, drawn_rows}
 use Rattle.screen_drawing.proofs.drawing.draw_rows.Given as goal
 

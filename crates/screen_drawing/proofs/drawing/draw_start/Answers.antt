@@ -1,4 +1,4 @@
-use Rattle.output_bytes.proofs.Taking.{sent_as}
+use Rattle.byte_streams.proofs.Taking.{sent_as}
 use Rattle.screen_drawing.proofs.Parts.{start_drawn}
 use Rattle.screen_drawing.proofs.drawing.draw_start.Goals as goal
 

@@ -1,4 +1,4 @@
-use Rattle.output_bytes.proofs.Taking.{first_front, front_sent, then_sent}
+use Rattle.byte_streams.proofs.Taking.{first_front, front_sent, then_sent}
 use Rattle.screen_drawing.proofs.drawing.draw_stretch.Goals as goal
 
 pub returns-in_err-draw_paper : goal.returns-in_err-draw_paper

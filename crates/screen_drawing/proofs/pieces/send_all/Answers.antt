@@ -1,4 +1,4 @@
-use Rattle.output_bytes.proofs.Taking.{front_sent}
+use Rattle.byte_streams.proofs.Taking.{front_sent}
 use Rattle.screen_drawing.proofs.Parts.{next_front, next_piece, next_taken}
 use Rattle.screen_drawing.proofs.pieces.send_all.Goals as goal
 

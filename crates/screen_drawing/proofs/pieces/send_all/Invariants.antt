@@ -1,5 +1,5 @@
 use Rattle.std.proofs.Common.{drop}
-use Rattle.output_bytes.proofs.Taking.{HasTaken}
+use Rattle.byte_streams.proofs.Taking.{HasTaken}
 use Rattle.screen_drawing.specs.Spelling.{joined_pieces}
 use Rattle.screen_drawing.proofs.pieces.send_all.Given as goal
 

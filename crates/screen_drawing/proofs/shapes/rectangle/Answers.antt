@@ -1,5 +1,5 @@
 use Rattle.std.proofs.Common.{◌∙◌}
-use Rattle.output_bytes.proofs.Taking.{sent_as}
+use Rattle.byte_streams.proofs.Taking.{sent_as}
 use Rattle.screen_drawing.proofs.Elements.{rectangle_pieces}
 use Rattle.screen_drawing.proofs.shapes.rectangle.Goals as goal
 

@@ -1,6 +1,6 @@
 use Rattle.std.proofs.Common.{◌∙◌, ap, arith}
 use Rattle.std.specs.Fmt.{decimal}
-use Rattle.output_bytes.proofs.Taking.{sent_as}
+use Rattle.byte_streams.proofs.Taking.{sent_as}
 use Rattle.screen_drawing.proofs.Elements.{text_pieces}
 use Rattle.screen_drawing.proofs.shapes.text_cells.Goals as goal
 

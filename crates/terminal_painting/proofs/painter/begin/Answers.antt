@@ -1,7 +1,7 @@
 use Rattle.std.proofs.Common.{arith, length, ◌≡◌, ◌∙◌}
 use Rattle.terminal_painting.proofs.Leading.{begun_blank, begun_blank_front, begun_known, begun_known_front}
 use Rattle.terminal_painting.proofs.Leading.{known_rows, other_rows}
-use Rattle.output_bytes.proofs.Taking.{on_err}
+use Rattle.byte_streams.proofs.Taking.{on_err}
 use Rattle.terminal_painting.proofs.painter.begin.Goals as goal
 
 pub returns-then-len-from-clause-led : goal.returns-then-len-from-clause-led

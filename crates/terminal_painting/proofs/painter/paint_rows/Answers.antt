@@ -3,7 +3,7 @@ use Rattle.screen_pictures.specs.Screen.{values}
 use Rattle.terminal_painting.specs.Scene.{scene_row, scene_rows, height_of}
 use Rattle.terminal_painting.proofs.Leading.{row_front, row_led, rows_led_all, rows_led_none, values_more, no_values}
 use Rattle.terminal_painting.proofs.Leading.{values_long}
-use Rattle.output_bytes.proofs.Taking.{on_err}
+use Rattle.byte_streams.proofs.Taking.{on_err}
 use Rattle.terminal_painting.proofs.Sendable.{row_printable}
 use Rattle.terminal_painting.proofs.painter.paint_rows.Goals as goal
 

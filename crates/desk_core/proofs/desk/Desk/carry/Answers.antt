@@ -4,7 +4,7 @@ use Rattle.viewer_tracks.specs.Columns.{Columns, IsColumns, times_placed, times_
 use Rattle.desktop_definitions.specs.Viewers.{opened_at}
 use Rattle.desktop_definitions.specs.Opening.{without_unshown}
 use Rattle.desktop_definitions.specs.Gesture.{after_move}
-use Rattle.desktop_laws.proofs.PlacedLaws.{over_columns, closed_fresh, carried_answered}
+use Rattle.desktop_definitions.proofs.PlacedLaws.{over_columns, closed_fresh, carried_answered}
 use Rattle.desk_core.specs.Kept.{kept_desktop}
 use Rattle.desk_core.proofs.ArmLemmas.{answered_there}
 use Rattle.desk_core.proofs.UnreadLemmas.{over_all}

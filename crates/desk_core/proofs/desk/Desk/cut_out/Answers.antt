@@ -1,8 +1,8 @@
 use Rattle.std.proofs.Common.{subst, sym}
 use Rattle.char_file.proofs.Reading.{read_on}
 use Rattle.viewer_tracks.specs.Columns.{IsOnTop}
-use Rattle.desktop_laws.proofs.RowPartLaws.{cut_out_changed}
-use Rattle.desktop_laws.proofs.KeyLaws.{room_left}
+use Rattle.desktop_definitions.proofs.RowPartLaws.{cut_out_changed}
+use Rattle.desktop_definitions.proofs.KeyLaws.{room_left}
 use Rattle.desk_core.specs.Kept.{kept_desktop}
 use Rattle.desk_core.proofs.desk.Desk.cut_out.Goals as goal
 

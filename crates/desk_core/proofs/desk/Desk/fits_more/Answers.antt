@@ -1,7 +1,7 @@
 use Rattle.std.proofs.Common.{◌+◌, ◌&&◌, ◌∙◌, nat_le}
 use Rattle.desktop_definitions.specs.Limits.{most_written, most_held}
 use Rattle.desktop_definitions.specs.Seen.{seen}
-use Rattle.desktop_laws.specs.DeskWords.{has_space}
+use Rattle.desktop_definitions.specs.DeskWords.{has_space}
 use Rattle.desk_core.proofs.desk.Desk.fits_more.Goals as goal
 
 pub returns : goal.returns

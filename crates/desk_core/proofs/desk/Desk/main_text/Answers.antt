@@ -1,5 +1,5 @@
 use Rattle.desk_core.specs.Kept.{kept_desktop}
-use Rattle.desktop_laws.proofs.PlaceLaws.{on_top_placed}
+use Rattle.desktop_definitions.proofs.PlaceLaws.{on_top_placed}
 use Rattle.desk_core.proofs.PositionLemmas.{never_none}
 use Rattle.desk_core.proofs.desk.Desk.main_text.Goals as goal
 

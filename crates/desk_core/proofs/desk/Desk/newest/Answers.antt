@@ -1,7 +1,7 @@
 use Rattle.std.proofs.Common.{◌-◌, ◌∙◌, ap, List, length}
 use Rattle.std.specs.Prelude.{slice_get}
 use Rattle.desktop_definitions.specs.declared.viewer.Selection.{Selection}
-use Rattle.desktop_laws.proofs.RowPartLaws.{last_newest}
+use Rattle.desktop_definitions.proofs.RowPartLaws.{last_newest}
 use Rattle.desk_core.proofs.desk.Desk.newest.Goals as goal
 
 pub returns : goal.returns

@@ -1,7 +1,7 @@
 use Rattle.std.proofs.Common.{ap, ◌∙◌}
 use Rattle.desktop_definitions.specs.Opening.{without_unshown}
 use Rattle.desktop_definitions.specs.Viewers.{without_viewer, opened_at}
-use Rattle.desktop_laws.proofs.PlacedLaws.{at_columns}
+use Rattle.desktop_definitions.proofs.PlacedLaws.{at_columns}
 use Rattle.desk_core.specs.Kept.{kept_desktop}
 use Rattle.desk_core.proofs.desk.Desk.open_at.Goals as goal
 

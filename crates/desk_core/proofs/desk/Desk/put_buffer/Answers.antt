@@ -2,9 +2,9 @@ use Rattle.std.proofs.Common.{rules, ◌++◌, ◌∙◌, List, ap, sym}
 use Rattle.piece_ring.specs.declared.piece.Piece.{Piece}
 use Rattle.piece_ring.specs.Flat.{flat}
 use Rattle.desktop_definitions.specs.Seen.{seen, seen_text}
-use Rattle.desktop_laws.proofs.RowLaws.{known_no_caret, over_built}
-use Rattle.desktop_laws.specs.DeskWords.{has_space}
-use Rattle.desktop_laws.proofs.SearchLaws.{put_none, put_full, put_answered}
+use Rattle.desktop_definitions.proofs.RowLaws.{known_no_caret, over_built}
+use Rattle.desktop_definitions.specs.DeskWords.{has_space}
+use Rattle.desktop_definitions.proofs.SearchLaws.{put_none, put_full, put_answered}
 use Rattle.desk_core.specs.Kept.{kept_desktop}
 use Rattle.desk_core.proofs.StretchLemmas.{refused_effect, buffer_goes}
 use Rattle.desk_core.proofs.BufferLemmas.{buffer_seen}

@@ -1,11 +1,11 @@
 use Rattle.std.proofs.Common.{ℕ, IsSome, subst, sym}
 use Rattle.viewer_tracks.specs.Columns.{IsOnTop}
 use Rattle.desktop_definitions.specs.Tables.{text_numbered}
-use Rattle.desktop_laws.proofs.RowLaws.{main_kept}
-use Rattle.desktop_laws.proofs.RowPartLaws.{put_in_changed}
-use Rattle.desktop_laws.proofs.KeyLaws.{room_after}
+use Rattle.desktop_definitions.proofs.RowLaws.{main_kept}
+use Rattle.desktop_definitions.proofs.RowPartLaws.{put_in_changed}
+use Rattle.desktop_definitions.proofs.KeyLaws.{room_after}
 use Rattle.desk_core.specs.Kept.{kept_desktop}
-use Rattle.desktop_laws.proofs.PlaceLaws.{on_top_placed}
+use Rattle.desktop_definitions.proofs.PlaceLaws.{on_top_placed}
 use Rattle.desk_core.proofs.desk.Desk.put_in.Goals as goal
 
 pub insert-requires-clause-there : goal.insert-requires-clause-there

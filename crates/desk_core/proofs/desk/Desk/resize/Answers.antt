@@ -2,7 +2,7 @@ use Rattle.std.specs.Prelude.{⊤}
 use Rattle.std.proofs.Common.{rules, ◌+◌, subst, arith}
 use Rattle.viewer_tracks.specs.Columns.{IsColumns}
 use Rattle.desktop_definitions.specs.Gesture.{resized}
-use Rattle.desktop_laws.proofs.PlacedLaws.{over_columns, resized_answered}
+use Rattle.desktop_definitions.proofs.PlacedLaws.{over_columns, resized_answered}
 use Rattle.desk_core.specs.Kept.{kept_desktop}
 use Rattle.desk_core.proofs.ArmLemmas.{answered_there}
 use Rattle.desk_core.proofs.UnreadLemmas.{over_all}

@@ -1,4 +1,4 @@
-use Rattle.desktop_laws.proofs.LogLaws.{showing_put}
+use Rattle.desktop_definitions.proofs.LogLaws.{showing_put}
 use Rattle.desk_core.specs.Kept.{kept_desktop}
 use Rattle.desk_core.proofs.TextLemmas.{movable}
 use Rattle.desk_core.proofs.desk.Desk.show.Goals as goal

@@ -5,7 +5,7 @@ use Rattle.desktop_definitions.specs.Tables.{text_numbered}
 use Rattle.desktop_definitions.specs.Viewers.{text_in}
 use Rattle.desktop_definitions.specs.Call.{text_called}
 use Rattle.desk_core.specs.Kept.{kept_desktop}
-use Rattle.desktop_laws.proofs.PlaceLaws.{on_top_placed}
+use Rattle.desktop_definitions.proofs.PlaceLaws.{on_top_placed}
 use Rattle.desk_core.proofs.ViewLemmas.{menu_there, main_there}
 use Rattle.desk_core.proofs.desk.Desk.text_called.Goals as goal
 

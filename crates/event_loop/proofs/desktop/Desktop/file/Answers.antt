@@ -1,6 +1,6 @@
 use Rattle.std.proofs.Common.{◌∙◌, ap}
 use Rattle.desktop_definitions.specs.Desktop.{KeptDesktop, file_of}
-use Rattle.desktop_laws.proofs.SeenLaws.{found_among, found_over}
+use Rattle.desktop_definitions.proofs.SeenLaws.{found_among, found_over}
 use Rattle.event_loop.proofs.desktop.Desktop.file.Goals as goal
 
 pub returns-clause-kept : goal.returns-clause-kept

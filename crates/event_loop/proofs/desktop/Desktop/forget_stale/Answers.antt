@@ -2,9 +2,9 @@ use Rattle.std.proofs.Common.{◌≡◌, ap, subst, sym, take, ◌∙◌}
 use Rattle.desktop_definitions.specs.Seen.{seen}
 use Rattle.desktop_definitions.specs.Step.{step_in}
 use Rattle.desktop_definitions.specs.Viewers.{text_of}
-use Rattle.stale_texts.specs.Stale.{is_stale, stale_from, stale_of}
-use Rattle.stale_texts.proofs.Front.{fronts_stay, from_seen}
-use Rattle.stale_texts.proofs.Kept.{others_stay, stale_seen}
+use Rattle.desk_input.specs.Stale.{is_stale, stale_from, stale_of}
+use Rattle.desk_input.proofs.Front.{fronts_stay, from_seen}
+use Rattle.desk_input.proofs.Kept.{others_stay, stale_seen}
 use Rattle.event_loop.proofs.desktop.Desktop.forget_stale.Goals as goal
 
 pub returns : goal.returns

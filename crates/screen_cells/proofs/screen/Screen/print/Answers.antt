@@ -1,6 +1,6 @@
 use Rattle.std.proofs.Common.{refl, []}
 use Rattle.std.proofs.KnownBytes.{Keeps-refl}
-use Rattle.output_bytes.proofs.Taking.{front_part, front_sent, taken_all, taken_part, whole_sent}
+use Rattle.byte_streams.proofs.Taking.{front_part, front_sent, taken_all, taken_part, whole_sent}
 use Rattle.screen_cells.proofs.Printing.{nothing_taken, characters_taken, word_taken, marks_taken}
 use Rattle.screen_cells.proofs.screen.Screen.print.Goals as goal
 

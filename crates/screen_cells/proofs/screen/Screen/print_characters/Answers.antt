@@ -3,7 +3,7 @@ use Rattle.std.specs.List.{flat_map}
 use Rattle.std.proofs.KnownBytes.{Keeps-refl}
 use Rattle.screen_pictures.specs.Screen.{row_at}
 use Rattle.screen_pictures.specs.Printed.{character_line}
-use Rattle.output_bytes.proofs.Taking.{front_sent, taken_all}
+use Rattle.byte_streams.proofs.Taking.{front_sent, taken_all}
 use Rattle.screen_cells.proofs.Rows.{line_taken, line_front, no_rows}
 use Rattle.screen_cells.proofs.screen.Screen.print_characters.Goals as goal
 

@@ -1,7 +1,7 @@
 use Rattle.std.specs.List.{flat_map}
 use Rattle.screen_pictures.specs.Screen.{row_at}
 use Rattle.screen_pictures.specs.Printed.{character_line, character_lines, down_from}
-use Rattle.output_bytes.proofs.Taking.{HasTaken}
+use Rattle.byte_streams.proofs.Taking.{HasTaken}
 use Rattle.screen_cells.proofs.screen.Screen.print_characters.Given as goal
 
 abbrev pub invariant-loop-y : goal.invariant-loop-y

@@ -4,7 +4,7 @@ use Rattle.std.specs.List.{flat_map}
 use Rattle.std.proofs.KnownBytes.{Keeps-refl}
 use Rattle.screen_pictures.specs.Screen.{row_at}
 use Rattle.screen_pictures.specs.Printed.{mark_line, has_mark_line}
-use Rattle.output_bytes.proofs.Taking.{front_sent, taken_all}
+use Rattle.byte_streams.proofs.Taking.{front_sent, taken_all}
 use Rattle.screen_cells.proofs.Rows.{passing_taken, passing_front, no_line, no_rows}
 use Rattle.screen_cells.proofs.screen.Screen.print_marks.Goals as goal
 

@@ -2,7 +2,7 @@ use Rattle.std.specs.List.{flat_map}
 use Rattle.std.specs.Prelude.{filter}
 use Rattle.screen_pictures.specs.Screen.{row_at}
 use Rattle.screen_pictures.specs.Printed.{mark_line, mark_lines, has_mark_line, down_from}
-use Rattle.output_bytes.proofs.Taking.{HasTaken}
+use Rattle.byte_streams.proofs.Taking.{HasTaken}
 use Rattle.screen_cells.proofs.screen.Screen.print_marks.Given as goal
 
 abbrev pub invariant-loop-y : goal.invariant-loop-y

@@ -1,5 +1,5 @@
 use Rattle.std.proofs.Common.{arith}
-use Rattle.output_bytes.proofs.Taking.{on_err}
+use Rattle.byte_streams.proofs.Taking.{on_err}
 use Rattle.terminal_painting.proofs.Leading.{begin_front, end_front, painted, rows_front}
 use Rattle.terminal_painting.proofs.painter.Painter.paint.Goals as goal
 

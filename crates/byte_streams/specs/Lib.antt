@@ -1,0 +1,3 @@
+pub mod Counting
+pub mod Digits
+pub mod Sent

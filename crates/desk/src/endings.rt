@@ -1,0 +1,57 @@
+//! How sittings end, in sentences.
+
+use desk_sitting::SittingEnd;
+use std::io;
+
+/// Says how a sitting over a store in a file ended, where the person didn't leave, and returns the status.
+pub(crate) fn kept(rt: &HostRuntime, path: &str, ending: SittingEnd) -> u8 {
+    let _ = say_kept(rt, path, ending);
+    match ending {
+        SittingEnd::Left | SittingEnd::Closed => 0,
+        SittingEnd::Input | SittingEnd::TooLong | SittingEnd::Output | SittingEnd::Fault => 4,
+        SittingEnd::Memory => 5,
+    }
+}
+
+/// The sentence.
+fn say_kept(rt: &HostRuntime, path: &str, ending: SittingEnd) -> io::Result<()> {
+    if matches!(ending, SittingEnd::Fault) {
+        return eprintln!(rt;
+            "desk: reading or writing {path:?} failed; what was shown had been written to it"
+        );
+    }
+    match failure(ending) {
+        None => Ok(()),
+        Some(what) => eprintln!(rt; "desk: {what}; what was shown is in the store"),
+    }
+}
+
+/// Says how a sitting over a store in memory ended, where the person didn't leave, and returns the status. A disk in
+/// memory fails for want of memory alone.
+pub(crate) fn lost(rt: &HostRuntime, ending: SittingEnd) -> u8 {
+    let _ = say_lost(rt, ending);
+    match ending {
+        SittingEnd::Left | SittingEnd::Closed => 0,
+        SittingEnd::Input | SittingEnd::TooLong | SittingEnd::Output => 4,
+        SittingEnd::Fault | SittingEnd::Memory => 5,
+    }
+}
+
+/// The sentence.
+fn say_lost(rt: &HostRuntime, ending: SittingEnd) -> io::Result<()> {
+    match failure(ending) {
+        None => Ok(()),
+        Some(what) => eprintln!(rt; "desk: {what}; the desktop in memory is gone"),
+    }
+}
+
+/// What failed, but for a disk in a file. None where the person left or nothing more can be heard.
+fn failure(ending: SittingEnd) -> Option<&'static str> {
+    match ending {
+        SittingEnd::Left | SittingEnd::Closed => None,
+        SittingEnd::Input => Some("the keyboard failed"),
+        SittingEnd::TooLong => Some("there were more turns than can be counted"),
+        SittingEnd::Output => Some("the terminal took no more"),
+        SittingEnd::Fault | SittingEnd::Memory => Some("there was not enough memory"),
+    }
+}

@@ -1,0 +1,135 @@
+//! What a run of the program `desk` does: its arguments say what (`orders`), and it is done over a store (the crates
+//! `desk_stores` and `desk_documents`). A person who sits down is served by `serve` of `desk_sitting` (`sitting`).
+
+use crate::orders::{Export, Import, Order, order_of};
+use crate::sitting::{sit_at, sit_in_memory};
+use desk_documents::{
+    Manner, Putting, Stop, backup, check, earlier, events_back, export_all, export_names, import,
+    list, list_json,
+};
+use desk_sitting::Saying;
+use desk_stores::{Trouble, picture};
+use host_files::hold_streams;
+use program_arguments::{Refusal, words};
+
+/// Does what the arguments of the program ask for, and returns the status: 0 when done, 1 where a document is refused,
+/// 2 for other arguments, 3 where the file holds no store or a damaged one, 4 where there is no file, the host refuses
+/// it, or the disk, the input or the output failed, and 5 for want of memory.
+pub fn run(rt: &HostRuntime) -> u8 {
+    // No file takes the place of a standard stream that is closed.
+    match hold_streams(rt) {
+        Ok(_held) => begin(rt),
+        Err(fault) => Trouble::Host(fault).say(rt, "/dev/null"),
+    }
+}
+
+/// Does what the arguments ask for, where each standard stream has its place.
+fn begin(rt: &HostRuntime) -> u8 {
+    let words = match words(rt) {
+        Ok(words) => words,
+        Err(refusal) => return decline(rt, refusal),
+    };
+    match order_of(rt.alloc(), words.as_slice()) {
+        Ok(order) => follow(rt, &order),
+        Err(refusal) => decline(rt, refusal),
+    }
+}
+
+/// Says why the arguments weren't taken, and returns the status.
+fn decline(rt: &HostRuntime, refusal: Refusal) -> u8 {
+    match refusal {
+        Refusal::Memory => Trouble::Memory.say(rt, ""),
+        Refusal::Usage => {
+            let _ = eprintln!(rt;
+                "desk: usage: sit [--unproved] ROWS [PATH] | picture PATH | import PATH FILE.. | export PATH NAME.. | list PATH | backup PATH COPY | check PATH | history PATH | earlier PATH K COPY, in UTF-8"
+            );
+            2
+        }
+    }
+}
+
+/// Does what is ordered, and returns the status. What goes wrong is said.
+fn follow(rt: &HostRuntime, order: &Order<'_>) -> u8 {
+    match order {
+        Order::Sit {
+            rows,
+            path: None,
+            ..
+        } => sit_in_memory(rt, *rows),
+        Order::Sit {
+            rows,
+            unproved,
+            path: Some(path),
+        } => sit_at(rt, *rows, path, greeting(*unproved)),
+        Order::Picture(path) => told(rt, path, picture(rt, path)),
+        other => follow_over_documents(rt, other),
+    }
+}
+
+/// The same for an order about the documents of a store.
+fn follow_over_documents(rt: &HostRuntime, order: &Order<'_>) -> u8 {
+    match order {
+        Order::Export(order) => done(rt, order.path, put_out(rt, order)),
+        Order::Import(order) => done(rt, order.path, take_in(rt, order)),
+        Order::List { path, json: false } => done(rt, path, list(rt, path)),
+        Order::List { path, json: true } => done(rt, path, list_json(rt, path)),
+        Order::Backup { path, copy } => done(rt, path, backup(rt, path, copy)),
+        Order::Check(path) => done(rt, path, check(rt, path)),
+        Order::History(path) => done(rt, path, events_back(rt, path)),
+        Order::Earlier { path, count, copy } => done(rt, path, earlier(rt, path, *count, copy)),
+        _ => 0,
+    }
+}
+
+/// Puts documents out.
+fn put_out(rt: &HostRuntime, order: &Export<'_>) -> Result<(), Stop> {
+    match order.all {
+        None => export_names(rt, order.path, order.names.as_slice(), order.join),
+        Some(folder) => export_all(
+            rt,
+            order.path,
+            folder,
+            Putting {
+                replace: order.replace,
+                is_joined: order.join,
+            },
+        ),
+    }
+}
+
+/// Takes documents in.
+fn take_in(rt: &HostRuntime, order: &Import<'_>) -> Result<(), Stop> {
+    let manner = Manner {
+        replace: order.replace,
+        dry_run: order.dry_run,
+        ascii: order.ascii,
+        fill: order.fill.map(usize::from),
+        collect: order.collect,
+    };
+    import(rt, order.path, order.words.as_slice(), manner)
+}
+
+/// Says why an order was not done, if it wasn't, and returns the status.
+fn done(rt: &HostRuntime, path: &str, outcome: Result<(), Stop>) -> u8 {
+    match outcome {
+        Ok(()) => 0,
+        Err(stop) => stop.say(rt, path),
+    }
+}
+
+/// How a sitting over a store in a file begins.
+fn greeting(unproved: bool) -> Saying {
+    if unproved {
+        Saying::Unproved
+    } else {
+        Saying::Greeting
+    }
+}
+
+/// Says what went wrong, if anything did, and returns the status.
+fn told(rt: &HostRuntime, path: &str, done: Result<(), Trouble>) -> u8 {
+    match done {
+        Ok(()) => 0,
+        Err(trouble) => trouble.say(rt, path),
+    }
+}

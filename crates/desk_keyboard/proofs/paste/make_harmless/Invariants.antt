@@ -1,7 +1,0 @@
-use Rattle.std.proofs.Common.{◌≡◌, length}
-use Rattle.desk_keyboard.specs.HostPastes.{harmless}
-use Rattle.desk_keyboard.proofs.Places.{changed_to}
-use Rattle.desk_keyboard.proofs.paste.make_harmless.Given as goal
-
-abbrev pub invariant-loop-i : goal.invariant-loop-i
-invariant-loop-i l = (length l.text ≡ length l.fn.text) × (l.text ≡ changed_to harmless l.i l.fn.text)

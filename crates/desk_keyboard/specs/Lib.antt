@@ -1,2 +1,0 @@
-pub mod HostPastes
-pub mod Bringing

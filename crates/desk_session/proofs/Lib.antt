@@ -1,4 +1,0 @@
-pub mod Surviving
-pub mod Turning
-pub mod Whole
-pub mod Between

@@ -1,0 +1,45 @@
+-- A turn in which nothing is shown and heard.
+use Rattle.std.proofs.Common.{◌≡◌, Ok, Err, refl, sym, subst}
+use Rattle.std.specs.Prelude.{Result}
+use Rattle.sector_disk.specs.declared.disk.Disk.{Ghosts}
+use Rattle.desk_journal.specs.Errors.{Error}
+use Rattle.desk_sitting.specs.Travels.{Travels}
+use Rattle.desk_sitting.specs.declared.ending.SittingEnd.{SittingEnd}
+use Rattle.desk_sitting.specs.Endings.{sitting_end_of}
+use Rattle.desk_sitting.specs.Serving.{TurnState}
+use Rattle.desk_sitting.specs.Travelling.{IsStill, TakesBetween}
+use Rattle.desk_sitting.proofs.Turning.{calm_presses, counts_presses, unusable}
+
+module _ {D : Type 0} (d : Ghosts D) (old new : TurnState D) (still : IsStill d old new) where
+  pub between : {T U : Type 0} (value : T) (x : U)
+      → Travels d (Ok x) old.sitting new.sitting old.store new.store → TakesBetween d (Ok value) old new
+  between value x travels = record {
+    goes_on = λ honest durable. record {
+      travelled = travels.done honest durable;
+      device = travels.device;
+      still = still;
+    };
+    stops = tt;
+    usable = travels.usable;
+    still_usable = tt;
+    counts = calm_presses x (d.failures old.store.disk) (d.failures old.store.disk) (d.failures new.store.disk) refl
+        travels.faults;
+    device = travels.device;
+  }
+
+  pub broken_off : {T U : Type 0} (result : Result T SittingEnd) (error : Error) → result ≡ Err (sitting_end_of error)
+      → Travels d {T = U} (Err error) old.sitting new.sitting old.store new.store → TakesBetween d result old new
+  broken_off result error is travels = subst (λ r. TakesBetween d r old new) (sym is) (record {
+    goes_on = tt;
+    stops = λ honest durable. record {
+      error = error;
+      ends = refl;
+      stuck = travels.stuck honest durable;
+      still = still;
+    };
+    usable = tt;
+    still_usable = unusable error new.store travels.faults.errors;
+    counts = counts_presses error (d.failures old.store.disk) (d.failures old.store.disk) (d.failures new.store.disk)
+        refl travels.faults;
+    device = travels.device;
+  })

@@ -1,0 +1,261 @@
+-- What a turn comes to, outcome by outcome.
+use Rattle.std.proofs.Common.{◌≡◌, ◌∙◌, ℕ, ◌<◌, List, [], ◌++◌, Option, Ok, Err, ap, sym, subst, inl, inr}
+use Rattle.std.proofs.Common.{append-nil, refl, true, false}
+use Rattle.std.specs.Prelude.{Result, OnErr, IfErr}
+use Rattle.byte_streams.specs.Sent.{AppendsFront}
+use Rattle.sector_disk.specs.declared.disk.Disk.{Ghosts}
+use Rattle.sector_disk.proofs.Touching.{at_last}
+use Rattle.event_bytes.specs.declared.event.Event.{Event}
+use Rattle.screen_pictures.specs.declared.cell.Cell.{Cell}
+use Rattle.store_layout.specs.Meaning.{Shows}
+use Rattle.terminal_painting.specs.declared.face.Face.{Face}
+use Rattle.sector_disk.specs.Faults.{FailsAs}
+use Rattle.terminal_keyboard.specs.declared.keyboard.KeyboardEnd.{KeyboardEnd}
+use Rattle.terminal_keyboard.specs.declared.keyboard.KeyboardEnd.TheVariants as keyboard
+use Rattle.terminal_presses.specs.declared.press.Heard.{Heard}
+use Rattle.terminal_presses.specs.Presses.{parser_after, presses_heard}
+use Rattle.desk_journal.specs.Device.{IsOnlyRead, IsSameDevice}
+use Rattle.desk_journal.specs.Errors.{Error, NotAStore, Damaged, TooSmall, Worn, NoMemory, MustReopen}
+use Rattle.desk_journal.specs.Errors.{Fault as DiskFault}
+use Rattle.desk_journal.specs.Looking.{OnlyLooks}
+use Rattle.desk_journal.specs.Session.{Session, session_of}
+use Rattle.desk_journal.specs.View.{StoreView, IsDurable}
+use Rattle.desk_sitting.specs.declared.sitting.Sitting.{Sitting}
+use Rattle.desk_sitting.specs.Doing.{Breaks, DoesPresses, OfPresses, seat_of}
+use Rattle.desk_sitting.specs.Sittings.{accepted_events, accepted_of, looked}
+use Rattle.desk_sitting.specs.declared.ending.SittingEnd.{SittingEnd}
+use Rattle.desk_sitting.specs.declared.ending.SittingEnd.TheVariants.{Left, Closed, Input, TooLong, Output, Fault, Memory}
+use Rattle.desk_sitting.specs.Endings.{EndsBy, IsOfNoKeyboard, sitting_end_of, end_of_keyboard}
+use Rattle.desk_sitting.specs.Scenes.{IsScenePainted, IsSceneShown, IsUnshown, after_scene, behind_it, known_by}
+use Rattle.desk_sitting.specs.Serving.{TurnState, IsFetched, IsLookedAt, HearsAfterScene, IsDeaf, Broke}
+use Rattle.desk_sitting.specs.Serving.{HasTurned, HasStopped, TakesTurn, CountsEnding, IsUsableAt, store_screen, sitting_shown}
+use Rattle.desk_sitting.specs.Serving.{left, closed}
+use Rattle.desk_sitting.specs.Serving.{unheard, unseen, faulty, starved, faulty_press, starved_press}
+
+-- ---- a scene
+
+module _ {D : Type 0} (d : Ghosts D) where
+  -- what was only read leaves what it left
+  pub still_durable : (old new : StoreView D) → IsOnlyRead d old.disk new.disk → session_of new ≡ session_of old
+      → IsDurable d old → IsDurable d new
+  still_durable old new read same durable honest c image =
+      let before = read.device.already honest in
+      let was = durable before c (at_last (read.unwritten before) c image) in
+      let all : (n : ℕ) (s : Session) → d.size old.disk ≡ n → session_of old ≡ s
+      → Shows n s.layout s.epoch s.events s.desktop c
+      = λ n s large is. subst (λ (k : ℕ). Shows k s.layout s.epoch s.events s.desktop c) large
+      (subst (λ (t : Session). Shows (d.size old.disk) t.layout t.epoch t.events t.desktop c) is was) in
+      all (d.size new.disk) (session_of new) (sym read.device.as_large) (sym same)
+
+  -- a look
+  pub looked_at : {T : Type 0} (result : Result T Error) (old new : StoreView D) → OnlyLooks d result old new
+      → d.honest old.disk → IsDurable d old → IsLookedAt d old new
+  looked_at result old new looks honest durable =
+      let same : session_of new ≡ session_of old = cc (looks.desktop honest) in
+      record {
+        session = same;
+        disk = looks.disk;
+        durable = still_durable old new looks.disk same durable;
+      }
+
+-- the output fails behind the scene
+module _ (s s' : Sitting) (screen screen' : List (List Cell)) (known known' : List (List Face))
+    (held between held' : Option (List ℕ)) {H : Type 0} where
+  pub cut_behind : {T : Type 0} (result : Result T SittingEnd) → s' ≡ looked screen' s → (H → screen' ≡ screen)
+      → IsScenePainted s' screen' (known_by s.forgets known) known' held between
+      → OnErr result (AppendsFront between held' (after_scene s.rings s.asks))
+      → IfErr result (λ end. end ≡ Output) → IfErr result (λ end. H → IsUnshown end s screen known held held')
+  cut_behind (Ok value) looks shows painted front is = tt
+  cut_behind (Err end) looks shows painted front is = λ h.
+      subst (λ e. IsUnshown e s screen known held held') (sym is) (behind_it
+      (subst (λ x. IsScenePainted (looked x s) x (known_by s.forgets known) known' held between) (shows h)
+      (subst (λ t. IsScenePainted t screen' (known_by s.forgets known) known' held between) looks painted)) front)
+
+-- ---- failures
+
+pub calm_keyboard : (why : KeyboardEnd) (failed failed' : ℕ) → failed' ≡ failed
+    → CountsEnding (end_of_keyboard why) failed failed'
+calm_keyboard keyboard.Closed failed failed' same = same
+calm_keyboard keyboard.Fault failed failed' same = same
+
+pub counts_presses : {T : Type 0} (error : Error) (first failed failed' : ℕ) → failed ≡ first
+    → FailsAs {T = T} DiskFault OfPresses (Err error) failed failed' → CountsEnding (sitting_end_of error) first failed'
+counts_presses error first failed failed' same fails = elim fails.errors [
+  | inl is ↦ subst (λ e. CountsEnding (sitting_end_of e) first failed') (sym is) (fails.calm (λ wrong. cc) ∙ same)
+  | inr is ↦ subst (λ e. CountsEnding (sitting_end_of e) first failed') (sym is)
+      (subst (λ n. n < failed') same (fails.rose (ap (λ e. Err e) is)))
+]
+
+pub calm_presses : {T : Type 0} (value : T) (first failed failed' : ℕ) → failed ≡ first
+    → FailsAs DiskFault OfPresses (Ok value) failed failed' → failed' ≡ first
+calm_presses value first failed failed' same fails = fails.calm (λ wrong. cc) ∙ same
+
+-- after a press that fails nothing is promised of the store
+pub unusable : {D : Type 0} (error : Error) (store : StoreView D) → OfPresses error → IsUsableAt (sitting_end_of error) store
+unusable error store why = elim why [
+  | inl is ↦ subst (λ e. IsUsableAt (sitting_end_of e) store) (sym is) (λ _ wrong. absurd (wrong refl))
+  | inr is ↦ subst (λ e. IsUsableAt (sitting_end_of e) store) (sym is) (λ wrong _. absurd (wrong refl))
+]
+
+-- ---- what the keyboard is the cause of
+
+pub not_of_keyboard : (ended : KeyboardEnd → Type 0) (end : SittingEnd) → IsOfNoKeyboard end → EndsBy ended end
+not_of_keyboard ended Left is = tt
+not_of_keyboard ended Closed is = absurd is
+not_of_keyboard ended Input is = absurd is
+not_of_keyboard ended TooLong is = tt
+not_of_keyboard ended Output is = tt
+not_of_keyboard ended Fault is = tt
+not_of_keyboard ended Memory is = tt
+
+pub store_no_keyboard : (error : Error) → IsOfNoKeyboard (sitting_end_of error)
+store_no_keyboard NotAStore = tt
+store_no_keyboard (Damaged sector) = tt
+store_no_keyboard TooSmall = tt
+store_no_keyboard Worn = tt
+store_no_keyboard DiskFault = tt
+store_no_keyboard NoMemory = tt
+store_no_keyboard MustReopen = tt
+
+pub of_keyboard : (ended : KeyboardEnd → Type 0) (why : KeyboardEnd) → ended why → EndsBy ended (end_of_keyboard why)
+of_keyboard ended keyboard.Closed is = is
+of_keyboard ended keyboard.Fault is = is
+
+-- ---- a turn
+
+module _ {D : Type 0} (d : Ghosts D) where
+  pub same_device : (old mid new : D) → IsSameDevice d old mid → IsSameDevice d mid new → IsSameDevice d old new
+  same_device old mid new first second = record {
+    as_large = second.as_large ∙ first.as_large;
+    still = λ honest. second.still (first.still honest);
+    already = λ honest. first.already (second.already honest);
+  }
+
+  -- a turn in which the sitting ends
+  ended : {T : Type 0} (result : Result T SittingEnd) (end : SittingEnd) (old new : TurnState D) → result ≡ Err end
+      → (d.honest old.store.disk → IsDurable d old.store → HasStopped d end old new) → IsUsableAt end new.store
+      → CountsEnding end (d.failures old.store.disk) (d.failures new.store.disk)
+      → IsSameDevice d old.store.disk new.store.disk → TakesTurn d result old new
+  ended result end old new is stops usable counts device = subst (λ r. TakesTurn d r old new) (sym is) (record {
+    goes_on = tt;
+    stays = tt;
+    stops = stops;
+    usable = tt;
+    still_usable = usable;
+    counts = counts;
+    device = device;
+  })
+
+  -- the scene isn't shown
+  unshown_stops : (end : SittingEnd) (old new : TurnState D) → IsLookedAt d old.store new.store → new.heard ≡ old.heard
+      → IsUnshown end old.sitting (store_screen old.store) old.known old.held new.held → HasStopped d end old new
+  unshown_stops Left old new looks heard why = absurd why
+  unshown_stops Closed old new looks heard why = absurd why
+  unshown_stops Input old new looks heard why = absurd why
+  unshown_stops TooLong old new looks heard why = absurd why
+  unshown_stops Output old new looks heard why = ([], [], unseen (record { looked = looks; cut = why; heard = heard }))
+  unshown_stops Fault old new looks heard why = ([], [], faulty (record { looked = looks; held = why; heard = heard }))
+  unshown_stops Memory old new looks heard why =
+      ([], [], starved (record { looked = looks; held = why; heard = heard }))
+
+  pub unshown_ends : {T : Type 0} {old new : TurnState D} (result : Result T SittingEnd) (end : SittingEnd)
+      → result ≡ Err end → (d.honest old.store.disk → IsDurable d old.store → IsLookedAt d old.store new.store)
+      → (d.honest old.store.disk → IsUnshown end old.sitting (store_screen old.store) old.known old.held new.held)
+      → new.heard ≡ old.heard → new.store.must_reopen ≡ false
+      → CountsEnding end (d.failures old.store.disk) (d.failures new.store.disk)
+      → IsSameDevice d old.store.disk new.store.disk → TakesTurn d result old new
+  unshown_ends {old = old} {new = new} result end is looks why heard usable = ended result end old new is
+      (λ honest durable. unshown_stops end old new (looks honest durable) heard (why honest)) (λ _ _. usable)
+
+  -- nothing is heard
+  deaf_stops : (why : KeyboardEnd) (old new : TurnState D) → IsDeaf d old new
+      → HasStopped d (end_of_keyboard why) old new
+  deaf_stops keyboard.Closed old new deaf = ([], [], closed deaf)
+  deaf_stops keyboard.Fault old new deaf = ([], [], unheard deaf)
+
+  pub deaf_ends : {T : Type 0} {old new : TurnState D} (result : Result T SittingEnd) (why : KeyboardEnd)
+      → result ≡ Err (end_of_keyboard why)
+      → (d.honest old.store.disk → IsDurable d old.store → IsLookedAt d old.store new.store)
+      → (d.honest old.store.disk
+      → IsSceneShown old.sitting (store_screen old.store) old.known new.known old.held new.held)
+      → new.heard ≡ old.heard → new.store.must_reopen ≡ false
+      → d.failures new.store.disk ≡ d.failures old.store.disk
+      → IsSameDevice d old.store.disk new.store.disk → TakesTurn d result old new
+  deaf_ends {old = old} {new = new} result why is looks shown heard usable calm =
+      ended result (end_of_keyboard why) old new is
+      (λ honest durable. deaf_stops why old new (record {
+        looked = looks honest durable;
+        shown = shown honest;
+        heard = heard ∙ sym (append-nil old.heard);
+      })) (λ _ _. usable) (calm_keyboard why (d.failures old.store.disk) (d.failures new.store.disk) calm)
+
+  -- a scene is shown, after which the store and the sitting are these, and this is heard
+  module _ {old new : TurnState D} (mid : StoreView D) (s : Sitting) (hearing : List Heard)
+      (looks : d.honest old.store.disk → IsDurable d old.store → IsLookedAt d old.store mid)
+      (sees : d.honest old.store.disk → s ≡ sitting_shown old)
+      (shown : d.honest old.store.disk
+      → IsSceneShown old.sitting (store_screen old.store) old.known new.known old.held new.held)
+      (heard : new.heard ≡ old.heard ++ hearing) where
+    scene : d.honest old.store.disk → IsDurable d old.store → HearsAfterScene d hearing old mid new
+    scene honest durable = record { looked = looks honest durable; shown = shown honest; heard = heard }
+
+    pub turned : (s' : Sitting) → new.parser ≡ parser_after old.parser hearing
+        → (d.honest mid.disk → IsDurable d mid → DoesPresses d (presses_heard old.parser hearing) s s' mid new.store)
+        → IsFetched s' new.sitting → d.honest old.store.disk → IsDurable d old.store → HasTurned d old new
+    turned s' parser does brings honest durable = (
+      accepted_events (presses_heard old.parser hearing) (seat_of (sitting_shown old) mid),
+      record {
+        hearing = hearing;
+        mid = mid;
+        scene = scene honest durable;
+        parser = parser;
+        sitting = s';
+        does = subst (λ t. DoesPresses d (presses_heard old.parser hearing) t s' mid new.store) (sees honest)
+            (does ((looks honest durable).disk.device.still honest) (looks honest durable).durable);
+        are = refl;
+        brings = brings;
+      },
+    )
+
+    -- a press fails
+    broken : (error : Error) → OfPresses error
+        → (d.honest mid.disk → IsDurable d mid → Breaks d error (presses_heard old.parser hearing) s mid new.store)
+        → d.honest old.store.disk → IsDurable d old.store → HasStopped d (sitting_end_of error) old new
+    broken error why fails honest durable =
+        let breaks : Breaks d error (presses_heard old.parser hearing) (sitting_shown old) mid new.store =
+        subst (λ t. Breaks d error (presses_heard old.parser hearing) t mid new.store) (sees honest)
+        (fails ((looks honest durable).disk.device.still honest) (looks honest durable).durable) in
+        let events : List Event = accepted_events breaks.done (seat_of (sitting_shown old) mid) in
+        let begun : List Event = accepted_of breaks.press (seat_of breaks.sitting breaks.mid) in
+        let broke : Broke d error events begun old new = record {
+          hearing = hearing;
+          mid = mid;
+          scene = scene honest durable;
+          breaks = breaks;
+          are = refl;
+          fails = refl;
+        } in
+        elim why [
+          | inl is ↦ subst (λ e. HasStopped d (sitting_end_of e) old new) (sym is)
+              (events, [], starved_press (subst (λ e. Broke d e events begun old new) is broke))
+          | inr is ↦ subst (λ e. HasStopped d (sitting_end_of e) old new) (sym is)
+              (events, begun, faulty_press (subst (λ e. Broke d e events begun old new) is broke))
+        ]
+
+    pub broken_ends : {T : Type 0} (result : Result T SittingEnd) (error : Error) → result ≡ Err (sitting_end_of error)
+        → (d.honest mid.disk → IsDurable d mid → Breaks d error (presses_heard old.parser hearing) s mid new.store)
+        → d.failures mid.disk ≡ d.failures old.store.disk
+        → FailsAs {T = T} DiskFault OfPresses (Err error) (d.failures mid.disk) (d.failures new.store.disk)
+        → IsSameDevice d old.store.disk new.store.disk → TakesTurn d result old new
+    broken_ends result error is fails calm faults = ended result (sitting_end_of error) old new is
+        (broken error faults.errors fails) (unusable error new.store faults.errors)
+        (counts_presses error (d.failures old.store.disk) (d.failures mid.disk) (d.failures new.store.disk) calm faults)
+
+  -- the person leaves
+  pub left_stops : {old new : TurnState D} → HasTurned d old new → new.sitting.leaves ≡ true → HasStopped d Left old new
+  left_stops turn leaves = (turn.0, [], left turn.1 leaves)
+
+-- what is heard is what the keyboard told
+pub heard_so : {after told slice : List Heard} (heard : List Heard) → after ≡ heard ++ told → slice ≡ told
+    → after ≡ heard ++ slice
+heard_so heard grown same = grown ∙ ap (λ l. heard ++ l) (sym same)

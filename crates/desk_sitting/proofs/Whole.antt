@@ -1,0 +1,176 @@
+-- A sitting from its first turn to its end.
+use Rattle.std.proofs.Common.{◌≡◌, ◌∙◌, inl, inr, ◌+◌, ℕ, false, List, [], ◌++◌, Ok, Err, refl, subst, arith}
+use Rattle.sector_disk.specs.declared.disk.Disk.{Ghosts}
+use Rattle.event_bytes.specs.declared.event.Event.{Event}
+use Rattle.desk_journal.specs.Device.{IsSameDevice}
+use Rattle.desk_journal.specs.View.{IsDurable}
+use Rattle.desk_sitting.specs.declared.ending.SittingEnd.{SittingEnd}
+use Rattle.desk_sitting.specs.declared.ending.SittingEnd.TheVariants.{TooLong}
+use Rattle.desk_sitting.specs.declared.serving.TheConstants.{MOST_TURNS}
+use Rattle.desk_sitting.specs.Serving.{TurnState, IsTurnRun, Ends, TakesTurn, HasStopped, none, one_more}
+use Rattle.desk_sitting.specs.Serving.{stopped, too_long}
+use Rattle.desk_sitting.specs.Surviving.{TurnsSurvive, EndsSurvive}
+use Rattle.desk_sitting.specs.Sitting.{Comes, IsStretchOfTurns, Sits, TakesEitherTurn, here, again}
+use Rattle.desk_sitting.specs.Travelling.{TakesBetween}
+use Rattle.desk_sitting.proofs.Turning.{same_device}
+
+module _ {D : Type 0} (d : Ghosts D) where
+  -- so many turns have led to a place of a stretch
+  pub record HasRun (first : TurnState D) (count : ℕ) (place : TurnState D) : Type 0 where
+    pub before : ℕ
+    pub start : TurnState D
+    pub comes : Comes d first before start
+    pub within : ℕ
+    pub counts : before + within ≡ count
+    pub still : d.honest start.store.disk
+    pub started : IsDurable d start.store
+    pub events : List Event
+    pub run : IsTurnRun d start within events place
+
+  -- after so many turns
+  pub record HasCome (first : TurnState D) (count : ℕ) (place : TurnState D) : Type 0 where
+    pub run : d.honest first.store.disk → HasRun first count place
+    pub usable : place.store.must_reopen ≡ false
+    pub calm : d.failures place.store.disk ≡ d.failures first.store.disk
+    pub device : IsSameDevice d first.store.disk place.store.disk
+
+  pub come_none : {first : TurnState D} → IsDurable d first.store → first.store.must_reopen ≡ false
+      → HasCome first 0 first
+  come_none {first = first} durable usable = record {
+    run = λ honest. record {
+      before = 0;
+      start = first;
+      comes = here;
+      within = 0;
+      counts = refl;
+      still = honest;
+      started = durable;
+      events = [];
+      run = none;
+    };
+    usable = usable;
+    calm = refl;
+    device = record { as_large = refl; still = λ honest. honest; already = λ honest. honest };
+  }
+
+  module _ (turns : TurnsSurvive d) (ends : EndsSurvive d) {first : TurnState D} {count : ℕ} {place : TurnState D}
+      (come : HasCome first count place) where
+    stretch : (run : HasRun first count place) → IsStretchOfTurns d run.start run.within place
+    stretch run = record {
+      durable = run.started;
+      events = run.events;
+      run = run.run;
+      goes = turns run.within run.events run.start place run.run run.still run.started;
+    }
+
+    -- a turn more
+    turn_more : {T : Type 0} {new : TurnState D} (value : T) → TakesTurn d (Ok value) place new
+        → HasCome first (count + 1) new
+    turn_more {new = new} value turn = record {
+      run = λ honest.
+          let run = come.run honest in
+          let more = turn.goes_on (come.device.still honest) (stretch run).goes.durable in
+          record {
+            before = run.before;
+            start = run.start;
+            comes = run.comes;
+            within = run.within + 1;
+            counts = omega (arith, run.counts);
+            still = run.still;
+            started = run.started;
+            events = run.events ++ more.0;
+            run = one_more run.run more.1 turn.stays;
+          };
+      usable = turn.usable;
+      calm = turn.counts ∙ come.calm;
+      device = same_device d first.store.disk place.store.disk new.store.disk come.device turn.device;
+    }
+
+    -- what was asked for beside the presses
+    between_more : {T : Type 0} {new : TurnState D} (value : T) → TakesBetween d (Ok value) place new
+        → HasCome first (count + 1) new
+    between_more {new = new} value turn = record {
+      run = λ honest.
+          let run = come.run honest in
+          let between = turn.goes_on (come.device.still honest) (stretch run).goes.durable in
+          record {
+            before = run.before + run.within + 1;
+            start = new;
+            comes = again run.comes (stretch run) between;
+            within = 0;
+            counts = omega (arith, run.counts);
+            still = turn.device.still (come.device.still honest);
+            started = between.travelled.durable;
+            events = [];
+            run = none;
+          };
+      usable = turn.usable;
+      calm = turn.counts ∙ come.calm;
+      device = same_device d first.store.disk place.store.disk new.store.disk come.device turn.device;
+    }
+
+    pub come_more : {T : Type 0} {new : TurnState D} (value : T) → TakesEitherTurn d (Ok value) place new
+        → HasCome first (count + 1) new
+    come_more value (inl turn) = turn_more value turn
+    come_more value (inr turn) = between_more value turn
+
+    sat_with : (end : SittingEnd) (more begun : List Event) (last : TurnState D) (run : HasRun first count place)
+        → Ends d end (run.before + run.within) more begun place last
+        → Sits d end first last.store last.heard last.held
+    sat_with end more begun last run why = record {
+      before = run.before;
+      start = run.start;
+      comes = run.comes;
+      ends = inl (record {
+        durable = run.started;
+        count = run.within;
+        turned = run.events;
+        place = place;
+        run = run.run;
+        more = more;
+        begun = begun;
+        last = last;
+        ends = why;
+        stands = refl;
+        was_heard = refl;
+        holds = refl;
+        events = run.events ++ more;
+        are = refl;
+        survives = ends end run.within (run.before + run.within) run.events more begun run.start place last run.run why
+            run.still run.started;
+      });
+    }
+
+    -- a turn in which the sitting ends
+    pub sat_to_end : {T : Type 0} {last : TurnState D} (end : SittingEnd) → TakesEitherTurn d {T = T} (Err end) place last
+        → d.honest first.store.disk → Sits d end first last.store last.heard last.held
+    sat_to_end {last = last} end (inl turn) honest =
+        let run = come.run honest in
+        let why : HasStopped d end place last =
+        turn.stops (come.device.still honest) (stretch run).goes.durable in
+        sat_with end why.0 why.1 last run (stopped why.2)
+    sat_to_end {last = last} end (inr turn) honest =
+        let run = come.run honest in
+        record {
+          before = run.before;
+          start = run.start;
+          comes = run.comes;
+          ends = inr (record {
+            count = run.within;
+            place = place;
+            stretch = stretch run;
+            last = last;
+            broken = turn.stops (come.device.still honest) (stretch run).goes.durable;
+            stands = refl;
+            was_heard = refl;
+            holds = refl;
+          });
+        }
+
+    -- as many turns as there may be
+    pub sat_too_long : count ≡ MOST_TURNS → d.honest first.store.disk
+        → Sits d TooLong first place.store place.heard place.held
+    sat_too_long most honest =
+        let run = come.run honest in
+        sat_with TooLong [] [] place run
+        (subst (λ n. Ends d TooLong n [] [] place place) (omega (arith, most, run.counts)) too_long)

@@ -1,0 +1,83 @@
+use Rattle.std.proofs.Common.{◌∙◌, Err, ap, refl}
+use Rattle.std.proofs.lemmas.Result.{err_from_is_err_and}
+use Rattle.desk_sitting.proofs.Turning.{unshown_ends, deaf_ends, turned, broken_ends, left_stops, same_device}
+use Rattle.desk_sitting.proofs.Turning.{calm_presses, heard_so, not_of_keyboard, of_keyboard, store_no_keyboard}
+use Rattle.desk_sitting.proofs.serving.turn.Goals as goal
+
+pub returns-in_err-show-clause-turns : goal.returns-in_err-show-clause-turns
+returns-in_err-show-clause-turns g c =
+    let p = err_from_is_err_and c.from_residual.result c.from_residual.ensures.1 in
+    let scene = c.in_err-show.ensures in
+    unshown_ends g.D.Disk c.from_residual.result c.in_err-show.field-0.0 (p.1 ∙ ap (λ e. Err e) p.2) scene.looks
+    scene.unshown refl scene.usable scene.counts scene.device
+
+pub returns-in_err-hearing-clause-turns : goal.returns-in_err-hearing-clause-turns
+returns-in_err-hearing-clause-turns g c =
+    let p = err_from_is_err_and c.from_residual-in_err-hearing.result c.from_residual-in_err-hearing.ensures.1 in
+    let scene = c.in_ok-show.ensures in
+    deaf_ends g.D.Disk c.from_residual-in_err-hearing.result c.in_err-hearing.field-0.0 (p.1 ∙ ap (λ e. Err e) p.2)
+    scene.looks scene.shown c.in_err-hearing.ensures.silent scene.usable scene.counts scene.device
+
+pub returns-in_err-do_presses-clause-turns : goal.returns-in_err-do_presses-clause-turns
+returns-in_err-do_presses-clause-turns g c =
+    let p = err_from_is_err_and c.from_residual-in_err-do_presses.result c.from_residual-in_err-do_presses.ensures.1 in
+    let scene = c.in_ok-show.ensures in
+    let fails = c.in_err-do_presses.ensures in
+    broken_ends g.D.Disk c.show.new.store c.show.new.sitting c.as_slice.result.now scene.looks scene.sitting
+    scene.shown
+    (heard_so (g.K.Keyboard.heard c.args.keyboard.now) c.in_ok-hearing.ensures.told c.as_slice.ensures.heard)
+    c.from_residual-in_err-do_presses.result c.in_err-do_presses.field-0.0 (p.1 ∙ ap (λ e. Err e) p.2) fails.broke
+    scene.counts fails.faults (same_device g.D.Disk _ _ _ scene.device c.do_presses.ensures.device)
+
+pub returns-then-sitting-clause-turns : goal.returns-then-sitting-clause-turns
+returns-then-sitting-clause-turns g c =
+    let scene = c.in_ok-show.ensures in
+    let done = c.in_ok-do_presses.ensures in
+    record {
+      goes_on = tt;
+      stays = tt;
+      stops = λ honest durable. left_stops g.D.Disk
+          (turned g.D.Disk c.show.new.store c.show.new.sitting c.as_slice.result.now scene.looks scene.sitting
+          scene.shown (c.bring.ensures.silent
+          ∙ heard_so (g.K.Keyboard.heard c.args.keyboard.now) c.in_ok-hearing.ensures.told c.as_slice.ensures.heard)
+          c.do_presses.new.sitting done.parser done.done c.bring.ensures.brought honest durable) c.if-sitting.true;
+      usable = tt;
+      still_usable = λ _ _. done.usable;
+      counts = calm_presses tt _ _ _ scene.counts done.faults;
+      device = same_device g.D.Disk _ _ _ scene.device c.do_presses.ensures.device;
+    }
+
+pub returns-else-sitting-clause-turns : goal.returns-else-sitting-clause-turns
+returns-else-sitting-clause-turns g c =
+    let scene = c.in_ok-show.ensures in
+    let done = c.in_ok-do_presses.ensures in
+    record {
+      goes_on = turned g.D.Disk c.show.new.store c.show.new.sitting c.as_slice.result.now scene.looks scene.sitting
+          scene.shown (c.bring.ensures.silent
+          ∙ heard_so (g.K.Keyboard.heard c.args.keyboard.now) c.in_ok-hearing.ensures.told c.as_slice.ensures.heard)
+          c.do_presses.new.sitting done.parser done.done c.bring.ensures.brought;
+      stays = c.if-sitting.false;
+      stops = tt;
+      usable = done.usable;
+      still_usable = tt;
+      counts = calm_presses tt _ _ _ scene.counts done.faults;
+      device = same_device g.D.Disk _ _ _ scene.device c.do_presses.ensures.device;
+    }
+
+pub returns-in_err-show-clause-ended : goal.returns-in_err-show-clause-ended
+returns-in_err-show-clause-ended g c =
+    let p = err_from_is_err_and c.from_residual.result c.from_residual.ensures.1 in
+    let ended = g.K.Keyboard.ended c.args.keyboard.now in
+    rw (p.1, p.2) (not_of_keyboard ended c.in_err-show.field-0.0 c.in_err-show.ensures.cause)
+
+pub returns-in_err-hearing-clause-ended : goal.returns-in_err-hearing-clause-ended
+returns-in_err-hearing-clause-ended g c =
+    let p = err_from_is_err_and c.from_residual-in_err-hearing.result c.from_residual-in_err-hearing.ensures.1 in
+    let ended = g.K.Keyboard.ended c.hear.new.self in
+    rw (p.1, p.2) (of_keyboard ended c.in_err-hearing.field-0.0 c.in_err-hearing.ensures.cause)
+
+pub returns-in_err-do_presses-clause-ended : goal.returns-in_err-do_presses-clause-ended
+returns-in_err-do_presses-clause-ended g c =
+    let p = err_from_is_err_and c.from_residual-in_err-do_presses.result c.from_residual-in_err-do_presses.ensures.1 in
+    let ended = g.K.Keyboard.ended c.hear.new.self in
+    rw (p.1, p.2) (not_of_keyboard ended _ (store_no_keyboard c.in_err-do_presses.field-0.0))

@@ -1,0 +1,11 @@
+use Rattle.desk_sitting.proofs.Surviving.{scenes_survive, turns_survive, ends_survive}
+use Rattle.desk_sitting.proofs.serving_laws.sittings_survive.Goals as goal
+
+pub returns-clause-scenes : goal.returns-clause-scenes
+returns-clause-scenes g c = scenes_survive g.D.Disk
+
+pub returns-clause-turns : goal.returns-clause-turns
+returns-clause-turns g c = turns_survive g.D.Disk c.presses_are_steps.ensures
+
+pub returns-clause-ends : goal.returns-clause-ends
+returns-clause-ends g c = ends_survive g.D.Disk c.presses_are_steps.ensures

@@ -1,0 +1,85 @@
+-- What a terminal is sent in a turn of a sitting.
+use Rattle.std.specs.Prelude.{◌≡◌, ◌+◌, ℕ, Bool, if◌then◌else◌, List, [], ◌∷◌, ◌++◌, Option}
+use Rattle.std.specs.Io.KnownBytes.{Appends}
+use Rattle.byte_streams.specs.Sent.{AppendsFront}
+use Rattle.viewer_tracks.specs.declared.display.TheConstants.{ROWS}
+use Rattle.screen_pictures.specs.declared.cell.Cell.{Cell}
+use Rattle.terminal_painting.specs.declared.face.Face.{Face}
+use Rattle.terminal_painting.specs.declared.scene.Scene.{Scene}
+use Rattle.terminal_painting.specs.declared.operation.Operation.TheVariants.{Ring}
+use Rattle.terminal_painting.specs.Scene.{scene_rows, line_height, text_below}
+use Rattle.terminal_painting.specs.Painting.{Paints, PaintsFront}
+use Rattle.terminal_painting.specs.Spelling.{operation_bytes}
+use Rattle.desk_sitting.specs.declared.sitting.Sitting.{Sitting}
+use Rattle.desk_sitting.specs.Sayings.{line_of}
+use Rattle.desk_sitting.specs.Sittings.{looked}
+use Rattle.desk_sitting.specs.declared.ending.SittingEnd.{SittingEnd}
+use Rattle.desk_sitting.specs.declared.ending.SittingEnd.TheVariants.{Left, Closed, Input, TooLong, Output, Fault, Memory}
+
+-- the rows of the screen that are in sight, and the line below
+pub record IsSceneOf (s : Sitting) (screen : List (List Cell)) (scene : Scene) : Type 0 where
+  pub cells : scene.screen.now ≡ screen
+  pub first : scene.first + s.sight.top + 1 ≡ ROWS
+  pub rows : scene.rows ≡ s.sight.rows
+  pub has_line : line_height scene.below ≡ 1
+  pub line : text_below scene.below ≡ line_of s.hand.asked s.hand.armed s.saying
+
+-- what is known of the terminal before the scene is painted
+abbrev pub known_by : Bool → List (List Face) → List (List Face)
+known_by forgets known = if forgets then [] else known
+
+-- an escape byte and [18t, to which a terminal tells its size
+abbrev pub size_request : List ℕ
+size_request = 27 ∷ 91 ∷ 49 ∷ 56 ∷ 116 ∷ []
+
+-- what the terminal is sent after the scene, which changes nothing of what it shows
+abbrev pub bell_bytes : Bool → List ℕ
+bell_bytes rings = if rings then operation_bytes Ring else []
+
+abbrev pub request : Bool → List ℕ
+request asks = if asks then size_request else []
+
+abbrev pub after_scene : Bool → Bool → List ℕ
+after_scene rings asks = bell_bytes rings ++ request asks
+
+-- A writer took what has the terminal show the scene.
+pub record IsScenePainted (s : Sitting) (screen : List (List Cell)) (known known' : List (List Face))
+    (held held' : Option (List ℕ)) : Type 0 where
+  pub scene : Scene
+  pub is : IsSceneOf s screen scene
+  pub paints : Paints held held' known scene
+  pub rows : known' ≡ scene_rows scene
+
+-- It took a front of that.
+pub record IsHalfPainted (s : Sitting) (screen : List (List Cell)) (known : List (List Face))
+    (held held' : Option (List ℕ)) : Type 0 where
+  pub scene : Scene
+  pub is : IsSceneOf s screen scene
+  pub front : PaintsFront held held' known scene
+
+-- A writer took the scene, and what is sent after it.
+pub record IsSceneShown (s : Sitting) (screen : List (List Cell)) (known known' : List (List Face))
+    (held held' : Option (List ℕ)) : Type 0 where
+  pub between : Option (List ℕ)
+  pub painted : IsScenePainted (looked screen s) screen (known_by s.forgets known) known' held between
+  pub after : Appends between held' (after_scene s.rings s.asks)
+
+-- It took a front of that.
+pub data IsSceneCutShort (s : Sitting) (screen : List (List Cell)) (known : List (List Face))
+    (held held' : Option (List ℕ)) : Type 0 where
+  in_scene : IsHalfPainted (looked screen s) screen (known_by s.forgets known) held held'
+      → IsSceneCutShort s screen known held held'
+  behind_it : {known' : List (List Face)} {between : Option (List ℕ)}
+      → IsScenePainted (looked screen s) screen (known_by s.forgets known) known' held between
+      → AppendsFront between held' (after_scene s.rings s.asks) → IsSceneCutShort s screen known held held'
+
+-- Why the scene isn't shown. Where the screen can't be worked out, nothing is sent.
+abbrev pub IsUnshown : SittingEnd → Sitting → List (List Cell) → List (List Face) → Option (List ℕ) → Option (List ℕ)
+    → Type 0
+IsUnshown Left s screen known held held' = ⊥
+IsUnshown Closed s screen known held held' = ⊥
+IsUnshown Input s screen known held held' = ⊥
+IsUnshown TooLong s screen known held held' = ⊥
+IsUnshown Output s screen known held held' = IsSceneCutShort s screen known held held'
+IsUnshown Fault s screen known held held' = held' ≡ held
+IsUnshown Memory s screen known held held' = held' ≡ held

@@ -1,0 +1,178 @@
+-- A sitting over a store, turn by turn: the scene is shown, something is heard, and what is pressed is done. `d` is
+-- what is known of a disk.
+use Rattle.std.specs.Prelude.{◌≡◌, ◌≢◌, ◌<◌, ◌+◌, ◌-◌, ◌^◌, ℕ, Bool, true, false, List, [], ◌++◌, Option}
+use Rattle.std.specs.Prelude.{Result, MatchResult, OnOk, IfErr}
+use Rattle.sector_disk.specs.declared.disk.Disk.{Ghosts}
+use Rattle.event_bytes.specs.declared.event.Event.{Event}
+use Rattle.screen_pictures.specs.declared.cell.Cell.{Cell}
+use Rattle.desktop_definitions.specs.Shown.{shown_screen}
+use Rattle.desk_journal.specs.Device.{IsOnlyRead, IsSameDevice}
+use Rattle.desk_journal.specs.Errors.{Error, NoMemory, Fault as DiskFault}
+use Rattle.desk_journal.specs.Session.{session_of}
+use Rattle.desk_journal.specs.View.{StoreView, IsDurable}
+use Rattle.terminal_painting.specs.declared.face.Face.{Face}
+use Rattle.terminal_presses.specs.declared.parser.Parser.{Parser}
+use Rattle.terminal_presses.specs.declared.press.Heard.{Heard}
+use Rattle.terminal_presses.specs.Presses.{at_rest, parser_after, presses_heard}
+use Rattle.desk_sitting.specs.declared.saying.Saying.{Saying}
+use Rattle.desk_sitting.specs.declared.sitting.Sitting.{Sitting}
+use Rattle.desk_sitting.specs.Doing.{Breaks, DoesPresses, seat_of}
+use Rattle.desk_sitting.specs.Sittings.{accepted_events, accepted_of, after_fetch, looked, new_sitting}
+use Rattle.desk_sitting.specs.declared.ending.SittingEnd.{SittingEnd}
+use Rattle.desk_sitting.specs.declared.ending.SittingEnd.TheVariants.{Left, Closed, Input, TooLong, Output, Fault, Memory}
+use Rattle.desk_sitting.specs.Scenes.{IsSceneShown, IsSceneCutShort}
+
+-- where a sitting stands between two turns: the parser, the sitting, the store, all that was heard so far, what is
+-- known of the terminal, and what the writer holds
+pub record TurnState (D : Type 0) : Type 0 where
+  pub parser : Parser
+  pub sitting : Sitting
+  pub store : StoreView D
+  pub heard : List Heard
+  pub known : List (List Face)
+  pub held : Option (List ℕ)
+
+-- what a store shows
+abbrev pub store_screen : {D : Type 0} → StoreView D → List (List Cell)
+store_screen store = shown_screen store.desktop
+
+-- the sitting after the scene was shown
+abbrev pub sitting_shown : {D : Type 0} → TurnState D → Sitting
+sitting_shown p = looked (store_screen p.store) p.sitting
+
+abbrev pub turn_state_of : {D : Type 0} → Parser → Sitting → StoreView D → List Heard → List (List Face)
+    → Option (List ℕ) → TurnState D
+turn_state_of parser sitting store heard known held = record {
+  parser = parser;
+  sitting = sitting;
+  store = store;
+  heard = heard;
+  known = known;
+  held = held;
+}
+
+-- nothing was heard yet, and nothing is known of the terminal
+abbrev pub first_place : {D : Type 0} → ℕ → Saying → StoreView D → List Heard → Option (List ℕ) → TurnState D
+first_place height greeting store heard held = turn_state_of at_rest (new_sitting height greeting) store heard [] held
+
+-- the keyboard was asked for the text of a host file, where one is wanted
+pub record IsFetched (old new : Sitting) : Type 0 where
+  pub will_be_heard : Bool
+  pub brings : new ≡ after_fetch will_be_heard old
+
+-- where neither the disk nor the memory failed, the store needn't be opened again
+abbrev pub IsUsableAt : {D : Type 0} → SittingEnd → StoreView D → Type 0
+IsUsableAt end store = end ≢ Fault → end ≢ Memory → store.must_reopen ≡ false
+
+-- the number of failures of the disk rose exactly where the sitting ended by its fault
+abbrev pub CountsEnding : SittingEnd → ℕ → ℕ → Type 0
+CountsEnding Left failed failed' = failed' ≡ failed
+CountsEnding Closed failed failed' = failed' ≡ failed
+CountsEnding Input failed failed' = failed' ≡ failed
+CountsEnding TooLong failed failed' = failed' ≡ failed
+CountsEnding Output failed failed' = failed' ≡ failed
+CountsEnding Fault failed failed' = failed < failed'
+CountsEnding Memory failed failed' = failed' ≡ failed
+
+-- and it stays where the sitting goes on
+abbrev pub CountsTurn : {T : Type 0} → Result T SittingEnd → ℕ → ℕ → Type 0
+CountsTurn result failed failed' = MatchResult result (λ _. failed' ≡ failed) (λ end. CountsEnding end failed failed')
+
+module _ {D : Type 0} (d : Ghosts D) where
+  -- the store was looked at: nothing is posted, and the disk is only read
+  pub record IsLookedAt (old new : StoreView D) : Type 0 where
+    pub session : session_of new ≡ session_of old
+    pub disk : IsOnlyRead d old.disk new.disk
+    pub durable : IsDurable d new
+
+  -- ---- a turn
+
+  -- The terminal shows the desktop, and then this is heard.
+  pub record HearsAfterScene (hearing : List Heard) (old : TurnState D) (mid : StoreView D) (new : TurnState D) : Type 0 where
+    pub looked : IsLookedAt old.store mid
+    pub shown : IsSceneShown old.sitting (store_screen old.store) old.known new.known old.held new.held
+    pub heard : new.heard ≡ old.heard ++ hearing
+
+  -- Then what is pressed by it is done, of which these events are accepted, and the keyboard is asked for the text of a
+  -- host file where one is wanted.
+  pub record Turns (events : List Event) (old new : TurnState D) : Type 0 where
+    pub hearing : List Heard
+    pub mid : StoreView D
+    pub scene : HearsAfterScene hearing old mid new
+    pub parser : new.parser ≡ parser_after old.parser hearing
+    pub sitting : Sitting
+    pub does : DoesPresses d (presses_heard old.parser hearing) (sitting_shown old) sitting mid new.store
+    pub are : events ≡ accepted_events (presses_heard old.parser hearing) (seat_of (sitting_shown old) mid)
+    pub brings : IsFetched sitting new.sitting
+
+  -- so many turns, one after another, in which these events are accepted, and after none of which the person has left
+  pub data IsTurnRun (first : TurnState D) : ℕ → List Event → TurnState D → Type 0 where
+    none : IsTurnRun first 0 [] first
+    one_more : {count : ℕ} {events more : List Event} {mid new : TurnState D} → IsTurnRun first count events mid
+        → Turns more mid new → new.sitting.leaves ≡ false → IsTurnRun first (count + 1) (events ++ more) new
+
+  -- ---- how it ends
+
+  -- nothing is heard after the scene
+  abbrev pub IsDeaf : TurnState D → TurnState D → Type 0
+  IsDeaf old new = HearsAfterScene [] old new.store new
+
+  -- the output takes a front of what has the terminal show the scene
+  pub record IsUnseen (old new : TurnState D) : Type 0 where
+    pub looked : IsLookedAt old.store new.store
+    pub cut : IsSceneCutShort old.sitting (store_screen old.store) old.known old.held new.held
+    pub heard : new.heard ≡ old.heard
+
+  -- the screen can't be worked out
+  pub record IsBlind (old new : TurnState D) : Type 0 where
+    pub looked : IsLookedAt old.store new.store
+    pub held : new.held ≡ old.held
+    pub heard : new.heard ≡ old.heard
+
+  -- A press fails. These events are accepted of the presses before it, and this one, if any, was to be its own. What is
+  -- pressed after it isn't done.
+  pub record Broke (error : Error) (events begun : List Event) (old new : TurnState D) : Type 0 where
+    pub hearing : List Heard
+    pub mid : StoreView D
+    pub scene : HearsAfterScene hearing old mid new
+    pub breaks : Breaks d error (presses_heard old.parser hearing) (sitting_shown old) mid new.store
+    pub are : events ≡ accepted_events breaks.done (seat_of (sitting_shown old) mid)
+    pub fails : begun ≡ accepted_of breaks.press (seat_of breaks.sitting breaks.mid)
+
+  -- A sitting ends in a turn, in which these events are accepted. One more is begun where the disk fails in a press: it
+  -- isn't acknowledged, and may be in an image or not. For want of memory it is in none.
+  pub data SittingStops : SittingEnd → List Event → List Event → TurnState D → TurnState D → Type 0 where
+    left : {events : List Event} {old new : TurnState D} → Turns events old new → new.sitting.leaves ≡ true
+        → SittingStops Left events [] old new
+    closed : {old new : TurnState D} → IsDeaf old new → SittingStops Closed [] [] old new
+    unheard : {old new : TurnState D} → IsDeaf old new → SittingStops Input [] [] old new
+    unseen : {old new : TurnState D} → IsUnseen old new → SittingStops Output [] [] old new
+    faulty : {old new : TurnState D} → IsBlind old new → SittingStops Fault [] [] old new
+    starved : {old new : TurnState D} → IsBlind old new → SittingStops Memory [] [] old new
+    faulty_press : {events begun : List Event} {old new : TurnState D} → Broke DiskFault events begun old new
+        → SittingStops Fault events begun old new
+    starved_press : {events begun : List Event} {old new : TurnState D} → Broke NoMemory events begun old new
+        → SittingStops Memory events [] old new
+
+  -- some events are accepted in a turn, and in the one in which it ends
+  abbrev pub HasTurned : TurnState D → TurnState D → Type 0
+  HasTurned old new = (events : List Event) × Turns events old new
+
+  abbrev pub HasStopped : SittingEnd → TurnState D → TurnState D → Type 0
+  HasStopped end old new = (events : List Event) × (begun : List Event) × SittingStops end events begun old new
+
+  -- It ends so after so many turns, or because there were as many as can be counted.
+  pub data Ends : SittingEnd → ℕ → List Event → List Event → TurnState D → TurnState D → Type 0 where
+    stopped : {end : SittingEnd} {count : ℕ} {events begun : List Event} {old new : TurnState D}
+        → SittingStops end events begun old new → Ends end count events begun old new
+    too_long : {place : TurnState D} → Ends TooLong (2 ^ 64 - 1) [] [] place place
+
+  -- All that a turn promises that returns this.
+  pub record TakesTurn {T : Type 0} (result : Result T SittingEnd) (old new : TurnState D) : Type 0 where
+    pub goes_on : OnOk result (d.honest old.store.disk → IsDurable d old.store → HasTurned old new)
+    pub stays : OnOk result (new.sitting.leaves ≡ false)
+    pub stops : IfErr result (λ end. d.honest old.store.disk → IsDurable d old.store → HasStopped end old new)
+    pub usable : OnOk result (new.store.must_reopen ≡ false)
+    pub still_usable : IfErr result (λ end. IsUsableAt end new.store)
+    pub counts : CountsTurn result (d.failures old.store.disk) (d.failures new.store.disk)
+    pub device : IsSameDevice d old.store.disk new.store.disk

@@ -1,0 +1,40 @@
+-- A turn in which nothing is shown and heard: what was asked for beside the presses is done. `d` is what is known of a disk.
+use Rattle.std.specs.Prelude.{◌≡◌, Result, OnOk, IfErr, false}
+use Rattle.sector_disk.specs.declared.disk.Disk.{Ghosts}
+use Rattle.desk_journal.specs.Device.{IsSameDevice}
+use Rattle.desk_journal.specs.Errors.{Error}
+use Rattle.desk_journal.specs.View.{IsDurable}
+use Rattle.desk_sitting.specs.Travels.{IsStuck, IsTravelled}
+use Rattle.desk_sitting.specs.declared.ending.SittingEnd.{SittingEnd}
+use Rattle.desk_sitting.specs.Endings.{sitting_end_of}
+use Rattle.desk_sitting.specs.Serving.{CountsTurn, IsUsableAt, TurnState}
+
+module _ {D : Type 0} (d : Ghosts D) where
+  -- nothing is shown and heard
+  pub record IsStill (old new : TurnState D) : Type 0 where
+    pub parser : new.parser ≡ old.parser
+    pub heard : new.heard ≡ old.heard
+    pub known : new.known ≡ old.known
+    pub held : new.held ≡ old.held
+
+  -- an event was taken back, or done again
+  pub record IsBetween (old new : TurnState D) : Type 0 where
+    pub travelled : IsTravelled d old.sitting new.sitting old.store new.store
+    pub device : IsSameDevice d old.store.disk new.store.disk
+    pub still : IsStill old new
+
+  -- it fails, and the sitting ends so
+  pub record IsBrokenOff (end : SittingEnd) (old new : TurnState D) : Type 0 where
+    pub error : Error
+    pub ends : end ≡ sitting_end_of error
+    pub stuck : IsStuck d error old.sitting old.store new.store
+    pub still : IsStill old new
+
+  -- All that such a turn promises that returns this.
+  pub record TakesBetween {T : Type 0} (result : Result T SittingEnd) (old new : TurnState D) : Type 0 where
+    pub goes_on : OnOk result (d.honest old.store.disk → IsDurable d old.store → IsBetween old new)
+    pub stops : IfErr result (λ end. d.honest old.store.disk → IsDurable d old.store → IsBrokenOff end old new)
+    pub usable : OnOk result (new.store.must_reopen ≡ false)
+    pub still_usable : IfErr result (λ end. IsUsableAt end new.store)
+    pub counts : CountsTurn result (d.failures old.store.disk) (d.failures new.store.disk)
+    pub device : IsSameDevice d old.store.disk new.store.disk

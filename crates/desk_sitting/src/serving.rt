@@ -1,0 +1,268 @@
+//! A sitting over a store, turn by turn.
+ghost use Rattle.std.specs.Prelude.{◌≡◌, ℕ, Bool, false, OnOk, OnErr, IfErr, IfSome, List, Option};
+ghost use Rattle.terminal_presses.specs.declared.parser.Parser.{Parser as AParser};
+ghost use Rattle.terminal_presses.specs.declared.press.Heard.{Heard};
+ghost use Rattle.terminal_painting.specs.declared.face.Face.{Face};
+ghost use Rattle.byte_streams.specs.Sent.{Sends};
+ghost use Rattle.desk_journal.specs.Device.{IsSameDevice};
+ghost use Rattle.desk_journal.specs.View.{IsDurable};
+ghost use Rattle.desk_sitting.specs.Sayings.{line_of};
+ghost use Rattle.desk_sitting.specs.Sittings.{after_fetch, looked};
+ghost use Rattle.desk_sitting.specs.declared.ending.SittingEnd.TheVariants.{Output as TakesNoMore};
+ghost use Rattle.terminal_painting.specs.Scene.{IsInSight};
+ghost use Rattle.desk_sitting.specs.Scenes.{IsSceneOf, IsHalfPainted, IsScenePainted, IsSceneShown, IsUnshown};
+ghost use Rattle.desk_sitting.specs.Endings.{EndsBy, IsOfNoKeyboard};
+ghost use Rattle.desk_sitting.specs.Scenes.{after_scene, bell_bytes, known_by, request, size_request};
+ghost use Rattle.desk_sitting.specs.Serving.{CountsEnding, CountsTurn, IsFetched, IsLookedAt, IsUsableAt};
+ghost use Rattle.desk_sitting.specs.Serving.{TakesTurn, first_place, turn_state_of, store_screen};
+ghost use Rattle.desk_sitting.specs.Sitting.{Sits, TakesEitherTurn};
+ghost use Rattle.desk_sitting.specs.Travelling.{TakesBetween};
+
+use crate::ending::SittingEnd;
+use crate::serving_laws::sittings_survive;
+use crate::{Saying, Sitting, do_presses, travel};
+use byte_streams::{OutputFault, flush, send};
+use desk_journal::Store;
+use screen_cells::Screen;
+use sector_disk::Disk;
+use std::alloc::Global;
+use std::io::Write;
+use terminal_keyboard::Keyboard;
+use terminal_painting::{Painter, Scene, ring};
+use terminal_presses::Parser;
+use viewer_tracks::ROWS;
+
+/// How many turns a sitting has at most; after them it ends by `TooLong`.
+pub const MOST_TURNS: u64 = u64::MAX;
+
+/// An escape byte and `[18t`, to which a terminal tells its size.
+const SIZE_REQUEST: [u8; 5] = [27, 91, 49, 56, 116];
+
+/// Serves the person at the keyboard: shows the screen in a terminal of `height` rows, and does what is pressed, until
+/// they leave or something fails. The line below begins with the greeting.
+///
+/// Each event is acknowledged before the next scene is sent, so that no crash takes away what was shown. The store must
+/// be one that needn't be opened again. It can be used on after the sitting, but after `Fault` and `Memory` it must be
+/// opened again where an event was posted. `Closed` and `Input` come only where the keyboard has ended so.
+pub fn serve<K: Keyboard, W: Write, D: Disk>(
+    alloc: Global,
+    keyboard: &mut K,
+    writer: &mut W,
+    store: &mut Store<D>,
+    height: u16,
+    greeting: Saying,
+) -> SittingEnd
+    requires { store.old.must_reopen ≡ false }
+    ensures sat { D.honest store.old.disk → Sits D.Disk result
+        (first_place height greeting store.old (K.heard keyboard.old) (W.contents writer.old))
+        store.new (K.heard keyboard.new) (W.contents writer.new) }
+    ensures device { IsSameDevice D.Disk store.old.disk store.new.disk }
+    ensures usable { IsUsableAt result store.new }
+    ensures faults { CountsEnding result (D.failures store.old.disk) (D.failures store.new.disk) }
+    ensures ended { EndsBy (K.ended keyboard.new) result }
+{
+    // What a crash leaves of it.
+    sittings_survive::<D>();
+    // What the store shows is what a crash would leave now.
+    let _ = store.info();
+    let mut sitting = Sitting::new(height, greeting);
+    let mut parser = Parser::new();
+    let mut painter = Painter::new();
+    for _count in 0..MOST_TURNS {
+        if let Err(end) = step(
+            alloc,
+            &mut sitting,
+            &mut parser,
+            &mut painter,
+            keyboard,
+            writer,
+            store,
+        ) {
+            return end;
+        }
+    }
+    SittingEnd::TooLong
+}
+
+/// One turn, of either kind: what was asked for beside the presses is done at once, before anything is shown.
+///
+/// Errors: those of `turn` and `go`.
+fn step<K: Keyboard, W: Write, D: Disk>(
+    alloc: Global,
+    sitting: &mut Sitting,
+    parser: &mut Parser,
+    painter: &mut Painter,
+    keyboard: &mut K,
+    writer: &mut W,
+    store: &mut Store<D>,
+) -> Result<(), SittingEnd>
+    requires { store.old.must_reopen ≡ false }
+    ensures steps { TakesEitherTurn D.Disk result
+        (turn_state_of parser.old sitting.old store.old (K.heard keyboard.old) painter.old (W.contents writer.old))
+        (turn_state_of parser.new sitting.new store.new (K.heard keyboard.new) painter.new (W.contents writer.new)) }
+    ensures ended { IfErr result (EndsBy (K.ended keyboard.new)) }
+{
+    if sitting.travels.is_none() {
+        turn(alloc, sitting, parser, painter, keyboard, writer, store)
+    } else {
+        go(alloc, sitting, store)
+    }
+}
+
+/// An event is taken back, or done again. Nothing is shown and heard.
+///
+/// Errors: `Fault` and `Memory`.
+fn go<D: Disk>(alloc: Global, sitting: &mut Sitting, store: &mut Store<D>) -> Result<(), SittingEnd>
+    requires { store.old.must_reopen ≡ false }
+    ensures between { (parser : AParser) (heard : List Heard) (known : List (List Face)) (held : Option (List ℕ))
+        → TakesBetween D.Disk result (turn_state_of parser sitting.old store.old heard known held)
+        (turn_state_of parser sitting.new store.new heard known held) }
+    ensures cause { IfErr result IsOfNoKeyboard }
+{
+    Ok(travel(alloc, sitting, store)?)
+}
+
+/// One turn: the desktop is shown, something is heard, and what is pressed by it is done.
+///
+/// Errors: `Output`, and `Fault` and `Memory` where the screen can't be worked out, before anything is heard; `Closed`
+/// and `Input` where nothing is heard; `Fault` and `Memory` where a press fails; `Left` where the person leaves.
+fn turn<K: Keyboard, W: Write, D: Disk>(
+    alloc: Global,
+    sitting: &mut Sitting,
+    parser: &mut Parser,
+    painter: &mut Painter,
+    keyboard: &mut K,
+    writer: &mut W,
+    store: &mut Store<D>,
+) -> Result<(), SittingEnd>
+    requires { store.old.must_reopen ≡ false }
+    ensures turns { TakesTurn D.Disk result
+        (turn_state_of parser.old sitting.old store.old (K.heard keyboard.old) painter.old (W.contents writer.old))
+        (turn_state_of parser.new sitting.new store.new (K.heard keyboard.new) painter.new (W.contents writer.new)) }
+    ensures ended { IfErr result (EndsBy (K.ended keyboard.new)) }
+{
+    show(alloc, store, sitting, painter, writer)?;
+    let hearing = keyboard.hear()?;
+    do_presses(alloc, sitting, parser, hearing.as_slice(), store)?;
+    bring(sitting, keyboard);
+    if sitting.leaves {
+        Err(SittingEnd::Left)
+    } else {
+        Ok(())
+    }
+}
+
+/// Asks the keyboard for the text of a host file where one is wanted.
+fn bring<K: Keyboard>(sitting: &mut Sitting, keyboard: &mut K)
+    ensures brought { IsFetched sitting.old sitting.new }
+    ensures asked { IfSome sitting.old.wanted (λ name. (will_be_heard : Bool)
+        × K.answers keyboard.old keyboard.new name will_be_heard × (sitting.new ≡ after_fetch will_be_heard sitting.old)) }
+    ensures silent { K.heard keyboard.new ≡ K.heard keyboard.old }
+{
+    let will_be_heard = match &sitting.wanted {
+        Some(name) => keyboard.bring(name.as_bytes()),
+        None => false,
+    };
+    sitting.bring(will_be_heard);
+}
+
+/// Shows the desktop, all events of which are acknowledged.
+///
+/// Errors: `Fault` and `Memory`, and nothing was sent; `Output`, and a front may have been sent.
+fn show<W: Write, D: Disk>(
+    alloc: Global,
+    store: &mut Store<D>,
+    sitting: &mut Sitting,
+    painter: &mut Painter,
+    writer: &mut W,
+) -> Result<(), SittingEnd>
+    requires { store.old.must_reopen ≡ false }
+    ensures looks { D.honest store.old.disk → IsDurable D.Disk store.old → IsLookedAt D.Disk store.old store.new }
+    ensures sitting { OnOk result (D.honest store.old.disk → sitting.new ≡ looked (store_screen store.old) sitting.old) }
+    ensures shown { OnOk result (D.honest store.old.disk → IsSceneShown sitting.old (store_screen store.old)
+        painter.old painter.new (W.contents writer.old) (W.contents writer.new)) }
+    ensures unshown { IfErr result (λ end. D.honest store.old.disk → IsUnshown end sitting.old (store_screen store.old)
+        painter.old (W.contents writer.old) (W.contents writer.new)) }
+    ensures cause { IfErr result IsOfNoKeyboard }
+    ensures usable { store.new.must_reopen ≡ false }
+    ensures counts { CountsTurn result (D.failures store.old.disk) (D.failures store.new.disk) }
+    ensures device { IsSameDevice D.Disk store.old.disk store.new.disk }
+{
+    let mut screen = Screen::new();
+    store.screen(alloc, &mut screen)?;
+    let (rings, asks, forgets) = (sitting.rings, sitting.asks, sitting.forgets);
+    sitting.look(&screen);
+    paint(sitting, forgets, painter, writer, &screen)?;
+    follow(writer, rings, asks)
+}
+
+/// Paints the scene. Where it forgets, nothing is known of the terminal.
+///
+/// Error: `Output`, and a front may have been sent.
+fn paint<W: Write>(
+    sitting: &Sitting,
+    forgets: bool,
+    painter: &mut Painter,
+    writer: &mut W,
+    screen: &Screen,
+) -> Result<(), SittingEnd>
+    ensures painted { OnOk result (IsScenePainted sitting.now screen.now (known_by forgets painter.old) painter.new
+        (W.contents writer.old) (W.contents writer.new)) }
+    ensures front { OnErr result (IsHalfPainted sitting.now screen.now (known_by forgets painter.old)
+        (W.contents writer.old) (W.contents writer.new)) }
+    ensures end { IfErr result (λ end. end ≡ TakesNoMore) }
+{
+    if forgets {
+        painter.forget();
+    }
+    let line = sitting.line();
+    let scene = scene_of(sitting, screen, line.as_slice());
+    Ok(painter.paint(writer, &scene)?)
+}
+
+/// The rows of the screen that are in sight, and the sitting's line below them.
+fn scene_of<'a>(sitting: &Sitting, screen: &'a Screen, line: &'a [u8]) -> Scene<'a>
+    requires { line.now ≡ line_of sitting.now.hand.asked sitting.now.hand.armed sitting.now.saying }
+    ensures scene { IsSceneOf sitting.now screen.now result }
+    ensures in_sight { IsInSight result }
+{
+    Scene {
+        screen: screen.rows(),
+        first: ROWS - 1 - sitting.sight.top(),
+        rows: sitting.sight.rows(),
+        below: Some(line),
+    }
+}
+
+/// Sends what comes after the scene.
+///
+/// Error: `Output`, and a front may have been sent.
+fn follow<W: Write>(writer: &mut W, rings: bool, asks: bool) -> Result<(), SittingEnd>
+    ensures sent { Sends result (W.contents writer.old) (W.contents writer.new) (after_scene rings asks) }
+    ensures end { IfErr result (λ end. end ≡ TakesNoMore) }
+{
+    ring_if(writer, rings)?;
+    Ok(ask_if(writer, asks)?)
+}
+
+/// Rings the bell where that is to be.
+fn ring_if<W: Write>(writer: &mut W, rings: bool) -> Result<(), OutputFault>
+    ensures { Sends result (W.contents writer.old) (W.contents writer.new) (bell_bytes rings) }
+{
+    if rings { ring(writer) } else { Ok(()) }
+}
+
+/// Asks the terminal for its size where that is to be.
+fn ask_if<W: Write>(writer: &mut W, asks: bool) -> Result<(), OutputFault>
+    ensures { Sends result (W.contents writer.old) (W.contents writer.new) (request asks) }
+{
+    if asks { ask(writer) } else { Ok(()) }
+}
+
+/// Asks the terminal for its size.
+fn ask<W: Write>(writer: &mut W) -> Result<(), OutputFault>
+    ensures { Sends result (W.contents writer.old) (W.contents writer.new) size_request }
+{
+    send(writer, &SIZE_REQUEST)?;
+    flush(writer)
+}

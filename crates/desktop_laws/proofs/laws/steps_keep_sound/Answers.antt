@@ -1,5 +1,0 @@
-use Rattle.desktop_laws.proofs.StepSound.{steps_keep_sound}
-use Rattle.desktop_laws.proofs.laws.steps_keep_sound.Goals as goal
-
-pub returns : goal.returns
-returns c = steps_keep_sound

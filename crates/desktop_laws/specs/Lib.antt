@@ -1,2 +1,0 @@
-pub mod Rewriting
-pub mod DeskWords

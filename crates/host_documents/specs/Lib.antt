@@ -1,2 +1,0 @@
-pub mod HostText
-pub mod Filling

@@ -1,5 +1,0 @@
-use Rattle.output_bytes.proofs.Taking.{taken_more}
-use Rattle.output_bytes.proofs.sending.send.Goals as goal
-
-pub loop-rest-preserved : goal.loop-rest-preserved
-loop-rest-preserved g c = taken_more _ _ _ _ _ _ c.loop-rest.invariant c.in_ok-taken.ensures.taken

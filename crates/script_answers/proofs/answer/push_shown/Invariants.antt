@@ -1,7 +1,0 @@
-use Rattle.std.proofs.Common.{◌≡◌, ◌++◌, take}
-use Rattle.script_answers.specs.Answer.{escaped_answer}
-use Rattle.script_answers.specs.Stretch.{stretch_bytes}
-use Rattle.script_answers.proofs.answer.push_shown.Given as goal
-
-abbrev pub invariant-loop-character : goal.invariant-loop-character
-invariant-loop-character l = l.text.items ≡ l.fn.text.items ++ escaped_answer (stretch_bytes (take l.character-index l.characters))

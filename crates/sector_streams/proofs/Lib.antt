@@ -1,3 +1,0 @@
-pub mod Filled
-pub mod Drained
-pub mod FillingLaws

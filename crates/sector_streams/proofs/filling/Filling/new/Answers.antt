@@ -1,6 +1,0 @@
-use Rattle.std.proofs.Common.{refl}
-use Rattle.sector_streams.proofs.Filled.{none_yet}
-use Rattle.sector_streams.proofs.filling.Filling.new.Goals as goal
-
-pub returns-clause-taken : goal.returns-clause-taken
-returns-clause-taken c = λ content room. none_yet content _ _ _ _ refl refl c.blank.ensures

@@ -1,4 +1,0 @@
-pub mod Joined
-pub mod JoinedLaws
-pub mod Filling
-pub mod Draining

@@ -1,0 +1,106 @@
+//! A terminal and files of the host's as one keyboard.
+ghost use Rattle.std.specs.Prelude.{◌≡◌, ◌≢◌, ◌++◌, Bool, true, false, None, [], IfOk, IfErr, IfSome, IsNone, OnErr};
+ghost use Rattle.std.specs.Io.KnownBytes.{Consumes};
+ghost use Rattle.terminal_keyboard.specs.Hearings.{IsWithinLine, heard_bytes};
+ghost use Rattle.terminal_keyboard.specs.Bringing.{IsUntold, TellsFile, is_coming};
+ghost use Rattle.terminal_keyboard.specs.declared.desk_keyboard.TheConstants.{MOST_BROUGHT};
+
+use crate::paste::HostPaste;
+use crate::{Hearing, KeySource, Keyboard, KeyboardEnd, Trace};
+use host_files::open_regular;
+use std::fs::File;
+use std::io::Read;
+use terminal_presses::Heard;
+
+/// The most bytes of a file that is brought in: as many as a desktop can hold.
+pub const MOST_BROUGHT: u64 = 262_144;
+
+/// A terminal, and files of the host's that are brought in.
+///
+/// A file is told whole before the terminal is heard again, as if it were pasted: first an escape byte and `[200~`,
+/// then its bytes, 64 at a time, and at the end an escape byte and `[201~`. Where a read of it fails, it ends there, and
+/// an escape byte and `[202~` come behind. An escape byte of the file is told as a question mark, so nothing in it is a
+/// key. LF and CR LF are told as they are, since a paste makes carriage returns of them (`texts_are_typed`). The
+/// terminal tells no more at one time than to the end of a line, with which the name of a file ends too: so all that was
+/// pressed behind the name is heard after the file.
+#[derive(Drop)]
+pub struct DeskKeyboard<'a, K> {
+    host: &'a HostRuntime,
+    terminal: K,
+    brought: Option<HostPaste<File>>,
+    log: Trace<Heard>,
+}
+
+impl<'a, K: KeySource> DeskKeyboard<'a, K> {
+    /// A keyboard of which nothing was heard.
+    pub fn new(host: &'a HostRuntime, terminal: K) -> DeskKeyboard<'a, K>
+        ensures none { result.log.items ≡ [] }
+        ensures terminal { result.terminal ≡ terminal }
+        ensures calm { is_coming result.brought ≡ false }
+    {
+        DeskKeyboard {
+            host,
+            terminal,
+            brought: None,
+            log: Trace::new(),
+        }
+    }
+
+    /// What is told next of the file that is brought in. None where there is none, or all is told of it.
+    fn told_of_file(&mut self) -> Option<Hearing>
+        ensures log { self.new.log ≡ self.old.log }
+        ensures terminal { self.new.terminal ≡ self.old.terminal }
+        ensures none { is_coming self.old.brought ≡ false → result ≡ None }
+        ensures some { is_coming self.old.brought ≡ true → result ≢ None }
+        ensures told { IfSome result (TellsFile ⟦<File as Read>⟧.remaining self.old.brought self.new.brought) }
+        ensures over { IsNone result → is_coming self.new.brought ≡ false }
+    {
+        match &mut self.brought {
+            Some(paste) => paste.next(),
+            None => None,
+        }
+    }
+}
+
+impl<K: KeySource> Keyboard for DeskKeyboard<'_, K> {
+    ghost heard = { λ k. k.log.items };
+
+    ghost left = { λ k. K.left k.terminal };
+
+    ghost brings = { λ k. is_coming k.brought };
+
+    ghost tells = { λ old new told. TellsFile ⟦<File as Read>⟧.remaining old.brought new.brought told };
+
+    ghost ended = { λ k why. K.ended k.terminal why };
+
+    ghost answers = { λ _ new _ will. will ≡ true → IsUntold MOST_BROUGHT new.brought };
+
+    fn hear(&mut self) -> Result<Hearing, KeyboardEnd> {
+        let hearing = match self.told_of_file() {
+            Some(told) => told,
+            None => self.terminal.hear()?,
+        };
+        self.log.add(hearing.as_slice());
+        Ok(hearing)
+    }
+
+    /// The file has to be a regular one of `MOST_BROUGHT` bytes at most.
+    fn bring(&mut self, name: &[u8]) -> bool {
+        match opened(self.host, name) {
+            Some(file) => {
+                self.brought = Some(HostPaste::new(file, MOST_BROUGHT));
+                true
+            }
+            None => {
+                self.brought = None;
+                false
+            }
+        }
+    }
+}
+
+/// The file of that name. None where it can't be read, is no regular one, or is too long.
+fn opened(host: &HostRuntime, name: &[u8]) -> Option<File> {
+    let name = str::from_utf8(name).ok()?;
+    open_regular(host, name, MOST_BROUGHT).ok()
+}
