@@ -1,3 +1,4 @@
+# shellcheck shell=bash
 # Sourced by scripts that cut a play off, and look at what its store holds afterwards. It makes `new.disk`, a store
 # whose characters stand in the area, and `events`, a script whose lines are answered by one line each. `shown.N` is
 # what such a store shows after the first N of them, as a run in memory has it, and `whole` is the answers.

@@ -1,3 +1,4 @@
+# shellcheck shell=bash
 # Sourced by scripts that have calls fail which a program makes of the host. Such a script says in `attempt ASSIGNMENT..`
 # what the program does under the assignments.
 cc -shared -fPIC -o calls.so "$TESTS/fail_calls.c" || exit 1

@@ -1,3 +1,4 @@
+# shellcheck shell=bash
 # Sourced by scripts over stores of which characters stand in the area. It makes `begin`, events that end with a
 # checkpoint: three documents of 900 characters, and commands over them that open, search and copy.
 text() { yes "$1" | tr '\n' ' ' | head -c 900; }

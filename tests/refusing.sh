@@ -1,3 +1,4 @@
+# shellcheck shell=bash
 # Sourced by scripts that have each allocation of the program refused in turn, while it plays the lines of the file `events`. What they give
 # where none is refused stands in `whole`.
 cc -shared -fPIC -o refuse.so "$TESTS/refuse_allocation.c" || exit 1

@@ -9,4 +9,5 @@ pub record RisesWhere (when : Type 0) (old new : ℕ) : Type 0 where
 
 -- what a call of the host returned is told on: a value as it is, and a failure as one
 abbrev pub PassesOn : {T E F : Type 0} → Result T E → Result T F → Type 0
-PassesOn host told = MatchResult host (λ value. IsOkAnd told (λ same. same ≡ value)) (λ _. IsErr told)
+PassesOn host told = MatchResult host (λ value. IsOkAnd told (λ same. same
+    ≡ value)) (λ _. IsErr told)

@@ -10,6 +10,7 @@ pub record AppendsFront (old new : Option (List ℕ)) (text : List ℕ) : Type 0
   pub taken : Appends old new front
 
 -- What a call promises that sends a text: the writer takes all of it, or a front of it where the call fails.
-pub record Sends {T E : Type 0} (result : Result T E) (old new : Option (List ℕ)) (text : List ℕ) : Type 0 where
+pub record Sends {T E : Type 0} (result : Result T E) (old new : Option (List ℕ))
+    (text : List ℕ) : Type 0 where
   pub sent : OnOk result (Appends old new text)
   pub front : OnErr result (AppendsFront old new text)

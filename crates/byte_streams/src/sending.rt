@@ -26,7 +26,8 @@ pub fn send<W: Write>(writer: &mut W, bytes: &[u8]) -> Result<(), OutputFault>
 fn take_some<W: Write>(writer: &mut W, bytes: &[u8]) -> Result<usize, OutputFault>
     ensures some { IfOk result (λ n. 0 < n) }
     ensures within { IfOk result (λ n. n ≤ length bytes.now) }
-    ensures taken { IfOk result (λ n. Appends (W.contents writer.old) (W.contents writer.new) (take n bytes.now)) }
+    ensures taken { IfOk result (λ n. Appends (W.contents writer.old) (W.contents writer.new)
+        (take n bytes.now)) }
     ensures kept { OnErr result (Keeps (W.contents writer.old) (W.contents writer.new)) }
 {
     match writer.write(bytes) {

@@ -6,7 +6,8 @@ abbrev pub most_characters : ℕ
 most_characters = 4194304
 
 -- Of the characters from an offset on so many were looked at, one at least, of which so many are the wanted byte.
-pub record IsCountedFrom (honest : Type 0) (characters : List ℕ) (offset limit wanted : ℕ) (counts : ℕ × ℕ) : Type 0 where
+pub record IsCountedFrom (honest : Type 0) (characters : List ℕ) (offset limit wanted : ℕ)
+    (counts : ℕ × ℕ) : Type 0 where
   pub some : 0 < counts.0
   pub most : counts.0 ≤ limit
   pub exact : honest → counts.1
@@ -14,7 +15,8 @@ pub record IsCountedFrom (honest : Type 0) (characters : List ℕ) (offset limit
   pub few : counts.1 ≤ counts.0
 
 -- A call that only reads leaves the source as it was.
-pub record OnlyReads {S : Type 0} (characters : S → List ℕ) (failures : S → ℕ) (honest : S → Type 0) (same_ground : S
+pub record OnlyReads {S : Type 0} (characters : S → List ℕ) (failures : S → ℕ) (honest : S → Type 0)
+    (same_ground : S
     → S → Type 0)
     (old new : S) : Type 0 where
   -- it is as long as before

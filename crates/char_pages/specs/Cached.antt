@@ -18,13 +18,15 @@ pub record AreBelow (base many : ℕ) (cached : List (ℕ × List ℕ)) : Type 0
   pub to : (entry : ℕ × List ℕ) → Contains cached entry → entry.0 < base + many
 
 -- each entry was there before, or is sector n, as the disk reads it where it is honest
-pub record AddsSector (honest : Type 0) (c : Content) (n : ℕ) (old new : List (ℕ × List ℕ)) : Type 0 where
+pub record AddsSector (honest : Type 0) (c : Content) (n : ℕ)
+    (old new : List (ℕ × List ℕ)) : Type 0 where
   pub each : (entry : ℕ × List ℕ) → Contains new entry
       → Contains old entry ⊎ ((entry.0 ≡ n) × (honest → entry.1 ≡ c n))
 
 -- What a call leaves that wants sector n, of a cache and of the disk behind it: the cache may hold that sector besides,
 -- and the disk is only read.
-pub record LooksUp {D : Type 0} (d : Ghosts D) (n : ℕ) {T E : Type 0} (result : Result T E) (old new : D)
+pub record LooksUp {D : Type 0} (d : Ghosts D) (n : ℕ) {T E : Type 0} (result : Result T E)
+    (old new : D)
     (cache cache' : LruCache ℕ (List ℕ)) : Type 0 where
   pub cached : AddsSector (d.honest old) (now (d.trail old)).reads n cache.entries cache'.entries
   pub capacity : cache'.cap ≡ cache.cap
@@ -34,15 +36,19 @@ pub record LooksUp {D : Type 0} (d : Ghosts D) (n : ℕ) {T E : Type 0} (result 
 -- so many bytes of a part of a sector are the wanted byte
 pub record IsCountIn (sector : List ℕ) (part : Part) (found : ℕ) : Type 0 where
   pub whole : length sector ≡ SECTOR_BYTES
-  pub exact : found ≡ count_by (λ b. b == part.wanted) (slice_range sector part.at (part.at + part.few))
+  pub exact : found ≡ count_by (λ b. b
+      == part.wanted) (slice_range sector part.at (part.at + part.few))
 
 -- what a call returns that wants sector n: of an honest disk this holds of it, and of the sector as a read gives it
-abbrev pub TellsSector : {D T E : Type 0} → Ghosts D → ℕ → (List ℕ → T → Type 0) → Result T E → D → LruCache ℕ (List ℕ)
+abbrev pub TellsSector : {D T E : Type 0} → Ghosts D → ℕ → (List ℕ → T → Type 0) → Result T E → D
+    → LruCache ℕ (List ℕ)
     → Type 0
 TellsSector d n P result disk cache = IfOk result (λ told. d.honest disk
     → AreTrue (now (d.trail disk)).reads cache.entries → P ((now (d.trail disk)).reads n) told)
 
 -- a count in a part of it, which is no greater than the part whatever the disk tells
-abbrev pub TellsCount : {D E : Type 0} → Ghosts D → ℕ → Part → Result ℕ E → D → LruCache ℕ (List ℕ) → Type 0
-TellsCount d n part result disk cache = TellsSector d n (λ sector. IsCountIn sector part) result disk cache
+abbrev pub TellsCount : {D E : Type 0} → Ghosts D → ℕ → Part → Result ℕ E → D → LruCache ℕ (List ℕ)
+    → Type 0
+TellsCount d n part result disk cache =
+    TellsSector d n (λ sector. IsCountIn sector part) result disk cache
     × IfOk result (λ found. found ≤ part.few)

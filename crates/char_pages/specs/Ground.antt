@@ -28,7 +28,8 @@ pub record OnSamePages {D : Type 0} (d : Ghosts D) (old new : D) (p p' : Pages)
 
 -- What a call leaves that only looks at pages and at their disk: all characters are where they were, and what is in
 -- memory of an honest disk is what stands there, as before.
-pub record OnlyLooked {D : Type 0} (d : Ghosts D) {T E : Type 0} (result : Result T E) (old new : D) (p p' : Pages)
+pub record OnlyLooked {D : Type 0} (d : Ghosts D) {T E : Type 0} (result : Result T E) (old new : D)
+    (p p' : Pages)
     : Type 0 where
   pub cached : d.honest old → AreTrue (now (d.trail old)).reads (cached_of p)
       → AreTrue (now (d.trail new)).reads (cached_of p')

@@ -21,7 +21,8 @@ more_again old mid new first second = (
 )
 
 module _ {D : Type 0} {d : Ghosts D} where
-  pub pages_self : {s : D} {p : Pages} {disk pages : GName} → OnSamePages d s s p p disk disk pages pages
+  pub pages_self : {s : D} {p : Pages} {disk pages : GName}
+      → OnSamePages d s s p p disk disk pages pages
   pages_self {s = s} = record {
     confined = stays_put d.size d.honest d.trail Nowhere s;
     same_base = refl;

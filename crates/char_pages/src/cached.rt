@@ -16,7 +16,8 @@ pub(crate) type Cache = LruCache<u32, Sector>;
 /// Byte `at` of sector n, if that is the sector that was asked for last. It looks nothing up and moves nothing.
 fn newest(cache: &Cache, n: u32, at: usize) -> Option<u8>
     requires { at < SECTOR_BYTES }
-    ensures { IfSome result (λ byte. (c : Content) → AreTrue c cache.now.entries → byte ≡ get_or (c n) at 0) }
+    ensures { IfSome result (λ byte. (c : Content) → AreTrue c cache.now.entries
+        → byte ≡ get_or (c n) at 0) }
 {
     if let Some((number, sector)) = cache.peek_mru() {
         if *number == n {
@@ -38,10 +39,12 @@ fn copied(sector: &Sector) -> Sector
 /// memory to put it there, it is returned all the same.
 pub(crate) fn sector_of<D: Disk>(disk: &mut D, cache: &mut Cache, n: u32) -> Result<Sector, Fault>
     requires { n < D.size disk.old }
-    ensures value { IfOk result (λ sector. D.honest disk.old → AreTrue (now (D.trail disk.old)).reads cache.old.entries
+    ensures value { IfOk result (λ sector. D.honest disk.old
+        → AreTrue (now (D.trail disk.old)).reads cache.old.entries
         → sector ≡ (now (D.trail disk.old)).reads n) }
     ensures whole { IfOk result (λ sector. length sector ≡ SECTOR_BYTES) }
-    ensures cached { AddsSector (D.honest disk.old) (now (D.trail disk.old)).reads n cache.old.entries
+    ensures cached { AddsSector (D.honest disk.old)
+        (now (D.trail disk.old)).reads n cache.old.entries
         cache.new.entries }
     ensures capacity { cache.new.cap ≡ cache.old.cap }
     ensures kept { IsConfined D.size D.honest D.trail Nowhere disk.old disk.new }
@@ -64,7 +67,8 @@ pub(crate) fn sector_of<D: Disk>(disk: &mut D, cache: &mut Cache, n: u32) -> Res
 fn looked_up<D: Disk>(disk: &mut D, cache: &mut Cache, n: u32, at: usize) -> Result<u8, Fault>
     requires there { n < D.size disk.old }
     requires within { at < SECTOR_BYTES }
-    ensures value { TellsSector D.Disk n (λ sector byte. byte ≡ get_or sector at 0) result disk.old cache.old }
+    ensures value { TellsSector D.Disk n (λ sector byte. byte
+        ≡ get_or sector at 0) result disk.old cache.old }
     ensures looked { LooksUp D.Disk n result disk.old disk.new cache.old cache.new }
 {
     let sector = sector_of(disk, cache, n)?;
@@ -81,7 +85,8 @@ pub(crate) fn byte_of<D: Disk>(
 ) -> Result<u8, Fault>
     requires there { n < D.size disk.old }
     requires within { at < SECTOR_BYTES }
-    ensures value { TellsSector D.Disk n (λ sector byte. byte ≡ get_or sector at 0) result disk.old cache.old }
+    ensures value { TellsSector D.Disk n (λ sector byte. byte
+        ≡ get_or sector at 0) result disk.old cache.old }
     ensures looked { LooksUp D.Disk n result disk.old disk.new cache.old cache.new }
 {
     match newest(cache, n, at) {

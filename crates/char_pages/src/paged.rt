@@ -23,7 +23,8 @@ impl<'a, D: Disk> Paged<'a, D> {
     /// A source over these.
     pub fn over(disk: &'a mut D, pages: &'a mut Pages) -> Self
         requires on_disk { base_of pages.old + saved_sectors pages.old ≤ D.size disk.old }
-        requires told { D.honest disk.old → AreTrue (now (D.trail disk.old)).reads (cached_of pages.old) }
+        requires told { D.honest disk.old
+            → AreTrue (now (D.trail disk.old)).reads (cached_of pages.old) }
         ensures disk { result.disk ≡ disk.entry }
         ensures pages { result.pages ≡ pages.entry }
     {

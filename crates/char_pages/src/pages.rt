@@ -114,7 +114,8 @@ impl Pages {
     /// still there. They are few: those that aren't on the disk, and 64 sectors at most.
     pub fn held(&self) -> u32
         ensures held { result ≡ held_in self.now }
-        ensures few { result ≤ many_of self.now - saved_of self.now + SECTOR_BYTES * CACHED_SECTORS }
+        ensures few { result ≤ many_of self.now - saved_of self.now
+            + SECTOR_BYTES * CACHED_SECTORS }
     {
         self.rest.len() as u32 + SECTOR_BYTES * self.cache.len() as u32
     }
@@ -140,8 +141,7 @@ impl Pages {
     /// disk.
     pub fn settle(&mut self, base: u32, saved: u32)
         requires whole { saved % SECTOR_BYTES ≡ 0 }
-        requires more { saved_of self.old ≤ saved }
-        requires within { saved ≤ many_of self.old }
+        requires more { (saved_of self.old ≤ saved) × (saved ≤ many_of self.old) }
         requires place { 0 < saved_of self.old → base ≡ base_of self.old }
         ensures base { base_of self.new ≡ base }
         ensures saved { saved_of self.new ≡ saved }

@@ -25,7 +25,8 @@ word_at bs p = if run_from bs p == 0 then [] else slice_range bs (word_begin bs 
 
 -- the command whose word that is in a version of the table, and the position where its parameters begin
 unfoldable pub called_at : ℕ → List ℕ → ℕ → Option (Command × ℕ)
-called_at version bs p = option_map (λ command. (command, word_end bs p)) (command_named version (word_at bs p))
+called_at version bs p =
+    option_map (λ command. (command, word_end bs p)) (command_named version (word_at bs p))
 
 -- The bytes from `begin` up to before `end` are a run that holds p, and the run can't be longer.
 pub record IsLongestRun (bs : List ℕ) (p begin end : ℕ) : Type 0 where

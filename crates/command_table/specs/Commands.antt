@@ -37,10 +37,10 @@ word_of SystemGrow = codes "System.Grow"
 -- every command
 unfoldable pub commands : List Command
 commands =
-    EditOpen ∷ SystemOpen ∷ SystemOpenLog ∷ SystemClose ∷ SystemRecall ∷ SystemCopy ∷ SystemClear ∷ SystemDirectory ∷
-    SystemDeleteFiles ∷
-    SystemSetFont ∷ SystemSetColor ∷ SystemSetOffset ∷ EditChangeFont ∷ EditChangeColor ∷ EditChangeOffset ∷ EditStore
-    ∷ EditSearch ∷ EditRecall ∷ SystemCollect ∷ SystemGrow ∷ []
+    EditOpen ∷ SystemOpen ∷ SystemOpenLog ∷ SystemClose ∷ SystemRecall ∷ SystemCopy ∷
+    SystemClear ∷ SystemDirectory ∷ SystemDeleteFiles ∷ SystemSetFont ∷ SystemSetColor ∷
+    SystemSetOffset ∷ EditChangeFont ∷ EditChangeColor ∷ EditChangeOffset ∷ EditStore ∷
+    EditSearch ∷ EditRecall ∷ SystemCollect ∷ SystemGrow ∷ []
 
 -- the first version of the table that has the command
 abbrev pub since : Command → ℕ
@@ -57,4 +57,5 @@ command_named version word =
 -- and no two have one word.
 abbrev pub OneWordEach : Type 0
 OneWordEach = (version : ℕ) (word : List ℕ) (command : Command)
-    → (command_named version word ≡ Some command) ↔ ((word ≡ word_of command) × (since command ≤ version))
+    → (command_named version word ≡ Some command)
+    ↔ ((word ≡ word_of command) × (since command ≤ version))

@@ -35,7 +35,8 @@ name_in _ = None
 -- the names from a symbol and its end on up to the first other symbol, of n symbols
 unfoldable pub names_on : List ℕ → ℕ → Symbol × ℕ → List (List ℕ)
 names_on bs zero found = []
-names_on bs (suc n) found = elim (name_in found.0) [ Some name ↦ name ∷ names_on bs n (symbol bs found.1) | None ↦ [] ]
+names_on bs (suc n) found =
+    elim (name_in found.0) [ Some name ↦ name ∷ names_on bs n (symbol bs found.1) | None ↦ [] ]
 
 -- the same from a position on, of all symbols: there are no more names than bytes
 abbrev pub names_from : List ℕ → ℕ → List (List ℕ)
@@ -59,7 +60,8 @@ module _ {T : Type 0} (read : T → List ℕ) where
   value_parameter text pos selection menu =
       let first = symbol_in (text, pos) in
       if is_special of_selection first then symbol_or no_selection selection else
-      (if is_special of_menu first then symbol_or no_viewer (option_map (λ m. (m, 0)) menu) else Ok first)
+      (if is_special of_menu first then symbol_or no_viewer (option_map (λ m. (m, 0)) menu)
+      else Ok first)
 
   abbrev pub names_in : T × ℕ → Result (List (List ℕ)) ℕ
   names_in place = some_names (names_from (read place.0) place.1)
@@ -71,7 +73,8 @@ module _ {T : Type 0} (read : T → List ℕ) where
   -- the list of names after a position
   unfoldable pub names : T → ℕ → Option (T × ℕ) → Result (List (List ℕ)) ℕ
   names text pos selection =
-      if is_special of_selection (symbol_in (text, pos)) then names_or no_selection selection else names_in (text, pos)
+      if is_special of_selection (symbol_in (text, pos)) then names_or no_selection selection
+      else names_in (text, pos)
 
 -- ---- of texts that are lent
 
@@ -97,12 +100,14 @@ first_names r = result_map_both (take most_names) (λ code. code) r
 
 -- whatever a source tells, a value is a symbol that can be, or one of two codes, each for its reason
 abbrev pub IsValue : {A B : Type 0} → Option A → Option B → Result Symbol ℕ → Type 0
-IsValue selection menu r = MatchResult r IsSymbolShaped (λ code. ((code ≡ no_selection) × (selection ≡ None))
+IsValue selection menu r =
+    MatchResult r IsSymbolShaped (λ code. ((code ≡ no_selection) × (selection ≡ None))
     ⊎ ((code ≡ no_viewer) × (menu ≡ None)))
 
 -- a list has 1 to 257 names, or none and so a code
 abbrev pub IsList : Result (List (List ℕ)) ℕ → Type 0
-IsList r = MatchResult r (λ names. (0 < length names) × (length names ≤ most_names)) (λ code. code ≡ wrong_symbol)
+IsList r = MatchResult r (λ names. (0 < length names) × (length names ≤ most_names))
+    (λ code. code ≡ wrong_symbol)
 
 -- the same where the selection can be asked for and is missing
 abbrev pub IsNames : {A : Type 0} → Option A → Result (List (List ℕ)) ℕ → Type 0

@@ -31,8 +31,10 @@ pub fn called<S: CharSource>(
 ) -> Result<Option<(Command, u32)>, Fault>
     requires { IsTextPlace (length (S.characters source.old)) (flat text.now, pos) }
     ensures call { IfOk result (λ call. S.honest source.old
-        → call ≡ called_at (version_number version) (bytes_of_text (S.characters source.old) (flat text.now)) pos) }
-    ensures range { IfOk result (λ call. IfSome call (λ x. (pos < x.1) × (x.1 ≤ length (flat text.now)))) }
+        → call ≡ called_at (version_number version)
+        (bytes_of_text (S.characters source.old) (flat text.now)) pos) }
+    ensures range { IfOk result
+        (λ call. IfSome call (λ x. (pos < x.1) × (x.1 ≤ length (flat text.now)))) }
     ensures reads { OnlyReads S.characters S.failures S.honest S.same_ground source.old source.new }
     ensures cause { CountsFault result (S.failures source.old) (S.failures source.new) }
 {
@@ -53,8 +55,10 @@ fn bytes_from<S: CharSource>(
 ) -> Result<ArrayVec<u8, LOOKED_AT>, Fault>
     requires { IsTextPlace (length (S.characters source.old)) (flat text.now, start) }
     ensures bytes { IfOk result (λ window. S.honest source.old
-        → window.items ≡ take LOOKED_AT (drop start (bytes_of_text (S.characters source.old) (flat text.now)))) }
-    ensures count { IfOk result (λ window. length window.items ≡ min LOOKED_AT (length (flat text.now) - start)) }
+        → window.items
+        ≡ take LOOKED_AT (drop start (bytes_of_text (S.characters source.old) (flat text.now)))) }
+    ensures count { IfOk result
+        (λ window. length window.items ≡ min LOOKED_AT (length (flat text.now) - start)) }
     ensures fits { IfOk result (λ window. start + length window.items < 2 ^ 32) }
     ensures reads { OnlyReads S.characters S.failures S.honest S.same_ground source.old source.new }
     ensures cause { CountsFault result (S.failures source.old) (S.failures source.new) }

@@ -30,9 +30,11 @@ pub fn names<S: CharSource>(
     source: &mut S,
 ) -> Result<Result<Names, u8>, Fault>
     requires text { IsTextPlace (length (S.characters source.old)) (flat text.now, pos) }
-    requires sel { IfSome (option_map place_lent sel) (IsTextPlace (length (S.characters source.old))) }
+    requires sel { IfSome (option_map place_lent sel)
+        (IsTextPlace (length (S.characters source.old))) }
     ensures names { IfOk result (λ r. S.honest source.old
-        → listed_names r ≡ first_names (names (bytes_of_text (S.characters source.old)) (flat text.now) pos
+        → listed_names r
+        ≡ first_names (names (bytes_of_text (S.characters source.old)) (flat text.now) pos
         (option_map place_lent sel.entry))) }
     ensures kind { IfOk result (λ r. IsNames sel.entry (listed_names r)) }
     ensures reads { OnlyReads S.characters S.failures S.honest S.same_ground source.old source.new }
@@ -63,7 +65,8 @@ fn list_from<S: CharSource>(
     requires within { scanner.old.position ≤ length scanner.old.text }
     requires offsets { AreWithin (length (S.characters source.old)) scanner.old.text }
     ensures names { IfOk result (λ r. S.honest source.old
-        → listed_names r ≡ some_names (names_on (bytes_of_text (S.characters source.old) scanner.old.text) most_names
+        → listed_names r
+        ≡ some_names (names_on (bytes_of_text (S.characters source.old) scanner.old.text) most_names
         (first.now, scanner.old.position))) }
     ensures kind { IfOk result (λ r. IsList (listed_names r)) }
     ensures reads { OnlyReads S.characters S.failures S.honest S.same_ground source.old source.new }
@@ -88,7 +91,8 @@ fn names_from<S: CharSource>(
     requires within { scanner.old.position ≤ length scanner.old.text }
     requires offsets { AreWithin (length (S.characters source.old)) scanner.old.text }
     ensures names { IfOk result (λ names. S.honest source.old
-        → names.items ≡ names_on (bytes_of_text (S.characters source.old) scanner.old.text) most_names
+        → names.items ≡ names_on (bytes_of_text (S.characters source.old) scanner.old.text)
+        most_names
         (first.now, scanner.old.position)) }
     ensures most { IfOk result (λ names. length names.items ≤ most_names) }
     ensures reads { OnlyReads S.characters S.failures S.honest S.same_ground source.old source.new }

@@ -17,7 +17,8 @@ pub(crate) fn next_symbol<S: CharSource>(
     requires within { scanner.old.position ≤ length scanner.old.text }
     requires offsets { AreWithin (length (S.characters source.old)) scanner.old.text }
     ensures symbol { IfOk result (λ symbol. S.honest source.old
-        → symbol_worked (bytes_of_text (S.characters source.old) scanner.old.text) scanner.old.position
+        → symbol_worked (bytes_of_text (S.characters source.old) scanner.old.text)
+        scanner.old.position
         ≡ (symbol, scanner.new.position)) }
     ensures shape { IfOk result IsSymbolShaped }
     ensures moves { MovesOn scanner.old scanner.new }

@@ -23,8 +23,10 @@ pub fn params<S: CharSource>(
     source: &mut S,
 ) -> Result<Result<Symbol, u8>, Fault>
     requires text { IsTextPlace (length (S.characters source.old)) (flat text.now, pos) }
-    requires sel { IfSome (option_map place_lent sel) (IsTextPlace (length (S.characters source.old))) }
-    requires menu { IfSome (option_map text_lent menu) (λ m. IsTextPlace (length (S.characters source.old)) (m, 0)) }
+    requires sel { IfSome (option_map place_lent sel)
+        (IsTextPlace (length (S.characters source.old))) }
+    requires menu { IfSome (option_map text_lent menu)
+        (λ m. IsTextPlace (length (S.characters source.old)) (m, 0)) }
     ensures value { IfOk result (λ r. S.honest source.old
         → r ≡ value_parameter (bytes_of_text (S.characters source.old)) (flat text.now) pos
         (option_map place_lent sel.entry) (option_map text_lent menu.entry)) }
@@ -48,10 +50,13 @@ fn symbol_or<S: CharSource>(
     place: Option<(&Text, u32)>,
     source: &mut S,
 ) -> Result<Result<Symbol, u8>, Fault>
-    requires { IfSome (option_map place_lent place) (IsTextPlace (length (S.characters source.old))) }
+    requires { IfSome (option_map place_lent place)
+        (IsTextPlace (length (S.characters source.old))) }
     ensures symbol { IfOk result (λ r. S.honest source.old
-        → r ≡ symbol_or (bytes_of_text (S.characters source.old)) code (option_map place_lent place.entry)) }
-    ensures kind { IfOk result (λ r. MatchResult r IsSymbolShaped (λ c. (c ≡ code) × (place.entry ≡ None))) }
+        → r ≡ symbol_or (bytes_of_text (S.characters source.old)) code
+        (option_map place_lent place.entry)) }
+    ensures kind { IfOk result
+        (λ r. MatchResult r IsSymbolShaped (λ c. (c ≡ code) × (place.entry ≡ None))) }
     ensures reads { OnlyReads S.characters S.failures S.honest S.same_ground source.old source.new }
     ensures cause { CountsFault result (S.failures source.old) (S.failures source.new) }
 {

@@ -1,4 +1,3 @@
-pub mod Calm
 pub mod Sums
 pub mod BringingLaws
 pub mod Gathering

@@ -37,7 +37,8 @@ pub record IsLoose (d : Desktop) : Type 0 where
 -- These documents were filed into the desktop before, whatever the limits, and it is the one after then: so it is seen
 -- over every list of as many characters as were written, with the bytes of the documents behind it. The characters were
 -- the old ones, and are the new ones.
-pub record IsGathered (old new : List ℕ) (before after : KeptDesktop) (documents : Documents) : Type 0 where
+pub record IsGathered (old new : List ℕ) (before after : KeptDesktop) (documents : Documents) : Type
+    0 where
   pub exact : (all : List ℕ) → length all ≡ before.written
       → seen (all ++ all_bytes documents) after ≡ all_filed (seen all before) documents
   pub added : new ≡ old ++ all_bytes documents
@@ -46,7 +47,8 @@ pub record IsGathered (old new : List ℕ) (before after : KeptDesktop) (documen
   pub loose : (characters : List ℕ) → IsLoose (seen characters after)
 
 -- The file of that name is a text of these bytes, which were added to the characters.
-pub record IsFiledAs (document : List ℕ × List ℕ) (old new : List ℕ) (before after : KeptDesktop) : Type 0 where
+pub record IsFiledAs (document : List ℕ × List ℕ) (old new : List ℕ)
+    (before after : KeptDesktop) : Type 0 where
   pub text : List Piece
   pub named : IsTrue (is_name document.0)
   pub added : new ≡ old ++ document.1

@@ -19,7 +19,8 @@ use text_core::Text;
 /// than there may be, or where the desktop would pass the limits on characters. No character is read.
 pub fn bring<S: CharSource>(desk: &mut Desk, documents: &[Document], source: &mut S) -> StepResult
     requires { IsOver (S.characters source.old) (kept_desktop desk.old) }
-    ensures does { DoesBringing S.CharSource (all_bytes documents.now) (λ _ d. all_brought d documents.now) result
+    ensures does { DoesBringing S.CharSource (all_bytes documents.now)
+        (λ _ d. all_brought d documents.now) result
         source.old source.new (kept_desktop desk.old) (kept_desktop desk.new) }
     ensures added { IfOk result (λ reply. S.characters source.new
         ≡ characters_after (S.characters source.old) (all_bytes documents.now) reply) }
@@ -57,7 +58,8 @@ fn file_all<S: CharSource>(
 fn file_one<S: CharSource>(desk: &mut Desk, document: &Document, source: &mut S) -> Result<(), Stop>
     requires counted { length (S.characters source.old) ≡ desk.old.written }
     requires room { desk.old.written + length document.now.1 ≤ most_written }
-    ensures filed { OnOk result (IsFiledAs document.now (S.characters source.old) (S.characters source.new)
+    ensures filed { OnOk result
+        (IsFiledAs document.now (S.characters source.old) (S.characters source.new)
         (kept_desktop desk.old) (kept_desktop desk.new)) }
     ensures uses { Uses S.CharSource result source.old source.new }
 {

@@ -31,7 +31,8 @@ impl Model for Document {
 impl Document {
     /// The document of that name with these bytes. None exactly where one of them can't stand in a text.
     pub fn new(name: Name, bytes: Vec<u8>) -> Option<Document>
-        ensures { result ≡ (if list_all text_byte bytes.items then Some (name, bytes.items) else None) }
+        ensures { result
+            ≡ (if list_all text_byte bytes.items then Some (name, bytes.items) else None) }
     {
         if are_text_bytes(&bytes) {
             Some(Document { name, bytes })

@@ -23,7 +23,8 @@ pub type Sizes = BTreeMap<Name, usize>;
 
 /// The file of that name is so long.
 fn put_size(sizes: &mut Sizes, name: &Name, len: usize) -> Result<(), Stop>
-    ensures put { OnOk result (sizes.new.entries ≡ insert_entry name_cmp sizes.old.entries name.now len) }
+    ensures put { OnOk result
+        (sizes.new.entries ≡ insert_entry name_cmp sizes.old.entries name.now len) }
     ensures never_fault { ¬ IsErrOf result Stop.Fault }
 {
     sizes.insert(name.clone()?, len)?;
@@ -48,7 +49,8 @@ fn sizes_of(alloc: Global, files: &Files) -> Result<Sizes, Stop>
 pub fn sizes_after(desk: &Desk, documents: &[Document]) -> Result<Sizes, Stop>
     requires { IsKeptWhole (kept_desktop desk.now) }
     ensures sizes { IfOk result (λ sizes. (characters : List ℕ)
-        → sizes.entries ≡ file_sizes (all_filed (seen characters (kept_desktop desk.now)) documents.now).files) }
+        → sizes.entries
+        ≡ file_sizes (all_filed (seen characters (kept_desktop desk.now)) documents.now).files) }
     ensures never_fault { ¬ IsErrOf result Stop.Fault }
 {
     let mut sizes = sizes_of(desk.alloc, &desk.files)?;
@@ -93,7 +95,8 @@ fn sizes_fit(sizes: &Sizes, room: usize) -> bool
 pub fn all_fit(desk: &Desk, documents: &[Document], sizes: &Sizes) -> bool
     requires whole { IsKeptWhole (kept_desktop desk.now) }
     requires sizes { (characters : List ℕ)
-        → sizes.now.entries ≡ file_sizes (all_filed (seen characters (kept_desktop desk.now)) documents.now).files }
+        → sizes.now.entries
+        ≡ file_sizes (all_filed (seen characters (kept_desktop desk.now)) documents.now).files }
     ensures fits { (characters : List ℕ)
         → result ≡ fits (all_filed (seen characters (kept_desktop desk.now)) documents.now) }
     ensures room { IsTrue result → desk.now.written + many_bytes documents.now ≤ most_written }

@@ -23,16 +23,19 @@ pub record CanLog (characters : List ℕ) (d : KeptDesktop) (count : ℕ) : Type
 
 module _ {S : Type 0} (s : Ghosts S) where
   -- The desktop is changed so, and so many characters are added.
-  pub record Logs {T : Type 0} (change : Desktop → Desktop) (count : ℕ) (result : Result T Stop) (old new : S)
+  pub record Logs {T : Type 0} (change : Desktop → Desktop) (count : ℕ) (result : Result T Stop)
+      (old new : S)
       (before after : KeptDesktop) : Type 0 where
     pub logged : OnOk result
         (IsExtended (s.honest old) (s.characters old) (s.characters new) before after change count)
     pub uses : Uses s result old new
 
   -- The desktop is changed so, and nothing is written.
-  pub record OnlyChangesSo {T : Type 0} (change : Desktop → Desktop) (result : Result T Stop) (old new : S)
+  pub record OnlyChangesSo {T : Type 0} (change : Desktop → Desktop) (result : Result T Stop)
+      (old new : S)
       (before after : KeptDesktop) : Type 0 where
     pub changed : OnOk result
-        (IsChanged (s.honest old) (s.characters old) before after (change (seen (s.characters old) before)) 0 0)
+        (IsChanged (s.honest old) (s.characters old) before after
+        (change (seen (s.characters old) before)) 0 0)
     pub reads : OnlyReads s.characters s.failures s.honest s.same_ground old new
     pub faults : FailsAs Fault IsStop result (s.failures old) (s.failures new)

@@ -31,7 +31,8 @@ pub record CanPutAll {K : Type 0} (cmp : K → K → Ordering) (is_clone : K →
 
 module _ {S : Type 0} (s : Ghosts S) where
   -- Characters go behind those that were made: so many, and these where the source is honest.
-  pub record Adds {A : Type 0} (characters : List ℕ) (count : ℕ) (result : Result A Stop) (old new : S)
+  pub record Adds {A : Type 0} (characters : List ℕ) (count : ℕ) (result : Result A Stop)
+      (old new : S)
       (made more : List ℕ) : Type 0 where
     pub read : OnOk result (s.honest old → more ≡ made ++ characters)
     pub longer : OnOk result (length more ≡ length made + count)
@@ -39,13 +40,17 @@ module _ {S : Type 0} (s : Ghosts S) where
     pub faults : FailsAs Fault IsStop result (s.failures old) (s.failures new)
 
   -- Those of a text do, and what is returned is the text as it stands there.
-  pub record Rewrites (text : Text ℕ) (result : Result (List Piece) Stop) (old new : S) (made more : List ℕ)
+  pub record Rewrites (text : Text ℕ) (result : Result (List Piece) Stop) (old new : S)
+      (made more : List ℕ)
       : Type 0 where
     pub stands : IfOk result (λ moved. flat moved ≡ laid (length made) text)
     pub adds : Adds (bytes_of_text (s.characters old) text) (length text) result old new made more
 
   -- Those of all texts of a table do.
-  pub record RewritesAll {K A : Type 0} (table : List (K × List Piece)) (entries : A → List (K × List Piece))
+  pub record RewritesAll {K A : Type 0} (table : List (K × List Piece))
+      (entries : A → List (K × List Piece))
       (result : Result A Stop) (old new : S) (made more : List ℕ) : Type 0 where
-    pub stands : IfOk result (λ moved. flats (entries moved) ≡ laid_table (length made) (flats table))
-    pub adds : Adds (bytes_in (s.characters old) (flats table)) (kept_lengths table) result old new made more
+    pub stands : IfOk result
+        (λ moved. flats (entries moved) ≡ laid_table (length made) (flats table))
+    pub adds : Adds (bytes_in (s.characters old) (flats table)) (kept_lengths table) result old new
+        made more

@@ -183,7 +183,8 @@ fn command_with_viewer<S: CharSource>(
     source: &mut S,
 ) -> StepResult
     requires { IsCall (S.characters source.old) (kept_desktop desk.old) call }
-    ensures { Does S.CharSource (λ d. needs (target_viewer d call) no_viewer (done_with_viewer d command)) result
+    ensures { Does S.CharSource
+        (λ d. needs (target_viewer d call) no_viewer (done_with_viewer d command)) result
         source.old source.new (kept_desktop desk.old) (kept_desktop desk.new) }
 {
     let Some(id) = meant(desk, call) else {
@@ -279,7 +280,8 @@ type Told<T> = Result<Result<T, u8>, Fault>;
 /// The value after the word. Fault: the source failed in this call.
 fn value_of<S: CharSource>(desk: &Desk, call: Call, source: &mut S) -> Told<Symbol>
     requires { IsCall (S.characters source.old) (kept_desktop desk.now) call }
-    ensures told { TellsValue S.CharSource result (λ d. value_of d call) source.old source.new (kept_desktop desk.now) }
+    ensures told { TellsValue S.CharSource result (λ d. value_of d call) source.old source.new
+        (kept_desktop desk.now) }
     ensures kind { IfOk result (λ value. MatchResult value IsSymbolShaped (OneOf known_codes)) }
 {
     let text = desk.text_called(call.viewer, call.in_menu);

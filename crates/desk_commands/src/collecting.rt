@@ -28,10 +28,13 @@ struct WrittenAnew {
 /// character could not be read.
 fn rewritten<S: CharSource>(desk: &Desk, source: &mut S) -> Result<WrittenAnew, Stop>
     requires { IsOver (S.characters source.old) (kept_desktop desk.now) }
-    ensures rewritten { IfOk result (λ new. IsRewritten (S.honest source.old) (S.characters source.old)
-        (kept_desktop desk.now) new.made.items new.texts.entries new.files.entries new.copied new.deleted) }
+    ensures rewritten { IfOk result
+        (λ new. IsRewritten (S.honest source.old) (S.characters source.old)
+        (kept_desktop desk.now) new.made.items new.texts.entries new.files.entries new.copied
+        new.deleted) }
     ensures reads { OnlyReads S.characters S.failures S.honest S.same_ground source.old source.new }
-    ensures faults { FailsAs Stop.Fault IsStop result (S.failures source.old) (S.failures source.new) }
+    ensures faults { FailsAs Stop.Fault IsStop result (S.failures source.old)
+        (S.failures source.new) }
 {
     let mut made = Vec::new(desk.alloc);
     let texts = put_table(desk.alloc, &desk.texts, &mut made, source)?;

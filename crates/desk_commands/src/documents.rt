@@ -13,7 +13,9 @@ ghost use Rattle.desk_commands.specs.Calls.{IsViewerOnTop};
 ghost use Rattle.desk_commands.specs.Words.{AreLooks, file_named, file_of, plain_text, more_written, menu_line, after_opening, fits};
 
 use crate::closings::track_from;
-use crate::openings::{add_text, copy_of, open_on, open_over, opening_fits, opening_on_fits, opening_over_fits};
+use crate::openings::{
+    add_text, copy_of, open_on, open_over, opening_fits, opening_on_fits, opening_over_fits,
+};
 use arrayvec::ArrayVec;
 use char_file::CharSource;
 use desk_core::desk::Desk;
@@ -51,7 +53,8 @@ fn file_len(files: &Files, name: &Name) -> u32
 
 /// A copy of the file of that name, and an empty text where there is none. NoMemory where an allocation is refused.
 fn copy_of_file(alloc: Global, files: &Files, name: &Name) -> Result<Text, NoMemory>
-    ensures { IfOk result (λ copy. flat copy ≡ flat (unwrap_or (file_named files.now.entries name.now) [])) }
+    ensures { IfOk result
+        (λ copy. flat copy ≡ flat (unwrap_or (file_named files.now.entries name.now) [])) }
 {
     match file_of(files, name) {
         Some(text) => copy_of(alloc, text),
@@ -62,7 +65,8 @@ fn copy_of_file(alloc: Global, files: &Files, name: &Name) -> Result<Text, NoMem
 /// The cell, as column and row, at which a viewer opens: above the marker, or else in that track.
 fn free_cell(desk: &Desk, track: Track) -> (u8, u8)
     requires { IsKeptWhole (kept_desktop desk.now) }
-    ensures cell { result ≡ allocated (kept_desktop desk.now).columns track (kept_desktop desk.now).marker }
+    ensures cell { result ≡ allocated (kept_desktop desk.now).columns track
+        (kept_desktop desk.now).marker }
     ensures column { result.0 < COLUMNS }
     ensures row { result.1 ≤ ROWS }
 {
@@ -105,7 +109,8 @@ pub fn open_tool<S: CharSource>(desk: &mut Desk, x: u8, y: u8, source: &mut S) -
     requires column { x < COLUMNS }
     requires row { y < ROWS }
     requires over { IsOver (S.characters source.old) (kept_desktop desk.old) }
-    ensures { DoesBringing S.CharSource (menu_line (codes "System.Tool")) (λ all d. tool_opened d x y) result
+    ensures { DoesBringing S.CharSource (menu_line (codes "System.Tool"))
+        (λ all d. tool_opened d x y) result
         source.old source.new (kept_desktop desk.old) (kept_desktop desk.new) }
 {
     let Some(name) = Name::new(b"System.Tool") else {
@@ -155,13 +160,17 @@ fn open_viewer<S: CharSource>(
     requires within { AreWithin (kept_desktop desk.old).written (flat main) }
     requires looks { AreLooks (flat main) }
     requires room { desk.old.written + length menu.now ≤ most_written }
-    requires fits { (characters : List ℕ) (menu_text main_text : AText ℕ) → length menu_text ≡ length menu.now
+    requires fits { (characters : List ℕ) (menu_text main_text : AText ℕ) → length menu_text
+        ≡ length menu.now
         → length main_text ≡ length (flat main)
-        → fits (without_unshown (more_written (after_opening (seen characters (kept_desktop desk.old)) menu_text main_text (x, y))
+        → fits (without_unshown
+        (more_written
+        (after_opening (seen characters (kept_desktop desk.old)) menu_text main_text (x, y))
         (length menu.now))) ≡ true }
     requires over { IsOver (S.characters source.old) (kept_desktop desk.old) }
     ensures { DoesBringing S.CharSource menu.now (λ all d.
-        Ok (more_written (after_opening d (plain_text menu.now) (seen_text all main) (x, y)) (length menu.now))) result
+        Ok (more_written (after_opening d (plain_text menu.now) (seen_text all main) (x, y))
+        (length menu.now))) result
         source.old source.new (kept_desktop desk.old) (kept_desktop desk.new) }
 {
     edits_keep_columns();

@@ -72,7 +72,8 @@ pub fn deleting_line(name: &Name) -> LogLine
 /// A line for each file, by rising names. NoMemory where an allocation is refused.
 fn directory_lines(alloc: Global, files: &Files) -> Result<Vec<LogLine>, NoMemory>
     ensures { IfOk result (λ lines. (characters : List ℕ) → bytes_of_lines lines.items
-        ≡ map (λ file. size_line file.0 (length file.1)) (seen_table characters files.now.entries)) }
+        ≡ map (λ file. size_line file.0 (length file.1))
+        (seen_table characters files.now.entries)) }
 {
     let mut lines = Vec::new(alloc);
     for (name, text) in files {
@@ -153,8 +154,10 @@ pub fn log_lines<S: CharSource>(
     lines: &[LogLine],
     source: &mut S,
 ) -> Result<(), Stop>
-    requires { CanLog (S.characters source.old) (kept_desktop desk.old) (length_of_lines lines.now) }
-    ensures { Logs S.CharSource (λ d. all_logged d (bytes_of_lines lines.now)) (length_of_lines lines.now) result
+    requires { CanLog (S.characters source.old) (kept_desktop desk.old)
+        (length_of_lines lines.now) }
+    ensures { Logs S.CharSource (λ d. all_logged d (bytes_of_lines lines.now))
+        (length_of_lines lines.now) result
         source.old source.new (kept_desktop desk.old) (kept_desktop desk.new) }
 {
     for line in lines {
@@ -183,7 +186,8 @@ pub fn log_line<S: CharSource>(desk: &mut Desk, line: &[u8], source: &mut S) -> 
 /// this call.
 fn show_log_end<S: CharSource>(desk: &mut Desk, source: &mut S) -> Result<(), Stop>
     requires built { IsBuilt (length (S.characters source.old)) (kept_desktop desk.old) }
-    ensures { OnlyChangesSo S.CharSource log_end_shown result source.old source.new (kept_desktop desk.old) (kept_desktop desk.new) }
+    ensures { OnlyChangesSo S.CharSource log_end_shown result source.old source.new
+        (kept_desktop desk.old) (kept_desktop desk.new) }
 {
     for at in 0..viewer_count(desk) {
         let id = viewer_at(desk, at);
@@ -211,7 +215,8 @@ fn viewer_at(desk: &Desk, at: usize) -> u16
 /// this call.
 fn show_log_in<S: CharSource>(desk: &mut Desk, id: u16, source: &mut S) -> Result<(), Stop>
     requires built { IsBuilt (length (S.characters source.old)) (kept_desktop desk.old) }
-    ensures { OnlyChangesSo S.CharSource (λ d. log_shown d id) result source.old source.new (kept_desktop desk.old) (kept_desktop desk.new) }
+    ensures { OnlyChangesSo S.CharSource (λ d. log_shown d id) result source.old source.new
+        (kept_desktop desk.old) (kept_desktop desk.new) }
 {
     if desk.main_of(id) == 0 && desk.tracks.contains(ViewerId(id)) {
         let end = log_len(desk);

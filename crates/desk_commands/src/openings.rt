@@ -67,7 +67,8 @@ fn length_left(viewers: &ViewerTable, gone: Option<ViewerId>, number: u16, text:
 /// How many characters the texts have that stay once a viewer is gone.
 fn lengths_left(texts: &BTreeMap<u16, Text>, viewers: &ViewerTable, gone: Option<ViewerId>) -> usize
     requires { lengths (seen_table [] texts.now.entries) ≤ most_held }
-    ensures { result ≡ kept_left (λ n. (n == 0) || still_shown (id_number gone) viewers.now.items n) texts.now.entries }
+    ensures { result ≡ kept_left (λ n. (n == 0) || still_shown (id_number gone) viewers.now.items n)
+        texts.now.entries }
 {
     let mut sum = 0;
     for (number, text) in texts {
@@ -112,7 +113,9 @@ fn add_viewer(viewers: &mut ViewerTable, id: u16, viewer: Viewer) -> Result<(), 
 fn held_without(desk: &Desk, gone: Option<ViewerId>) -> usize
     requires { IsKeptWhole (kept_desktop desk.now) }
     ensures held { (characters : List ℕ)
-        → result ≡ characters_held (without_unshown (without_viewer (seen characters (kept_desktop desk.now)) (id_number gone))) }
+        → result ≡ characters_held
+        (without_unshown
+        (without_viewer (seen characters (kept_desktop desk.now)) (id_number gone))) }
     ensures few { result ≤ most_held }
 {
     let texts = lengths_left(&desk.texts, &desk.viewers, gone);
@@ -125,9 +128,11 @@ fn held_before(desk: &Desk, x: u8, y: u8) -> usize
     requires whole { IsKeptWhole (kept_desktop desk.now) }
     requires column { x < COLUMNS }
     ensures held { (characters : List ℕ) → result ≡ characters_held (without_unshown
-        (without_viewer (seen characters (kept_desktop desk.now)) (replaced_at (kept_desktop desk.now).columns x y))) }
+        (without_viewer (seen characters (kept_desktop desk.now))
+        (replaced_at (kept_desktop desk.now).columns x y))) }
     ensures few { result ≤ most_held }
-    ensures apart { times_meant (new_id (kept_desktop desk.now)) (replaced_at (kept_desktop desk.now).columns x y) ≡ 0 }
+    ensures apart { times_meant (new_id (kept_desktop desk.now))
+        (replaced_at (kept_desktop desk.now).columns x y) ≡ 0 }
 {
     edits_place_viewers();
     held_without(desk, desk.tracks.replaced(x, y))
@@ -143,7 +148,8 @@ pub fn opening_fits(desk: &Desk, menu: usize, main: u32, x: u8, y: u8) -> bool
     ensures fits { (characters : List ℕ) (menu_text main_text : AText ℕ) → length menu_text ≡ menu
         → length main_text ≡ main
         → result ≡ fits (without_unshown (more_written
-        (after_opening (seen characters (kept_desktop desk.now)) menu_text main_text (x, y)) menu)) }
+        (after_opening (seen characters (kept_desktop desk.now)) menu_text main_text (x, y))
+        menu)) }
 {
     within_limits(
         desk.written as usize + menu,
@@ -159,7 +165,8 @@ pub fn opening_on_fits(desk: &Desk, made: usize, menu: usize, x: u8, y: u8) -> b
     requires menu { menu < 2 ^ 32 }
     requires column { x < COLUMNS }
     ensures room { IsTrue result → desk.now.written + made ≤ most_written }
-    ensures fits { (characters : List ℕ) (menu_text : AText ℕ) (main org : ℕ) → length menu_text ≡ menu
+    ensures fits { (characters : List ℕ) (menu_text : AText ℕ) (main org : ℕ) → length menu_text
+        ≡ menu
         → (main ≡ 0) ⊎ (replaced_at (kept_desktop desk.now).columns x y ≡ None)
         → result ≡ fits (without_unshown (more_written
         (opening_on (seen characters (kept_desktop desk.now)) menu_text main org (x, y)) made)) }
@@ -171,7 +178,8 @@ pub fn opening_on_fits(desk: &Desk, made: usize, menu: usize, x: u8, y: u8) -> b
 /// NoMemory where an allocation is refused.
 fn join(desk: &mut Desk, menu: Text, main: u16, org: u32) -> Result<u16, NoMemory>
     requires { CanOpen (kept_desktop desk.old) }
-    ensures desk { OnOk result (kept_desktop desk.new ≡ with_viewer (kept_desktop desk.old) menu main org) }
+    ensures desk { OnOk result
+        (kept_desktop desk.new ≡ with_viewer (kept_desktop desk.old) menu main org) }
     ensures id { IfOk result (λ id. id ≡ new_id (kept_desktop desk.old)) }
 {
     let number = add_text(&mut desk.texts, menu)?;
@@ -198,7 +206,9 @@ pub fn open_on(
 ) -> Result<(), NoMemory>
     requires can { CanOpen (kept_desktop desk.old) }
     requires column { x < COLUMNS }
-    ensures { OnOk result (kept_desktop desk.new ≡ without_unshown (opening_on (kept_desktop desk.old) menu main org (x, y))) }
+    ensures { OnOk result
+        (kept_desktop desk.new
+        ≡ without_unshown (opening_on (kept_desktop desk.old) menu main org (x, y))) }
 {
     let id = join(desk, menu, main, org)?;
     desk.open_at(id, x, y);
@@ -210,8 +220,11 @@ pub fn open_on(
 pub fn opening_over_fits(desk: &Desk, menu: usize) -> bool
     requires whole { IsKeptWhole (kept_desktop desk.now) }
     requires menu { menu < 2 ^ 32 }
-    ensures { (characters : List ℕ) (menu_text : AText ℕ) (main org : ℕ) (k : ATrack) → length menu_text ≡ menu
-        → result ≡ fits (without_unshown (opening_over (seen characters (kept_desktop desk.now)) menu_text main org k)) }
+    ensures { (characters : List ℕ) (menu_text : AText ℕ) (main org : ℕ) (k : ATrack)
+        → length menu_text ≡ menu
+        → result ≡ fits
+        (without_unshown
+        (opening_over (seen characters (kept_desktop desk.now)) menu_text main org k)) }
 {
     within_limits(desk.written as usize, desk.held() + menu)
 }
@@ -225,8 +238,10 @@ pub fn open_over(
     org: u32,
     track: Track,
 ) -> Result<(), NoMemory>
-    requires { CanOpen (kept_desktop desk.old) × (length (stack_of (kept_desktop desk.old).columns track) < DEPTH) }
-    ensures { OnOk result (kept_desktop desk.new ≡ opening_over (kept_desktop desk.old) menu main org track) }
+    requires { CanOpen (kept_desktop desk.old)
+        × (length (stack_of (kept_desktop desk.old).columns track) < DEPTH) }
+    ensures { OnOk result
+        (kept_desktop desk.new ≡ opening_over (kept_desktop desk.old) menu main org track) }
 {
     let id = join(desk, menu, main, org)?;
     desk.cover(id, track);

@@ -31,7 +31,8 @@ pub fn pieces_in(buffer: &Buffer) -> Cursor<'_>
 fn put_piece<S: CharSource>(piece: Piece, made: &mut Vec<u8>, source: &mut S) -> Result<(), Stop>
     requires offsets { piece.off + piece.len < 2 ^ 32 }
     requires inside { piece.off + piece.len ≤ length (S.characters source.old) }
-    ensures { Adds S.CharSource (bytes_of_text (S.characters source.old) (characters_of piece)) piece.len result
+    ensures { Adds S.CharSource (bytes_of_text (S.characters source.old) (characters_of piece))
+        piece.len result
         source.old source.new made.old.items made.new.items }
 {
     for i in 0..piece.len {
@@ -50,7 +51,8 @@ pub fn put_pieces<S: CharSource>(
     source: &mut S,
 ) -> Result<Buffer, Stop>
     requires { CanPut (length (S.characters source.old)) (flat left.left) made.old.items }
-    ensures { Rewrites S.CharSource (flat left.entry.left) result source.old source.new made.old.items made.new.items }
+    ensures { Rewrites S.CharSource (flat left.entry.left) result source.old source.new
+        made.old.items made.new.items }
 {
     let mut buffer = Buffer::new(alloc)?;
     while let Some(piece) = left.next_piece() {
@@ -75,7 +77,8 @@ fn put_text<S: CharSource>(
     source: &mut S,
 ) -> Result<Text, Stop>
     requires { CanPut (length (S.characters source.old)) (flat text.now) made.old.items }
-    ensures { Rewrites S.CharSource (flat text.now) result source.old source.new made.old.items made.new.items }
+    ensures { Rewrites S.CharSource (flat text.now) result source.old source.new made.old.items
+        made.new.items }
 {
     let mut buffer = put_pieces(alloc, pieces_of(text), made, source)?;
     let mut new = Text::new(alloc)?;
@@ -90,7 +93,8 @@ pub fn put_table<K: Ord + Clone, S: CharSource>(
     made: &mut Vec<u8>,
     source: &mut S,
 ) -> Result<BTreeMap<K, Text>, Stop>
-    requires { CanPutAll K.cmp K.is_clone (length (S.characters source.old)) table.now.entries made.old.items }
+    requires { CanPutAll K.cmp K.is_clone (length (S.characters source.old)) table.now.entries
+        made.old.items }
     ensures { RewritesAll S.CharSource table.now.entries (λ new. new.entries) result
         source.old source.new made.old.items made.new.items }
 {

@@ -60,7 +60,8 @@ fn found_at<S: CharSource>(
     requires place { pos ≤ length (flat text.now) }
     requires offsets { AreWithin (length (S.characters source.old)) (flat text.now) }
     ensures found { IfOk result (λ found. S.honest source.old
-        → found ≡ found_at (bytes_of_text (S.characters source.old) (flat text.now)) pattern.now pos) }
+        → found ≡ found_at (bytes_of_text (S.characters source.old) (flat text.now)) pattern.now
+        pos) }
     ensures within { IfOk result (λ found. IfSome found
         (λ p. p + length pattern.now ≤ length (flat text.now))) }
     ensures reads { OnlyReads S.characters S.failures S.honest S.same_ground source.old source.new }
@@ -139,7 +140,8 @@ fn start_in(desk: &Desk, id: u16) -> u32
 /// What was deleted last is put in at the caret. Refused without a caret.
 pub fn recall_deleted<S: CharSource>(desk: &mut Desk, source: &mut S) -> StepResult
     requires over { IsOver (S.characters source.old) (kept_desktop desk.old) }
-    ensures { Does S.CharSource (λ d. needs d.caret no_caret λ c. Ok (put_at_caret d d.deleted c)) result
+    ensures { Does S.CharSource (λ d. needs d.caret no_caret λ c. Ok (put_at_caret d d.deleted c))
+        result
         source.old source.new (kept_desktop desk.old) (kept_desktop desk.new) }
 {
     desk.put_buffer(DeskBuffer::Deleted, source)

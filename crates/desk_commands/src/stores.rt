@@ -121,7 +121,8 @@ pub fn store<S: CharSource>(desk: &mut Desk, id: u16, source: &mut S) -> StepRes
 /// The first symbol of a viewer's menu. None where it is no name. Fault: the source failed in this call.
 fn menu_name<S: CharSource>(desk: &Desk, id: u16, source: &mut S) -> Result<Option<Name>, Fault>
     requires { IsViewerOnTop (S.characters source.old) (kept_desktop desk.now) id }
-    ensures { TellsValue S.CharSource result (λ d. menu_name d id) source.old source.new (kept_desktop desk.now) }
+    ensures { TellsValue S.CharSource result (λ d. menu_name d id) source.old source.new
+        (kept_desktop desk.now) }
 {
     let symbol = symbol_at(desk.text_called(id, true), 0, source)?;
     Ok(name_in(&symbol))
@@ -132,7 +133,8 @@ fn menu_name<S: CharSource>(desk: &Desk, id: u16, source: &mut S) -> Result<Opti
 fn store_as<S: CharSource>(desk: &mut Desk, id: u16, name: &Name, source: &mut S) -> StepResult
     requires { IsViewerOnTop (S.characters source.old) (kept_desktop desk.old) id }
     ensures { Does S.CharSource
-        (λ d. unless (has_file_room d.files name.now) too_many_files (Ok (stored_as d name.now (main_of d id)))) result
+        (λ d. unless (has_file_room d.files name.now) too_many_files
+        (Ok (stored_as d name.now (main_of d id)))) result
         source.old source.new (kept_desktop desk.old) (kept_desktop desk.new) }
 {
     if !has_room(&desk.files, name) {

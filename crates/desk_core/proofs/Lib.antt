@@ -12,3 +12,4 @@ pub mod StretchLemmas
 pub mod ReadLemmas
 pub mod UnreadLemmas
 pub mod ArmLemmas
+pub mod Calm

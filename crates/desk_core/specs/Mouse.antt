@@ -19,4 +19,5 @@ start_of_row d v row =
 
 -- where the line begins that stands as far down in a viewer's main text as the row in its main frame
 unfoldable pub start_of_share : Desktop → ℕ → ℕ → ℕ
-start_of_share d v row = line_start (bytes_of (main_of d v)) (length (main_of d v) * row / rows_of d v)
+start_of_share d v row =
+    line_start (bytes_of (main_of d v)) (length (main_of d v) * row / rows_of d v)

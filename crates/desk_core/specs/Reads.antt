@@ -8,7 +8,8 @@ use Rattle.desktop_definitions.specs.Seen.{seen}
 
 module _ {S : Type 0} (s : Ghosts S) where
   -- What is told means what is said of the desktop as it is seen among the characters of an honest source.
-  pub record TellsAs {A T E : Type 0} (meaning : A → T) (result : Result A E) (said : Desktop → T) (old new : S)
+  pub record TellsAs {A T E : Type 0} (meaning : A → T) (result : Result A E) (said : Desktop → T)
+      (old new : S)
       (d : KeptDesktop) : Type 0 where
     pub exact : IfOk result (λ told. s.honest old → meaning told ≡ said (seen (s.characters old) d))
     -- the source is only read

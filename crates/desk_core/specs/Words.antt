@@ -22,7 +22,7 @@ pub use Rattle.desktop_definitions.specs.Opening.{without_unshown}
 pub use Rattle.desktop_definitions.specs.DeskWords.{AreMoved, CanFollow}
 pub use Rattle.desk_core.specs.Kept.{kept_desktop}
 pub use Rattle.desk_core.specs.Stops.{IsStop}
-pub use Rattle.desk_core.specs.Positions.{IsPosition, IsOpenAt, CanGo}
+pub use Rattle.desk_core.specs.Positions.{IsPosition, IsOpenAt, IsTextPosition, CanGo, CanJoin}
 pub use Rattle.desk_core.specs.Doing.{Settles, SettlesUnread, SettlesBringing, Uses, Does, DoesUnread}
 pub use Rattle.desk_core.specs.Doing.{DoesBringing}
 pub use Rattle.desk_core.specs.Reads.{TellsValue, TellsAs}

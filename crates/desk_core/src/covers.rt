@@ -12,7 +12,8 @@ use viewer_tracks::{Track, Tracks, ViewerId};
 
 /// The caret, unless it stands in the track that a column shows.
 fn caret_outside(tracks: &Tracks, track: Track, caret: Option<Caret>) -> Option<Caret>
-    ensures { result ≡ caret_outside (λ v. nat_lt 0 (times_in v (shown_track tracks.now track))) caret }
+    ensures { result ≡ caret_outside (λ v. nat_lt 0 (times_in v (shown_track tracks.now track)))
+        caret }
 {
     match caret {
         Some(there) => if tracks.is_shown_in(track, ViewerId(there.viewer)) {
@@ -27,7 +28,8 @@ fn caret_outside(tracks: &Tracks, track: Track, caret: Option<Caret>) -> Option<
 /// Takes away the selections in the track that a column shows.
 fn unselect(tracks: &Tracks, track: Track, selections: &mut Vec<Selection>)
     ensures { selections.new.items
-        ≡ selections_outside (λ v. nat_lt 0 (times_in v (shown_track tracks.now track))) selections.old.items }
+        ≡ selections_outside (λ v. nat_lt 0 (times_in v (shown_track tracks.now track)))
+        selections.old.items }
 {
     selections.retain(|selection| !tracks.is_shown_in(track, ViewerId(selection.viewer)));
 }
@@ -35,7 +37,8 @@ fn unselect(tracks: &Tracks, track: Track, selections: &mut Vec<Selection>)
 impl Desk {
     /// Nothing is marked any more in the track that a column shows.
     fn unmark_shown(&mut self, track: Track)
-        ensures { kept_desktop self.new ≡ unmarked (is_shown_in (kept_desktop self.old) track) (kept_desktop self.old) }
+        ensures { kept_desktop self.new ≡ unmarked (is_shown_in (kept_desktop self.old) track)
+            (kept_desktop self.old) }
     {
         self.caret = caret_outside(&self.tracks, track, self.caret);
         unselect(&self.tracks, track, &mut self.selections);

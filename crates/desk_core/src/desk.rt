@@ -57,7 +57,8 @@ pub struct Desk {
 
 /// An empty log, and nothing else.
 pub fn empty_desk(alloc: Global) -> Result<Desk, NoMemory>
-    ensures seen { IfOk result (λ d. (characters : List ℕ) → seen characters (kept_desktop d) ≡ empty_desktop) }
+    ensures seen { IfOk result (λ d. (characters : List ℕ) → seen characters (kept_desktop d)
+        ≡ empty_desktop) }
     ensures over { IfOk result (λ d. IsOver [] (kept_desktop d)) }
 {
     let mut texts = BTreeMap::new(alloc);
@@ -86,7 +87,8 @@ impl Desk {
     /// How many characters the desktop holds.
     pub fn held(&self) -> usize
         requires { IsKeptWhole (kept_desktop self.now) }
-        ensures held { (characters : List ℕ) → result ≡ characters_held (seen characters (kept_desktop self.now)) }
+        ensures held { (characters : List ℕ) → result
+            ≡ characters_held (seen characters (kept_desktop self.now)) }
         ensures few { result ≤ most_held }
     {
         lengths(&self.texts)

@@ -25,7 +25,8 @@ impl Desk {
         requires made { made < 2 ^ 32 }
         requires more { more < 2 ^ 32 }
         requires fewer { fewer < 2 ^ 32 }
-        ensures { (characters : List ℕ) → result ≡ has_space (seen characters (kept_desktop self.now)) made more fewer }
+        ensures { (characters : List ℕ) → result
+            ≡ has_space (seen characters (kept_desktop self.now)) made more fewer }
     {
         let held = self.held();
         is_space(self.written as usize + made, held + more, fewer)
@@ -54,7 +55,8 @@ impl Desk {
     pub fn caret_place(&self) -> Option<Caret>
         requires { IsKeptWhole (kept_desktop self.now) }
         ensures is { result ≡ (kept_desktop self.now).caret }
-        ensures stands { IfSome result (λ c. IsPosition (kept_desktop self.now) c.viewer c.position) }
+        ensures stands { IfSome result
+            (λ c. IsPosition (kept_desktop self.now) c.viewer c.position) }
     {
         self.caret
     }
@@ -72,9 +74,11 @@ impl Desk {
     /// The characters of a stretch of a viewer's main text.
     fn characters_of(&self, selection: Selection) -> Result<Buffer, NoMemory>
         requires order { selection.beg ≤ selection.end }
-        requires within { selection.end ≤ length (flat (kept_main (kept_desktop self.now) selection.viewer)) }
+        requires within { selection.end ≤ length (flat
+            (kept_main (kept_desktop self.now) selection.viewer)) }
         ensures { IfOk result (λ copy. flat copy
-            ≡ stretch selection.beg selection.end (flat (kept_main (kept_desktop self.now) selection.viewer))) }
+            ≡ stretch selection.beg selection.end
+            (flat (kept_main (kept_desktop self.now) selection.viewer))) }
     {
         let mut copy = Buffer::new(self.alloc)?;
         let number = self.main_of(selection.viewer);
@@ -87,10 +91,13 @@ impl Desk {
     /// A copy of a stretch of a viewer's main text, which can go into any viewer's.
     pub fn copy_of(&self, selection: Selection) -> Result<Buffer, NoMemory>
         requires order { selection.beg ≤ selection.end }
-        requires within { selection.end ≤ length (flat (kept_main (kept_desktop self.now) selection.viewer)) }
+        requires within { selection.end ≤ length (flat
+            (kept_main (kept_desktop self.now) selection.viewer)) }
         ensures is { IfOk result (λ copy. flat copy
-            ≡ stretch selection.beg selection.end (flat (kept_main (kept_desktop self.now) selection.viewer))) }
-        ensures goes { IfOk result (λ copy. (characters : List ℕ) (v : ℕ) → IsOver characters (kept_desktop self.now)
+            ≡ stretch selection.beg selection.end
+            (flat (kept_main (kept_desktop self.now) selection.viewer))) }
+        ensures goes { IfOk result
+            (λ copy. (characters : List ℕ) (v : ℕ) → IsOver characters (kept_desktop self.now)
             → CanGo (length characters) (kept_desktop self.now) v copy) }
     {
         let copy = self.characters_of(selection)?;
@@ -106,12 +113,17 @@ impl Desk {
         source: &mut S,
     ) -> Result<(), Stop>
         requires at { IsOpenAt (length (S.characters source.old)) (kept_desktop self.old) id pos }
-        requires goes { CanGo (length (S.characters source.old)) (kept_desktop self.old) id buffer.old }
-        ensures changed { OnOk result (IsChanged (S.honest source.old) (S.characters source.old) (kept_desktop self.old)
-            (kept_desktop self.new) (put_in (seen (S.characters source.old) (kept_desktop self.old)) id pos
+        requires goes { CanGo (length (S.characters source.old)) (kept_desktop self.old) id
+            buffer.old }
+        ensures changed { OnOk result
+            (IsChanged (S.honest source.old) (S.characters source.old) (kept_desktop self.old)
+            (kept_desktop self.new)
+            (put_in (seen (S.characters source.old) (kept_desktop self.old)) id pos
             (seen_text (S.characters source.old) buffer.old)) (length (flat buffer.old)) 0) }
-        ensures reads { OnlyReads S.characters S.failures S.honest S.same_ground source.old source.new }
-        ensures faults { FailsAs Stop.Fault IsStop result (S.failures source.old) (S.failures source.new) }
+        ensures reads { OnlyReads S.characters S.failures S.honest S.same_ground source.old
+            source.new }
+        ensures faults { FailsAs Stop.Fault IsStop result (S.failures source.old)
+            (S.failures source.new) }
     {
         let number = self.main_of(id);
         let len = buffer.len();
@@ -128,13 +140,19 @@ impl Desk {
         buffer: &mut Buffer,
         source: &mut S,
     ) -> Result<(), Stop>
-        requires at { IsOpenAt (length (S.characters source.old)) (kept_desktop self.old) caret.viewer caret.position }
-        requires goes { CanGo (length (S.characters source.old)) (kept_desktop self.old) caret.viewer buffer.old }
-        ensures changed { OnOk result (IsChanged (S.honest source.old) (S.characters source.old) (kept_desktop self.old)
-            (kept_desktop self.new) (put_at_caret (seen (S.characters source.old) (kept_desktop self.old))
+        requires at { IsOpenAt (length (S.characters source.old)) (kept_desktop self.old)
+            caret.viewer caret.position }
+        requires goes { CanGo (length (S.characters source.old)) (kept_desktop self.old)
+            caret.viewer buffer.old }
+        ensures changed { OnOk result
+            (IsChanged (S.honest source.old) (S.characters source.old) (kept_desktop self.old)
+            (kept_desktop self.new)
+            (put_at_caret (seen (S.characters source.old) (kept_desktop self.old))
             (seen_text (S.characters source.old) buffer.old) caret) (length (flat buffer.old)) 0) }
-        ensures reads { OnlyReads S.characters S.failures S.honest S.same_ground source.old source.new }
-        ensures faults { FailsAs Stop.Fault IsStop result (S.failures source.old) (S.failures source.new) }
+        ensures reads { OnlyReads S.characters S.failures S.honest S.same_ground source.old
+            source.new }
+        ensures faults { FailsAs Stop.Fault IsStop result (S.failures source.old)
+            (S.failures source.new) }
     {
         if buffer.len() == 0 {
             return Ok(());
@@ -152,13 +170,18 @@ impl Desk {
         requires built { IsBuilt (length (S.characters source.old)) (kept_desktop self.old) }
         requires some { selection.beg < selection.end }
         requires at { IsPosition (kept_desktop self.old) selection.viewer selection.end }
-        ensures changed { OnOk result (IsChanged (S.honest source.old) (S.characters source.old) (kept_desktop self.old)
-            (kept_desktop self.new) (cut_out (seen (S.characters source.old) (kept_desktop self.old)) selection)
+        ensures changed { OnOk result
+            (IsChanged (S.honest source.old) (S.characters source.old) (kept_desktop self.old)
+            (kept_desktop self.new)
+            (cut_out (seen (S.characters source.old) (kept_desktop self.old)) selection)
             0 (selection.end - selection.beg)) }
         ensures taken { IfOk result (λ taken. flat taken
-            ≡ stretch selection.beg selection.end (flat (kept_main (kept_desktop self.old) selection.viewer))) }
-        ensures reads { OnlyReads S.characters S.failures S.honest S.same_ground source.old source.new }
-        ensures faults { FailsAs Stop.Fault IsStop result (S.failures source.old) (S.failures source.new) }
+            ≡ stretch selection.beg selection.end
+            (flat (kept_main (kept_desktop self.old) selection.viewer))) }
+        ensures reads { OnlyReads S.characters S.failures S.honest S.same_ground source.old
+            source.new }
+        ensures faults { FailsAs Stop.Fault IsStop result (S.failures source.old)
+            (S.failures source.new) }
     {
         let number = self.main_of(selection.viewer);
         let taken = self.delete(number, selection.beg, selection.end, source)?;
@@ -204,7 +227,8 @@ impl Desk {
     /// A copy of a buffer is put in at the caret. Refused without a caret.
     pub fn put_buffer<S: CharSource>(&mut self, buffer: DeskBuffer, source: &mut S) -> StepResult
         requires over { IsOver (S.characters source.old) (kept_desktop self.old) }
-        ensures { DoesUnread S.CharSource (is_none (kept_desktop self.old).caret ≡ true) (λ d. needs d.caret no_caret λ c.
+        ensures { DoesUnread S.CharSource (is_none (kept_desktop self.old).caret ≡ true)
+            (λ d. needs d.caret no_caret λ c.
             Ok (put_at_caret d (buffer_of d buffer) c)) result
             source.old source.new (kept_desktop self.old) (kept_desktop self.new) }
     {

@@ -24,7 +24,8 @@ pub fn file_of<'a>(files: &'a Files, name: &Name) -> Option<&'a Text>
 
 /// Whether there is a file of that name, or room for one more.
 pub fn has_room(files: &Files, name: &Name) -> bool
-    ensures { (characters : List ℕ) → result ≡ room (seen_table characters files.now.entries) name.now }
+    ensures { (characters : List ℕ) → result
+        ≡ room (seen_table characters files.now.entries) name.now }
 {
     files.contains_key(name) || files.len() < MOST_FILES as usize
 }

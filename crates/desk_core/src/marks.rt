@@ -39,7 +39,8 @@ impl Desk {
     /// Sets the marker to a cell. Refused where that is outside the display.
     pub fn mark<S: CharSource>(&mut self, x: u8, y: u8, source: &mut S) -> StepResult
         requires over { IsOver (S.characters source.old) (kept_desktop self.old) }
-        ensures { DoesUnread S.CharSource ⊤ (λ d. unless (is_on_display x y) outside (Ok (marked d x y))) result
+        ensures { DoesUnread S.CharSource ⊤
+            (λ d. unless (is_on_display x y) outside (Ok (marked d x y))) result
             source.old source.new (kept_desktop self.old) (kept_desktop self.new) }
     {
         if !is_on_display(x, y) {

@@ -46,7 +46,8 @@ impl Desk {
     pub fn open_at(&mut self, id: u16, x: u8, y: u8)
         requires fresh { ¬ IsPlaced id (kept_desktop self.old).columns }
         requires column { x < COLUMNS }
-        ensures { kept_desktop self.new ≡ without_unshown (opened_at (kept_desktop self.old) id (x, y)) }
+        ensures { kept_desktop self.new
+            ≡ without_unshown (opened_at (kept_desktop self.old) id (x, y)) }
     {
         let gone = self.tracks.open(ViewerId(id), x, y);
         self.let_go(gone);

@@ -54,7 +54,8 @@ pub fn unselect(selections: &mut Vec<Selection>, id: u16)
 
 /// Whether a viewer shows the text of that number.
 pub fn is_in_sight(viewers: &ViewerTable, number: u16) -> bool
-    ensures { result ≡ list_any (λ e. (e.1.menu == number) || (e.1.main == number)) viewers.now.items }
+    ensures { result ≡ list_any (λ e. (e.1.menu == number) || (e.1.main == number))
+        viewers.now.items }
 {
     viewers
         .iter()
@@ -118,7 +119,8 @@ impl Desk {
 
     /// Removes a viewer that has lost its whole place, where there is one, and the texts that no viewer shows then.
     pub fn let_go(&mut self, gone: Option<ViewerId>)
-        ensures { kept_desktop self.new ≡ without_unshown (without_viewer (kept_desktop self.old) (id_number gone)) }
+        ensures { kept_desktop self.new
+            ≡ without_unshown (without_viewer (kept_desktop self.old) (id_number gone)) }
     {
         if let Some(gone) = gone {
             self.remove_viewer(gone.0);

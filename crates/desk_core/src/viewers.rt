@@ -80,7 +80,8 @@ fn shows(viewers: &ViewerTable, number: u16, id: u16) -> bool
 
 /// The caret, unless it stands in a viewer that shows the text of that number.
 pub fn caret_outside(viewers: &ViewerTable, number: u16, caret: Option<Caret>) -> Option<Caret>
-    ensures { result ≡ caret_outside (λ v. (viewer_or_none viewers.now.items v).main == number) caret }
+    ensures { result ≡ caret_outside (λ v. (viewer_or_none viewers.now.items v).main == number)
+        caret }
 {
     match caret {
         None => None,
@@ -97,7 +98,8 @@ pub fn caret_outside(viewers: &ViewerTable, number: u16, caret: Option<Caret>) -
 /// No selection stands in a viewer any more that shows the text of that number.
 pub fn unselect(viewers: &ViewerTable, number: u16, selections: &mut Vec<Selection>)
     ensures { selections.new.items
-        ≡ selections_outside (λ v. (viewer_or_none viewers.now.items v).main == number) selections.old.items }
+        ≡ selections_outside (λ v. (viewer_or_none viewers.now.items v).main == number)
+        selections.old.items }
 {
     selections.retain(|s| !shows(viewers, number, s.viewer));
 }
@@ -121,14 +123,17 @@ fn follow<S: CharSource>(
     source: &mut S,
 ) -> Result<(), Fault>
     requires change { IsChangeOf change (length (flat text.now)) }
-    requires org { CanFollow change.number change.more change.fewer (length (flat text.now)) entry.old }
+    requires org { CanFollow change.number change.more change.fewer (length (flat text.now))
+        entry.old }
     requires offsets { AreWithin (length (S.characters source.old)) (flat text.now) }
     ensures exact { OnOk result (S.honest source.old → entry.new ≡ (
       entry.old.0,
-      following_viewer change.number (bytes_of_text (S.characters source.old) (flat text.now)) change.pos change.more change.fewer
+      following_viewer change.number (bytes_of_text (S.characters source.old) (flat text.now))
+          change.pos change.more change.fewer
           entry.old.1,
     )) }
-    ensures moved { OnOk result (IsMoved change.number (length (flat text.now)) entry.old entry.new) }
+    ensures moved { OnOk result
+        (IsMoved change.number (length (flat text.now)) entry.old entry.new) }
     ensures reads { OnlyReads S.characters S.failures S.honest S.same_ground source.old source.new }
     ensures cause { CountsFault result (S.failures source.old) (S.failures source.new) }
 {
@@ -159,9 +164,11 @@ fn follow_all<S: CharSource>(
         viewers.old.items }
     requires offsets { AreWithin (length (S.characters source.old)) (flat text.now) }
     ensures exact { OnOk result (S.honest source.old → viewers.new.items ≡ with_values
-        (following_viewer change.number (bytes_of_text (S.characters source.old) (flat text.now)) change.pos change.more change.fewer)
+        (following_viewer change.number (bytes_of_text (S.characters source.old) (flat text.now))
+        change.pos change.more change.fewer)
         viewers.old.items) }
-    ensures moved { OnOk result (AreMoved change.number (length (flat text.now)) viewers.old.items viewers.new.items) }
+    ensures moved { OnOk result
+        (AreMoved change.number (length (flat text.now)) viewers.old.items viewers.new.items) }
     ensures reads { OnlyReads S.characters S.failures S.honest S.same_ground source.old source.new }
     ensures cause { CountsFault result (S.failures source.old) (S.failures source.new) }
 {
@@ -183,11 +190,14 @@ pub fn follow_text<S: CharSource>(
     requires change { IsChangeOf change (length (flat (text_in texts.now.entries change.number))) }
     requires orgs { All (CanFollow change.number change.more change.fewer
         (length (flat (text_in texts.now.entries change.number)))) viewers.old.items }
-    requires offsets { AreWithin (length (S.characters source.old)) (flat (text_in texts.now.entries change.number)) }
+    requires offsets { AreWithin (length (S.characters source.old))
+        (flat (text_in texts.now.entries change.number)) }
     ensures exact { OnOk result (S.honest source.old → viewers.new.items ≡ with_values
-        (following_viewer change.number (bytes_of_text (S.characters source.old) (flat (text_in texts.now.entries change.number)))
+        (following_viewer change.number
+        (bytes_of_text (S.characters source.old) (flat (text_in texts.now.entries change.number)))
         change.pos change.more change.fewer) viewers.old.items) }
-    ensures moved { OnOk result (AreMoved change.number (length (flat (text_in texts.now.entries change.number)))
+    ensures moved { OnOk result
+        (AreMoved change.number (length (flat (text_in texts.now.entries change.number)))
         viewers.old.items viewers.new.items) }
     ensures reads { OnlyReads S.characters S.failures S.honest S.same_ground source.old source.new }
     ensures cause { CountsFault result (S.failures source.old) (S.failures source.new) }
@@ -211,8 +221,10 @@ pub fn org_in<S: CharSource>(
     requires movable { IsMovable (length (S.characters source.old)) texts.now.entries
         (viewer_or_none viewers.now.items id) }
     requires rows { rows ≤ 31 }
-    requires place { pos ≤ length (flat (text_in texts.now.entries (viewer_or_none viewers.now.items id).main)) }
-    ensures exact { IfOk result (λ new. S.honest source.old → new ≡ shown_org (bytes_of_text (S.characters source.old)
+    requires place { pos ≤ length (flat
+        (text_in texts.now.entries (viewer_or_none viewers.now.items id).main)) }
+    ensures exact { IfOk result
+        (λ new. S.honest source.old → new ≡ shown_org (bytes_of_text (S.characters source.old)
         (flat (text_in texts.now.entries (viewer_or_none viewers.now.items id).main)))
         rows pos (viewer_or_none viewers.now.items id).org) }
     ensures within { IfOk result (λ new. new

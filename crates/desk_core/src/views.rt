@@ -56,13 +56,11 @@ impl Desk {
     pub fn main_text(&self, id: u16) -> &Text
         requires whole { IsKeptWhole (kept_desktop self.now) }
         requires placed { IsOnTop id (kept_desktop self.now).columns }
-        ensures { result.now ≡ text_in (kept_desktop self.now).texts (viewer_or_none (kept_desktop self.now).viewers id).main }
+        ensures { result.now ≡ text_in (kept_desktop self.now).texts
+            (viewer_or_none (kept_desktop self.now).viewers id).main }
     {
         let viewer = viewer_or_none(&self.viewers, id);
-        match self.texts.get(&viewer.main) {
-            Some(text) => text,
-            None => unreachable!(),
-        }
+        text_there(&self.texts, viewer.main)
     }
 
     /// The frame in which a viewer shows it, without what is marked there.

@@ -8,11 +8,14 @@ use desk_journal::{Document, Error, Store};
 use desk_stores::{Trouble, looked_at, opened_locked};
 use desktop_definitions::codes::TOO_MANY_FILES;
 use desktop_definitions::{MOST_FILES, MOST_HELD, MOST_WRITTEN, Reply};
-use store_documents::{Coming, FirstUnfit, Imported, MOST_BYTES, Place, Unfit, copy, documents_of, import as bring_in, named_before};
 use host_files::lock_alone;
 use host_stores::{FileDisk, opened as opened_on};
 use sector_disk::{Disk, FILE_SECTORS, MemoryDisk};
 use std::io;
+use store_documents::{
+    Coming, FirstUnfit, Imported, MOST_BYTES, Place, Unfit, copy, documents_of, import as bring_in,
+    named_before,
+};
 
 // A document may have as many characters as a desktop may hold.
 const _: () = prove!(MOST_BYTES == MOST_HELD as usize);

@@ -1,7 +1,7 @@
 //! Documents between a store and files of the host's, and what a person asks of a store's file from the shell: files
 //! in (`sources`, `importing`), documents out (`exporting`), a list of them (`listing`), a copy of a store (`copies`),
-//! what can be taken back (`history`), and how a store is (`checking`). The bytes are the matter of `host_documents`, the
-//! store that of `store_documents`; what is refused is said in one sentence here (`sentences`).
+//! what can be taken back (`history`), and how a store is (`checking`). Bytes and store are the matter of
+//! `store_documents`; what is refused is said in one sentence here (`sentences`).
 #![tactic(auto)]
 
 mod ascii;

@@ -5,9 +5,9 @@ use crate::progress::Progress;
 use crate::sentences::{HOST, REFUSED, Stop, refused_file};
 use desk_stores::Trouble;
 use event_bytes::Name;
-use store_documents::{Handed, MOST_BYTES};
 use host_files::{HostFault, files_in, is_folder, is_there, read_input, read_whole};
 use std::path::Path;
+use store_documents::{Handed, MOST_BYTES};
 
 /// The most bytes that are read of a file: more than four for each character of a document.
 const MOST_READ: u64 = 1_048_577;

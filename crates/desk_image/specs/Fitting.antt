@@ -51,7 +51,8 @@ abbrev pub after_text : ℕ × ℕ → ℕ × List Piece → ℕ × ℕ
 after_text s t = (t.0 + 1, s.1 - length_of_pieces t.1)
 
 abbrev pub FitsTexts : ℕ → ℕ → Texts (List Piece) → Type 0
-FitsTexts written room texts = InWord (length texts) × Chain (FitsText written) after_text (0, room) texts
+FitsTexts written room texts =
+    InWord (length texts) × Chain (FitsText written) after_text (0, room) texts
 
 -- a name comes after the one before it
 abbrev pub follows : Option (List ℕ) → List ℕ → Bool
@@ -59,13 +60,15 @@ follows None name = true
 follows (Some before) name = is_lt (name_cmp before name)
 
 abbrev pub FitsFile : ℕ → Option (List ℕ) × ℕ → List ℕ × List Piece → Type 0
-FitsFile written s f = IsTrue (is_name f.0) × ((follows s.0 f.0 ≡ true) × FitsPieces written s.1 f.1)
+FitsFile written s f =
+    IsTrue (is_name f.0) × ((follows s.0 f.0 ≡ true) × FitsPieces written s.1 f.1)
 
 abbrev pub after_file : Option (List ℕ) × ℕ → List ℕ × List Piece → Option (List ℕ) × ℕ
 after_file s f = (Some f.0, s.1 - length_of_pieces f.1)
 
 abbrev pub FitsFiles : ℕ → ℕ → Files (List Piece) → Type 0
-FitsFiles written room files = (length files ≤ most_files) × Chain (FitsFile written) after_file (None, room) files
+FitsFiles written room files =
+    (length files ≤ most_files) × Chain (FitsFile written) after_file (None, room) files
 
 -- what the texts of a table hold
 abbrev pub totals : {K : Type 0} → List (K × List Piece) → ℕ
@@ -78,7 +81,8 @@ FitsRanked r = InByte r.rank × (InLong r.beg × InLong r.end)
 
 abbrev pub FitsViewer : ℕ → ℕ → ViewerPicture → Type 0
 FitsViewer version least v = InId version v.id × ((nat_le least v.id ≡ true) × (InWord v.viewer.menu
-    × (InWord v.viewer.main × (InLong v.viewer.org × (IfSome v.caret InLong × IfSome v.selection FitsRanked)))))
+    × (InWord v.viewer.main
+    × (InLong v.viewer.org × (IfSome v.caret InLong × IfSome v.selection FitsRanked)))))
 
 abbrev pub after_viewer : ℕ → ViewerPicture → ℕ
 after_viewer least v = v.id + 1
@@ -131,7 +135,8 @@ FitsImage version written i = IsLook i.look × (FitsPattern i.pattern × (IfSome
     × (FitsTexts written most_held i.texts
     × (FitsFiles written (most_held - totals i.texts) i.files
     × (FitsPieces written (most_held - totals i.texts - totals i.files) i.copied
-    × (FitsPieces written (most_held - totals i.texts - totals i.files - length_of_pieces i.copied) i.deleted
+    × (FitsPieces written (most_held - totals i.texts - totals i.files - length_of_pieces i.copied)
+    i.deleted
     × (FitsViewers version i.viewers × (FitsStack version i.user × (FitsStack version i.system
     × IfSome i.closed (FitsClosed version))))))))))
 

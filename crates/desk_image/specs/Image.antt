@@ -82,7 +82,8 @@ image_with front held viewers shown = record {
 abbrev pub ranked_in : ℕ → List Selection → ℕ → Option Ranked
 ranked_in n [] v = None
 ranked_in n (s ∷ later) v =
-    if s.viewer == v then Some (record { rank = n; beg = s.beg; end = s.end }) else ranked_in (n + 1) later v
+    if s.viewer == v then Some (record { rank = n; beg = s.beg; end = s.end })
+    else ranked_in (n + 1) later v
 
 abbrev pub picture_of : Option Caret → List Selection → ℕ × Viewer → ViewerPicture
 picture_of caret selections v = record {
@@ -171,7 +172,9 @@ abbrev pub id_bytes : ℕ → ℕ → List ℕ
 id_bytes version n = if has_overlays version then word_bytes n else byte n
 
 abbrev pub viewer_bytes : ℕ → ViewerPicture → List ℕ
-viewer_bytes version v = id_bytes version v.id ++ (word_bytes v.viewer.menu ++ (word_bytes v.viewer.main ++ (long v.viewer.org
+viewer_bytes version v =
+    id_bytes version v.id
+    ++ (word_bytes v.viewer.menu ++ (word_bytes v.viewer.main ++ (long v.viewer.org
     ++ (optional long v.caret ++ optional ranked_bytes v.selection))))
 
 abbrev pub viewers_bytes : ℕ → List ViewerPicture → List ℕ
@@ -194,7 +197,8 @@ abbrev pub closed_bytes : ℕ → ClosedViewer → List ℕ
 closed_bytes version k = id_bytes version k.viewer ++ (byte (left_of k.track) ++ byte k.top)
 
 unfoldable pub image_bytes : ℕ → Image → List ℕ
-image_bytes version i = look_bytes i.look ++ (counted_bytes byte i.pattern ++ (optional cell_bytes i.marker
+image_bytes version i =
+    look_bytes i.look ++ (counted_bytes byte i.pattern ++ (optional cell_bytes i.marker
     ++ (listed_bytes word_bytes text_bytes i.texts ++ (listed_bytes word_bytes file_bytes i.files
     ++ (pieces_bytes i.copied ++ (pieces_bytes i.deleted ++ (viewers_bytes version i.viewers
     ++ (stack_bytes version i.user ++ (stack_bytes version i.system

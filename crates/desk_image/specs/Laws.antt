@@ -31,12 +31,14 @@ FittingLaw = (version : ℕ) (d : KeptDesktop) → IsKeptWhole d → IsSpellable
 
 -- two desktops that hold together have the same parts only if they are one
 abbrev pub ImagingLaw : Type 0
-ImagingLaw = (d e : KeptDesktop) → IsKeptWhole d → IsKeptWhole e → d.written ≡ e.written → image_of d ≡ image_of e
+ImagingLaw = (d e : KeptDesktop) → IsKeptWhole d → IsKeptWhole e → d.written ≡ e.written
+    → image_of d ≡ image_of e
     → d ≡ e
 
 -- in a version bytes are the image of one desktop at most
 abbrev pub UniqueLaw : Type 0
-UniqueLaw = (version written : ℕ) (bytes : List ℕ) (d e : KeptDesktop) → Spells version written bytes d
+UniqueLaw = (version written : ℕ) (bytes : List ℕ) (d e : KeptDesktop)
+    → Spells version written bytes d
     → Spells version written bytes e → d ≡ e
 
 -- an image has room in a slot, after the characters that fill no sector

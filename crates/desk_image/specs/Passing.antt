@@ -7,7 +7,8 @@ IsNext (Some b) old new = old ≡ b ∷ new
 IsNext None old new = (old ≡ []) × (new ≡ [])
 
 -- A call that takes bytes from a source and does nothing else.
-pub record OnlyGets {S : Type 0} (honest : S → Type 0) (same_ground : S → S → Type 0) (old new : S) : Type 0 where
+pub record OnlyGets {S : Type 0} (honest : S → Type 0) (same_ground : S → S → Type 0)
+    (old new : S) : Type 0 where
   -- it is honest if it was
   pub still : honest old → honest new
   -- it stands on the same ground

@@ -54,7 +54,8 @@ offset_at bytes = do
 
 unfoldable pub raw_look_at : Reader Look
 raw_look_at bytes =
-    three_at byte_at byte_at offset_at (λ font colour voff. record { font = font; colour = colour; voff = voff }) bytes
+    three_at byte_at byte_at offset_at
+    (λ font colour voff. record { font = font; colour = colour; voff = voff }) bytes
 
 abbrev pub is_look : Look → Bool
 is_look l = nat_lt l.font number_of_fonts && nat_lt l.colour number_of_colours
@@ -105,12 +106,15 @@ image_file_at written s bytes = keyed_at name_at (follows s.0) written s.1 bytes
 unfoldable pub files_at : ℕ → ℕ → Reader (Files (List Piece))
 files_at written room bytes = do
   count ← pair_at bytes
-  if nat_le count.0 most_files then times (image_file_at written) after_file count.0 (None, room) count.1 else None
+  if nat_le count.0 most_files then times (image_file_at written) after_file count.0
+      (None, room) count.1 else None
 
 -- ---- viewers
 
 unfoldable pub ranked_at : Reader Ranked
-ranked_at bytes = three_at byte_at long_at long_at (λ rank beg end. record { rank = rank; beg = beg; end = end }) bytes
+ranked_at bytes =
+    three_at byte_at long_at long_at (λ rank beg end. record { rank = rank; beg = beg; end = end })
+    bytes
 
 -- an id, or a number of viewers
 unfoldable pub id_at : ℕ → Reader ℕ
@@ -138,7 +142,8 @@ image_viewer_at version least bytes = do
 unfoldable pub viewers_at : ℕ → Reader (List ViewerPicture)
 viewers_at version bytes = do
   count ← id_at version bytes
-  if nat_le count.0 MOST_VIEWERS then times (image_viewer_at version) after_viewer count.0 0 count.1 else None
+  if nat_le count.0 MOST_VIEWERS then times (image_viewer_at version) after_viewer count.0 0 count.1
+      else None
 
 -- ---- tracks
 
@@ -161,7 +166,8 @@ image_track_at version bytes = do
 
 -- one that has so many viewers at least
 unfoldable pub level_at : ℕ → ℕ → Reader (List Entry)
-level_at version least bytes = when (λ track. nat_le least (length track)) (image_track_at version) bytes
+level_at version least bytes =
+    when (λ track. nat_le least (length track)) (image_track_at version) bytes
 
 -- a number of tracks
 unfoldable pub depth_at : ℕ → Reader ℕ
@@ -171,7 +177,8 @@ depth_at version bytes = if has_overlays version then byte_at bytes else Some (1
 unfoldable pub stack_at : ℕ → Reader (List (List Entry))
 stack_at version bytes = do
   depth ← depth_at version bytes
-  if nat_lt 0 depth.0 && nat_le depth.0 DEPTH then times (level_at version) overlaid depth.0 0 depth.1 else None
+  if nat_lt 0 depth.0 && nat_le depth.0 DEPTH
+      then times (level_at version) overlaid depth.0 0 depth.1 else None
 
 -- ---- the rest
 
@@ -217,7 +224,8 @@ desktop_image_at version written bytes = do
   texts ← texts_at written most_held marker.1
   files ← files_at written (most_held - totals texts.0) texts.1
   copied ← pieces_at written (most_held - totals texts.0 - totals files.0) files.1
-  deleted ← pieces_at written (most_held - totals texts.0 - totals files.0 - length_of_pieces copied.0) copied.1
+  deleted ← pieces_at written
+      (most_held - totals texts.0 - totals files.0 - length_of_pieces copied.0) copied.1
   viewers ← viewers_at version deleted.1
   user ← stack_at version viewers.1
   system ← stack_at version user.1

@@ -40,8 +40,10 @@ last_key (e ∷ (f ∷ es)) = last_key (f ∷ es)
 -- ---- items
 
 -- A call that reads so many items, each of which fits what those before it leave.
-pub record ReadsItems {S T X A : Type 0} (s : SourceGhosts S) (view : X → List A) (result : Result X ImageFault)
-    (item : T → Reader A) (Fits : T → A → Type 0) (next : T → A → T) (count : ℕ) (first : T) (old new : S) : Type 0
+pub record ReadsItems {S T X A : Type 0} (s : SourceGhosts S) (view : X → List A)
+    (result : Result X ImageFault)
+    (item : T → Reader A) (Fits : T → A → Type 0) (next : T → A → T) (count : ℕ) (first : T)
+    (old new : S) : Type 0
   where
     pub reads : Reads s view result (times item next count first) old new
     pub fits : IfOk result (λ x. Chain Fits next first (view x))
@@ -61,7 +63,8 @@ held_at written bytes = do
   texts ← texts_at written most_held bytes
   files ← files_at written (most_held - totals texts.0) texts.1
   copied ← pieces_at written (most_held - totals texts.0 - totals files.0) files.1
-  deleted ← pieces_at written (most_held - totals texts.0 - totals files.0 - length_of_pieces copied.0) copied.1
+  deleted ← pieces_at written
+      (most_held - totals texts.0 - totals files.0 - length_of_pieces copied.0) copied.1
   Some ((texts.0, files.0, copied.0, deleted.0), deleted.1)
 
 -- each of these fits what those before it leave
@@ -69,7 +72,8 @@ abbrev pub FitHeld : ℕ → Texts (List Piece) → Files (List Piece) → List 
 FitHeld written texts files copied deleted = FitsTexts written most_held texts
     × (FitsFiles written (most_held - totals texts) files
     × (FitsPieces written (most_held - totals texts - totals files) copied
-    × FitsPieces written (most_held - totals texts - totals files - length_of_pieces copied) deleted))
+    × FitsPieces written (most_held - totals texts - totals files - length_of_pieces copied)
+    deleted))
 
 unfoldable pub shown_at : ℕ → Reader Shown
 shown_at version bytes = do

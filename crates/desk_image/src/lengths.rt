@@ -20,7 +20,8 @@ const ENTRY_BYTES: usize = 3;
 
 /// How many bytes so many pieces have, after their number.
 pub fn pieces_len(count: u32) -> usize
-    ensures value { (pieces : List Piece) → length pieces ≡ count → result ≡ length (pieces_bytes pieces) }
+    ensures value { (pieces : List Piece) → length pieces ≡ count → result
+        ≡ length (pieces_bytes pieces) }
     ensures few { result < 2 ^ 36 }
 {
     4 + PIECE_BYTES * count as usize

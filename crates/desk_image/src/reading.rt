@@ -119,7 +119,8 @@ fn raw_look_from<S: ByteSource>(source: &mut S) -> Read<Look>
 /// A look that characters may have.
 #[tactic(auto, unfolding(crate::specs::Reading::image_look_at))]
 fn look_from<S: ByteSource>(source: &mut S) -> Read<Look>
-    ensures { ReadsFit S.ByteSource (λ look. look) result image_look_at IsLook source.old source.new }
+    ensures { ReadsFit S.ByteSource (λ look. look) result image_look_at IsLook source.old
+        source.new }
 {
     let look = raw_look_from(source)?;
     if look.font < FONTS && look.colour < COLOURS {
@@ -155,7 +156,8 @@ fn is_piece(written: u32, room: u32, piece: &Piece) -> bool
 /// A piece that fits.
 #[tactic(auto, unfolding(crate::specs::Reading::piece_at))]
 fn piece_from<S: ByteSource>(source: &mut S, written: u32, room: u32) -> Read<Piece>
-    ensures { ReadsFit S.ByteSource (λ piece. piece) result (piece_at written room) (FitsPiece written room)
+    ensures { ReadsFit S.ByteSource (λ piece. piece) result (piece_at written room)
+        (FitsPiece written room)
         source.old source.new }
 {
     let piece = raw_piece_from(source)?;
@@ -180,7 +182,8 @@ fn many_pieces<S: ByteSource, H: Holder>(
     room: &mut u32,
     count: u32,
 ) -> Read<H>
-    ensures items { ReadsItems S.ByteSource H.held result (piece_at base.written) (FitsPiece base.written) less count
+    ensures items { ReadsItems S.ByteSource H.held result (piece_at base.written)
+        (FitsPiece base.written) less count
         room.old source.old source.new }
     ensures left { IfOk result (λ holder. room.new ≡ room.old - length_of_pieces (H.held holder)) }
 {
@@ -199,7 +202,8 @@ fn many_pieces<S: ByteSource, H: Holder>(
 #[tactic(auto, unfolding(crate::specs::Reading::pieces_at))]
 fn pieces_from<S: ByteSource, H: Holder>(source: &mut S, base: Base, room: &mut u32) -> Read<H>
     ensures { ReadsWithin S.ByteSource H.held result (pieces_at base.written room.old)
-        (FitsPieces base.written room.old) length_of_pieces room.old room.new source.old source.new }
+        (FitsPieces base.written room.old) length_of_pieces room.old room.new source.old
+        source.new }
 {
     let count = long_from(source)?;
     many_pieces(source, base, room, count)
@@ -218,8 +222,10 @@ fn text_from<S: ByteSource>(
     room: &mut u32,
     least: u32,
 ) -> Read<(u16, Text)>
-    ensures { ReadsWithin S.ByteSource (λ text. text) result (text_at base.written (least, room.old))
-        (FitsText base.written (least, room.old)) (λ text. length_of_pieces text.1) room.old room.new source.old source.new }
+    ensures { ReadsWithin S.ByteSource (λ text. text) result
+        (text_at base.written (least, room.old))
+        (FitsText base.written (least, room.old)) (λ text. length_of_pieces text.1) room.old
+        room.new source.old source.new }
 {
     let number = word_from(source)?;
     if (number as u32) < least {
@@ -248,7 +254,8 @@ fn many_texts<S: ByteSource>(source: &mut S, base: Base, room: &mut u32, count: 
 /// Texts after their number.
 #[tactic(auto, unfolding(crate::specs::Reading::texts_at))]
 fn texts_from<S: ByteSource>(source: &mut S, base: Base, room: &mut u32) -> Read<Texts>
-    ensures { ReadsWithin S.ByteSource (λ texts. texts.entries) result (texts_at base.written room.old)
+    ensures { ReadsWithin S.ByteSource (λ texts. texts.entries) result
+        (texts_at base.written room.old)
         (FitsTexts base.written room.old) totals room.old room.new source.old source.new }
 {
     let count = word_from(source)?;
@@ -258,7 +265,8 @@ fn texts_from<S: ByteSource>(source: &mut S, base: Base, room: &mut u32) -> Read
 /// So many bytes.
 fn many_bytes<S: ByteSource>(source: &mut S, count: u8) -> Read<ArrayVec<u8, PATTERN>>
     requires { count ≤ 31 }
-    ensures reads { Reads S.ByteSource (λ bytes. bytes.items) result (bytes_at count) source.old source.new }
+    ensures reads { Reads S.ByteSource (λ bytes. bytes.items) result (bytes_at count) source.old
+        source.new }
     ensures many { IfOk result (λ bytes. length bytes.items ≡ count) }
 {
     let mut bytes = ArrayVec::new();
@@ -271,7 +279,8 @@ fn many_bytes<S: ByteSource>(source: &mut S, count: u8) -> Read<ArrayVec<u8, PAT
 /// Bytes after their number, which is at most 31.
 #[tactic(auto, unfolding(crate::specs::Steps::short_at))]
 fn short_from<S: ByteSource>(source: &mut S) -> Read<ArrayVec<u8, PATTERN>>
-    ensures { ReadsFit S.ByteSource (λ bytes. bytes.items) result short_at FitsPattern source.old source.new }
+    ensures { ReadsFit S.ByteSource (λ bytes. bytes.items) result short_at FitsPattern source.old
+        source.new }
 {
     let count = byte_from(source)?;
     if count as usize > PATTERN {
@@ -283,7 +292,8 @@ fn short_from<S: ByteSource>(source: &mut S) -> Read<ArrayVec<u8, PATTERN>>
 /// A pattern.
 #[tactic(auto, using(crate::proofs::Bytes::pattern_is_short))]
 fn pattern_from<S: ByteSource>(source: &mut S) -> Read<ArrayVec<u8, PATTERN>>
-    ensures { ReadsFit S.ByteSource (λ bytes. bytes.items) result pattern_at FitsPattern source.old source.new }
+    ensures { ReadsFit S.ByteSource (λ bytes. bytes.items) result pattern_at FitsPattern source.old
+        source.new }
 {
     short_from(source)
 }
@@ -291,7 +301,8 @@ fn pattern_from<S: ByteSource>(source: &mut S) -> Read<ArrayVec<u8, PATTERN>>
 /// A name.
 #[tactic(auto, using(crate::proofs::Bytes::name_is_short))]
 fn name_from<S: ByteSource>(source: &mut S) -> Read<Name>
-    ensures { ReadsFit S.ByteSource (λ name. name) result name_at (λ name. IsTrue (is_name name)) source.old source.new }
+    ensures { ReadsFit S.ByteSource (λ name. name) result name_at (λ name. IsTrue (is_name name))
+        source.old source.new }
 {
     let bytes = short_from(source)?;
     match Name::new(bytes.as_slice()) {
@@ -312,7 +323,8 @@ fn comes_last(files: &Files, name: &Name) -> bool
 
 /// So many files, by rising names.
 fn many_files<S: ByteSource>(source: &mut S, base: Base, room: &mut u32, count: u16) -> Read<Files>
-    ensures items { ReadsItems S.ByteSource (λ files. files.entries) result (image_file_at base.written)
+    ensures items { ReadsItems S.ByteSource (λ files. files.entries) result
+        (image_file_at base.written)
         (FitsFile base.written) after_file count (None, room.old) source.old source.new }
     ensures left { IfOk result (λ files. room.new ≡ room.old - totals files.entries) }
 {
@@ -333,7 +345,8 @@ fn file_from<S: ByteSource>(
 ) -> Read<(Name, Text)>
     ensures { ReadsWithin S.ByteSource (λ file. file) result
         (image_file_at base.written (last_key files.now.entries, room.old))
-        (FitsFile base.written (last_key files.now.entries, room.old)) (λ file. length_of_pieces file.1)
+        (FitsFile base.written (last_key files.now.entries, room.old))
+        (λ file. length_of_pieces file.1)
         room.old room.new source.old source.new }
 {
     let name = name_from(source)?;
@@ -347,7 +360,8 @@ fn file_from<S: ByteSource>(
 /// Files after their number.
 #[tactic(auto, unfolding(crate::specs::Reading::files_at))]
 fn files_from<S: ByteSource>(source: &mut S, base: Base, room: &mut u32) -> Read<Files>
-    ensures { ReadsWithin S.ByteSource (λ files. files.entries) result (files_at base.written room.old)
+    ensures { ReadsWithin S.ByteSource (λ files. files.entries) result
+        (files_at base.written room.old)
         (FitsFiles base.written room.old) totals room.old room.new source.old source.new }
 {
     let count = word_from(source)?;
@@ -362,7 +376,8 @@ fn files_from<S: ByteSource>(source: &mut S, base: Base, room: &mut u32) -> Read
 /// An id, or a number of viewers, as a version has it.
 #[tactic(auto, unfolding(crate::specs::Reading::id_at))]
 fn id_from<S: ByteSource>(source: &mut S, version: Version) -> Read<u16>
-    ensures { ReadsFit S.ByteSource (λ id. id) result (id_at (version_number version)) (InId (version_number version))
+    ensures { ReadsFit S.ByteSource (λ id. id) result (id_at (version_number version))
+        (InId (version_number version))
         source.old source.new }
 {
     if has_overlays(version) {
@@ -374,7 +389,8 @@ fn id_from<S: ByteSource>(source: &mut S, version: Version) -> Read<u16>
 
 /// A viewer, whose id is `least` or above.
 fn viewer_from<S: ByteSource>(source: &mut S, version: Version, least: u32) -> Read<ViewerPicture>
-    ensures { ReadsFit S.ByteSource (λ viewer. viewer) result (image_viewer_at (version_number version) least)
+    ensures { ReadsFit S.ByteSource (λ viewer. viewer) result
+        (image_viewer_at (version_number version) least)
         (FitsViewer (version_number version) least) source.old source.new }
 {
     let id = id_from(source, version)?;
@@ -401,7 +417,8 @@ fn many_viewers<S: ByteSource>(
     version: Version,
     count: u16,
 ) -> Read<Vec<ViewerPicture>>
-    ensures { ReadsItems S.ByteSource (λ viewers. viewers.items) result (image_viewer_at (version_number version))
+    ensures { ReadsItems S.ByteSource (λ viewers. viewers.items) result
+        (image_viewer_at (version_number version))
         (FitsViewer (version_number version)) after_viewer count 0 source.old source.new }
 {
     let mut viewers = Vec::new(alloc);
@@ -421,7 +438,8 @@ fn viewers_from<S: ByteSource>(
     source: &mut S,
     version: Version,
 ) -> Read<Vec<ViewerPicture>>
-    ensures { ReadsFit S.ByteSource (λ viewers. viewers.items) result (viewers_at (version_number version))
+    ensures { ReadsFit S.ByteSource (λ viewers. viewers.items) result
+        (viewers_at (version_number version))
         (FitsViewers (version_number version)) source.old source.new }
 {
     let count = id_from(source, version)?;
@@ -476,7 +494,8 @@ fn many_track<S: ByteSource>(source: &mut S, version: Version, count: u8) -> Rea
 /// A track: its viewers, after their number.
 #[tactic(auto, unfolding(crate::specs::Reading::image_track_at))]
 fn track_from<S: ByteSource>(source: &mut S, version: Version) -> Read<Stretches>
-    ensures { ReadsFit S.ByteSource track_of_stretches result (image_track_at (version_number version)) (FitsTrack (version_number version))
+    ensures { ReadsFit S.ByteSource track_of_stretches result
+        (image_track_at (version_number version)) (FitsTrack (version_number version))
         source.old source.new }
 {
     let count = byte_from(source)?;
@@ -486,7 +505,8 @@ fn track_from<S: ByteSource>(source: &mut S, version: Version) -> Read<Stretches
 /// A track that has so many viewers at least.
 #[tactic(auto, unfolding(crate::specs::Reading::level_at))]
 fn level_from<S: ByteSource>(source: &mut S, version: Version, least: usize) -> Read<Stretches>
-    ensures { ReadsFit S.ByteSource track_of_stretches result (level_at (version_number version) least)
+    ensures { ReadsFit S.ByteSource track_of_stretches result
+        (level_at (version_number version) least)
         (FitsLevel (version_number version) least) source.old source.new }
 {
     let track = track_from(source, version)?;
@@ -503,7 +523,8 @@ fn many_stack<S: ByteSource>(
     version: Version,
     depth: u8,
 ) -> Read<Levels>
-    ensures { ReadsItems S.ByteSource (λ stack. stack_of_stretches stack.items) result (level_at (version_number version))
+    ensures { ReadsItems S.ByteSource (λ stack. stack_of_stretches stack.items) result
+        (level_at (version_number version))
         (FitsLevel (version_number version)) overlaid depth 0 source.old source.new }
 {
     let mut stack = Vec::new(alloc);
@@ -532,7 +553,8 @@ fn depth_from<S: ByteSource>(source: &mut S, version: Version) -> Read<u8>
 /// The tracks of a column, after their number.
 #[tactic(auto, unfolding(crate::specs::Reading::stack_at))]
 fn stack_from<S: ByteSource>(alloc: Global, source: &mut S, version: Version) -> Read<Levels>
-    ensures { ReadsFit S.ByteSource (λ stack. stack_of_stretches stack.items) result (stack_at (version_number version))
+    ensures { ReadsFit S.ByteSource (λ stack. stack_of_stretches stack.items) result
+        (stack_at (version_number version))
         (FitsStack (version_number version)) source.old source.new }
 {
     let depth = depth_from(source, version)?;
@@ -559,7 +581,8 @@ fn side_from<S: ByteSource>(source: &mut S) -> Read<Track>
 /// The viewer that was closed last, of which the track alone is tested.
 #[tactic(auto, unfolding(crate::specs::Reading::raw_closed_at))]
 fn raw_closed_from<S: ByteSource>(source: &mut S, version: Version) -> Read<ClosedViewer>
-    ensures { ReadsFit S.ByteSource (λ closed. closed) result (raw_closed_at (version_number version))
+    ensures { ReadsFit S.ByteSource (λ closed. closed) result
+        (raw_closed_at (version_number version))
         (λ closed. InId (version_number version) closed.viewer) source.old source.new }
 {
     let viewer = id_from(source, version)?;
@@ -595,7 +618,8 @@ fn raw_cell_from<S: ByteSource>(source: &mut S) -> Read<(u8, u8)>
 /// A cell of the display.
 #[tactic(auto, unfolding(crate::specs::Reading::image_cell_at))]
 fn cell_from<S: ByteSource>(source: &mut S) -> Read<(u8, u8)>
-    ensures { ReadsFit S.ByteSource (λ cell. cell) result image_cell_at FitsCell source.old source.new }
+    ensures { ReadsFit S.ByteSource (λ cell. cell) result image_cell_at FitsCell source.old
+        source.new }
 {
     let cell = raw_cell_from(source)?;
     if cell.0 < COLUMNS && cell.1 < ROWS {
@@ -609,7 +633,8 @@ fn cell_from<S: ByteSource>(source: &mut S) -> Read<(u8, u8)>
 
 /// A number of four bytes, where there is one.
 fn position_from<S: ByteSource>(source: &mut S) -> Read<Option<u32>>
-    ensures reads { Reads S.ByteSource (λ number. number) result (optional_at long_at) source.old source.new }
+    ensures reads { Reads S.ByteSource (λ number. number) result (optional_at long_at) source.old
+        source.new }
 {
     match byte_from(source)? {
         0 => Ok(None),
@@ -620,7 +645,8 @@ fn position_from<S: ByteSource>(source: &mut S) -> Read<Option<u32>>
 
 /// A cell of the display, where there is one.
 fn marker_from<S: ByteSource>(source: &mut S) -> Read<Option<(u8, u8)>>
-    ensures { ReadsFit S.ByteSource (λ cell. cell) result (optional_at image_cell_at) (IfThere FitsCell) source.old source.new }
+    ensures { ReadsFit S.ByteSource (λ cell. cell) result (optional_at image_cell_at)
+        (IfThere FitsCell) source.old source.new }
 {
     match byte_from(source)? {
         0 => Ok(None),
@@ -632,7 +658,8 @@ fn marker_from<S: ByteSource>(source: &mut S) -> Read<Option<(u8, u8)>>
 /// A selection with its rank.
 #[tactic(auto, unfolding(crate::specs::Reading::ranked_at))]
 fn ranked_from<S: ByteSource>(source: &mut S) -> Read<Ranked>
-    ensures { ReadsFit S.ByteSource (λ ranked. ranked) result ranked_at FitsRanked source.old source.new }
+    ensures { ReadsFit S.ByteSource (λ ranked. ranked) result ranked_at FitsRanked source.old
+        source.new }
 {
     let rank = byte_from(source)?;
     let beg = long_from(source)?;
@@ -642,7 +669,8 @@ fn ranked_from<S: ByteSource>(source: &mut S) -> Read<Ranked>
 
 /// A selection with its rank, where there is one.
 fn selection_from<S: ByteSource>(source: &mut S) -> Read<Option<Ranked>>
-    ensures { ReadsFit S.ByteSource (λ value. value) result (optional_at ranked_at) (IfThere FitsRanked) source.old source.new }
+    ensures { ReadsFit S.ByteSource (λ value. value) result (optional_at ranked_at)
+        (IfThere FitsRanked) source.old source.new }
 {
     match byte_from(source)? {
         0 => Ok(None),
@@ -653,7 +681,8 @@ fn selection_from<S: ByteSource>(source: &mut S) -> Read<Option<Ranked>>
 
 /// The viewer that was closed last, where there is one.
 fn closed_from<S: ByteSource>(source: &mut S, version: Version) -> Read<Option<ClosedViewer>>
-    ensures { ReadsFit S.ByteSource (λ closed. closed) result (optional_at (closed_at (version_number version)))
+    ensures { ReadsFit S.ByteSource (λ closed. closed) result
+        (optional_at (closed_at (version_number version)))
         (IfThere (FitsClosed (version_number version))) source.old source.new }
 {
     match byte_from(source)? {
@@ -704,7 +733,8 @@ struct Shown {
 /// The look, the pattern and the marker.
 #[tactic(auto, unfolding(crate::specs::Steps::front_at))]
 fn front_from<S: ByteSource>(source: &mut S) -> Read<Front>
-    ensures reads { Reads S.ByteSource (λ front. (front.look, front.pattern.items, front.marker)) result front_at
+    ensures reads { Reads S.ByteSource (λ front. (front.look, front.pattern.items, front.marker))
+        result front_at
         source.old source.new }
     ensures look { IfOk result (λ front. IsLook front.look) }
     ensures pattern { IfOk result (λ front. FitsPattern front.pattern.items) }
@@ -723,7 +753,8 @@ fn front_from<S: ByteSource>(source: &mut S) -> Read<Front>
 /// The texts, the files, and what lies in the buffers.
 #[tactic(auto, unfolding(crate::specs::Steps::held_at))]
 fn held_from<S: ByteSource>(alloc: Global, source: &mut S, written: u32) -> Read<Held>
-    ensures reads { Reads S.ByteSource (λ held. (held.texts.entries, held.files.entries, held.copied, held.deleted))
+    ensures reads { Reads S.ByteSource
+        (λ held. (held.texts.entries, held.files.entries, held.copied, held.deleted))
         result (held_at written) source.old source.new }
     ensures fits { IfOk result
         (λ held. FitHeld written held.texts.entries held.files.entries held.copied held.deleted) }
@@ -746,11 +777,18 @@ fn held_from<S: ByteSource>(alloc: Global, source: &mut S, written: u32) -> Read
 #[tactic(auto, unfolding(crate::specs::Steps::shown_at))]
 fn shown_from<S: ByteSource>(alloc: Global, source: &mut S, version: Version) -> Read<Shown>
     ensures reads { Reads S.ByteSource
-        (λ shown. (stack_of_stretches shown.user.items, stack_of_stretches shown.system.items, shown.closed)) result
+        (λ shown. (
+          stack_of_stretches shown.user.items,
+          stack_of_stretches shown.system.items,
+          shown.closed,
+        )) result
         (shown_at (version_number version)) source.old source.new }
-    ensures user { IfOk result (λ shown. FitsStack (version_number version) (stack_of_stretches shown.user.items)) }
-    ensures system { IfOk result (λ shown. FitsStack (version_number version) (stack_of_stretches shown.system.items)) }
-    ensures closed { IfOk result (λ shown. IfSome shown.closed (FitsClosed (version_number version))) }
+    ensures user { IfOk result
+        (λ shown. FitsStack (version_number version) (stack_of_stretches shown.user.items)) }
+    ensures system { IfOk result
+        (λ shown. FitsStack (version_number version) (stack_of_stretches shown.system.items)) }
+    ensures closed { IfOk result
+        (λ shown. IfSome shown.closed (FitsClosed (version_number version))) }
 {
     let user = stack_from(alloc, source, version)?;
     let system = stack_from(alloc, source, version)?;
@@ -770,9 +808,11 @@ fn picture_from<S: ByteSource>(
     version: Version,
     written: u32,
 ) -> Read<Picture>
-    ensures reads { Reads S.ByteSource pictured result (desktop_image_at (version_number version) written)
+    ensures reads { Reads S.ByteSource pictured result
+        (desktop_image_at (version_number version) written)
         source.old source.new }
-    ensures fits { IfOk result (λ picture. FitsImage (version_number version) written (pictured picture)) }
+    ensures fits { IfOk result
+        (λ picture. FitsImage (version_number version) written (pictured picture)) }
 {
     let front = front_from(source)?;
     let held = held_from(alloc, source, written)?;
@@ -803,7 +843,8 @@ pub fn read_picture<S: ByteSource>(
     version: Version,
     written: u32,
 ) -> Result<Picture, ImageFault>
-    ensures { ReadsFit S.ByteSource pictured result (whole_image_at (version_number version) written)
+    ensures { ReadsFit S.ByteSource pictured result
+        (whole_image_at (version_number version) written)
         (FitsImage (version_number version) written) source.old source.new }
 {
     let picture = picture_from(alloc, source, version, written)?;

@@ -21,7 +21,8 @@ pub trait ByteSource {
 
     /// The next byte; None at the end. `Fault`: what is below failed in this call.
     fn get(&mut self) -> Result<Option<u8>, Fault>
-        ensures next { honest self.old → IfOk result (λ byte. IsNext byte (remaining self.old) (remaining self.new)) }
+        ensures next { honest self.old
+            → IfOk result (λ byte. IsNext byte (remaining self.old) (remaining self.new)) }
         ensures only { OnlyGets honest same_ground self.old self.new }
         ensures cause { CountsFault result (failures self.old) (failures self.new) };
 

@@ -137,7 +137,8 @@ pub fn put_viewer<K: ByteSink>(sink: &mut K, picture: ViewerPicture) -> Result<(
 
 /// Puts a viewer of a track with how many rows it has.
 pub fn put_entry<K: ByteSink>(sink: &mut K, entry: Stretch) -> Result<(), Fault>
-    ensures { Puts K.ByteSink result (entry_bytes newest_version (entry_of_stretch entry)) sink.old sink.new }
+    ensures { Puts K.ByteSink result (entry_bytes newest_version (entry_of_stretch entry)) sink.old
+        sink.new }
 {
     put_word(sink, entry.viewer)?;
     put_byte(sink, entry.height)
@@ -145,7 +146,8 @@ pub fn put_entry<K: ByteSink>(sink: &mut K, entry: Stretch) -> Result<(), Fault>
 
 /// Puts the viewer that was closed last, if there is one.
 pub fn put_closed<K: ByteSink>(sink: &mut K, closed: Option<ClosedViewer>) -> Result<(), Fault>
-    ensures { Puts K.ByteSink result (optional (closed_bytes newest_version) closed) sink.old sink.new }
+    ensures { Puts K.ByteSink result (optional (closed_bytes newest_version) closed) sink.old
+        sink.new }
 {
     let Some(closed) = closed else {
         return put_byte(sink, 0);

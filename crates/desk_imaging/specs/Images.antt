@@ -53,14 +53,19 @@ pub record CanBeImaged (d : KeptDesktop) : Type 0 where
 -- ---- how many bytes an image of the newest version has, in three groups of its parts
 
 abbrev pub settings_long : KeptDesktop → ℕ
-settings_long d = length (look_bytes d.look) + (length (counted_bytes byte d.pattern) + length (optional cell_bytes d.marker))
+settings_long d =
+    length (look_bytes d.look)
+    + (length (counted_bytes byte d.pattern) + length (optional cell_bytes d.marker))
 
 abbrev pub tables_long : KeptDesktop → ℕ
-tables_long d = length (listed_bytes word_bytes text_bytes d.texts) + (length (listed_bytes word_bytes file_bytes d.files)
+tables_long d =
+    length (listed_bytes word_bytes text_bytes d.texts)
+    + (length (listed_bytes word_bytes file_bytes d.files)
     + (length (pieces_bytes d.copied) + length (pieces_bytes d.deleted)))
 
 abbrev pub display_long : KeptDesktop → ℕ
-display_long d = length (viewers_bytes newest_version (map (picture_of d.caret d.selections) d.viewers))
+display_long d =
+    length (viewers_bytes newest_version (map (picture_of d.caret d.selections) d.viewers))
     + (length (stack_bytes newest_version (reverse (stack_of d.columns User)))
     + (length (stack_bytes newest_version (reverse (stack_of d.columns System)))
     + length (optional (closed_bytes newest_version) d.closed)))
@@ -132,7 +137,8 @@ size_of texts n = length (flat (text_in texts n))
 
 -- a viewer leaves the menu of another to that one
 abbrev pub leaves_menu : ℕ × Viewer → ℕ × Viewer → Bool
-leaves_menu e other = not (other.1.main == e.1.menu) && (not (other.1.menu == e.1.menu) || (other.0 == e.0))
+leaves_menu e other =
+    not (other.1.main == e.1.menu) && (not (other.1.menu == e.1.menu) || (other.0 == e.0))
 
 -- both texts of a viewer are there, and its menu is its own
 unfoldable pub is_framed : Texts (List Piece) → List (ℕ × Viewer) → ℕ × Viewer → Bool
@@ -200,7 +206,8 @@ module _ (texts : Texts (List Piece)) (viewers : List (ℕ × Viewer)) (user sys
   -- a caret stands in a viewer of a track that is shown, within its text
   unfoldable pub is_caret_within : Option Caret → Bool
   is_caret_within None = true
-  is_caret_within (Some c) = is_on_top user system c.viewer && nat_le c.position (main_size texts viewers c.viewer)
+  is_caret_within (Some c) =
+      is_on_top user system c.viewer && nat_le c.position (main_size texts viewers c.viewer)
 
   -- a selection has some character, of a viewer of a track that is shown
   unfoldable pub is_selection : Selection → Bool
@@ -218,7 +225,8 @@ same_ranked (Some r) (Some s) = (r.rank == s.rank) && ((r.beg == s.beg) && (r.en
 
 unfoldable pub is_pictured : Option Caret → List Selection → ViewerPicture → Bool
 is_pictured caret selections p =
-    option_eq nat_eq (caret_position p.id caret) p.caret && same_ranked (ranked_in 1 selections p.id) p.selection
+    option_eq nat_eq (caret_position p.id caret) p.caret
+    && same_ranked (ranked_in 1 selections p.id) p.selection
 
 -- ---- together
 
@@ -228,7 +236,8 @@ is_desktop written i =
     nat_le written most_written && (are_placed i.user i.system i.closed (viewers_of i.viewers)
     && (are_texts i.texts (viewers_of i.viewers)
     && (is_caret_within i.texts (viewers_of i.viewers) i.user i.system (first_caret i.viewers)
-    && (list_all (is_selection i.texts (viewers_of i.viewers) i.user i.system) (selections_of i.viewers)
+    && (list_all (is_selection i.texts (viewers_of i.viewers) i.user i.system)
+    (selections_of i.viewers)
     && list_all (is_pictured (first_caret i.viewers) (selections_of i.viewers)) i.viewers))))
 
 -- A desktop that holds together has these parts, and so many characters were written for it.

@@ -111,10 +111,15 @@ pub fn selections_of(alloc: Global, pictures: &[ViewerPicture]) -> Result<Vec<Se
 /// `bottom`, up to which the track is full.
 fn pile(tracks: &mut Tracks, stretches: &[Stretch], track: Track, bottom: u8)
     requires sound { IsColumns tracks.old }
-    requires heights { IsTrack (shown_track tracks.old track ++ map entry_of_stretch stretches.now) }
-    requires bottom { bottom ≡ bottom_of (shown_track tracks.old track) (length (shown_track tracks.old track)) }
-    requires once { (v : ℕ) → times_placed v tracks.old + times_in v (map entry_of_stretch stretches.now) ≤ 1 }
-    ensures piled { tracks.new ≡ with_shown tracks.old track (shown_track tracks.old track ++ map entry_of_stretch stretches.now) }
+    requires heights { IsTrack
+        (shown_track tracks.old track ++ map entry_of_stretch stretches.now) }
+    requires bottom { bottom ≡ bottom_of (shown_track tracks.old track)
+        (length (shown_track tracks.old track)) }
+    requires once { (v : ℕ) → times_placed v tracks.old
+        + times_in v (map entry_of_stretch stretches.now) ≤ 1 }
+    ensures piled { tracks.new
+        ≡ with_shown tracks.old track
+        (shown_track tracks.old track ++ map entry_of_stretch stretches.now) }
     ensures sound { IsColumns tracks.new }
 {
     let mut top = bottom;
@@ -130,7 +135,8 @@ fn lay_lowest(tracks: &mut Tracks, lowest: Stretch, track: Track)
     requires fresh { ¬ IsPlaced lowest.viewer tracks.old }
     requires room { length (stack_of tracks.old track) < DEPTH }
     requires fits { (0 < lowest.height) × (lowest.height ≤ ROWS) }
-    ensures laid { tracks.new ≡ with_stack tracks.old track ((entry_of_stretch lowest ∷ []) ∷ stack_of tracks.old track) }
+    ensures laid { tracks.new
+        ≡ with_stack tracks.old track ((entry_of_stretch lowest ∷ []) ∷ stack_of tracks.old track) }
     ensures sound { IsColumns tracks.new }
 {
     tracks.open_track(ViewerId(lowest.viewer), track.left());
@@ -143,8 +149,11 @@ fn lay(tracks: &mut Tracks, stretches: &[Stretch], track: Track)
     requires some { 0 < length stretches.now }
     requires room { length (stack_of tracks.old track) < DEPTH }
     requires heights { IsTrack (map entry_of_stretch stretches.now) }
-    requires once { (v : ℕ) → times_placed v tracks.old + times_in v (map entry_of_stretch stretches.now) ≤ 1 }
-    ensures laid { tracks.new ≡ with_stack tracks.old track (map entry_of_stretch stretches.now ∷ stack_of tracks.old track) }
+    requires once { (v : ℕ) → times_placed v tracks.old
+        + times_in v (map entry_of_stretch stretches.now) ≤ 1 }
+    ensures laid { tracks.new
+        ≡ with_stack tracks.old track
+        (map entry_of_stretch stretches.now ∷ stack_of tracks.old track) }
     ensures sound { IsColumns tracks.new }
 {
     let Some((lowest, above)) = stretches.split_first() else {

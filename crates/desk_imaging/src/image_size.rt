@@ -80,8 +80,11 @@ fn files_len(files: &Files) -> usize
 /// How many bytes viewers have with what is marked in them, after how many there are.
 fn viewers_len(viewers: &[(u16, Viewer)], caret: Option<Caret>, selections: &[Selection]) -> usize
     requires marks { length selections.now ≤ 255 }
-    requires few { length (viewers_bytes newest_version (map (picture_of caret selections.now) viewers.now)) < 2 ^ 32 }
-    ensures { result ≡ length (viewers_bytes newest_version (map (picture_of caret selections.now) viewers.now)) }
+    requires few { length (viewers_bytes newest_version
+        (map (picture_of caret selections.now) viewers.now)) < 2 ^ 32 }
+    ensures { result
+        ≡ length (viewers_bytes newest_version
+        (map (picture_of caret selections.now) viewers.now)) }
 {
     let mut sum = 2;
     for place in 0..viewers.len() {
@@ -113,9 +116,11 @@ fn tables_len(desk: &Desk) -> usize
 fn pictures_len(desk: &Desk) -> usize
     requires marks { length (kept_desktop desk.now).selections ≤ 255 }
     requires few { length (viewers_bytes newest_version
-        (map (picture_of (kept_desktop desk.now).caret (kept_desktop desk.now).selections) (kept_desktop desk.now).viewers)) < 2 ^ 32 }
+        (map (picture_of (kept_desktop desk.now).caret (kept_desktop desk.now).selections)
+        (kept_desktop desk.now).viewers)) < 2 ^ 32 }
     ensures { result ≡ length (viewers_bytes newest_version
-        (map (picture_of (kept_desktop desk.now).caret (kept_desktop desk.now).selections) (kept_desktop desk.now).viewers)) }
+        (map (picture_of (kept_desktop desk.now).caret (kept_desktop desk.now).selections)
+        (kept_desktop desk.now).viewers)) }
 {
     viewers_len(&desk.viewers, desk.caret, &desk.selections)
 }
@@ -124,7 +129,8 @@ fn pictures_len(desk: &Desk) -> usize
 fn track_len(tracks: &Tracks, track: Track, level: u8) -> usize
     requires some { 0 < level }
     requires within { level ≤ length (stack_of tracks.now track) }
-    ensures value { result ≡ length (track_bytes newest_version (track_on (stack_of tracks.now track) level)) }
+    ensures value { result
+        ≡ length (track_bytes newest_version (track_on (stack_of tracks.now track) level)) }
     ensures few { result ≤ 766 }
 {
     entries_len(tracks.count(track, level))
@@ -132,7 +138,8 @@ fn track_len(tracks: &Tracks, track: Track, level: u8) -> usize
 
 /// How many bytes the tracks of a column have.
 fn stack_len(tracks: &Tracks, track: Track) -> usize
-    ensures value { result ≡ length (stack_bytes newest_version (reverse (stack_of tracks.now track))) }
+    ensures value { result
+        ≡ length (stack_bytes newest_version (reverse (stack_of tracks.now track))) }
     ensures few { result < 2 ^ 16 }
 {
     let mut sum = 1;
@@ -146,7 +153,8 @@ fn stack_len(tracks: &Tracks, track: Track) -> usize
 fn display_len(desk: &Desk) -> usize
     requires marks { length (kept_desktop desk.now).selections ≤ 255 }
     requires few { length (viewers_bytes newest_version
-        (map (picture_of (kept_desktop desk.now).caret (kept_desktop desk.now).selections) (kept_desktop desk.now).viewers)) < 2 ^ 32 }
+        (map (picture_of (kept_desktop desk.now).caret (kept_desktop desk.now).selections)
+        (kept_desktop desk.now).viewers)) < 2 ^ 32 }
     ensures { result ≡ display_long (kept_desktop desk.now) }
 {
     let system = stack_len(&desk.tracks, Track::System) + closed_len(desk.closed);
@@ -157,9 +165,11 @@ fn display_len(desk: &Desk) -> usize
 fn image_has_room(desk: &Desk)
     requires whole { IsKeptWhole (kept_desktop desk.now) }
     requires spellable { IsSpellable newest_version (kept_desktop desk.now) }
-    ensures room { length (image_bytes newest_version (image_of (kept_desktop desk.now))) ≤ IMAGE_BYTES }
+    ensures room { length (image_bytes newest_version
+        (image_of (kept_desktop desk.now))) ≤ IMAGE_BYTES }
     ensures parts { length (image_bytes newest_version (image_of (kept_desktop desk.now)))
-        ≡ settings_long (kept_desktop desk.now) + (tables_long (kept_desktop desk.now) + display_long (kept_desktop desk.now)) }
+        ≡ settings_long (kept_desktop desk.now)
+        + (tables_long (kept_desktop desk.now) + display_long (kept_desktop desk.now)) }
 {
     images_have_room();
 }

@@ -72,7 +72,8 @@ fn put_text<K: ByteSink>(sink: &mut K, number: u16, text: &Text) -> Result<(), F
 /// Puts texts with their numbers, after how many there are. Once they were put no piece was empty.
 fn put_texts<K: ByteSink>(sink: &mut K, texts: &Texts) -> Result<(), Fault>
     requires can { CanBePut texts.now.entries }
-    ensures puts { Puts K.ByteSink result (listed_bytes word_bytes text_bytes texts.now.entries) sink.old sink.new }
+    ensures puts { Puts K.ByteSink result (listed_bytes word_bytes text_bytes texts.now.entries)
+        sink.old sink.new }
     ensures some { OnOk result (All AreSome (values_of texts.now.entries)) }
     ensures numbers { OnOk result (All InWord (keys_of texts.now.entries)) }
 {
@@ -96,7 +97,8 @@ fn put_file<K: ByteSink>(sink: &mut K, name: &Name, text: &Text) -> Result<(), F
 /// Puts files, after how many there are. Once they were put no piece was empty.
 fn put_files<K: ByteSink>(sink: &mut K, files: &Files) -> Result<(), Fault>
     requires can { CanBePut files.now.entries }
-    ensures puts { Puts K.ByteSink result (listed_bytes word_bytes file_bytes files.now.entries) sink.old sink.new }
+    ensures puts { Puts K.ByteSink result (listed_bytes word_bytes file_bytes files.now.entries)
+        sink.old sink.new }
     ensures some { OnOk result (All AreSome (values_of files.now.entries)) }
 {
     put_word(sink, files.len() as u16)?;
@@ -171,7 +173,8 @@ fn put_viewers<K: ByteSink>(
     requires few { length viewers.now < 2 ^ 16 }
     requires marks { length selections.now ≤ 255 }
     ensures puts { Puts K.ByteSink result
-        (viewers_bytes newest_version (map (picture_of caret selections.now) viewers.now)) sink.old sink.new }
+        (viewers_bytes newest_version (map (picture_of caret selections.now) viewers.now)) sink.old
+        sink.new }
     ensures ids { OnOk result (All InWord (keys_of viewers.now)) }
 {
     put_word(sink, viewers.len() as u16)?;
@@ -192,7 +195,8 @@ fn put_track<K: ByteSink>(
 ) -> Result<(), Fault>
     requires some { 0 < level }
     requires within { level ≤ length (stack_of tracks.now track) }
-    ensures { Puts K.ByteSink result (track_bytes newest_version (track_on (stack_of tracks.now track) level))
+    ensures { Puts K.ByteSink result
+        (track_bytes newest_version (track_on (stack_of tracks.now track) level))
         sink.old sink.new }
 {
     let count = tracks.count(track, level);
@@ -210,7 +214,8 @@ fn put_track<K: ByteSink>(
 
 /// Puts the tracks of a column from the lowest up, after how many there are.
 fn put_stack<K: ByteSink>(sink: &mut K, tracks: &Tracks, track: Track) -> Result<(), Fault>
-    ensures { Puts K.ByteSink result (stack_bytes newest_version (reverse (stack_of tracks.now track)))
+    ensures { Puts K.ByteSink result
+        (stack_bytes newest_version (reverse (stack_of tracks.now track)))
         sink.old sink.new }
 {
     let depth = tracks.levels(track);
@@ -224,7 +229,8 @@ fn put_stack<K: ByteSink>(sink: &mut K, tracks: &Tracks, track: Track) -> Result
 /// Puts the bytes for which a text was searched last.
 fn put_pattern<K: ByteSink>(desk: &Desk, sink: &mut K) -> Result<(), Fault>
     requires { length (kept_desktop desk.now).pattern < 2 ^ 8 }
-    ensures { Puts K.ByteSink result (counted_bytes byte (kept_desktop desk.now).pattern) sink.old sink.new }
+    ensures { Puts K.ByteSink result (counted_bytes byte (kept_desktop desk.now).pattern) sink.old
+        sink.new }
 {
     put_counted(sink, desk.pattern.as_slice())
 }
@@ -234,7 +240,8 @@ fn put_pictures<K: ByteSink>(desk: &Desk, sink: &mut K) -> Result<(), Fault>
     requires few { length (kept_desktop desk.now).viewers < 2 ^ 16 }
     requires marks { length (kept_desktop desk.now).selections ≤ 255 }
     ensures puts { Puts K.ByteSink result (viewers_bytes newest_version
-        (map (picture_of (kept_desktop desk.now).caret (kept_desktop desk.now).selections) (kept_desktop desk.now).viewers))
+        (map (picture_of (kept_desktop desk.now).caret (kept_desktop desk.now).selections)
+        (kept_desktop desk.now).viewers))
         sink.old sink.new }
     ensures ids { OnOk result (All InWord (keys_of (kept_desktop desk.now).viewers)) }
 {
@@ -245,7 +252,9 @@ fn put_pictures<K: ByteSink>(desk: &Desk, sink: &mut K) -> Result<(), Fault>
 fn put_settings<K: ByteSink>(desk: &Desk, sink: &mut K) -> Result<(), Fault>
     requires look { IsLook (kept_desktop desk.now).look }
     requires short { length (kept_desktop desk.now).pattern < 2 ^ 8 }
-    ensures { Puts K.ByteSink result (look_bytes (kept_desktop desk.now).look ++ (counted_bytes byte (kept_desktop desk.now).pattern
+    ensures { Puts K.ByteSink result
+        (look_bytes (kept_desktop desk.now).look
+        ++ (counted_bytes byte (kept_desktop desk.now).pattern
         ++ optional cell_bytes (kept_desktop desk.now).marker)) sink.old sink.new }
 {
     put_look(sink, desk.look)?;
@@ -256,8 +265,10 @@ fn put_settings<K: ByteSink>(desk: &Desk, sink: &mut K) -> Result<(), Fault>
 /// Puts the texts, the files and both buffers. Once they were put no piece was empty.
 fn put_tables<K: ByteSink>(desk: &Desk, sink: &mut K) -> Result<(), Fault>
     requires { CanBeImaged (kept_desktop desk.now) }
-    ensures puts { Puts K.ByteSink result (listed_bytes word_bytes text_bytes (kept_desktop desk.now).texts
-        ++ (listed_bytes word_bytes file_bytes (kept_desktop desk.now).files ++ (pieces_bytes (kept_desktop desk.now).copied
+    ensures puts { Puts K.ByteSink result
+        (listed_bytes word_bytes text_bytes (kept_desktop desk.now).texts
+        ++ (listed_bytes word_bytes file_bytes (kept_desktop desk.now).files
+        ++ (pieces_bytes (kept_desktop desk.now).copied
         ++ pieces_bytes (kept_desktop desk.now).deleted))) sink.old sink.new }
     ensures tables { OnOk result (AreSpellable (kept_desktop desk.now)) }
 {
@@ -272,10 +283,12 @@ fn put_display<K: ByteSink>(desk: &Desk, sink: &mut K) -> Result<(), Fault>
     requires few { length (kept_desktop desk.now).viewers < 2 ^ 16 }
     requires marks { length (kept_desktop desk.now).selections ≤ 255 }
     ensures puts { Puts K.ByteSink result (viewers_bytes newest_version
-        (map (picture_of (kept_desktop desk.now).caret (kept_desktop desk.now).selections) (kept_desktop desk.now).viewers)
+        (map (picture_of (kept_desktop desk.now).caret (kept_desktop desk.now).selections)
+        (kept_desktop desk.now).viewers)
         ++ (stack_bytes newest_version (reverse (stack_of (kept_desktop desk.now).columns User))
         ++ (stack_bytes newest_version (reverse (stack_of (kept_desktop desk.now).columns System))
-        ++ optional (closed_bytes newest_version) (kept_desktop desk.now).closed))) sink.old sink.new }
+        ++ optional (closed_bytes newest_version) (kept_desktop desk.now).closed))) sink.old
+        sink.new }
     ensures ids { OnOk result (All InWord (keys_of (kept_desktop desk.now).viewers)) }
 {
     put_pictures(desk, sink)?;
@@ -287,7 +300,8 @@ fn put_display<K: ByteSink>(desk: &Desk, sink: &mut K) -> Result<(), Fault>
 /// Puts the parts of the image, one after another.
 fn put_parts<K: ByteSink>(desk: &Desk, sink: &mut K) -> Result<(), Fault>
     requires { CanBeImaged (kept_desktop desk.now) }
-    ensures puts { Puts K.ByteSink result (image_bytes newest_version (image_of (kept_desktop desk.now))) sink.old sink.new }
+    ensures puts { Puts K.ByteSink result
+        (image_bytes newest_version (image_of (kept_desktop desk.now))) sink.old sink.new }
     ensures spellable { OnOk result (IsSpellable newest_version (kept_desktop desk.now)) }
 {
     put_settings(desk, sink)?;
@@ -300,7 +314,8 @@ pub fn put_image<K: ByteSink>(desk: &Desk, sink: &mut K) -> Result<u32, Fault>
     requires { IsKeptWhole (kept_desktop desk.now) }
     ensures spelled { IfOk result (λ n. IsSpellable newest_version (kept_desktop desk.now)
         × (n ≡ length (image_bytes newest_version (image_of (kept_desktop desk.now))))) }
-    ensures puts { Puts K.ByteSink result (image_bytes newest_version (image_of (kept_desktop desk.now))) sink.old sink.new }
+    ensures puts { Puts K.ByteSink result
+        (image_bytes newest_version (image_of (kept_desktop desk.now))) sink.old sink.new }
 {
     put_parts(desk, sink)?;
     Ok(image_len(desk))

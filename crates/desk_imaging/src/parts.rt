@@ -88,8 +88,8 @@ pub fn are_texts(texts: &Texts, viewers: &ViewerTable) -> bool
 
 // ---- places
 
-#[tactic(auto, using(crate::proofs::DraftLemmas::times_are))]
 /// How often a viewer stands in a track.
+#[tactic(auto, using(crate::proofs::DraftLemmas::times_are))]
 fn times_in(stretches: &[Stretch], id: u16) -> usize
     ensures { result ≡ times_in id (map entry_of_stretch stretches.now) }
 {
@@ -102,8 +102,8 @@ fn times_in(stretches: &[Stretch], id: u16) -> usize
     times
 }
 
-#[tactic(auto, using(crate::proofs::DraftLemmas::times_over))]
 /// How often a viewer stands in the tracks of a column.
+#[tactic(auto, using(crate::proofs::DraftLemmas::times_over))]
 fn times_on(stack: &[Stretches], id: u16) -> usize
     requires { length stack.now < 2 ^ 8 }
     ensures value { result ≡ times_on id (levels_of stack.now) }
@@ -129,7 +129,8 @@ fn times_closed(closed: Option<ClosedViewer>, id: u16) -> usize
 
 /// Whether all of a track are viewers.
 fn are_viewers(viewers: &ViewerTable, stretches: &[Stretch]) -> bool
-    ensures { result ≡ list_all (λ e. has_id viewers.now.items e.viewer) (map entry_of_stretch stretches.now) }
+    ensures { result ≡ list_all (λ e. has_id viewers.now.items e.viewer)
+        (map entry_of_stretch stretches.now) }
 {
     stretches
         .iter()
@@ -179,7 +180,8 @@ fn stand_once(
 ) -> bool
     requires user { length user.now < 2 ^ 8 }
     requires system { length system.now < 2 ^ 8 }
-    ensures { result ≡ list_all (stands_once (levels_of user.now) (levels_of system.now) closed) viewers.now.items }
+    ensures { result ≡ list_all (stands_once (levels_of user.now) (levels_of system.now) closed)
+        viewers.now.items }
 {
     viewers
         .iter()
@@ -196,7 +198,8 @@ pub fn are_placed(
 ) -> bool
     requires user { length user.now < 2 ^ 8 }
     requires system { length system.now < 2 ^ 8 }
-    ensures { result ≡ are_placed (levels_of user.now) (levels_of system.now) closed viewers.now.items }
+    ensures { result ≡ are_placed (levels_of user.now) (levels_of system.now) closed
+        viewers.now.items }
 {
     stand_once(viewers, user, system, closed)
         && are_known(viewers, user)
@@ -239,7 +242,8 @@ pub fn is_caret(
     system: &[Stretches],
     caret: Option<Caret>,
 ) -> bool
-    ensures { result ≡ is_caret_within texts.now.entries viewers.now.items (levels_of user.now) (levels_of system.now)
+    ensures { result ≡ is_caret_within texts.now.entries viewers.now.items (levels_of user.now)
+        (levels_of system.now)
         caret }
 {
     match caret {
@@ -276,7 +280,8 @@ pub fn are_selections(
     system: &[Stretches],
     selections: &[Selection],
 ) -> bool
-    ensures { result ≡ list_all (is_selection texts.now.entries viewers.now.items (levels_of user.now)
+    ensures { result
+        ≡ list_all (is_selection texts.now.entries viewers.now.items (levels_of user.now)
         (levels_of system.now)) selections.now }
 {
     selections.iter().all(|selection| is_selection(texts, viewers, user, system, *selection))

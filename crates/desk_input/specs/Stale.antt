@@ -53,7 +53,8 @@ stale_by_key viewers caret latest Escape = Nothing
 
 -- what the keys of the mouse change in a region: a call may change any text, and where a viewer is opened or carried
 -- another may be gone; what is put in, taken out or gets a look changes one text; all else changes none
-unfoldable pub stale_by_gesture : List (ℕ × Viewer) → Option Caret → Option Selection → Region → Keys → Stale
+unfoldable pub stale_by_gesture : List (ℕ × Viewer) → Option Caret → Option Selection → Region
+    → Keys → Stale
 stale_by_gesture viewers caret latest Filler Middle = All
 stale_by_gesture viewers caret latest (Menu v) LeftMiddle = All
 stale_by_gesture viewers caret latest (Menu v) Middle = All

@@ -36,7 +36,8 @@ fn is_in_row(cell: Option<(u8, u8)>, row: u8) -> bool
 
 /// Where a line begins whose beginning is shown at that cell, if it is one of the row.
 fn line_in_row(begin: u32, cell: Option<(u8, u8)>, row: u8) -> Option<u32>
-    ensures { result ≡ (if unwrap_or (option_map (λ c. c.1 == row) cell) false then Some begin else None) }
+    ensures { result
+        ≡ (if unwrap_or (option_map (λ c. c.1 == row) cell) false then Some begin else None) }
 {
     if is_in_row(cell, row) {
         Some(begin)
@@ -48,7 +49,8 @@ fn line_in_row(begin: u32, cell: Option<(u8, u8)>, row: u8) -> Option<u32>
 /// Where the line begins that a viewer shows in a row of its main frame. None where it shows none there.
 fn start_of_row<S: CharSource>(desk: &Desk, id: u16, row: u8, source: &mut S) -> Read<Option<u32>>
     requires at { IsMainRow (S.characters source.old) (kept_desktop desk.now) id row }
-    ensures told { TellsValue S.CharSource result (λ d. start_of_row d id row) source.old source.new (kept_desktop desk.now) }
+    ensures told { TellsValue S.CharSource result (λ d. start_of_row d id row) source.old source.new
+        (kept_desktop desk.now) }
     ensures within { IfOk result (λ start. IfSome start (IsPosition (kept_desktop desk.now) id)) }
 {
     let begin = position_in(desk, id, 0, row, source)?;
@@ -61,7 +63,8 @@ fn start_of_row<S: CharSource>(desk: &Desk, id: u16, row: u8, source: &mut S) ->
 /// Where the line begins that stands as far down in a viewer's main text as a row in its main frame.
 fn start_of_share<S: CharSource>(desk: &Desk, id: u16, row: u8, source: &mut S) -> Read<u32>
     requires at { IsMainRow (S.characters source.old) (kept_desktop desk.now) id row }
-    ensures told { TellsValue S.CharSource result (λ d. start_of_share d id row) source.old source.new (kept_desktop desk.now) }
+    ensures told { TellsValue S.CharSource result (λ d. start_of_share d id row) source.old
+        source.new (kept_desktop desk.now) }
     ensures within { IfOk result (IsPosition (kept_desktop desk.now) id) }
 {
     let text = desk.main_text(id);

@@ -16,7 +16,8 @@ use event_bytes::{Key, TypedBytes};
 /// caret.
 pub fn type_bytes<S: CharSource>(desk: &mut Desk, bytes: &TypedBytes, source: &mut S) -> StepResult
     requires { IsOver (S.characters source.old) (kept_desktop desk.old) }
-    ensures { DoesUnread S.CharSource (is_none (kept_desktop desk.old).caret ≡ true) (λ d. after_typing d bytes.now) result
+    ensures { DoesUnread S.CharSource (is_none (kept_desktop desk.old).caret ≡ true)
+        (λ d. after_typing d bytes.now) result
         source.old source.new (kept_desktop desk.old) (kept_desktop desk.new) }
 {
     let Some(caret) = desk.caret_place() else {
@@ -37,7 +38,8 @@ pub fn type_bytes<S: CharSource>(desk: &mut Desk, bytes: &TypedBytes, source: &m
 #[tactic(auto, unfolding(desktop_definitions::specs::Unread::key_needs_no_byte))]
 pub fn press<S: CharSource>(desk: &mut Desk, key: Key, source: &mut S) -> StepResult
     requires { IsOver (S.characters source.old) (kept_desktop desk.old) }
-    ensures { DoesUnread S.CharSource (key_needs_no_byte (kept_desktop desk.old) key ≡ true) (λ d. after_key d key) result
+    ensures { DoesUnread S.CharSource (key_needs_no_byte (kept_desktop desk.old) key ≡ true)
+        (λ d. after_key d key) result
         source.old source.new (kept_desktop desk.old) (kept_desktop desk.new) }
 {
     match key {
@@ -52,7 +54,8 @@ pub fn press<S: CharSource>(desk: &mut Desk, key: Key, source: &mut S) -> StepRe
 /// The character before the caret is taken out, where there is one. Refused without a caret.
 fn take_back<S: CharSource>(desk: &mut Desk, source: &mut S) -> StepResult
     requires { IsOver (S.characters source.old) (kept_desktop desk.old) }
-    ensures { DoesUnread S.CharSource (is_none (kept_desktop desk.old).caret ≡ true) (λ d. after_key d Back) result
+    ensures { DoesUnread S.CharSource (is_none (kept_desktop desk.old).caret ≡ true)
+        (λ d. after_key d Back) result
         source.old source.new (kept_desktop desk.old) (kept_desktop desk.new) }
 {
     let Some(caret) = desk.caret_place() else {
@@ -72,7 +75,8 @@ fn take_back<S: CharSource>(desk: &mut Desk, source: &mut S) -> StepResult
 /// The newest selection goes into the copied buffer. Refused without a selection.
 fn copy<S: CharSource>(desk: &mut Desk, source: &mut S) -> StepResult
     requires { IsOver (S.characters source.old) (kept_desktop desk.old) }
-    ensures { DoesUnread S.CharSource ⊤ (λ d. after_key d Copy) result source.old source.new (kept_desktop desk.old) (kept_desktop desk.new) }
+    ensures { DoesUnread S.CharSource ⊤ (λ d. after_key d Copy) result source.old source.new
+        (kept_desktop desk.old) (kept_desktop desk.new) }
 {
     let Some(selection) = desk.selection() else {
         return Ok(Reply::No(codes::NO_SELECTION));
@@ -89,7 +93,8 @@ fn copy<S: CharSource>(desk: &mut Desk, source: &mut S) -> StepResult
 /// a selection.
 fn cut<S: CharSource>(desk: &mut Desk, source: &mut S) -> StepResult
     requires { IsOver (S.characters source.old) (kept_desktop desk.old) }
-    ensures { DoesUnread S.CharSource (is_none (newest (kept_desktop desk.old)) ≡ true) (λ d. after_key d Cut) result
+    ensures { DoesUnread S.CharSource (is_none (newest (kept_desktop desk.old)) ≡ true)
+        (λ d. after_key d Cut) result
         source.old source.new (kept_desktop desk.old) (kept_desktop desk.new) }
 {
     let Some(selection) = desk.selection() else {
@@ -103,7 +108,8 @@ fn cut<S: CharSource>(desk: &mut Desk, source: &mut S) -> StepResult
 /// Caret, selections and marker go.
 fn escape<S: CharSource>(desk: &mut Desk, source: &mut S) -> StepResult
     requires { IsOver (S.characters source.old) (kept_desktop desk.old) }
-    ensures { DoesUnread S.CharSource ⊤ (λ d. after_key d Escape) result source.old source.new (kept_desktop desk.old) (kept_desktop desk.new) }
+    ensures { DoesUnread S.CharSource ⊤ (λ d. after_key d Escape) result source.old source.new
+        (kept_desktop desk.old) (kept_desktop desk.new) }
 {
     desk.caret = None;
     desk.selections.clear();

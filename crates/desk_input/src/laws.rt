@@ -11,7 +11,8 @@ ghost use Rattle.desk_input.specs.Stale.{is_stale, stale_of, stale_from};
 /// An event leaves each text as it was that isn't among those that it may change, whatever the reply is and by the
 /// commands of whatever version it is stepped.
 pub fn other_texts_stay()
-    ensures { (version : ℕ) (d : Desktop) (event : Event) (n : ℕ) → IsSound d → is_stale (stale_of d event) n ≡ false
+    ensures { (version : ℕ) (d : Desktop) (event : Event) (n : ℕ) → IsSound d
+        → is_stale (stale_of d event) n ≡ false
         → text_of (step_in version d event).desktop n ≡ text_of d n }
 {}
 

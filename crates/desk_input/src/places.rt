@@ -25,7 +25,8 @@ pub type Read<T> = Result<T, Fault>;
 /// The part of a viewer in which a cell of its place lies.
 fn part_of(id: u16, place: Place, x: u8, y: u8) -> Region
     requires { y < ROWS }
-    ensures { result ≡ (if y + 1 == place.top then Menu id else (if x == place.x then Bar id else Body id)) }
+    ensures { result
+        ≡ (if y + 1 == place.top then Menu id else (if x == place.x then Bar id else Body id)) }
 {
     if y + 1 == place.top {
         Region::Menu(id)
@@ -130,7 +131,8 @@ fn text_row(desk: &Desk, id: u16, y: u8) -> u8
 /// The position in a viewer's main text at column `x` and a row of its main frame.
 pub fn position_in<S: CharSource>(desk: &Desk, id: u16, x: u8, row: u8, source: &mut S) -> Read<u32>
     requires at { IsMainRow (S.characters source.old) (kept_desktop desk.now) id row }
-    ensures told { TellsValue S.CharSource result (λ d. position_in d id x row) source.old source.new (kept_desktop desk.now) }
+    ensures told { TellsValue S.CharSource result (λ d. position_in d id x row) source.old
+        source.new (kept_desktop desk.now) }
     ensures from { IfOk result (λ p. (viewer_or_none (kept_desktop desk.now).viewers id).org ≤ p) }
     ensures within { IfOk result (IsPosition (kept_desktop desk.now) id) }
 {
@@ -143,7 +145,8 @@ pub fn position_in<S: CharSource>(desk: &Desk, id: u16, x: u8, row: u8, source: 
 /// The position in a viewer's main text that is shown nearest to a cell.
 pub fn text_position<S: CharSource>(desk: &Desk, id: u16, x: u8, y: u8, source: &mut S) -> Read<u32>
     requires at { IsMainRow (S.characters source.old) (kept_desktop desk.now) id 0 }
-    ensures told { TellsValue S.CharSource result (λ d. text_position d id x y) source.old source.new (kept_desktop desk.now) }
+    ensures told { TellsValue S.CharSource result (λ d. text_position d id x y) source.old
+        source.new (kept_desktop desk.now) }
     ensures within { IfOk result (IsPosition (kept_desktop desk.now) id) }
 {
     let column = text_column(desk, id, x);
@@ -155,8 +158,10 @@ pub fn text_position<S: CharSource>(desk: &Desk, id: u16, x: u8, y: u8, source: 
 pub fn menu_position<S: CharSource>(desk: &Desk, id: u16, x: u8, source: &mut S) -> Read<u32>
     requires placed { IsOnTop id (kept_desktop desk.now).columns }
     requires over { IsOver (S.characters source.old) (kept_desktop desk.now) }
-    ensures told { TellsValue S.CharSource result (λ d. menu_position d id x) source.old source.new (kept_desktop desk.now) }
-    ensures within { IfOk result (λ p. p ≤ length (flat (text_called (kept_desktop desk.now) id true))) }
+    ensures told { TellsValue S.CharSource result (λ d. menu_position d id x) source.old source.new
+        (kept_desktop desk.now) }
+    ensures within { IfOk result
+        (λ p. p ≤ length (flat (text_called (kept_desktop desk.now) id true))) }
 {
     let viewer = viewer_or_none(&desk.viewers, id);
     let frame = Frame {
@@ -179,7 +184,8 @@ pub fn stretch_drawn<S: CharSource>(
     source: &mut S,
 ) -> Read<Selection>
     requires at { IsMainRow (S.characters source.old) (kept_desktop desk.now) id 0 }
-    ensures told { TellsValue S.CharSource result (λ d. stretch_drawn d id from.0 from.1 to.0 to.1) source.old source.new
+    ensures told { TellsValue S.CharSource result (λ d. stretch_drawn d id from.0 from.1 to.0 to.1)
+        source.old source.new
         (kept_desktop desk.now) }
     ensures viewer { IfOk result (λ s. s.viewer ≡ id) }
     ensures within { IfOk result (λ s. IsPosition (kept_desktop desk.now) s.viewer s.end) }

@@ -19,7 +19,8 @@ const WHOLE_LOOK: u8 = 7;
 /// Refused without a selection.
 pub fn copy_to<S: CharSource>(desk: &mut Desk, id: u16, pos: u32, source: &mut S) -> StepResult
     requires { IsMainPlace (S.characters source.old) (kept_desktop desk.old) id pos }
-    ensures { DoesUnread S.CharSource (is_none (newest (kept_desktop desk.old)) ≡ true) (λ d. copied_to d id pos) result
+    ensures { DoesUnread S.CharSource (is_none (newest (kept_desktop desk.old)) ≡ true)
+        (λ d. copied_to d id pos) result
         source.old source.new (kept_desktop desk.old) (kept_desktop desk.new) }
 {
     let Some(selection) = desk.selection() else {
@@ -38,7 +39,8 @@ pub fn copy_to<S: CharSource>(desk: &mut Desk, id: u16, pos: u32, source: &mut S
 /// selection.
 pub fn take_looks<S: CharSource>(desk: &mut Desk, id: u16, pos: u32, source: &mut S) -> StepResult
     requires { IsMainPlace (S.characters source.old) (kept_desktop desk.old) id pos }
-    ensures { DoesUnread S.CharSource (is_none (newest (kept_desktop desk.old)) ≡ true) (λ d. looks_taken d id pos) result
+    ensures { DoesUnread S.CharSource (is_none (newest (kept_desktop desk.old)) ≡ true)
+        (λ d. looks_taken d id pos) result
         source.old source.new (kept_desktop desk.old) (kept_desktop desk.new) }
 {
     let look = look_at(desk, id, pos);
@@ -69,8 +71,10 @@ fn look_at(desk: &Desk, id: u16, pos: u32) -> Look
 /// A stretch goes into the deleted buffer, and the caret to where it was, which is shown. Refused where it is
 /// empty.
 pub fn take_out<S: CharSource>(desk: &mut Desk, drawn: Selection, source: &mut S) -> StepResult
-    requires { IsMainPlace (S.characters source.old) (kept_desktop desk.old) drawn.viewer drawn.end }
-    ensures { Does S.CharSource (λ d. taken_out d drawn) result source.old source.new (kept_desktop desk.old) (kept_desktop desk.new) }
+    requires { IsMainPlace (S.characters source.old) (kept_desktop desk.old) drawn.viewer
+        drawn.end }
+    ensures { Does S.CharSource (λ d. taken_out d drawn) result source.old source.new
+        (kept_desktop desk.old) (kept_desktop desk.new) }
 {
     if drawn.beg >= drawn.end {
         return Ok(Reply::No(codes::NO_SELECTION));
@@ -82,8 +86,10 @@ pub fn take_out<S: CharSource>(desk: &mut Desk, drawn: Selection, source: &mut S
 
 /// A stretch is selected, and a copy of it put in at the caret. Refused where it is empty, or without a caret.
 pub fn send_to_caret<S: CharSource>(desk: &mut Desk, drawn: Selection, source: &mut S) -> StepResult
-    requires { IsMainPlace (S.characters source.old) (kept_desktop desk.old) drawn.viewer drawn.end }
-    ensures { Does S.CharSource (λ d. sent_to_caret d drawn) result source.old source.new (kept_desktop desk.old) (kept_desktop desk.new) }
+    requires { IsMainPlace (S.characters source.old) (kept_desktop desk.old) drawn.viewer
+        drawn.end }
+    ensures { Does S.CharSource (λ d. sent_to_caret d drawn) result source.old source.new
+        (kept_desktop desk.old) (kept_desktop desk.new) }
 {
     if drawn.beg >= drawn.end {
         return Ok(Reply::No(codes::NO_SELECTION));

@@ -18,6 +18,7 @@ use Rattle.store_layout.specs.Meaning.{Standing, Shows, desktop_of, and_all, cut
 use Rattle.desk_slots.proofs.Recording.{in_newest, steps_in_on}
 use Rattle.desk_slots.specs.Device.{IsSameDevice}
 use Rattle.desk_journal.specs.Posting.{IsAcknowledged}
+use Rattle.desk_journal.proofs.Stepped.{stepped_newest}
 use Rattle.desk_journal.specs.Undoing.{IsAdded, ShowsStanding, IsBehind, IsTakenBack}
 use Rattle.desk_journal.specs.View.{StoreView, IsDurable}
 
@@ -81,7 +82,7 @@ module _ {D : Type 0} (d : Ghosts D) (old : StoreView D) where
       })) (append_assoc s.events events (event ∷ []))
           (added.more (was.still honest) (room, was.layout) (and_all s events) (was.at honest s at));
       desktop = λ honest s at.
-          ap (λ (o : Outcome). o.desktop) (ok.stepped (was.still honest))
+          ap (λ (o : Outcome). o.desktop) (stepped_newest d ok (was.still honest))
           ∙ ap (λ x. (step x event).desktop) (was.desktop honest s at)
           ∙ sym (ap (λ (o : Outcome). o.desktop) (in_newest (desktop_of (and_all s events)) event))
           ∙ ap (λ v. (step_in v (desktop_of (and_all s events)) event).desktop) (sym (was.versions honest s at))

@@ -7,4 +7,5 @@ mod Between
 mod Opened
 pub mod Undoing
 pub mod BackAgain
+pub mod Stepped
 pub mod Behind

@@ -4,9 +4,8 @@ use Rattle.sector_disk.specs.declared.disk.Disk.{Ghosts}
 use Rattle.sector_disk.specs.Trail.{LeavesOnly}
 use Rattle.desktop_definitions.specs.declared.reply.Reply.{Reply}
 use Rattle.desktop_definitions.specs.declared.reply.Reply.TheVariants.{Done, No}
-use Rattle.desktop_definitions.specs.Outcome.{IsReply}
-use Rattle.desktop_definitions.specs.Step.{outcome_of}
-use Rattle.desk_bringing.specs.Bringing.{Documents, brought_in, BringsUnread}
+use Rattle.desk_bringing.specs.Bringing.{Documents, brought_in}
+use Rattle.desk_bringing.specs.Bringing.{IsBringing}
 use Rattle.store_layout.specs.declared.layout.TheConstants.{LAYOUT}
 use Rattle.store_layout.specs.Meaning.{MeansEither}
 use Rattle.desk_slots.specs.Device.{IsOnlyRead}
@@ -36,17 +35,14 @@ module _ {D : Type 0} (d : Ghosts D) where
 
   -- Ok: the desktop and the reply are those of the definition
   pub record AreBrought (documents : Documents) (reply : Reply) (old new : StoreView D) : Type 0 where
-    pub brought : d.honest old.disk → outcome_of new.desktop reply ≡ brought_in old.desktop documents
+    pub brought : IsBringing (d.honest old.disk) documents old.kept new.kept old.desktop new.desktop reply
     -- from now on a crash leaves that desktop
     pub durable : IsDurable d new
     pub usable : new.must_reopen ≡ false
-    pub known : IsReply reply
     -- all stand in the other slot, which is in use now
     pub done : reply ≡ Done → IsInNextSlot old new
     -- or none was brought
     pub refusal : (code : ℕ) → reply ≡ No code → AreRefused old new
-    -- over every disk: the same over every list of as many characters as were written
-    pub unread : BringsUnread old.kept new.kept documents reply
 
   -- NoMemory: nothing was written, and the store must be opened again
   pub record IsUnwritten (old new : StoreView D) : Type 0 where

@@ -1,14 +1,12 @@
 -- What a post promises, outcome by outcome. `d` is what is known of a disk.
-use Rattle.std.specs.Prelude.{◌≡◌, ◌⊎◌, ◌<◌, ◌≤◌, ◌+◌, ℕ, true, false, Result, IfOk, IsErrOf}
+use Rattle.std.specs.Prelude.{◌≡◌, ◌⊎◌, ◌<◌, ◌≤◌, ◌+◌, true, false, Result, IfOk, IsErrOf}
 use Rattle.sector_disk.specs.declared.disk.Disk.{Ghosts}
 use Rattle.sector_disk.specs.Trail.{LeavesOnly}
 use Rattle.sector_disk.specs.Faults.{FailsAs}
 use Rattle.event_bytes.specs.declared.event.Event.{Event}
 use Rattle.desktop_definitions.specs.declared.reply.Reply.{Reply}
-use Rattle.desktop_definitions.specs.declared.reply.Reply.TheVariants.{No}
-use Rattle.desktop_definitions.specs.Outcome.{IsReply}
-use Rattle.desktop_definitions.specs.Step.{step, outcome_of}
-use Rattle.desktop_definitions.specs.Unread.{StepsUnread}
+use Rattle.desktop_definitions.specs.Step.{step}
+use Rattle.desktop_definitions.specs.Stepped.{IsStep}
 use Rattle.desk_slots.specs.declared.error.Error.{Error}
 use Rattle.desk_slots.specs.declared.error.Error.TheVariants.{NoMemory, Fault, MustReopen, Worn}
 use Rattle.store_layout.specs.declared.layout.TheConstants.{JOURNAL_EVENTS, LAST_EPOCH, LAYOUT}
@@ -66,8 +64,8 @@ module _ {D : Type 0} (d : Ghosts D) where
 
   -- Ok: the event is acknowledged, whatever the reply
   pub record IsAcknowledged (event : Event) (reply : Reply) (old new : StoreView D) : Type 0 where
-    -- the desktop and the reply are those of its step
-    pub stepped : d.honest old.disk → outcome_of new.desktop reply ≡ step old.desktop event
+    -- it was stepped by the newest version
+    pub stepped : IsStep (d.honest old.disk) LAYOUT event old.kept new.kept old.desktop new.desktop reply
     -- from now on a crash leaves that desktop
     pub durable : IsDurable d new
     -- the journal has one event more, or, where a checkpoint was due, is a new one with this event
@@ -76,11 +74,6 @@ module _ {D : Type 0} (d : Ghosts D) where
     -- and is one of the newest version
     pub layout : new.layout ≡ LAYOUT
     pub usable : new.must_reopen ≡ false
-    -- over every disk: the reply is one that there is, and a refusal leaves the desktop as it is kept
-    pub known : IsReply reply
-    pub refusal : (code : ℕ) → reply ≡ No code → new.kept ≡ old.kept
-    -- and where the event reads no character, both are those of its step, whatever characters there are
-    pub unread : StepsUnread LAYOUT old.kept new.kept event reply
 
   -- NoMemory: the event is in no image, and the store must be opened again
   pub record IsStarved (old new : StoreView D) : Type 0 where

@@ -11,9 +11,9 @@ use desk_bringing::Document;
 use desk_journal::Error;
 use desktop_definitions::Reply;
 use event_bytes::Name;
-use store_documents::host_text;
 use sector_disk::Disk;
 use std::alloc::Global;
+use store_documents::host_text;
 
 /// The document becomes the file of its name. No where there would be more files than there may be, or where the desktop
 /// would pass the limits on characters: then nothing is written.

@@ -18,6 +18,7 @@ use Rattle.desk_journal.specs.Device.{IsSameDevice}
 use Rattle.desk_journal.specs.Errors.{Error, NoMemory, Fault, MustReopen, Worn, OfPost, OfLook}
 use Rattle.desk_journal.specs.Looking.{OnlyLooks}
 use Rattle.desk_journal.specs.Posting.{LeavesEither, IsAcknowledged, IsStarved, AnswersWorn, AnswersMustReopen}
+use Rattle.desk_journal.proofs.Stepped.{stepped_newest}
 use Rattle.desk_journal.specs.Session.{Session, session_of, is_worn, taken}
 use Rattle.desk_journal.specs.View.{StoreView, IsDurable}
 use Rattle.desk_journal.proofs.Passing.{at_start, shows_means}
@@ -132,7 +133,7 @@ module _ {D : Type 0} (d : Ghosts D) where
         (λ when. absurd (cc (worn.always ((usable, when.0), when.1)))) in
         record {
           done = λ honest durable.
-              let one = acknowledged.stepped honest in
+              let one = stepped_newest d acknowledged honest in
               let desktop : new.desktop ≡ (step old.desktop event).desktop = ap (λ (p : Outcome). p.desktop) one in
               record {
                 seat = ap (λ t. seat_of t new) is

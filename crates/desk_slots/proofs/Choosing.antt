@@ -1,7 +1,7 @@
 -- Which of two slots is in use.
 use Rattle.std.proofs.Common.{◌≡◌, ◌⊎◌, inl, inr, ℕ, zero, suc, ◌+◌, ◌<◌, ◌≤◌, refl, sym}
 use Rattle.std.proofs.Common.{ap, subst, arith, Bool, true, false}
-use Rattle.std.specs.Prelude.{Option, Some, None, IfSome, IfNone, nat_lt, if◌then◌else◌}
+use Rattle.std.specs.Prelude.{Option, Some, None, IfSome, IfNone, nat_lt, if◌then◌else◌, Result, Ok, Err, IfOk}
 use Rattle.std.proofs.lemmas.Bool.{ltb-true, ltb-false}
 use Rattle.sector_disk.specs.Trail.{Content}
 use Rattle.store_layout.specs.declared.head.Head.{Head}
@@ -112,3 +112,9 @@ chosen_good None (Some second) chosen in_first in_second is =
     let same : chosen ≡ (1, second) = cc is in subst (λ (x : ℕ × Head). IsGoodHead x.1) (sym same) in_second
 chosen_good (Some first) (Some second) chosen in_first in_second is =
     either_good first second chosen (nat_lt first.epoch second.epoch) in_first in_second is
+
+-- a slot with a good head
+pub slot_with_head : {E : Type 0} (result : Result (ℕ × Head) E) → IfOk result (λ x. x.0 < SLOTS)
+    → IfOk result (λ x. IsGoodHead x.1) → IfOk result (λ x. (x.0 < SLOTS) × IsGoodHead x.1)
+slot_with_head (Ok x) two good = (two, good)
+slot_with_head (Err e) two good = tt

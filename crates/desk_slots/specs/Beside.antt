@@ -31,7 +31,8 @@ abbrev pub StandsOneOf : ℕ → Standing → Standing → Content → Type 0
 StandsOneOf size s t c = Stands size c t ⊎ Stands size c s
 
 -- From the slot of this content so many events and this desktop were read.
-pub record IsLoadedBeside (c : Content) (slot version count : ℕ) (c' : Content) (live : LiveDesktop) : Type 0 where
+pub record IsLoadedBeside (c : Content) (slot version count : ℕ) (c' : Content)
+    (live : LiveDesktop) : Type 0 where
   pub start : Desktop
   pub events : List Event
   pub image : HasImage c slot start
@@ -41,7 +42,8 @@ pub record IsLoadedBeside (c : Content) (slot version count : ℕ) (c' : Content
   pub named : IsNamed c' slot live
 
 -- What the slot beside this one shows was read: this desktop, and so many events.
-pub record IsBesideRead (c : Content) (slot : ℕ) (number count : ℕ) (c' : Content) (live : LiveDesktop) : Type 0 where
+pub record IsBesideRead (c : Content) (slot : ℕ) (number count : ℕ) (c' : Content)
+    (live : LiveDesktop) : Type 0 where
   pub standing : Standing
   pub beside : StandsBeside c slot standing
   pub epoch : standing.epoch + 1 ≡ number

@@ -4,7 +4,9 @@ use Rattle.sector_disk.specs.declared.disk.Disk.{Ghosts}
 use Rattle.sector_disk.specs.Trail.{Trail, now, IsCrashImage, LeavesOnly}
 use Rattle.sector_disk.specs.Confined.{IsConfined}
 use Rattle.store_layout.specs.declared.layout.TheConstants.{STORE_SECTORS}
+use Rattle.sector_disk.specs.Faults.{FailsAs}
 use Rattle.desk_slots.specs.declared.error.Error.{Error}
+use Rattle.desk_slots.specs.declared.error.Error.TheVariants.{Fault}
 
 -- at no moment is there an image that wasn't there before: nothing was written
 abbrev pub WritesNothing : Trail → Trail → Type 0
@@ -19,6 +21,15 @@ pub record IsSameDevice {D : Type 0} (d : Ghosts D) (old new : D) : Type 0 where
 -- the same device, and where it is honest no sector but those of a store was touched at any moment
 abbrev pub StaysWithin : {D : Type 0} → Ghosts D → D → D → Type 0
 StaysWithin d old new = IsConfined d.size d.honest d.trail (λ n. n < STORE_SECTORS) old new
+
+-- What a call that may write leaves of the disk, whatever it returns: the same device, within the sectors of a store,
+-- and Fault exactly where a failure was counted.
+pub record UsesDisk {D T : Type 0} (d : Ghosts D) (OfCall : Error → Type 0)
+    (result : Result T Error) (old new : D)
+    : Type 0 where
+  pub device : IsSameDevice d old new
+  pub within : StaysWithin d old new
+  pub faults : FailsAs Fault OfCall result (d.failures old) (d.failures new)
 
 -- only reads: the same device, to which nothing was written
 pub record IsOnlyRead {D : Type 0} (d : Ghosts D) (old new : D) : Type 0 where

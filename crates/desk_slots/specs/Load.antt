@@ -1,6 +1,7 @@
 -- What opening a store has found and read: the slot in use, what it starts from, and how far its journal goes.
 use Rattle.std.specs.Prelude.{◌≡◌, ◌<◌, ◌≤◌, ◌++◌, ℕ, List, length, take, drop}
 use Rattle.std.specs.Prelude.{nat_lt, if◌then◌else◌, Option, Some, None, true, false}
+use Rattle.sector_disk.specs.declared.disk.Disk.{Ghosts}
 use Rattle.sector_disk.specs.Trail.{Content}
 use Rattle.event_bytes.specs.declared.event.Event.{Event}
 use Rattle.event_bytes.specs.Spelling.{BeginsWithEvent}
@@ -12,10 +13,11 @@ use Rattle.desk_image.specs.declared.fault.ImageFault.TheVariants.{Damaged as Ba
 use Rattle.desk_image.specs.declared.fault.ImageFault.TheVariants.{NoMemory as Refused}
 use Rattle.desk_image.specs.Image.{Spells}
 use Rattle.store_layout.specs.declared.head.Head.{Head}
-use Rattle.store_layout.specs.declared.layout.TheConstants.{LABEL, STORE_SECTORS}
+use Rattle.store_layout.specs.declared.layout.TheConstants.{JOURNAL_EVENTS, LABEL, SLOTS, STORE_SECTORS}
 use Rattle.store_layout.specs.Layout.{is_label, is_open, gate, body, image_at, head}
-use Rattle.desk_slots.specs.Live.{IsNamed, seen_live}
+use Rattle.desk_slots.specs.Live.{HasTrueCache, IsLive, IsNamed, seen_live}
 use Rattle.desk_slots.specs.declared.live.LiveDesktop.{LiveDesktop}
+use Rattle.desk_slots.specs.declared.loaded.Loaded.{Loaded}
 use Rattle.desk_slots.specs.declared.error.Error.{Error}
 use Rattle.desk_slots.specs.declared.error.Error.TheVariants.{NoMemory, Fault, Damaged}
 use Rattle.store_layout.specs.Meaning.{IsJournal, Standing, Stands, desktop_of, cut_to, left_over}
@@ -47,7 +49,8 @@ pub record IsReadWhole (c : Content) (slot version count : ℕ) (from to : Deskt
 
 -- The start of a slot was read from the bytes of its image: the characters at their front stand at the front of a sector,
 -- and the rest of the bytes spells the desktop in that version.
-pub record IsStart (honest : Type 0) (bytes : List ℕ) (version written : ℕ) (tail : List ℕ) (d : KeptDesktop)
+pub record IsStart (honest : Type 0) (bytes : List ℕ) (version written : ℕ) (tail : List ℕ)
+    (d : KeptDesktop)
     : Type 0 where
   pub front : honest → take (left_over written) tail ≡ take (left_over written) bytes
   pub enough : honest → left_over written ≤ length bytes
@@ -66,6 +69,14 @@ abbrev pub image_error : ℕ → ImageFault → Error
 image_error slot BadImage = Damaged (image_at slot)
 image_error slot Failed = Fault
 image_error slot Refused = NoMemory
+
+-- What was loaded of a disk is within a store's limits, and its desktop is live on the disk.
+pub record IsLoaded {D : Type 0} (d : Ghosts D) (disk : D) (x : Loaded) : Type 0 where
+  pub large : STORE_SECTORS ≤ d.size disk
+  pub two : x.slot < SLOTS
+  pub few : x.events ≤ JOURNAL_EVENTS
+  pub live : IsLive x.desktop
+  pub told : HasTrueCache d disk x.desktop
 
 -- a store of this size has this slot in use, under this head
 pub record IsLocated (size : ℕ) (c : Content) (slot : ℕ) (h : Head) : Type 0 where
@@ -95,7 +106,8 @@ IsCutTo size c most c' live = (s : Standing) → Stands size c s → most ≤ le
 
 -- This desktop is what the standing shows by its first k events alone, and these are the others. The head of the slot in
 -- use names what it has in the area.
-pub record IsEarlier (c : Content) (slot k : ℕ) (s : Standing) (live : LiveDesktop) (events : List Event) : Type 0 where
+pub record IsEarlier (c : Content) (slot k : ℕ) (s : Standing) (live : LiveDesktop)
+    (events : List Event) : Type 0 where
   pub shown : seen_live c live ≡ desktop_of (cut_to k s)
   pub named : IsNamed c slot live
   pub others : drop k s.events ≡ events

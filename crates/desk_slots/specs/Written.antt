@@ -37,14 +37,16 @@ pub record HasGate (m : Moment) (slot : ℕ) (opened : Bool) : Type 0 where
 
 -- Nothing is pending, and the slot is a new one of this version and epoch with this desktop, whose head names the whole
 -- sectors of its characters in this area.
-pub record IsFilled (m : Moment) (slot version area number : ℕ) (characters : List ℕ) (desktop : Desktop) : Type 0 where
+pub record IsFilled (m : Moment) (slot version area number : ℕ) (characters : List ℕ)
+    (desktop : Desktop) : Type 0 where
   pub quiet : (n : ℕ) → m.pending n ≡ false
   pub new : IsNewSlot m.reads slot version number desktop
   pub front : IsFront m.reads slot area (full_sectors (length characters)) characters
 
 -- The disk shows the desktop by the slot beside this place, of whatever version and under the epoch before, and that
 -- slot's head names no sector that comes behind those that hold characters already.
-pub record IsBeside (place : SlotPlace) (size : ℕ) (disk : Trail) (live version number count : ℕ) (desktop : Desktop)
+pub record IsBeside (place : SlotPlace) (size : ℕ) (disk : Trail) (live version number count : ℕ)
+    (desktop : Desktop)
     : Type 0 where
   pub two : live + place.slot ≡ 1
   pub next : number + 1 ≡ place.epoch
@@ -70,7 +72,8 @@ pub record CanRenew (size : ℕ) (place : SlotPlace) (desktop : LiveDesktop) : T
 -- At each moment a crash leaves the desktop that the disk shows by the slot beside the place, whatever it is, or this
 -- one, which comes to the place.
 abbrev pub KeepsShown : {D : Type 0} → Ghosts D → SlotPlace → LiveDesktop → D → D → Type 0
-KeepsShown d place desktop old new = d.honest old → (live version number count : ℕ) (before : Desktop)
+KeepsShown d place desktop old new =
+    d.honest old → (live version number count : ℕ) (before : Desktop)
     → IsBeside place (d.size old) (d.trail old) live version number count before
     → LeavesOnly (d.trail old) (d.trail new)
     (MeansEither (d.size old) before (seen_live (now (d.trail old)).reads desktop))

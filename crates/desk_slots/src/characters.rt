@@ -48,13 +48,16 @@ fn read_tail<S: ByteSource>(
     tail: &mut Sector,
 ) -> Result<(), ImageFault>
     requires { count < SECTOR_BYTES }
-    ensures tail { OnOk result (S.honest source.old → take count tail.new ≡ take count (S.remaining source.old)) }
-    ensures rest { OnOk result (S.honest source.old → S.remaining source.new ≡ drop count (S.remaining source.old)) }
+    ensures tail { OnOk result
+        (S.honest source.old → take count tail.new ≡ take count (S.remaining source.old)) }
+    ensures rest { OnOk result (S.honest source.old → S.remaining source.new
+        ≡ drop count (S.remaining source.old)) }
     ensures enough { OnOk result (S.honest source.old → count ≤ length (S.remaining source.old)) }
     ensures damaged { IsErrOf result ImageFault.Damaged → S.honest source.old
         → length (S.remaining source.old) < count }
     ensures only { OnlyGets S.honest S.same_ground source.old source.new }
-    ensures faults { FailsAs ImageFault.Fault IsImageFault result (S.failures source.old) (S.failures source.new) }
+    ensures faults { FailsAs ImageFault.Fault IsImageFault result (S.failures source.old)
+        (S.failures source.new) }
 {
     for i in 0..count {
         match source.get()? {
@@ -74,14 +77,16 @@ fn read_image<S: ByteSource>(
     tail: &mut Sector,
 ) -> Result<Desktop, ImageFault>
     ensures start { IfOk result
-        (IsStart (S.honest source.old) (S.remaining source.old) (version_number version) written tail.new) }
+        (IsStart (S.honest source.old) (S.remaining source.old) (version_number version) written
+        tail.new) }
     ensures damaged { IsErrOf result ImageFault.Damaged → S.honest source.old
         → HasNoStart (S.remaining source.old) (version_number version) written }
     ensures only { OnlyGets S.honest S.same_ground source.old source.new }
-    ensures faults { FailsAs ImageFault.Fault IsImageFault result (S.failures source.old) (S.failures source.new) }
+    ensures faults { FailsAs ImageFault.Fault IsImageFault result (S.failures source.old)
+        (S.failures source.new) }
 {
     read_tail(source, (written % SECTOR_BYTES) as usize, tail)?;
-    Desktop::from_image(version, alloc, source, written)
+    Desktop::from_image(alloc, version, source, written)
 }
 
 /// Reads an image through its sectors, from where the draining stands.
@@ -96,11 +101,14 @@ fn read_through<D: Disk>(
     requires there { IsOnDisk (D.size disk.old) draining.old }
     requires loaded { IsSectorLoaded (now (D.trail disk.old)).reads draining.old }
     ensures kept { IsConfined D.size D.honest D.trail Nowhere disk.old disk.new }
-    ensures faults { FailsAs ImageFault.Fault IsImageFault result (D.failures disk.old) (D.failures disk.new) }
+    ensures faults { FailsAs ImageFault.Fault IsImageFault result (D.failures disk.old)
+        (D.failures disk.new) }
     ensures start { IfOk result (IsStart (D.honest disk.old)
-        (bytes_left (now (D.trail disk.old)).reads draining.old) (version_number version) written tail.new) }
+        (bytes_left (now (D.trail disk.old)).reads draining.old) (version_number version) written
+        tail.new) }
     ensures damaged { IsErrOf result ImageFault.Damaged → D.honest disk.old
-        → HasNoStart (bytes_left (now (D.trail disk.old)).reads draining.old) (version_number version) written }
+        → HasNoStart (bytes_left (now (D.trail disk.old)).reads draining.old)
+        (version_number version) written }
 {
     let mut source = SectorSource::over(disk, draining);
     read_image(alloc, &mut source, version, written, tail)
@@ -120,12 +128,15 @@ fn load_start<D: Disk>(
     requires two { slot < SLOTS }
     requires good { IsGoodHead head.now }
     ensures kept { IsConfined D.size D.honest D.trail Nowhere disk.old disk.new }
-    ensures faults { FailsAs ImageFault.Fault IsImageFault result (D.failures disk.old) (D.failures disk.new) }
+    ensures faults { FailsAs ImageFault.Fault IsImageFault result (D.failures disk.old)
+        (D.failures disk.new) }
     ensures start { IfOk result (IsStart (D.honest disk.old)
-        (stored (now (D.trail disk.old)).reads (image_at slot) head.now.extent) (version_number version)
+        (stored (now (D.trail disk.old)).reads (image_at slot) head.now.extent)
+        (version_number version)
         head.now.written tail.new) }
     ensures damaged { IsErrOf result ImageFault.Damaged → D.honest disk.old
-        → HasNoStart (stored (now (D.trail disk.old)).reads (image_at slot) head.now.extent) (version_number version)
+        → HasNoStart (stored (now (D.trail disk.old)).reads (image_at slot) head.now.extent)
+        (version_number version)
         head.now.written }
 {
     let mut draining = Draining::new(image_at(slot), head.extent);
@@ -146,7 +157,8 @@ fn with_pages(
     ensures live { IfOk result IsLive }
     ensures desktop { IfOk result (λ live. live.desktop ≡ desktop) }
     ensures characters { IfOk result (λ live. (c : Content) → live_characters c live
-        ≡ area_bytes c head.now.area (full_sectors head.now.written) ++ take (left_over head.now.written) tail.now) }
+        ≡ area_bytes c head.now.area (full_sectors head.now.written)
+        ++ take (left_over head.now.written) tail.now) }
     ensures saved { IfOk result (λ live. saved_sectors live.pages ≡ full_sectors head.now.written) }
     ensures area { IfOk result (λ live. live.area ≡ head.now.area) }
     ensures cached { IfOk result (λ live. cached_of live.pages ≡ []) }
@@ -172,16 +184,20 @@ pub fn load_slot<D: Disk>(
     requires good { IsGoodHead head.now }
     requires version { version_number version ≡ head.now.version }
     ensures kept { IsConfined D.size D.honest D.trail Nowhere disk.old disk.new }
-    ensures faults { FailsAs Error.Fault OfReplay result (D.failures disk.old) (D.failures disk.new) }
+    ensures faults { FailsAs Error.Fault OfReplay result (D.failures disk.old)
+        (D.failures disk.new) }
     ensures live { IfOk result (λ live. IsLive live) }
     ensures told { IfOk result (λ live. HasTrueCache D.Disk disk.new live) }
     ensures saved { IfOk result (λ live. saved_sectors live.pages ≡ full_sectors head.now.written) }
     ensures area { IfOk result (λ live. live.area ≡ head.now.area) }
-    ensures image { IfOk result (λ live. D.honest disk.old → head_at (now (D.trail disk.old)).reads slot ≡ head.now
-        → HasImage (now (D.trail disk.old)).reads slot (seen_live (now (D.trail disk.new)).reads live)) }
+    ensures image { IfOk result
+        (λ live. D.honest disk.old → head_at (now (D.trail disk.old)).reads slot ≡ head.now
+        → HasImage (now (D.trail disk.old)).reads slot
+        (seen_live (now (D.trail disk.new)).reads live)) }
     ensures damaged { (n : ℕ) → IsErrOf result (Error.Damaged n) → D.honest disk.old
         → head_at (now (D.trail disk.old)).reads slot ≡ head.now
-        → (n ≡ image_at slot) × ((start : ADesktop) → HasImage (now (D.trail disk.old)).reads slot start → ⊥) }
+        → (n ≡ image_at slot)
+        × ((start : ADesktop) → HasImage (now (D.trail disk.old)).reads slot start → ⊥) }
 {
     let mut tail = [0; SECTOR_BYTES as usize];
     match load_start(alloc, disk, slot, version, head, &mut tail) {

@@ -15,7 +15,7 @@ ghost use Rattle.store_layout.specs.Layout.{slot_gate, image_at, area_at};
 ghost use Rattle.store_layout.specs.Meaning.{full_sectors, left_over};
 ghost use Rattle.store_layout.specs.Kept.{OpenGate, InArea, InCheckpoint, HasFront, IsFront};
 ghost use Rattle.desk_slots.specs.Device.{IsSameDevice, StaysWithin};
-ghost use Rattle.desk_slots.specs.Live.{live_characters, seen_live, IsLive, IsNamed, HasTrueCache};
+ghost use Rattle.desk_slots.specs.Live.{live_characters, seen_live, IsLive, IsLiveAnew};
 ghost use Rattle.desk_slots.specs.Written.{ContinuesArea, CanRenew, HasGate, IsFilled, InRenewal, KeepsShown, ShowsAnew};
 ghost use Rattle.desk_slots.specs.Words.{Only, CountsFault, now, IsConfined};
 
@@ -30,7 +30,8 @@ use store_layout::{AREA_SECTORS, Filling, Head, IMAGE_SECTORS, LAYOUT, SLOTS, ST
 pub fn close_slot<D: Disk>(disk: &mut D, slot: u32) -> Result<(), Fault>
     requires room { STORE_SECTORS ≤ D.size disk.old }
     requires two { slot < SLOTS }
-    ensures kept { IsConfined D.size D.honest D.trail (OpenGate (now (D.trail disk.old)).reads slot) disk.old disk.new }
+    ensures kept { IsConfined D.size D.honest D.trail (OpenGate (now (D.trail disk.old)).reads slot)
+        disk.old disk.new }
     ensures cause { CountsFault result (D.failures disk.old) (D.failures disk.new) }
     ensures closed { OnOk result (D.honest disk.old → HasGate (now (D.trail disk.new)) slot false) }
 {
@@ -48,11 +49,14 @@ fn write_full<D: Disk>(disk: &mut D, rest: &[u8], place: SlotPlace, i: u32) -> R
     requires room { STORE_SECTORS ≤ D.size disk.old }
     requires full { SECTOR_BYTES * (i + 1) ≤ length rest.now }
     requires few { SECTOR_BYTES * place.saved + length rest.now ≤ SECTOR_BYTES * AREA_SECTORS }
-    ensures kept { IsConfined D.size D.honest D.trail (Only (area_at place.area (place.saved + i))) disk.old disk.new }
+    ensures kept { IsConfined D.size D.honest D.trail (Only (area_at place.area (place.saved + i)))
+        disk.old disk.new }
     ensures cause { CountsFault result (D.failures disk.old) (D.failures disk.new) }
-    ensures front { OnOk result (D.honest disk.old → (front : List ℕ) → length front ≡ SECTOR_BYTES * place.saved
+    ensures front { OnOk result (D.honest disk.old → (front : List ℕ) → length front
+        ≡ SECTOR_BYTES * place.saved
         → HasFront (now (D.trail disk.old)).reads place.area (place.saved + i) (front ++ rest.now)
-        → HasFront (now (D.trail disk.new)).reads place.area (place.saved + i + 1) (front ++ rest.now)) }
+        → HasFront (now (D.trail disk.new)).reads place.area (place.saved + i + 1)
+        (front ++ rest.now)) }
 {
     let width = SECTOR_BYTES as usize;
     let start = width * i as usize;
@@ -65,11 +69,14 @@ fn write_full<D: Disk>(disk: &mut D, rest: &[u8], place: SlotPlace, i: u32) -> R
 fn fill_area<D: Disk>(disk: &mut D, rest: &[u8], place: SlotPlace) -> Result<(), Fault>
     requires room { STORE_SECTORS ≤ D.size disk.old }
     requires few { SECTOR_BYTES * place.saved + length rest.now ≤ SECTOR_BYTES * AREA_SECTORS }
-    ensures kept { IsConfined D.size D.honest D.trail (InArea place.area place.saved) disk.old disk.new }
+    ensures kept { IsConfined D.size D.honest D.trail (InArea place.area place.saved) disk.old
+        disk.new }
     ensures cause { CountsFault result (D.failures disk.old) (D.failures disk.new) }
-    ensures front { OnOk result (D.honest disk.old → (front : List ℕ) → length front ≡ SECTOR_BYTES * place.saved
+    ensures front { OnOk result (D.honest disk.old → (front : List ℕ) → length front
+        ≡ SECTOR_BYTES * place.saved
         → HasFront (now (D.trail disk.old)).reads place.area place.saved (front ++ rest.now)
-        → HasFront (now (D.trail disk.new)).reads place.area (place.saved + length rest.now / SECTOR_BYTES)
+        → HasFront (now (D.trail disk.new)).reads place.area
+        (place.saved + length rest.now / SECTOR_BYTES)
         (front ++ rest.now)) }
 {
     let full = rest.len() as u32 / SECTOR_BYTES;
@@ -116,11 +123,13 @@ fn stream<D: Disk>(
     requires two { slot < SLOTS }
     requires tail { length tail.now ≡ left_over desktop.now.desktop.written }
     requires live { IsLive desktop.now }
-    ensures kept { IsConfined D.size D.honest D.trail (InRange (image_at slot) IMAGE_SECTORS) disk.old disk.new }
+    ensures kept { IsConfined D.size D.honest D.trail (InRange (image_at slot) IMAGE_SECTORS)
+        disk.old disk.new }
     ensures cause { CountsFault result (D.failures disk.old) (D.failures disk.new) }
     ensures fits { IfOk result (λ n. n ≤ IMAGE_BYTES) }
     ensures spelled { OnOk result (IsSpellable newest_version desktop.now.desktop) }
-    ensures stored { IfOk result (λ n. D.honest disk.old → stored (now (D.trail disk.new)).reads (image_at slot) n
+    ensures stored { IfOk result
+        (λ n. D.honest disk.old → stored (now (D.trail disk.new)).reads (image_at slot) n
         ≡ tail.now ++ image_bytes newest_version (image_of desktop.now.desktop)) }
 {
     images_have_room();
@@ -133,16 +142,20 @@ fn stream<D: Disk>(
 /// Fills the area and the image of a slot, and returns how many bytes the image has with the characters before it.
 fn fill_slot<D: Disk>(disk: &mut D, desktop: &LiveDesktop, place: SlotPlace) -> Result<u32, Fault>
     requires { CanRenew (D.size disk.old) place desktop.now }
-    ensures kept { IsConfined D.size D.honest D.trail (InCheckpoint place.slot place.area place.saved)
+    ensures kept { IsConfined D.size D.honest D.trail
+        (InCheckpoint place.slot place.area place.saved)
         disk.old disk.new }
     ensures cause { CountsFault result (D.failures disk.old) (D.failures disk.new) }
     ensures fits { IfOk result (λ n. n ≤ IMAGE_BYTES) }
     ensures spelled { OnOk result (IsSpellable newest_version desktop.now.desktop) }
-    ensures front { OnOk result (D.honest disk.old → HasFront (now (D.trail disk.new)).reads place.area
+    ensures front { OnOk result
+        (D.honest disk.old → HasFront (now (D.trail disk.new)).reads place.area
         (full_sectors (length (live_characters (now (D.trail disk.old)).reads desktop.now)))
         (live_characters (now (D.trail disk.old)).reads desktop.now)) }
-    ensures stored { IfOk result (λ n. D.honest disk.old → stored (now (D.trail disk.new)).reads (image_at place.slot) n
-        ≡ drop (SECTOR_BYTES * full_sectors (length (live_characters (now (D.trail disk.old)).reads desktop.now)))
+    ensures stored { IfOk result
+        (λ n. D.honest disk.old → stored (now (D.trail disk.new)).reads (image_at place.slot) n
+        ≡ drop (SECTOR_BYTES * full_sectors
+        (length (live_characters (now (D.trail disk.old)).reads desktop.now)))
         (live_characters (now (D.trail disk.old)).reads desktop.now)
         ++ image_bytes newest_version (image_of desktop.now.desktop)) }
 {
@@ -156,10 +169,12 @@ fn fill_slot<D: Disk>(disk: &mut D, desktop: &LiveDesktop, place: SlotPlace) -> 
 /// Writes a whole slot behind its closed gate.
 fn write_slot<D: Disk>(disk: &mut D, desktop: &LiveDesktop, place: SlotPlace) -> Result<(), Fault>
     requires { CanRenew (D.size disk.old) place desktop.now }
-    ensures kept { IsConfined D.size D.honest D.trail (InCheckpoint place.slot place.area place.saved)
+    ensures kept { IsConfined D.size D.honest D.trail
+        (InCheckpoint place.slot place.area place.saved)
         disk.old disk.new }
     ensures cause { CountsFault result (D.failures disk.old) (D.failures disk.new) }
-    ensures filled { OnOk result (D.honest disk.old → IsFilled (now (D.trail disk.new)) place.slot LAYOUT place.area
+    ensures filled { OnOk result
+        (D.honest disk.old → IsFilled (now (D.trail disk.new)) place.slot LAYOUT place.area
         place.epoch (live_characters (now (D.trail disk.old)).reads desktop.now)
         (seen_live (now (D.trail disk.old)).reads desktop.now)) }
 {
@@ -198,7 +213,8 @@ fn change_slot<D: Disk>(disk: &mut D, desktop: &LiveDesktop, place: SlotPlace) -
     ensures any_moment { KeepsShown D.Disk place desktop.now disk.old disk.new }
     ensures renewed { OnOk result (ShowsAnew D.Disk place disk.old disk.new
         (seen_live (now (D.trail disk.old)).reads desktop.now)) }
-    ensures front { OnOk result (D.honest disk.old → IsFront (now (D.trail disk.new)).reads place.slot
+    ensures front { OnOk result
+        (D.honest disk.old → IsFront (now (D.trail disk.new)).reads place.slot
         place.area
         (full_sectors (length (live_characters (now (D.trail disk.old)).reads desktop.now)))
         (live_characters (now (D.trail disk.old)).reads desktop.now)) }
@@ -224,12 +240,9 @@ pub fn renew<D: Disk>(
     ensures any_moment { KeepsShown D.Disk place desktop.old disk.old disk.new }
     ensures renewed { OnOk result (ShowsAnew D.Disk place disk.old disk.new
         (seen_live (now (D.trail disk.new)).reads desktop.new)) }
-    ensures named { OnOk result (D.honest disk.old → IsNamed (now (D.trail disk.new)).reads place.slot desktop.new) }
-    ensures shown { OnOk result (D.honest disk.old → seen_live (now (D.trail disk.new)).reads desktop.new
-        ≡ seen_live (now (D.trail disk.old)).reads desktop.old) }
+    ensures left { OnOk result (IsLiveAnew D.Disk place.slot disk.old disk.new desktop.old
+        desktop.new) }
     ensures kept { desktop.new.desktop ≡ desktop.old.desktop }
-    ensures live { OnOk result (IsLive desktop.new) }
-    ensures told { OnOk result (HasTrueCache D.Disk disk.old desktop.old → HasTrueCache D.Disk disk.new desktop.new) }
 {
     change_slot(disk, desktop, place)?;
     desktop.settle(place.area);

@@ -32,7 +32,8 @@ fn close_slots<D: Disk>(disk: &mut D) -> Result<(), Fault>
 
 /// The image of the empty desktop in a version, and then zeros.
 fn first_image(version: Version) -> Sector
-    ensures { take (length (empty_bytes (version_number version))) result ≡ empty_bytes (version_number version) }
+    ensures { take (length (empty_bytes (version_number version))) result
+        ≡ empty_bytes (version_number version) }
 {
     let bytes = empty_image_of(version);
     let mut image = [0; SECTOR_BYTES as usize];
@@ -46,8 +47,10 @@ fn write_start<D: Disk>(disk: &mut D, version: Version) -> Result<(), Fault>
     ensures kept { IsConfined D.size D.honest D.trail
         (λ n. (n < STORE_SECTORS) × ¬ (n ≡ slot_gate 1)) disk.old disk.new }
     ensures cause { CountsFault result (D.failures disk.old) (D.failures disk.new) }
-    ensures label { OnOk result (D.honest disk.old → is_label ((now (D.trail disk.new)).reads LABEL) ≡ true) }
-    ensures start { OnOk result (D.honest disk.old → IsFilled (now (D.trail disk.new)) 0 (version_number version) 0 1
+    ensures label { OnOk result (D.honest disk.old → is_label ((now (D.trail disk.new)).reads LABEL)
+        ≡ true) }
+    ensures start { OnOk result
+        (D.honest disk.old → IsFilled (now (D.trail disk.new)) 0 (version_number version) 0 1
         [] empty_desktop) }
 {
     let head = Head {
@@ -72,7 +75,8 @@ pub fn lay_out<D: Disk>(disk: &mut D, version: Version) -> Result<(), Fault>
     ensures kept { IsConfined D.size D.honest D.trail (λ n. n < STORE_SECTORS) disk.old disk.new }
     ensures cause { CountsFault result (D.failures disk.old) (D.failures disk.new) }
     ensures empty { OnOk result (D.honest disk.old
-        → ShowsSettled (D.size disk.new) (D.trail disk.new) 0 (version_number version) 1 0 empty_desktop) }
+        → ShowsSettled (D.size disk.new) (D.trail disk.new) 0 (version_number version) 1 0
+        empty_desktop) }
 {
     close_slots(disk)?;
     write_start(disk, version)?;

@@ -16,11 +16,13 @@ use store_layout::{SLOTS, STORE_SECTORS};
 pub fn leave_slot<D: Disk>(disk: &mut D, slot: u32) -> Result<(), Fault>
     requires room { STORE_SECTORS ≤ D.size disk.old }
     requires two { slot < SLOTS }
-    ensures kept { IsConfined D.size D.honest D.trail (OpenGate (now (D.trail disk.old)).reads slot) disk.old disk.new }
+    ensures kept { IsConfined D.size D.honest D.trail (OpenGate (now (D.trail disk.old)).reads slot)
+        disk.old disk.new }
     ensures device { IsSameDevice D.Disk disk.old disk.new }
     ensures within { StaysWithin D.Disk disk.old disk.new }
     ensures cause { CountsFault result (D.failures disk.old) (D.failures disk.new) }
-    ensures any_moment { D.honest disk.old → (s t : Standing) → StandsOver (D.size disk.old) (D.trail disk.old) slot s t
+    ensures any_moment { D.honest disk.old → (s t : Standing)
+        → StandsOver (D.size disk.old) (D.trail disk.old) slot s t
         → LeavesOnly (D.trail disk.old) (D.trail disk.new) (StandsOneOf (D.size disk.old) s t) }
     ensures left { OnOk result (D.honest disk.old → (s t : Standing)
         → StandsOver (D.size disk.old) (D.trail disk.old) slot s t

@@ -1,22 +1,21 @@
 //! The desktop that a store has in memory, with its characters.
-ghost use Rattle.std.specs.Prelude.{◌≡◌, ◌<◌, ◌≤◌, ◌*◌, ◌++◌, ℕ, Ok, IfOk, OnOk, IsErrOf, None, option_map, length};
+ghost use Rattle.std.specs.Prelude.{◌≡◌, ◌<◌, ◌≤◌, ◌*◌, ◌++◌, ℕ, IfOk, OnOk, IsErrOf, None, option_map, length};
 ghost use Rattle.std.specs.Prelude.{false};
 ghost use Rattle.char_pages.specs.Pages.{base_of, saved_of, saved_sectors, rest_of, cached_of, renewed_of};
 ghost use Rattle.command_table.specs.Versions.{version_number, newest_version};
 ghost use Rattle.desktop_definitions.specs.Desktop.{file_of};
-ghost use Rattle.desktop_definitions.specs.Step.{outcome_of};
-ghost use Rattle.desk_bringing.specs.Bringing.{brought_in, BringsUnread};
 ghost use Rattle.desk_image.specs.Image.{image_of, image_bytes, IsSpellable};
 ghost use Rattle.desk_image.specs.Streams.{Puts};
 ghost use Rattle.store_layout.specs.Layout.{area_start};
 ghost use Rattle.store_layout.specs.Kept.{HasFront, chosen_area};
 ghost use Rattle.store_layout.specs.Meaning.{full_sectors};
 ghost use Rattle.desk_slots.specs.Errors.{OfDesktop};
-ghost use Rattle.desk_slots.specs.Live.{live_characters, seen_live, AreTrueOver, IsLive, IsNamed, IsOverPages, HasTrueCache, StaysLive};
+ghost use Rattle.desk_slots.specs.Live.{live_characters, seen_live, IsLive, IsNamed, IsOverPages, HasTrueCache};
+ghost use Rattle.desk_slots.specs.Live.{IsLiveOn, IsLiveStep, IsLiveBringing, StaysLive, ReadsThrough};
 ghost use Rattle.piece_ring.specs.Text.{Text as AText};
 ghost use Rattle.screen_cells.specs.Lines.{AreLinesOf};
-ghost use Rattle.desk_slots.specs.Words.{Nowhere, now, IsConfined, FailsAs, No, IsReply, entries_of, shown_screen};
-ghost use Rattle.desk_slots.specs.Words.{step_in, Content, StepsUnread, ListsUnread};
+ghost use Rattle.desk_slots.specs.Words.{Nowhere, now, IsConfined, FailsAs, entries_of, shown_screen};
+ghost use Rattle.desk_slots.specs.Words.{Content, ListsUnread};
 
 use crate::Error;
 use crate::over::{bring_over, list_over, read_over, screen_over, step_over};
@@ -34,7 +33,7 @@ use store_layout::{AREAS, STORE_SECTORS, area_start};
 /// the others in memory.
 ///
 /// A clause sees it as its characters read over what the disk reads (`seen_live`), and asks that it stands over them
-/// (`IsLive`) and that what it has in memory of the disk is so (`IsTold`). Its calls are handed the disk, from which
+/// (`IsLive`) and that what it has in memory of the disk is so (`HasTrueCache`). Its calls are handed the disk, from which
 /// they only read, and what they say of characters stands under its premise. After an error of `step` it isn't used
 /// again.
 #[derive(Drop)]
@@ -101,7 +100,8 @@ impl LiveDesktop {
         requires { IsLive self.now }
         ensures spelled { IfOk result (λ n. IsSpellable newest_version self.now.desktop
             × (n ≡ length (image_bytes newest_version (image_of self.now.desktop)))) }
-        ensures puts { Puts K.ByteSink result (tail.now ++ image_bytes newest_version (image_of self.now.desktop))
+        ensures puts { Puts K.ByteSink result
+            (tail.now ++ image_bytes newest_version (image_of self.now.desktop))
             sink.old sink.new }
     {
         sink.put(tail)?;
@@ -111,33 +111,26 @@ impl LiveDesktop {
     /// Does the event, with the commands of that version.
     pub fn step<D: Disk>(
         &mut self,
-        version: Version,
         alloc: Global,
+        version: Version,
         event: &Event,
         disk: &mut D,
     ) -> Result<Reply, Error>
         requires live { IsLive self.old }
         requires room { STORE_SECTORS ≤ D.size disk.old }
         requires told { HasTrueCache D.Disk disk.old self.old }
-        ensures done { IfOk result
-            (λ reply. D.honest disk.old → outcome_of (seen_live (now (D.trail disk.new)).reads self.new) reply
-            ≡ step_in (version_number version) (seen_live (now (D.trail disk.old)).reads self.old) event.now) }
-        ensures unread { IfOk result (StepsUnread (version_number version) self.old.desktop self.new.desktop event.now) }
-        ensures replies { IfOk result IsReply }
-        ensures refusal { (code : ℕ) → result ≡ Ok (No code) → self.new.desktop ≡ self.old.desktop }
-        ensures live { OnOk result (IsLive self.new) }
-        ensures told { OnOk result (HasTrueCache D.Disk disk.new self.new) }
-        ensures pages { AreTrueOver D.Disk disk.new self.new.pages }
+        ensures stepped { IfOk result (IsLiveStep D.Disk (version_number version) event.now
+            disk.old disk.new self.old self.new) }
+        ensures left { OnOk result (IsLiveOn D.Disk disk.new self.new) }
+        ensures reads { ReadsThrough D.Disk disk.old disk.new self.old.pages self.new.pages }
         ensures area { self.new.area ≡ self.old.area }
-        ensures before { renewed_of self.new.pages ≡ false → renewed_of self.old.pages ≡ false }
-        ensures counted { renewed_of self.new.pages ≡ false → saved_of self.new.pages ≡ saved_of self.old.pages }
-        ensures disk { IsConfined D.size D.honest D.trail Nowhere disk.old disk.new }
-        ensures faults { FailsAs Error.Fault OfDesktop result (D.failures disk.old) (D.failures disk.new) }
+        ensures faults { FailsAs Error.Fault OfDesktop result (D.failures disk.old)
+            (D.failures disk.new) }
     {
         self.desktop.forget_stale(event, &mut self.lines);
         Ok(step_over(
-            version,
             alloc,
+            version,
             &mut self.desktop,
             event,
             disk,
@@ -156,18 +149,15 @@ impl LiveDesktop {
         requires live { IsLive self.old }
         requires room { STORE_SECTORS ≤ D.size disk.old }
         requires told { HasTrueCache D.Disk disk.old self.old }
-        ensures done { IfOk result
-            (λ reply. D.honest disk.old → outcome_of (seen_live (now (D.trail disk.new)).reads self.new) reply
-            ≡ brought_in (seen_live (now (D.trail disk.old)).reads self.old) documents.now) }
-        ensures unread { IfOk result (BringsUnread self.old.desktop self.new.desktop documents.now) }
-        ensures replies { IfOk result IsReply }
-        ensures refusal { (code : ℕ) → result ≡ Ok (No code) → self.new.desktop ≡ self.old.desktop }
-        ensures live { OnOk result (IsLive self.new) }
-        ensures told { OnOk result (HasTrueCache D.Disk disk.new self.new) }
-        ensures named { (slot : ℕ) → D.honest disk.old → IsNamed (now (D.trail disk.old)).reads slot self.old
+        ensures brought { IfOk result (IsLiveBringing D.Disk documents.now disk.old disk.new
+            self.old self.new) }
+        ensures left { OnOk result (IsLiveOn D.Disk disk.new self.new) }
+        ensures named { (slot : ℕ) → D.honest disk.old
+            → IsNamed (now (D.trail disk.old)).reads slot self.old
             → IsNamed (now (D.trail disk.new)).reads slot self.new }
         ensures disk { IsConfined D.size D.honest D.trail Nowhere disk.old disk.new }
-        ensures faults { FailsAs Error.Fault OfDesktop result (D.failures disk.old) (D.failures disk.new) }
+        ensures faults { FailsAs Error.Fault OfDesktop result (D.failures disk.old)
+            (D.failures disk.new) }
     {
         Ok(bring_over(alloc, &mut self.desktop, documents, disk, &mut self.pages)?)
     }
@@ -182,13 +172,15 @@ impl LiveDesktop {
         requires live { IsLive self.old }
         requires room { STORE_SECTORS ≤ D.size disk.old }
         requires told { HasTrueCache D.Disk disk.old self.old }
-        ensures found { IfOk result (λ file. D.honest disk.old → option_map (λ characters. characters.items) file
+        ensures found { IfOk result
+            (λ file. D.honest disk.old → option_map (λ characters. characters.items) file
             ≡ file_of (seen_live (now (D.trail disk.old)).reads self.old) name.now) }
         ensures memory { IsErrOf result Error.NoMemory → D.honest disk.old
             → ¬ (file_of (seen_live (now (D.trail disk.old)).reads self.old) name.now ≡ None) }
         ensures same { StaysLive D.Disk disk.old disk.new self.old self.new }
         ensures disk { IsConfined D.size D.honest D.trail Nowhere disk.old disk.new }
-        ensures faults { FailsAs Error.Fault OfDesktop result (D.failures disk.old) (D.failures disk.new) }
+        ensures faults { FailsAs Error.Fault OfDesktop result (D.failures disk.old)
+            (D.failures disk.new) }
     {
         match self.desktop.file(name) {
             None => Ok(None),
@@ -206,7 +198,8 @@ impl LiveDesktop {
         ensures unread { IfOk result (λ entries. ListsUnread self.old.desktop entries.items) }
         ensures same { StaysLive D.Disk disk.old disk.new self.old self.new }
         ensures disk { IsConfined D.size D.honest D.trail Nowhere disk.old disk.new }
-        ensures faults { FailsAs Error.Fault OfDesktop result (D.failures disk.old) (D.failures disk.new) }
+        ensures faults { FailsAs Error.Fault OfDesktop result (D.failures disk.old)
+            (D.failures disk.new) }
     {
         Ok(list_over(alloc, &mut self.desktop, disk, &mut self.pages)?)
     }
@@ -225,7 +218,8 @@ impl LiveDesktop {
             → screen.new ≡ shown_screen (seen_live (now (D.trail disk.old)).reads self.old)) }
         ensures same { StaysLive D.Disk disk.old disk.new self.old self.new }
         ensures disk { IsConfined D.size D.honest D.trail Nowhere disk.old disk.new }
-        ensures faults { FailsAs Error.Fault OfDesktop result (D.failures disk.old) (D.failures disk.new) }
+        ensures faults { FailsAs Error.Fault OfDesktop result (D.failures disk.old)
+            (D.failures disk.new) }
     {
         screen_over(
             alloc,
@@ -248,7 +242,8 @@ impl LiveDesktop {
         ensures desktop { self.new.desktop ≡ self.old.desktop }
         ensures area { self.new.area ≡ area }
         ensures renewed { renewed_of self.new.pages ≡ false }
-        ensures counted { saved_of self.new.pages ≡ SECTOR_BYTES * full_sectors self.old.desktop.written }
+        ensures counted { saved_of self.new.pages
+            ≡ SECTOR_BYTES * full_sectors self.old.desktop.written }
         ensures cached { cached_of self.new.pages ≡ cached_of self.old.pages }
         ensures lines { self.new.lines ≡ self.old.lines }
         ensures same { (c : Content)

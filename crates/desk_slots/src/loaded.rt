@@ -11,8 +11,8 @@ ghost use Rattle.store_layout.specs.Finding.{IsForeign, IsDamagedAt, IsNoEvent};
 ghost use Rattle.store_layout.specs.Meaning.{Shows, Standing};
 ghost use Rattle.store_layout.specs.Kept.{ShowsSettled};
 ghost use Rattle.desk_slots.specs.Errors.{OfDesktop, OfOpen, OfReplay};
-ghost use Rattle.desk_slots.specs.Live.{seen_live, IsLive, IsNamed, HasTrueCache};
-ghost use Rattle.desk_slots.specs.Load.{HasSlotInUse, IsCutTo, IsEarlier, IsReadUpTo, IsReadWhole};
+ghost use Rattle.desk_slots.specs.Live.{seen_live, IsLive, IsLiveOn, IsNamed, HasTrueCache};
+ghost use Rattle.desk_slots.specs.Load.{HasSlotInUse, IsCutTo, IsEarlier, IsLoaded, IsReadUpTo, IsReadWhole};
 ghost use Rattle.desk_slots.specs.Words.{Nowhere, now, IsConfined, FailsAs, OneOf};
 ghost use Rattle.desk_slots.specs.Written.{IsUpTo};
 
@@ -50,16 +50,19 @@ fn read_event<D: Disk>(disk: &mut D, slot: u32, k: u32) -> Result<Option<Event>,
     requires two { slot < SLOTS }
     requires index { k < JOURNAL_EVENTS }
     ensures kept { IsConfined D.size D.honest D.trail Nowhere disk.old disk.new }
-    ensures faults { FailsAs Error.Fault (OneOf (Error.Fault ∷ Error.Damaged (body slot k) ∷ [])) result
+    ensures faults { FailsAs Error.Fault (OneOf (Error.Fault ∷ Error.Damaged (body slot k) ∷ []))
+        result
         (D.failures disk.old) (D.failures disk.new) }
     ensures none { IfOk result (λ found. IfNone found (D.honest disk.old
         → is_open ((now (D.trail disk.old)).reads (gate slot k)) ≡ false)) }
     ensures some { IfOk result (λ found. IfSome found (λ event. D.honest disk.old
         → (is_open ((now (D.trail disk.old)).reads (gate slot k)) ≡ true)
         × BeginsWithEvent ((now (D.trail disk.old)).reads (body slot k)) event)) }
-    ensures damaged { (n : ℕ) → IsErrOf result (Error.Damaged n) → D.honest disk.old → (n ≡ body slot k)
+    ensures damaged { (n : ℕ) → IsErrOf result (Error.Damaged n) → D.honest disk.old
+        → (n ≡ body slot k)
         × (is_open ((now (D.trail disk.old)).reads (gate slot k)) ≡ true)
-        × ((event : Event) → BeginsWithEvent ((now (D.trail disk.old)).reads (body slot k)) event → ⊥) }
+        × ((event : Event) → BeginsWithEvent ((now (D.trail disk.old)).reads (body slot k)) event
+        → ⊥) }
 {
     let mut sector = [0; SECTOR_BYTES as usize];
     disk.read(gate(slot, k), &mut sector)?;
@@ -101,13 +104,14 @@ fn replay_to<D: Disk>(
     requires told { HasTrueCache D.Disk disk.old desktop.old }
     requires limit { most ≤ JOURNAL_EVENTS }
     ensures kept { IsConfined D.size D.honest D.trail Nowhere disk.old disk.new }
-    ensures faults { FailsAs Error.Fault OfReplay result (D.failures disk.old) (D.failures disk.new) }
+    ensures faults { FailsAs Error.Fault OfReplay result (D.failures disk.old)
+        (D.failures disk.new) }
     ensures few { IfOk result (λ count. count ≤ most) }
-    ensures read { IfOk result (λ count. D.honest disk.old → IsReadUpTo (now (D.trail disk.old)).reads slot
+    ensures read { IfOk result
+        (λ count. D.honest disk.old → IsReadUpTo (now (D.trail disk.old)).reads slot
         (version_number version) most count (seen_live (now (D.trail disk.old)).reads desktop.old)
         (seen_live (now (D.trail disk.new)).reads desktop.new)) }
-    ensures live { OnOk result (IsLive desktop.new) }
-    ensures told { OnOk result (HasTrueCache D.Disk disk.new desktop.new) }
+    ensures left { OnOk result (IsLiveOn D.Disk disk.new desktop.new) }
     ensures area { OnOk result (desktop.new.area ≡ desktop.old.area) }
     ensures counted { OnOk result (renewed_of desktop.new.pages ≡ false
         → saved_of desktop.new.pages ≡ saved_of desktop.old.pages) }
@@ -117,7 +121,7 @@ fn replay_to<D: Disk>(
     for k in 0..most {
         match read_event(disk, slot, k)? {
             Some(event) => {
-                let _ = desktop.step(version, alloc, &event, disk)?;
+                let _ = desktop.step(alloc, version, &event, disk)?;
             }
             None => return Ok(k),
         }
@@ -138,13 +142,14 @@ fn replay<D: Disk>(
     requires live { IsLive desktop.old }
     requires told { HasTrueCache D.Disk disk.old desktop.old }
     ensures kept { IsConfined D.size D.honest D.trail Nowhere disk.old disk.new }
-    ensures faults { FailsAs Error.Fault OfReplay result (D.failures disk.old) (D.failures disk.new) }
+    ensures faults { FailsAs Error.Fault OfReplay result (D.failures disk.old)
+        (D.failures disk.new) }
     ensures few { IfOk result (λ count. count ≤ JOURNAL_EVENTS) }
-    ensures whole { IfOk result (λ count. D.honest disk.old → IsReadWhole (now (D.trail disk.old)).reads slot
+    ensures whole { IfOk result
+        (λ count. D.honest disk.old → IsReadWhole (now (D.trail disk.old)).reads slot
         (version_number version) count (seen_live (now (D.trail disk.old)).reads desktop.old)
         (seen_live (now (D.trail disk.new)).reads desktop.new)) }
-    ensures live { OnOk result (IsLive desktop.new) }
-    ensures told { OnOk result (HasTrueCache D.Disk disk.new desktop.new) }
+    ensures left { OnOk result (IsLiveOn D.Disk disk.new desktop.new) }
     ensures area { OnOk result (desktop.new.area ≡ desktop.old.area) }
     ensures counted { OnOk result (renewed_of desktop.new.pages ≡ false
         → saved_of desktop.new.pages ≡ saved_of desktop.old.pages) }
@@ -158,16 +163,14 @@ fn replay<D: Disk>(
 pub fn load<D: Disk>(alloc: Global, disk: &mut D) -> Result<Loaded, Error>
     ensures kept { IsConfined D.size D.honest D.trail Nowhere disk.old disk.new }
     ensures faults { FailsAs Error.Fault OfOpen result (D.failures disk.old) (D.failures disk.new) }
-    ensures large { OnOk result (STORE_SECTORS ≤ D.size disk.new) }
-    ensures two { IfOk result (λ x. x.slot < SLOTS) }
-    ensures few { IfOk result (λ x. x.events ≤ JOURNAL_EVENTS) }
-    ensures live { IfOk result (λ x. IsLive x.desktop) }
-    ensures told { IfOk result (λ x. HasTrueCache D.Disk disk.new x.desktop) }
+    ensures loaded { IfOk result (IsLoaded D.Disk disk.new) }
     ensures found { IfOk result
-        (λ x. D.honest disk.old → Shows (D.size disk.old) (version_number x.version) x.epoch x.events
+        (λ x. D.honest disk.old → Shows (D.size disk.old) (version_number x.version) x.epoch
+        x.events
         (seen_live (now (D.trail disk.new)).reads x.desktop) (now (D.trail disk.old)).reads) }
     ensures shown { IfOk result (λ x. D.honest disk.old
-        → ShowsSettled (D.size disk.old) (D.trail disk.new) x.slot (version_number x.version) x.epoch x.events
+        → ShowsSettled (D.size disk.old) (D.trail disk.new) x.slot (version_number x.version)
+        x.epoch x.events
         (seen_live (now (D.trail disk.new)).reads x.desktop)
         × IsNamed (now (D.trail disk.new)).reads x.slot x.desktop) }
     ensures foreign { IsErrOf result Error.NotAStore → D.honest disk.old
@@ -198,7 +201,8 @@ pub fn load_front<D: Disk>(alloc: Global, disk: &mut D, most: u32) -> Result<Liv
     ensures faults { FailsAs Error.Fault OfOpen result (D.failures disk.old) (D.failures disk.new) }
     ensures live { IfOk result IsLive }
     ensures told { IfOk result (HasTrueCache D.Disk disk.new) }
-    ensures shown { IfOk result (λ x. D.honest disk.old → IsCutTo (D.size disk.old) (now (D.trail disk.old)).reads most
+    ensures shown { IfOk result
+        (λ x. D.honest disk.old → IsCutTo (D.size disk.old) (now (D.trail disk.old)).reads most
         (now (D.trail disk.new)).reads x) }
     ensures foreign { IsErrOf result Error.NotAStore → D.honest disk.old
         → IsForeign (D.size disk.old) (now (D.trail disk.old)).reads }
@@ -226,11 +230,13 @@ pub fn read_events<D: Disk>(
     requires some { k ≤ end }
     requires index { end ≤ JOURNAL_EVENTS }
     ensures kept { IsConfined D.size D.honest D.trail Nowhere disk.old disk.new }
-    ensures faults { FailsAs Error.Fault OfReplay result (D.failures disk.old) (D.failures disk.new) }
+    ensures faults { FailsAs Error.Fault OfReplay result (D.failures disk.old)
+        (D.failures disk.new) }
     ensures count { IfOk result (λ events. length events.items ≡ end - k) }
     ensures others { IfOk result (λ events. D.honest disk.old → (s : Standing)
         → IsUpTo (D.size disk.old) (D.trail disk.old) slot end s → drop k s.events ≡ events.items) }
-    ensures damaged { (n : ℕ) → IsErrOf result (Error.Damaged n) → D.honest disk.old → (s : Standing)
+    ensures damaged { (n : ℕ) → IsErrOf result (Error.Damaged n) → D.honest disk.old
+        → (s : Standing)
         → IsUpTo (D.size disk.old) (D.trail disk.old) slot end s → ⊥ }
 {
     at_most_one_begins();
@@ -273,7 +279,8 @@ pub fn load_earlier<D: Disk>(
     ensures shown { IfOk result (λ x. D.honest disk.old → (s : Standing)
         → IsUpTo (D.size disk.old) (D.trail disk.old) slot end s
         → IsEarlier (now (D.trail disk.new)).reads slot k s x.desktop x.events.items) }
-    ensures stops { D.honest disk.old → (s : Standing) → IsUpTo (D.size disk.old) (D.trail disk.old) slot end s
+    ensures stops { D.honest disk.old → (s : Standing)
+        → IsUpTo (D.size disk.old) (D.trail disk.old) slot end s
         → IfErr result OfDesktop }
 {
     finding_law();
@@ -288,12 +295,15 @@ fn load_of<D: Disk>(alloc: Global, disk: &mut D, slot: u32, head: &Head) -> Resu
     requires two { slot < SLOTS }
     requires good { IsGoodHead head.now }
     ensures kept { IsConfined D.size D.honest D.trail Nowhere disk.old disk.new }
-    ensures faults { FailsAs Error.Fault OfReplay result (D.failures disk.old) (D.failures disk.new) }
+    ensures faults { FailsAs Error.Fault OfReplay result (D.failures disk.old)
+        (D.failures disk.new) }
     ensures few { IfOk result (λ x. x.events ≤ JOURNAL_EVENTS) }
     ensures live { IfOk result (λ x. IsLive x.desktop) }
     ensures told { IfOk result (λ x. HasTrueCache D.Disk disk.new x.desktop) }
-    ensures shown { IfOk result (λ x. D.honest disk.old → head_at (now (D.trail disk.old)).reads slot ≡ head.now
-        → IsLoadedBeside (now (D.trail disk.old)).reads slot head.now.version x.events (now (D.trail disk.new)).reads
+    ensures shown { IfOk result
+        (λ x. D.honest disk.old → head_at (now (D.trail disk.old)).reads slot ≡ head.now
+        → IsLoadedBeside (now (D.trail disk.old)).reads slot head.now.version x.events
+        (now (D.trail disk.new)).reads
         x.desktop) }
 {
     let version = version_of(head);
@@ -321,9 +331,11 @@ pub fn load_beside<D: Disk>(
     ensures kept { IsConfined D.size D.honest D.trail Nowhere disk.old disk.new }
     ensures few { IfOk result (λ found. IfSome found (λ x. x.events ≤ JOURNAL_EVENTS)) }
     ensures live { IfOk result (λ found. IfSome found (λ x. IsLive x.desktop)) }
-    ensures told { IfOk result (λ found. IfSome found (λ x. HasTrueCache D.Disk disk.new x.desktop)) }
+    ensures told { IfOk result
+        (λ found. IfSome found (λ x. HasTrueCache D.Disk disk.new x.desktop)) }
     ensures shown { IfOk result (λ found. IfSome found (λ x. D.honest disk.old
-        → IsBesideRead (now (D.trail disk.old)).reads slot epoch x.events (now (D.trail disk.new)).reads x.desktop)) }
+        → IsBesideRead (now (D.trail disk.old)).reads slot epoch x.events
+        (now (D.trail disk.new)).reads x.desktop)) }
 {
     match read_slot(disk, 1 - slot)? {
         None => Ok(None),

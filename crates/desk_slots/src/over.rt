@@ -1,16 +1,15 @@
 //! Calls of a desktop over pages and a disk.
-ghost use Rattle.std.specs.Prelude.{◌≡◌, ℕ, Ok, IfOk, OnOk, length};
+ghost use Rattle.std.specs.Prelude.{◌≡◌, IfOk, OnOk, length};
 ghost use Rattle.char_pages.specs.Pages.{paged_characters};
 ghost use Rattle.command_table.specs.Versions.{version_number};
-ghost use Rattle.desktop_definitions.specs.Seen.{seen};
 ghost use Rattle.desktop_definitions.specs.Sound.{IsOver};
 ghost use Rattle.desktop_definitions.specs.Viewers.{text_of};
-ghost use Rattle.desktop_definitions.specs.Step.{outcome_of};
-ghost use Rattle.desk_bringing.specs.Bringing.{brought_in, BringsUnread};
+ghost use Rattle.desktop_definitions.specs.Stepped.{IsStep};
+ghost use Rattle.desk_bringing.specs.Bringing.{IsBringing};
 ghost use Rattle.screen_cells.specs.Lines.{AreLinesOf};
-ghost use Rattle.desk_slots.specs.Live.{CanReadThrough, CanStepThrough, ReadsThrough, LooksThrough};
-ghost use Rattle.desk_slots.specs.Words.{Content, now, FailsAs, IsStop, No, IsReply, entries_of, shown_screen, step_in};
-ghost use Rattle.desk_slots.specs.Words.{StepsUnread, ListsUnread, AreWithin, contents, flat};
+ghost use Rattle.desk_slots.specs.Live.{CanReadThrough, CanStepThrough, ReadsThrough, LooksThrough, seen_through};
+ghost use Rattle.desk_slots.specs.Words.{Content, now, FailsAs, IsStop, entries_of, shown_screen};
+ghost use Rattle.desk_slots.specs.Words.{ListsUnread, AreWithin, contents, flat};
 
 use crate::reading::read_all;
 use char_pages::{Paged, Pages};
@@ -24,28 +23,24 @@ use text_core::Text;
 
 /// Does the event, with the commands of that version.
 pub(crate) fn step_over<D: Disk>(
-    version: Version,
     alloc: Global,
+    version: Version,
     desktop: &mut Desktop,
     event: &Event,
     disk: &mut D,
     pages: &mut Pages,
 ) -> Result<Reply, Stop>
     requires { CanStepThrough D.Disk disk.old pages.old desktop.old }
-    ensures done { IfOk result (λ reply. D.honest disk.old
-        → outcome_of (seen (paged_characters (now (D.trail disk.new)).reads pages.new) desktop.new) reply
-        ≡ step_in (version_number version)
-        (seen (paged_characters (now (D.trail disk.old)).reads pages.old) desktop.old)
-        event.now) }
-    ensures unread { IfOk result (StepsUnread (version_number version) desktop.old desktop.new event.now) }
-    ensures replies { IfOk result IsReply }
-    ensures refusal { (code : ℕ) → result ≡ Ok (No code) → desktop.new ≡ desktop.old }
-    ensures over { OnOk result (IsOver (paged_characters (now (D.trail disk.new)).reads pages.new) desktop.new) }
+    ensures stepped { IfOk result (IsStep (D.honest disk.old) (version_number version) event.now
+        desktop.old desktop.new (seen_through D.Disk disk.old pages.old desktop.old)
+        (seen_through D.Disk disk.new pages.new desktop.new)) }
+    ensures over { OnOk result
+        (IsOver (paged_characters (now (D.trail disk.new)).reads pages.new) desktop.new) }
     ensures reads { ReadsThrough D.Disk disk.old disk.new pages.old pages.new }
     ensures faults { FailsAs Stop.Fault IsStop result (D.failures disk.old) (D.failures disk.new) }
 {
     let mut source = Paged::over(disk, pages);
-    desktop.step(version, alloc, event, &mut source)
+    desktop.step(alloc, version, event, &mut source)
 }
 
 /// Each document becomes the file of its name, or none does.
@@ -57,13 +52,11 @@ pub(crate) fn bring_over<D: Disk>(
     pages: &mut Pages,
 ) -> Result<Reply, Stop>
     requires { CanStepThrough D.Disk disk.old pages.old desktop.old }
-    ensures done { IfOk result (λ reply. D.honest disk.old
-        → outcome_of (seen (paged_characters (now (D.trail disk.new)).reads pages.new) desktop.new) reply
-        ≡ brought_in (seen (paged_characters (now (D.trail disk.old)).reads pages.old) desktop.old) documents.now) }
-    ensures unread { IfOk result (BringsUnread desktop.old desktop.new documents.now) }
-    ensures replies { IfOk result IsReply }
-    ensures refusal { (code : ℕ) → result ≡ Ok (No code) → desktop.new ≡ desktop.old }
-    ensures over { OnOk result (IsOver (paged_characters (now (D.trail disk.new)).reads pages.new) desktop.new) }
+    ensures brought { IfOk result (IsBringing (D.honest disk.old) documents.now
+        desktop.old desktop.new (seen_through D.Disk disk.old pages.old desktop.old)
+        (seen_through D.Disk disk.new pages.new desktop.new)) }
+    ensures over { OnOk result
+        (IsOver (paged_characters (now (D.trail disk.new)).reads pages.new) desktop.new) }
     ensures reads { ReadsThrough D.Disk disk.old disk.new pages.old pages.new }
     ensures faults { FailsAs Stop.Fault IsStop result (D.failures disk.old) (D.failures disk.new) }
 {
@@ -78,7 +71,8 @@ pub(crate) fn read_over<D: Disk>(
     disk: &mut D,
     pages: &mut Pages,
 ) -> Result<Vec<(u8, Look)>, Stop>
-    requires within { (c : Content) → AreWithin (length (paged_characters c pages.old)) (flat text.now) }
+    requires within { (c : Content) → AreWithin (length (paged_characters c pages.old))
+        (flat text.now) }
     requires through { CanReadThrough D.Disk disk.old pages.old }
     ensures read { IfOk result (λ characters. D.honest disk.old → characters.items
         ≡ contents (paged_characters (now (D.trail disk.old)).reads pages.old) (flat text.now)) }
@@ -98,7 +92,7 @@ pub(crate) fn list_over<D: Disk>(
 ) -> Result<Vec<Entry>, Stop>
     requires { CanStepThrough D.Disk disk.old pages.old desktop.old }
     ensures entries { IfOk result (λ entries. D.honest disk.old
-        → entries.items ≡ entries_of (seen (paged_characters (now (D.trail disk.old)).reads pages.old) desktop.old)) }
+        → entries.items ≡ entries_of (seen_through D.Disk disk.old pages.old desktop.old)) }
     ensures unread { IfOk result (λ entries. ListsUnread desktop.old entries.items) }
     ensures unchanged { desktop.new ≡ desktop.old }
     ensures looks { LooksThrough D.Disk disk.old disk.new pages.old pages.new }
@@ -119,12 +113,11 @@ pub(crate) fn screen_over<D: Disk>(
 ) -> Result<(), Stop>
     requires { CanStepThrough D.Disk disk.old pages.old desktop.old }
     ensures shown { OnOk result (D.honest disk.old
-        → AreLinesOf (text_of (seen (paged_characters (now (D.trail disk.old)).reads pages.old) desktop.old)) lines.old
-        → screen.new ≡ shown_screen (seen (paged_characters (now (D.trail disk.old)).reads pages.old) desktop.old)) }
+        → AreLinesOf (text_of (seen_through D.Disk disk.old pages.old desktop.old)) lines.old
+        → screen.new ≡ shown_screen (seen_through D.Disk disk.old pages.old desktop.old)) }
     ensures lines { D.honest disk.old
-        → AreLinesOf (text_of (seen (paged_characters (now (D.trail disk.old)).reads pages.old) desktop.old)) lines.old
-        → AreLinesOf (text_of (seen (paged_characters (now (D.trail disk.old)).reads pages.old) desktop.old))
-        lines.new }
+        → AreLinesOf (text_of (seen_through D.Disk disk.old pages.old desktop.old)) lines.old
+        → AreLinesOf (text_of (seen_through D.Disk disk.old pages.old desktop.old)) lines.new }
     ensures unchanged { desktop.new ≡ desktop.old }
     ensures looks { LooksThrough D.Disk disk.old disk.new pages.old pages.new }
     ensures faults { FailsAs Stop.Fault IsStop result (D.failures disk.old) (D.failures disk.new) }

@@ -22,7 +22,8 @@ pub fn read_all<S: CharSource>(
     ensures read { IfOk result (λ characters. S.honest source.old
         → characters.items ≡ contents (S.characters source.old) (flat text.now)) }
     ensures reads { OnlyReads S.characters S.failures S.honest S.same_ground source.old source.new }
-    ensures faults { FailsAs Stop.Fault IsStop result (S.failures source.old) (S.failures source.new) }
+    ensures faults { FailsAs Stop.Fault IsStop result (S.failures source.old)
+        (S.failures source.new) }
 {
     let mut reader = Reader::open(text, 0);
     let mut characters = Vec::new(alloc);

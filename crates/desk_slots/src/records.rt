@@ -1,15 +1,13 @@
 //! The two steps that put an event into the journal.
-ghost use Rattle.std.specs.Prelude.{◌≡◌, ◌⊎◌, ◌+◌, ◌<◌, ◌≤◌, true, false, ℕ, Ok, OnOk, IfOk, IsErrOf};
+ghost use Rattle.std.specs.Prelude.{◌≡◌, ◌⊎◌, ◌+◌, ◌<◌, true, false, ℕ, OnOk, IfOk, IsErrOf};
 ghost use Rattle.desktop_definitions.specs.Desktop.{Desktop};
-ghost use Rattle.desktop_definitions.specs.Step.{outcome_of};
 ghost use Rattle.store_layout.specs.Layout.{is_open, gate, body};
 ghost use Rattle.store_layout.specs.Meaning.{Means, MeansEither, Standing, StandsEither, and_then, cut_to};
 ghost use Rattle.store_layout.specs.Kept.{NextRecord, ShowsSettled, IsSettled};
-ghost use Rattle.desk_slots.specs.Device.{IsSameDevice, StaysWithin};
+ghost use Rattle.desk_slots.specs.Device.{IsSameDevice, StaysWithin, UsesDisk};
 ghost use Rattle.desk_slots.specs.Errors.{OfDesktop};
-ghost use Rattle.desk_slots.specs.Live.{seen_live, IsLive, IsNamed, HasTrueCache};
-ghost use Rattle.desk_slots.specs.Words.{LeavesOnly, Only, CountsFault, now, IsConfined, FailsAs, No, IsReply, step};
-ghost use Rattle.desk_slots.specs.Words.{step_in, StepsUnread};
+ghost use Rattle.desk_slots.specs.Live.{seen_live, IsLive, IsLiveIn, IsLiveStep, HasTrueCache};
+ghost use Rattle.desk_slots.specs.Words.{LeavesOnly, Only, CountsFault, now, IsConfined, step, step_in};
 ghost use Rattle.desk_slots.specs.Written.{HasRecord, InRecord, IsInJournal, HasEventAt, IsUpTo};
 
 use crate::Error;
@@ -42,7 +40,8 @@ fn stage<D: Disk>(disk: &mut D, slot: u32, k: u32, event: &Event) -> Result<(), 
     requires { IsInJournal (D.size disk.old) slot k }
     ensures kept { IsConfined D.size D.honest D.trail (NextRecord slot k) disk.old disk.new }
     ensures cause { CountsFault result (D.failures disk.old) (D.failures disk.new) }
-    ensures staged { OnOk result (D.honest disk.old → HasRecord (now (D.trail disk.new)) slot k event.now) }
+    ensures staged { OnOk result
+        (D.honest disk.old → HasRecord (now (D.trail disk.new)) slot k event.now) }
 {
     disk.write(body(slot, k), &body_of(event))?;
     close_next(disk, slot, k)?;
@@ -55,8 +54,10 @@ fn seal<D: Disk>(disk: &mut D, slot: u32, k: u32) -> Result<(), Fault>
     requires { IsInJournal (D.size disk.old) slot k }
     ensures kept { IsConfined D.size D.honest D.trail (Only (gate slot k)) disk.old disk.new }
     ensures cause { CountsFault result (D.failures disk.old) (D.failures disk.new) }
-    ensures opened { OnOk result (D.honest disk.old → is_open ((now (D.trail disk.new)).reads (gate slot k)) ≡ true) }
-    ensures quiet { OnOk result (D.honest disk.old → (n : ℕ) → (now (D.trail disk.new)).pending n ≡ false) }
+    ensures opened { OnOk result
+        (D.honest disk.old → is_open ((now (D.trail disk.new)).reads (gate slot k)) ≡ true) }
+    ensures quiet { OnOk result (D.honest disk.old → (n : ℕ) → (now (D.trail disk.new)).pending n
+        ≡ false) }
 {
     disk.write(gate(slot, k), &open_gate())?;
     disk.sync()?; // the open gate, before the event is acknowledged
@@ -125,22 +126,12 @@ pub fn record<D: Disk>(
     ensures behind { OnOk result (D.honest disk.old → (s : Standing)
         → IsUpTo (D.size disk.old) (D.trail disk.old) slot k s
         → IsSettled (D.size disk.old) (D.trail disk.new) (and_then s event.now)) }
-    ensures stepped { IfOk result
-        (λ reply. D.honest disk.old → outcome_of (seen_live (now (D.trail disk.new)).reads desktop.new) reply
-        ≡ step (seen_live (now (D.trail disk.old)).reads desktop.old) event.now) }
-    ensures unread { IfOk result (StepsUnread LAYOUT desktop.old.desktop desktop.new.desktop event.now) }
-    ensures replies { IfOk result IsReply }
-    ensures refusal { (code : ℕ) → result ≡ Ok (No code) → desktop.new.desktop ≡ desktop.old.desktop }
-    ensures live { OnOk result (IsLive desktop.new) }
-    ensures told { OnOk result (HasTrueCache D.Disk disk.new desktop.new) }
-    // the head of the slot names still what stands in the area
-    ensures named { OnOk result (D.honest disk.old → IsNamed (now (D.trail disk.old)).reads slot desktop.old
-        → IsNamed (now (D.trail disk.new)).reads slot desktop.new) }
-    ensures device { IsSameDevice D.Disk disk.old disk.new }
-    ensures within { StaysWithin D.Disk disk.old disk.new }
-    ensures faults { FailsAs Error.Fault OfDesktop result (D.failures disk.old) (D.failures disk.new) }
+    ensures stepped { IfOk result (IsLiveStep D.Disk LAYOUT event.now disk.old disk.new
+        desktop.old desktop.new) }
+    ensures left { OnOk result (IsLiveIn D.Disk slot disk.old disk.new desktop.old desktop.new) }
+    ensures uses { UsesDisk D.Disk OfDesktop result disk.old disk.new }
 {
-    let reply = desktop.step(NEWEST, alloc, event, disk)?;
+    let reply = desktop.step(alloc, NEWEST, event, disk)?;
     add_record(disk, slot, k, event)?;
     Ok(reply)
 }
@@ -150,8 +141,10 @@ fn shut<D: Disk>(disk: &mut D, slot: u32, k: u32) -> Result<(), Fault>
     requires { IsInJournal (D.size disk.old) slot k }
     ensures kept { IsConfined D.size D.honest D.trail (Only (gate slot k)) disk.old disk.new }
     ensures cause { CountsFault result (D.failures disk.old) (D.failures disk.new) }
-    ensures closed { OnOk result (D.honest disk.old → is_open ((now (D.trail disk.new)).reads (gate slot k)) ≡ false) }
-    ensures quiet { OnOk result (D.honest disk.old → (n : ℕ) → (now (D.trail disk.new)).pending n ≡ false) }
+    ensures closed { OnOk result
+        (D.honest disk.old → is_open ((now (D.trail disk.new)).reads (gate slot k)) ≡ false) }
+    ensures quiet { OnOk result (D.honest disk.old → (n : ℕ) → (now (D.trail disk.new)).pending n
+        ≡ false) }
 {
     disk.write(gate(slot, k), &closed_gate())?;
     disk.sync()?; // the closed gate, before the events count as taken back
@@ -166,7 +159,8 @@ pub fn take_back<D: Disk>(disk: &mut D, slot: u32, k: u32) -> Result<(), Fault>
     ensures device { IsSameDevice D.Disk disk.old disk.new }
     ensures within { StaysWithin D.Disk disk.old disk.new }
     ensures cause { CountsFault result (D.failures disk.old) (D.failures disk.new) }
-    ensures any_moment { D.honest disk.old → (s : Standing) → HasEventAt (D.size disk.old) (D.trail disk.old) slot k s
+    ensures any_moment { D.honest disk.old → (s : Standing)
+        → HasEventAt (D.size disk.old) (D.trail disk.old) slot k s
         → LeavesOnly (D.trail disk.old) (D.trail disk.new) (StandsEither (D.size disk.old) k s) }
     ensures taken { OnOk result (D.honest disk.old → (s : Standing)
         → HasEventAt (D.size disk.old) (D.trail disk.old) slot k s

@@ -18,7 +18,8 @@ fn check_label<D: Disk>(disk: &mut D) -> Result<(), Error>
     ensures kept { IsConfined D.size D.honest D.trail Nowhere disk.old disk.new }
     ensures faults { FailsAs Error.Fault (OneOf (Error.Fault ∷ Error.NotAStore ∷ [])) result
         (D.failures disk.old) (D.failures disk.new) }
-    ensures label { OnOk result (D.honest disk.old → is_label ((now (D.trail disk.old)).reads LABEL) ≡ true) }
+    ensures label { OnOk result (D.honest disk.old → is_label ((now (D.trail disk.old)).reads LABEL)
+        ≡ true) }
     ensures foreign { IsErrOf result Error.NotAStore → D.honest disk.old
         → is_label ((now (D.trail disk.old)).reads LABEL) ≡ false }
 {
@@ -35,7 +36,8 @@ pub fn read_slot<D: Disk>(disk: &mut D, slot: u32) -> Result<Option<Head>, Error
     requires room { STORE_SECTORS ≤ D.size disk.old }
     requires two { slot < SLOTS }
     ensures kept { IsConfined D.size D.honest D.trail Nowhere disk.old disk.new }
-    ensures faults { FailsAs Error.Fault (OneOf (Error.Fault ∷ Error.Damaged (slot_head slot) ∷ [])) result
+    ensures faults { FailsAs Error.Fault (OneOf (Error.Fault ∷ Error.Damaged (slot_head slot) ∷ []))
+        result
         (D.failures disk.old) (D.failures disk.new) }
     ensures none { IfOk result (λ found. IfNone found (D.honest disk.old
         → is_open ((now (D.trail disk.old)).reads (slot_gate slot)) ≡ false)) }
@@ -43,7 +45,8 @@ pub fn read_slot<D: Disk>(disk: &mut D, slot: u32) -> Result<Option<Head>, Error
         → (is_open ((now (D.trail disk.old)).reads (slot_gate slot)) ≡ true)
         × (head (now (D.trail disk.old)).reads slot ≡ h))) }
     ensures good { IfOk result (λ found. IfSome found IsGoodHead) }
-    ensures damaged { (n : ℕ) → IsErrOf result (Error.Damaged n) → D.honest disk.old → (n ≡ slot_head slot)
+    ensures damaged { (n : ℕ) → IsErrOf result (Error.Damaged n) → D.honest disk.old
+        → (n ≡ slot_head slot)
         × (is_open ((now (D.trail disk.old)).reads (slot_gate slot)) ≡ true)
         × (IsGoodHead (head (now (D.trail disk.old)).reads slot) → ⊥) }
 {
@@ -83,12 +86,14 @@ fn choose(first: Option<Head>, second: Option<Head>) -> Option<(u32, Head)>
 fn find_slot<D: Disk>(disk: &mut D) -> Result<(u32, Head), Error>
     requires { STORE_SECTORS ≤ D.size disk.old }
     ensures kept { IsConfined D.size D.honest D.trail Nowhere disk.old disk.new }
-    ensures faults { FailsAs Error.Fault (λ e. OneOf (Error.Fault ∷ []) e ⊎ ((n : ℕ) × (e ≡ Error.Damaged n))) result
+    ensures faults { FailsAs Error.Fault
+        (λ e. OneOf (Error.Fault ∷ []) e ⊎ ((n : ℕ) × (e ≡ Error.Damaged n))) result
         (D.failures disk.old) (D.failures disk.new) }
     ensures two { IfOk result (λ x. x.0 < SLOTS) }
     ensures good { IfOk result (λ x. IsGoodHead x.1) }
     ensures used { IfOk result (λ x. D.honest disk.old → IsInUse (now (D.trail disk.old)).reads x.0
-        × AreHeadsGood (now (D.trail disk.old)).reads × (head (now (D.trail disk.old)).reads x.0 ≡ x.1)) }
+        × AreHeadsGood (now (D.trail disk.old)).reads
+        × (head (now (D.trail disk.old)).reads x.0 ≡ x.1)) }
     ensures damaged { (n : ℕ) → IsErrOf result (Error.Damaged n) → D.honest disk.old
         → ((n ≡ slot_gate 0) × AreShut (now (D.trail disk.old)).reads)
         ⊎ ((slot : ℕ) × (n ≡ slot_head slot) × HasBadHead (now (D.trail disk.old)).reads slot) }
@@ -104,12 +109,13 @@ fn find_slot<D: Disk>(disk: &mut D) -> Result<(u32, Head), Error>
 /// Finds the slot in use of a store, and its head. It begins with a sync.
 pub fn locate<D: Disk>(disk: &mut D) -> Result<(u32, Head), Error>
     ensures kept { IsConfined D.size D.honest D.trail Nowhere disk.old disk.new }
-    ensures faults { FailsAs Error.Fault (λ e. OneOf (Error.Fault ∷ Error.NotAStore ∷ []) e ⊎ ((n : ℕ)
+    ensures faults { FailsAs Error.Fault (λ e. OneOf (Error.Fault ∷ Error.NotAStore ∷ []) e
+        ⊎ ((n : ℕ)
         × (e ≡ Error.Damaged n))) result (D.failures disk.old) (D.failures disk.new) }
     ensures large { OnOk result (STORE_SECTORS ≤ D.size disk.new) }
-    ensures two { IfOk result (λ x. x.0 < SLOTS) }
-    ensures good { IfOk result (λ x. IsGoodHead x.1) }
-    ensures quiet { OnOk result (D.honest disk.old → (n : ℕ) → (now (D.trail disk.new)).pending n ≡ false) }
+    ensures slot { IfOk result (λ x. (x.0 < SLOTS) × IsGoodHead x.1) }
+    ensures quiet { OnOk result (D.honest disk.old → (n : ℕ) → (now (D.trail disk.new)).pending n
+        ≡ false) }
     ensures located { IfOk result (λ x. D.honest disk.old
         → IsLocated (D.size disk.old) (now (D.trail disk.old)).reads x.0 x.1) }
     ensures foreign { IsErrOf result Error.NotAStore → D.honest disk.old

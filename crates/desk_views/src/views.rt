@@ -55,7 +55,8 @@ pub fn paint<S: CharSource>(
         → AreLinesOf (text_of (seen (S.characters source.old) (kept_desktop desk.now))) lines.old
         → AreLinesOf (text_of (seen (S.characters source.old) (kept_desktop desk.now))) lines.new }
     ensures reads { OnlyReads S.characters S.failures S.honest S.same_ground source.old source.new }
-    ensures faults { FailsAs Stop.Fault IsStop result (S.failures source.old) (S.failures source.new) }
+    ensures faults { FailsAs Stop.Fault IsStop result (S.failures source.old)
+        (S.failures source.new) }
 {
     let views = views_of(desk.alloc, &desk.viewers, desk.caret, &desk.selections)?;
     let shown = shown_of(desk.alloc, &desk.texts, &views)?;
@@ -75,12 +76,15 @@ pub fn list_column<S: CharSource>(
 ) -> Result<(), Stop>
     requires { IsOver (S.characters source.old) (kept_desktop desk.now) }
     ensures entries { OnOk result (S.honest source.old → entries.new.items
-        ≡ entries.old.items ++ column_entries (seen (S.characters source.old) (kept_desktop desk.now)) track) }
+        ≡ entries.old.items ++ column_entries
+        (seen (S.characters source.old) (kept_desktop desk.now)) track) }
     ensures unread { OnOk result ((all : List ℕ) → length all ≡ (kept_desktop desk.now).written
         → map without_name entries.new.items
-        ≡ map without_name entries.old.items ++ map without_name (column_entries (seen all (kept_desktop desk.now)) track)) }
+        ≡ map without_name entries.old.items
+        ++ map without_name (column_entries (seen all (kept_desktop desk.now)) track)) }
     ensures reads { OnlyReads S.characters S.failures S.honest S.same_ground source.old source.new }
-    ensures faults { FailsAs Stop.Fault IsStop result (S.failures source.old) (S.failures source.new) }
+    ensures faults { FailsAs Stop.Fault IsStop result (S.failures source.old)
+        (S.failures source.new) }
 {
     for below in 0..desk.tracks.levels(track) {
         list_over(track, below, entries)?;
@@ -119,14 +123,17 @@ fn list_level<S: CharSource>(
     requires some { 0 < level }
     requires within { level ≤ length (stack_of (kept_desktop desk.now).columns track) }
     ensures entries { OnOk result (S.honest source.old → entries.new.items
-        ≡ entries.old.items ++ track_entries (seen (S.characters source.old) (kept_desktop desk.now)) track
+        ≡ entries.old.items ++ track_entries
+        (seen (S.characters source.old) (kept_desktop desk.now)) track
         (track_on (stack_of (kept_desktop desk.now).columns track) level)) }
     ensures unread { OnOk result ((all : List ℕ) → length all ≡ (kept_desktop desk.now).written
         → map without_name entries.new.items
-        ≡ map without_name entries.old.items ++ map without_name (track_entries (seen all (kept_desktop desk.now)) track
+        ≡ map without_name entries.old.items
+        ++ map without_name (track_entries (seen all (kept_desktop desk.now)) track
         (track_on (stack_of (kept_desktop desk.now).columns track) level))) }
     ensures reads { OnlyReads S.characters S.failures S.honest S.same_ground source.old source.new }
-    ensures faults { FailsAs Stop.Fault IsStop result (S.failures source.old) (S.failures source.new) }
+    ensures faults { FailsAs Stop.Fault IsStop result (S.failures source.old)
+        (S.failures source.new) }
 {
     for index in 0..desk.tracks.count(track, level) {
         let (id, _) = desk.tracks.entry_in(track, level, index);
@@ -147,11 +154,15 @@ fn entry_of<S: CharSource>(
     requires over { IsOver (S.characters source.old) (kept_desktop desk.now) }
     requires placed { IsPlaced id.0 (kept_desktop desk.now).columns }
     ensures entry { IfOk result (λ entry. S.honest source.old
-        → entry ≡ viewer_entry (seen (S.characters source.old) (kept_desktop desk.now)) track id.0) }
-    ensures unread { IfOk result (λ entry. (all : List ℕ) → length all ≡ (kept_desktop desk.now).written
-        → without_name entry ≡ without_name (viewer_entry (seen all (kept_desktop desk.now)) track id.0)) }
+        → entry ≡ viewer_entry (seen (S.characters source.old) (kept_desktop desk.now)) track
+        id.0) }
+    ensures unread { IfOk result (λ entry. (all : List ℕ)
+        → length all ≡ (kept_desktop desk.now).written
+        → without_name entry ≡ without_name (viewer_entry
+        (seen all (kept_desktop desk.now)) track id.0)) }
     ensures reads { OnlyReads S.characters S.failures S.honest S.same_ground source.old source.new }
-    ensures faults { FailsAs Stop.Fault IsStop result (S.failures source.old) (S.failures source.new) }
+    ensures faults { FailsAs Stop.Fault IsStop result (S.failures source.old)
+        (S.failures source.new) }
 {
     let place = desk.tracks.place_of(id);
     let viewer = viewer_or_none(&desk.viewers, id.0);
@@ -174,7 +185,8 @@ fn menu_name<S: CharSource>(alloc: Global, menu: &Text, source: &mut S) -> Resul
     ensures name { IfOk result (λ name. S.honest source.old
         → name ≡ listed_name (contents (S.characters source.old) (flat menu.now))) }
     ensures reads { OnlyReads S.characters S.failures S.honest S.same_ground source.old source.new }
-    ensures faults { FailsAs Stop.Fault IsStop result (S.failures source.old) (S.failures source.new) }
+    ensures faults { FailsAs Stop.Fault IsStop result (S.failures source.old)
+        (S.failures source.new) }
 {
     let mut reader = Reader::open(menu, 0);
     let mut bytes = Vec::new(alloc);
@@ -249,7 +261,8 @@ fn shown_of<'a>(
     views: &'a [View],
 ) -> Result<Vec<Shown<'a>>, NoMemory>
     requires { All (AreThere texts.now.entries) views.now }
-    ensures { IfOk result (λ shown. map shown_view shown.items ≡ map (kept_view texts.now.entries) views.now) }
+    ensures { IfOk result (λ shown. map shown_view shown.items
+        ≡ map (kept_view texts.now.entries) views.now) }
 {
     let mut shown = Vec::new(alloc);
     for view in views {

@@ -14,7 +14,8 @@ use Rattle.desktop_definitions.specs.Change.{bytes_of}
 
 -- the text of a viewer in which a command's word stands: its menu or its main text
 abbrev pub text_called : {X : Type 0} → DesktopOf (List X) → ℕ → Bool → List X
-text_called d v in_menu = text_in d.texts (if in_menu then (viewer_of d v).menu else (viewer_of d v).main)
+text_called d v in_menu =
+    text_in d.texts (if in_menu then (viewer_of d v).menu else (viewer_of d v).main)
 
 -- ---- the viewer that is meant
 
@@ -42,7 +43,8 @@ menu_at_marker d = option_map (menu_of d) (seen_at_marker d)
 
 unfoldable pub value_of : Desktop → Call → Result Symbol ℕ
 value_of d call =
-    value_parameter bytes_of (text_called d call.viewer call.in_menu) call.after (selection_place d) (menu_at_marker d)
+    value_parameter bytes_of (text_called d call.viewer call.in_menu) call.after (selection_place d)
+    (menu_at_marker d)
 
 -- a value, where it is a name, and where it is a number
 abbrev pub as_name : Result Symbol ℕ → Result (List ℕ) ℕ

@@ -32,7 +32,8 @@ module _ {T : Type 0} where
 -- p on taken out
 abbrev pub following_viewer : ℕ → List ℕ → ℕ → ℕ → ℕ → Viewer → Viewer
 following_viewer n bytes p more fewer viewer =
-    if viewer.main == n then record viewer { org = changed_org bytes p more fewer viewer.org } else viewer
+    if viewer.main == n then record viewer { org = changed_org bytes p more fewer viewer.org }
+    else viewer
 
 -- The text of that number became this one, as so many characters were put in at p or so many from p on taken out: each
 -- frame that shows it loses caret and selection, and follows its first character.
@@ -43,11 +44,13 @@ after_change d n text p more fewer =
 -- characters are put into a text at p; nothing changes where there are none
 unfoldable pub insertion : Desktop → ℕ → ℕ → Text ℕ → Desktop
 insertion d n p [] = d
-insertion d n p (c ∷ more) = after_change d n (inserted p (c ∷ more) (text_of d n)) p (length (c ∷ more)) 0
+insertion d n p (c ∷ more) =
+    after_change d n (inserted p (c ∷ more) (text_of d n)) p (length (c ∷ more)) 0
 
 -- those from p up to before q are taken out, where there are any
 unfoldable pub deletion : Desktop → ℕ → ℕ → ℕ → Desktop
-deletion d n p q = if nat_lt p q then after_change d n (deleted p q (text_of d n)) p 0 (q - p) else d
+deletion d n p q =
+    if nat_lt p q then after_change d n (deleted p q (text_of d n)) p 0 (q - p) else d
 
 -- A selection gets the looks that the selector takes of this one. The frames of its text lose caret and selection, and
 -- then it is selected again, as the newest; so it is where no look differs.
@@ -59,7 +62,8 @@ looks_set d s selector new =
 
 -- a position is shown in a viewer's main frame
 unfoldable pub showing : Desktop → ℕ → ℕ → Desktop
-showing d v p = with_org d v (shown_org (bytes_of (main_of d v)) (rows_of d v) p (viewer_of d v).org)
+showing d v p =
+    with_org d v (shown_org (bytes_of (main_of d v)) (rows_of d v) p (viewer_of d v).org)
 
 -- the caret stands at a position, which is shown
 abbrev pub caret_shown : Desktop → ℕ → ℕ → Desktop

@@ -17,13 +17,15 @@ pub record ShowsSameTexts (old new : KeptDesktop) : Type 0 where
 
 -- A desktop that is kept among these characters after a part of an event: where the source was honest, it is seen as
 -- this outcome; it holds so many characters more and so many fewer.
-pub record IsChanged (honest : Type 0) (characters : List ℕ) (old new : KeptDesktop) (outcome : Desktop)
+pub record IsChanged (honest : Type 0) (characters : List ℕ) (old new : KeptDesktop)
+    (outcome : Desktop)
     (more fewer : ℕ)
     : Type 0 where
   pub exact : honest → seen characters new ≡ outcome
   -- whatever was read:
   pub built : IsBuilt (length characters) new
-  pub counted : (all : List ℕ) → characters_held (seen all new) + fewer ≡ characters_held (seen all old) + more
+  pub counted : (all : List ℕ) → characters_held (seen all new) + fewer
+      ≡ characters_held (seen all old) + more
   pub rest : ShowsSameTexts old new
 
 -- A desktop that is kept, inside an event: its characters are those that were written.
@@ -33,12 +35,14 @@ pub record IsStanding (characters : List ℕ) (d : KeptDesktop) : Type 0 where
 
 -- A desktop that is kept among new characters after a part of an event that wrote so many, and holds them: where they
 -- were told truly, it is seen as what the part makes of the desktop before.
-pub record IsExtended (honest : Type 0) (old new : List ℕ) (before after : KeptDesktop) (part : Desktop → Desktop)
+pub record IsExtended (honest : Type 0) (old new : List ℕ) (before after : KeptDesktop)
+    (part : Desktop → Desktop)
     (more : ℕ) : Type 0 where
   pub exact : honest → seen new after ≡ part (seen old before)
   -- whatever was read:
   pub stands : IsStanding new after
-  pub counted : (all : List ℕ) → characters_held (seen all after) ≡ characters_held (seen all before) + more
+  pub counted : (all : List ℕ) → characters_held (seen all after)
+      ≡ characters_held (seen all before) + more
   pub numbers : keys_of after.texts ≡ keys_of before.texts
   pub viewers : texts_shown after.viewers ≡ texts_shown before.viewers
   pub written : after.written ≡ before.written + more

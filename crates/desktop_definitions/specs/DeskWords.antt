@@ -29,7 +29,8 @@ use Rattle.desktop_definitions.specs.Rewriting.{kept_length}
 
 -- Whether the limits on characters hold once so many are made, and so many more and so many fewer are held.
 unfoldable pub has_space : Desktop → ℕ → ℕ → ℕ → Bool
-has_space d made more fewer = nat_le (d.written + made) most_written && nat_le (characters_held d + more) (most_held + fewer)
+has_space d made more fewer =
+    nat_le (d.written + made) most_written && nat_le (characters_held d + more) (most_held + fewer)
 
 -- A text more and a viewer more have numbers of 16 bits, and that viewer stands nowhere yet.
 pub record CanOpen (d : KeptDesktop) : Type 0 where
@@ -60,13 +61,15 @@ pub record IsMoved (n long : ℕ) (old new : ℕ × Viewer) : Type 0 where
 -- the same of each viewer
 pub record AreMoved (n long : ℕ) (olds news : List (ℕ × Viewer)) : Type 0 where
   pub as_long : length news ≡ length olds
-  pub each : (k : ℕ) (d : ℕ × Viewer) → k < length olds → IsMoved n long (get_or olds k d) (get_or news k d)
+  pub each : (k : ℕ) (d : ℕ × Viewer) → k < length olds
+      → IsMoved n long (get_or olds k d) (get_or news k d)
 
 -- ---- viewers that go, and texts that go with them
 
 -- a viewer with its place, as a closed one
 abbrev pub place_closed : Columns → ℕ → ClosedViewer
-place_closed columns v = record { viewer = v; track = track_of columns v; top = placed_top columns v }
+place_closed columns v =
+    record { viewer = v; track = track_of columns v; top = placed_top columns v }
 
 -- where a viewer stands: its left column, the row at which it begins and the one before which it ends
 pub record IsPlaceOf (c : Columns) (v x bottom top : ℕ) : Type 0 where

@@ -38,17 +38,20 @@ opened_on_copy d name text cell =
 -- a copy of a file opens in the system track
 unfoldable pub file_opened : Desktop → List ℕ → Result Desktop ℕ
 file_opened d name =
-    needs (file_of d name) no_file λ text. Ok (opened_on_copy d name text (allocated d.columns System d.marker))
+    needs (file_of d name) no_file λ text.
+    Ok (opened_on_copy d name text (allocated d.columns System d.marker))
 
 -- and in the user track, where there is no such file as an empty text
 unfoldable pub document_opened : Desktop → List ℕ → Desktop
-document_opened d name = opened_on_copy d name (unwrap_or (file_of d name) []) (allocated d.columns User d.marker)
+document_opened d name =
+    opened_on_copy d name (unwrap_or (file_of d name) []) (allocated d.columns User d.marker)
 
 -- the log opens in the system track
 unfoldable pub log_opened : Desktop → Desktop
 log_opened d =
     let menu = menu_line (codes "System.Log") in
-    more_written (opening_on d (plain_text menu) 0 0 (allocated d.columns System d.marker)) (length menu)
+    more_written (opening_on d (plain_text menu) 0 0 (allocated d.columns System d.marker))
+    (length menu)
 
 module _ {T : Type 0} where
   -- The viewer goes from the display with what is marked in it, and is the closed one with its place. What was closed
@@ -57,7 +60,11 @@ module _ {T : Type 0} where
   put_away d v =
       record (without_viewer (unmarked (λ w. w == v) d) (option_map (λ k. k.viewer) d.closed)) {
         columns = after_close d.columns v;
-        closed = Some (record { viewer = v; track = track_of d.columns v; top = placed_top d.columns v });
+        closed = Some (record {
+          viewer = v;
+          track = track_of d.columns v;
+          top = placed_top d.columns v;
+        });
       }
 
   -- the closed viewer stands where it stood
@@ -86,7 +93,8 @@ after_grow d v =
 -- there has to be room for a track more
 unfoldable pub viewer_grown : {X : Type 0} → DesktopOf (List X) → ℕ → Result (DesktopOf (List X)) ℕ
 viewer_grown d v =
-    unless (nat_lt (length (stack_of d.columns (track_of d.columns v))) DEPTH) too_deep (Ok (after_grow d v))
+    unless (nat_lt (length (stack_of d.columns (track_of d.columns v))) DEPTH) too_deep
+    (Ok (after_grow d v))
 
 -- ---- files and the log
 
@@ -153,7 +161,8 @@ selection_set d new = needs (newest d) no_selection λ s. Ok (looks_set d s new.
 -- the least position from p on at which these bytes stand
 abbrev pub found_at : List ℕ → List ℕ → ℕ → Option ℕ
 found_at bytes pattern p =
-    find (λ q. bytes_eq pattern (take (length pattern) (drop q bytes))) (range_with_len p (length bytes + 1 - p))
+    find (λ q. bytes_eq pattern (take (length pattern) (drop q bytes)))
+    (range_with_len p (length bytes + 1 - p))
 
 -- the first bytes of the newest selection, and without one those of the last search
 abbrev pub pattern_after : Desktop → List ℕ
@@ -165,5 +174,6 @@ unfoldable pub after_search : Desktop → ℕ → Result Desktop ℕ
 after_search d v =
     let pattern = pattern_after d in
     unless (nat_lt 0 (length pattern)) no_selection
-    (needs (found_at (bytes_of (main_of d v)) pattern (unwrap_or (caret_position v d.caret) 0)) not_found λ p.
+    (needs (found_at (bytes_of (main_of d v)) pattern (unwrap_or (caret_position v d.caret) 0))
+    not_found λ p.
     Ok (caret_shown (record d { pattern = pattern }) v (p + length pattern)))

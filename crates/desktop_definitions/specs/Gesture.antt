@@ -66,7 +66,8 @@ module _ {T : Type 0} where
 
   -- and the nearest row of the main frame to a row of the display
   abbrev pub text_row : DesktopOf T → ℕ → ℕ → ℕ
-  text_row d v y = frame_row d v (clamped (placed_bottom d.columns v) (placed_top d.columns v - 2) y)
+  text_row d v y =
+      frame_row d v (clamped (placed_bottom d.columns v) (placed_top d.columns v - 2) y)
 
   -- ---- in a menu
 
@@ -80,7 +81,8 @@ module _ {T : Type 0} where
 
 -- the position in a viewer's main text that is shown nearest to a cell
 unfoldable pub text_position : Desktop → ℕ → ℕ → ℕ → ℕ
-text_position d v x y = position_at (bytes_of (main_of d v)) (viewer_of d v).org (text_column d v x) (text_row d v y)
+text_position d v x y =
+    position_at (bytes_of (main_of d v)) (viewer_of d v).org (text_column d v x) (text_row d v y)
 
 -- the position in a viewer's menu that is shown nearest to a column
 unfoldable pub menu_position : Desktop → ℕ → ℕ → ℕ
@@ -92,7 +94,8 @@ menu_position d v x = position_at (bytes_of (menu_of d v)) 0 (menu_column d v x)
 unfoldable pub scrolled_to_row : Desktop → ℕ → ℕ → Desktop
 scrolled_to_row d v row =
     let begin = position_at (bytes_of (main_of d v)) (viewer_of d v).org 0 row in
-    if row_of (bytes_of (main_of d v)) (viewer_of d v).org begin == row then with_org d v begin else d
+    if row_of (bytes_of (main_of d v)) (viewer_of d v).org begin == row then with_org d v begin
+    else d
 
 -- the line comes first that stands as far down in the text as the row in the frame
 unfoldable pub scrolled_to_share : Desktop → ℕ → ℕ → Desktop
@@ -103,7 +106,8 @@ scrolled_to_share d v row =
 
 -- the stretch that the mouse drew between two positions of a viewer's text, with the characters at both
 abbrev pub selection_drawn : Desktop → ℕ → ℕ → ℕ → Selection
-selection_drawn d v p q = record { viewer = v; beg = min p q; end = min (max p q + 1) (length (main_of d v)) }
+selection_drawn d v p q =
+    record { viewer = v; beg = min p q; end = min (max p q + 1) (length (main_of d v)) }
 
 abbrev pub is_some_stretch : Selection → Bool
 is_some_stretch s = nat_lt s.beg s.end
@@ -119,11 +123,13 @@ copied_to d v p = needs (newest d) no_selection λ s. Ok (put_in d v p (selected
 -- the newest selection gets the look at a position, where the caret then stands
 unfoldable pub looks_taken : Desktop → ℕ → ℕ → Result Desktop ℕ
 looks_taken d v p =
-    needs (newest d) no_selection λ s. Ok (with_caret (looks_set d s whole_look (look_at p (main_of d v))) v p)
+    needs (newest d) no_selection λ s.
+    Ok (with_caret (looks_set d s whole_look (look_at p (main_of d v))) v p)
 
 -- a stretch goes into the deleted buffer
 unfoldable pub taken_out : Desktop → Selection → Result Desktop ℕ
-taken_out d s = unless (is_some_stretch s) no_selection (Ok (record (cut_out d s) { deleted = selected d s }))
+taken_out d s =
+    unless (is_some_stretch s) no_selection (Ok (record (cut_out d s) { deleted = selected d s }))
 
 -- a stretch is selected, and a copy of it put in at the caret
 unfoldable pub sent_to_caret : Desktop → Selection → Result Desktop ℕ
@@ -143,7 +149,8 @@ tool_opened d x y =
 
 -- the positions at both cells
 abbrev pub stretch_drawn : Desktop → ℕ → ℕ → ℕ → ℕ → ℕ → Selection
-stretch_drawn d v x0 y0 x1 y1 = selection_drawn d v (text_position d v x0 y0) (text_position d v x1 y1)
+stretch_drawn d v x0 y0 x1 y1 =
+    selection_drawn d v (text_position d v x0 y0) (text_position d v x1 y1)
 
 -- what the keys do in each region, in a version of the table of commands where a word may be called; what isn't named
 -- here changes nothing
@@ -186,8 +193,10 @@ pointed version d Filler keys x0 y0 x1 y1 = done_in_filler d keys x0 y0
 pointed version d (Menu v) keys x0 y0 x1 y1 = done_in_menu version d keys v x1 y1
 pointed version d (Bar v) keys x0 y0 x1 y1 = done_in_bar d keys v (frame_row d v y0)
 pointed version d (Body v) Right x0 y0 x1 y1 = done_with d Right (stretch_drawn d v x0 y0 x1 y1)
-pointed version d (Body v) RightLeft x0 y0 x1 y1 = done_with d RightLeft (stretch_drawn d v x0 y0 x1 y1)
-pointed version d (Body v) RightMiddle x0 y0 x1 y1 = done_with d RightMiddle (stretch_drawn d v x0 y0 x1 y1)
+pointed version d (Body v) RightLeft x0 y0 x1 y1 =
+    done_with d RightLeft (stretch_drawn d v x0 y0 x1 y1)
+pointed version d (Body v) RightMiddle x0 y0 x1 y1 =
+    done_with d RightMiddle (stretch_drawn d v x0 y0 x1 y1)
 pointed version d (Body v) keys x0 y0 x1 y1 = done_at version d keys v (text_position d v x1 y1)
 
 -- The viewer of a region stands in a track that is shown; where row y is one of its main frame, it has such rows.

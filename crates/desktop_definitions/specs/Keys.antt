@@ -11,13 +11,16 @@ use Rattle.desktop_definitions.specs.Needs.{needs}
 
 -- the bytes go to the caret in the current look, and the caret after them
 unfoldable pub after_typing : Desktop → List ℕ → Result Desktop ℕ
-after_typing d bytes = needs d.caret no_caret λ c. Ok (more_written (put_at_caret d (in_look d.look bytes) c) (length bytes))
+after_typing d bytes =
+    needs d.caret no_caret λ c.
+    Ok (more_written (put_at_caret d (in_look d.look bytes) c) (length bytes))
 
 -- the character before the caret is taken out; there is none at the beginning
 abbrev pub without_character_before : Desktop → Caret → Desktop
 without_character_before d c =
     if c.position == 0 then d else
-    caret_shown (deletion d (viewer_of d c.viewer).main (c.position - 1) c.position) c.viewer (c.position - 1)
+    caret_shown (deletion d (viewer_of d c.viewer).main (c.position - 1) c.position) c.viewer
+    (c.position - 1)
 
 -- the stretch of a selection goes into the copied buffer
 abbrev pub with_copied : Desktop → Selection → Desktop

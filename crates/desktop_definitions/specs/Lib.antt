@@ -19,6 +19,7 @@ pub mod Seen
 pub mod Shown
 pub mod Sound
 pub mod Step
+pub mod Stepped
 pub mod Tables
 pub mod Unread
 pub mod Viewers

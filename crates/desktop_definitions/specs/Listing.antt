@@ -40,7 +40,8 @@ over_entry k (t ∷ under) = Over (left_of k) (length (t ∷ under) + 1) ∷ []
 -- the viewers of the tracks of a column, from the lowest track up
 unfoldable pub stack_entries : Desktop → Track → List (List Stretch) → List Entry
 stack_entries d k [] = []
-stack_entries d k (t ∷ under) = stack_entries d k under ++ (over_entry k under ++ track_entries d k t)
+stack_entries d k (t ∷ under) =
+    stack_entries d k under ++ (over_entry k under ++ track_entries d k t)
 
 abbrev pub column_entries : Desktop → Track → List Entry
 column_entries d k = stack_entries d k (stack_of d.columns k)

@@ -10,13 +10,15 @@ use Rattle.desktop_definitions.specs.Limits.{number_of_fonts, number_of_colours,
 
 -- the names of the fonts, by their numbers
 abbrev pub fonts : List (List ℕ)
-fonts = codes "Oberon10.Scn.Fnt" ∷ codes "Oberon10i.Scn.Fnt" ∷ codes "Oberon10b.Scn.Fnt" ∷ codes "Oberon8.Scn.Fnt" ∷
-    codes "Oberon12.Scn.Fnt" ∷ []
+fonts =
+    codes "Oberon10.Scn.Fnt" ∷ codes "Oberon10i.Scn.Fnt" ∷ codes "Oberon10b.Scn.Fnt" ∷
+    codes "Oberon8.Scn.Fnt" ∷ codes "Oberon12.Scn.Fnt" ∷ []
 
 -- the font of a name, where there is one
 abbrev pub font_set : List ℕ → Option LookChange
 font_set name =
-    option_map (λ n. record { selector = 1; look = record default_look { font = n } }) (position (bytes_eq name) fonts)
+    option_map (λ n. record { selector = 1; look = record default_look { font = n } })
+    (position (bytes_eq name) fonts)
 
 -- the colour of a number
 abbrev pub colour_set : ℤ → Option LookChange

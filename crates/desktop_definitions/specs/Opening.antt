@@ -10,7 +10,8 @@ use Rattle.desktop_definitions.specs.Viewers.{opened_at, covered_by}
 
 -- the least number that isn't among these
 abbrev pub least_unused : List ℕ → ℕ
-least_unused used = position_or_len (λ n. not (list_any (λ k. k == n) used)) (range_with_len 0 (length used))
+least_unused used =
+    position_or_len (λ n. not (list_any (λ k. k == n) used)) (range_with_len 0 (length used))
 
 -- the menu of a viewer of that name
 abbrev pub menu_line : List ℕ → List ℕ

@@ -12,8 +12,9 @@ use Rattle.desktop_definitions.specs.Step.{Outcome, outcome_of}
 
 -- the codes that there are
 abbrev pub reply_codes : List ℕ
-reply_codes = no_caret ∷ no_selection ∷ no_command ∷ no_file ∷ full ∷ too_many_files ∷ outside ∷ wrong_symbol ∷
-    no_viewer ∷ not_found ∷ bad_value ∷ too_deep ∷ too_low ∷ []
+reply_codes =
+    no_caret ∷ no_selection ∷ no_command ∷ no_file ∷ full ∷ too_many_files ∷ outside ∷
+    wrong_symbol ∷ no_viewer ∷ not_found ∷ bad_value ∷ too_deep ∷ too_low ∷ []
 
 -- Done, or a refusal with one of the codes
 abbrev pub IsReply : Reply → Type 0
@@ -26,7 +27,8 @@ pub record IsUnchanged (old new : List ℕ) (before after : KeptDesktop) : Type 
   pub as_long : length new ≡ length old
 
 -- What a call leaves of a source of characters, whatever it returns.
-pub record IsSameSource {S : Type 0} (failures : S → ℕ) (honest : S → Type 0) (same_ground : S → S → Type 0)
+pub record IsSameSource {S : Type 0} (failures : S → ℕ) (honest : S → Type 0)
+    (same_ground : S → S → Type 0)
     (old new : S) : Type 0 where
   -- it is honest exactly if it was
   pub premise : honest new ↔ honest old
@@ -35,7 +37,8 @@ pub record IsSameSource {S : Type 0} (failures : S → ℕ) (honest : S → Type
   pub no_fewer : failures old ≤ failures new
 
 -- A reply, with the desktop and the characters after it, where the definitions say that they are to be this outcome.
-pub record IsAnswered (honest : Type 0) (old new : List ℕ) (before after : KeptDesktop) (outcome : Outcome)
+pub record IsAnswered (honest : Type 0) (old new : List ℕ) (before after : KeptDesktop)
+    (outcome : Outcome)
     (reply : Reply) : Type 0 where
   -- what was read stood there, so desktop and reply are just this outcome
   pub exact : honest → outcome_of (seen new after) reply ≡ outcome

@@ -51,7 +51,8 @@ before_deleted d = before_copied d + length (flat d.copied)
 abbrev pub in_all : KeptDesktop → ℕ
 in_all d = before_deleted d + length (flat d.deleted)
 
-pub record IsRewritten (honest : Type 0) (old : List ℕ) (d : KeptDesktop) (made : List ℕ) (texts : Texts (List Piece))
+pub record IsRewritten (honest : Type 0) (old : List ℕ) (d : KeptDesktop) (made : List ℕ)
+    (texts : Texts (List Piece))
     (files : Files (List Piece)) (copied deleted : List Piece) : Type 0
   where
     pub texts_laid : flats texts ≡ laid_table 0 (flats d.texts)

@@ -37,7 +37,8 @@ frame_of d e = record {
 
 -- a viewer with its texts and its main frame
 abbrev pub painted : Desktop → ℕ × Viewer → Painted
-painted d e = record { id = e.0; menu = text_of d e.1.menu; main = text_of d e.1.main; frame = frame_of d e }
+painted d e =
+    record { id = e.0; menu = text_of d e.1.menu; main = text_of d e.1.main; frame = frame_of d e }
 
 unfoldable pub shown_screen : Desktop → List (List Cell)
 shown_screen d = screen_of (picture d.columns (map (painted d) d.viewers) d.marker)

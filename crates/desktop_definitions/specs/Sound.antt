@@ -28,31 +28,38 @@ pub record IsViewer {X : Type 0} (texts : Texts (List X)) (viewers : List (ℕ �
     pub main : IsSome (text_numbered texts viewer.main)
     pub org : viewer.org ≤ length (text_in texts viewer.main)
     pub not_log : ¬ (viewer.menu ≡ 0)
-    pub no_main : (w : ℕ) (other : Viewer) → viewer_in viewers w ≡ Some other → ¬ (other.main ≡ viewer.menu)
-    pub own : (w : ℕ) (other : Viewer) → viewer_in viewers w ≡ Some other → other.menu ≡ viewer.menu → w ≡ v
+    pub no_main : (w : ℕ) (other : Viewer) → viewer_in viewers w ≡ Some other
+        → ¬ (other.main ≡ viewer.menu)
+    pub own : (w : ℕ) (other : Viewer) → viewer_in viewers w ≡ Some other → other.menu ≡ viewer.menu
+        → w ≡ v
 
-pub record AreViewers {X : Type 0} (texts : Texts (List X)) (viewers : List (ℕ × Viewer)) : Type 0 where
-  -- there is a log, and no two texts have one number
-  pub log : IsSome (text_numbered texts 0)
-  pub numbers : IsStrictlySortedBy nat_cmp (keys_of texts)
-  -- no two viewers have one id
-  pub ids : IsStrictlySortedBy nat_cmp (keys_of viewers)
-  pub each : (v : ℕ) (viewer : Viewer) → viewer_in viewers v ≡ Some viewer → IsViewer texts viewers v viewer
+pub record AreViewers {X : Type 0} (texts : Texts (List X)) (viewers : List (ℕ × Viewer)) : Type 0
+  where
+    -- there is a log, and no two texts have one number
+    pub log : IsSome (text_numbered texts 0)
+    pub numbers : IsStrictlySortedBy nat_cmp (keys_of texts)
+    -- no two viewers have one id
+    pub ids : IsStrictlySortedBy nat_cmp (keys_of viewers)
+    pub each : (v : ℕ) (viewer : Viewer) → viewer_in viewers v ≡ Some viewer
+        → IsViewer texts viewers v viewer
 
 -- ---- places
 
 -- in how many places a viewer stands: in the tracks, covered ones too, or as the one that was closed last
 abbrev pub times_there : Columns → Option ClosedViewer → ℕ → ℕ
-times_there columns closed v = times_placed v columns + times_meant v (option_map (λ k. k.viewer) closed)
+times_there columns closed v =
+    times_placed v columns + times_meant v (option_map (λ k. k.viewer) closed)
 
 pub record IsClosedPlace (k : ClosedViewer) : Type 0 where
   pub some : 0 < k.top
   pub within : k.top ≤ ROWS
 
-pub record ArePlaces (viewers : List (ℕ × Viewer)) (columns : Columns) (closed : Option ClosedViewer) : Type 0 where
+pub record ArePlaces (viewers : List (ℕ × Viewer)) (columns : Columns)
+    (closed : Option ClosedViewer) : Type 0 where
   pub columns_hold : IsColumns columns
   -- each viewer stands in one place, and nothing else does
-  pub once : (v : ℕ) → times_there columns closed v ≡ (if is_some (viewer_in viewers v) then 1 else 0)
+  pub once : (v : ℕ) → times_there columns closed v
+      ≡ (if is_some (viewer_in viewers v) then 1 else 0)
   pub closed_place : ForSome closed IsClosedPlace
 
 -- ---- what is marked; the main text of a viewer v has `long v` characters
@@ -68,7 +75,8 @@ pub record IsSelection (columns : Columns) (long : ℕ → ℕ) (s : Selection) 
   pub some : s.beg < s.end
   pub within : s.end ≤ long s.viewer
 
-pub record AreMarks (columns : Columns) (long : ℕ → ℕ) (caret : Option Caret) (selections : List Selection) : Type 0
+pub record AreMarks (columns : Columns) (long : ℕ → ℕ) (caret : Option Caret)
+    (selections : List Selection) : Type 0
   where
     pub caret_stands : ForSome caret (IsCaretPlaced columns long)
     pub all_stand : All (IsSelection columns long) selections

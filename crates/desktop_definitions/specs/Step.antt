@@ -18,7 +18,8 @@ use Rattle.desktop_definitions.specs.Gesture.{is_on_display, region_at, pointed}
 
 -- the file of that name becomes this text, which was written anew
 unfoldable pub filed : Desktop → List ℕ → Text ℕ → Desktop
-filed d name text = record d { files = file_put d.files name text; written = d.written + length text }
+filed d name text =
+    record d { files = file_put d.files name text; written = d.written + length text }
 
 -- ---- the marker
 
@@ -43,7 +44,9 @@ fits d = nat_le d.written most_written && nat_le (characters_held d) most_held
 -- last, and look at the desktop after the event alone.
 unfoldable pub outcome_after : Desktop → Result Desktop ℕ → Outcome
 outcome_after d (Err code) = outcome_of d (No code)
-outcome_after d (Ok new) = if fits (without_unshown new) then outcome_of (without_unshown new) Done else outcome_of d (No full)
+outcome_after d (Ok new) =
+    if fits (without_unshown new) then outcome_of (without_unshown new) Done
+    else outcome_of d (No full)
 
 -- what an event does but for texts that go and the limits on characters, or the code of its refusal, by the version of
 -- the table of commands
@@ -52,15 +55,18 @@ raw version d (Typed bytes) = after_typing d bytes
 raw version d (Key key) = after_key d key
 raw version d (Mark x y) = unless (is_on_display x y) outside (Ok (marked d x y))
 raw version d (Point keys x0 y0 x1 y1) =
-    unless (is_on_display x0 y0 && is_on_display x1 y1) outside (pointed version d (region_at d x0 y0) keys x0 y0 x1 y1)
-raw version d (File name bytes) = unless (has_file_room d.files name) too_many_files (Ok (filed d name (plain_text bytes)))
+    unless (is_on_display x0 y0 && is_on_display x1 y1) outside
+    (pointed version d (region_at d x0 y0) keys x0 y0 x1 y1)
+raw version d (File name bytes) =
+    unless (has_file_room d.files name) too_many_files (Ok (filed d name (plain_text bytes)))
 
 unfoldable pub step_in : ℕ → Desktop → Event → Outcome
 step_in version d event = outcome_after d (raw version d event)
 
 -- the desktop after events in a version of the table, one after another
 abbrev pub steps_in : ℕ → Desktop → List Event → Desktop
-steps_in version d events = fold (λ (now : Desktop) event. (step_in version now event).desktop) d events
+steps_in version d events =
+    fold (λ (now : Desktop) event. (step_in version now event).desktop) d events
 
 -- a step in the newest version
 unfoldable pub step : Desktop → Event → Outcome

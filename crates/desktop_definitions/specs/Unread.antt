@@ -53,7 +53,8 @@ module _ {T : Type 0} where
   needs_no_byte d (Pressed key) = key_needs_no_byte d key
   needs_no_byte d (Mark x y) = true
   needs_no_byte d (Point keys x0 y0 x1 y1) =
-      not (is_on_display x0 y0 && is_on_display x1 y1) || gesture_needs_no_byte d (region_at d x0 y0) keys
+      not (is_on_display x0 y0 && is_on_display x1 y1)
+      || gesture_needs_no_byte d (region_at d x0 y0) keys
   needs_no_byte d (File name bytes) = true
 
 -- the characters that a gesture adds that reads none: the menu of the tool text
@@ -77,7 +78,8 @@ characters_after all bytes (No code) = all
 unfoldable pub StepsUnread : ℕ → KeptDesktop → KeptDesktop → Event → Reply → Type 0
 StepsUnread version before after event reply =
     needs_no_byte before event ≡ true → (all : List ℕ) → length all ≡ before.written
-    → outcome_of (seen (characters_after all (characters_brought before event) reply) after) reply ≡ step_in version (seen all before) event
+    → outcome_of (seen (characters_after all (characters_brought before event) reply) after) reply
+    ≡ step_in version (seen all before) event
 
 -- ---- the list
 
@@ -91,4 +93,5 @@ without_name (Written n) = Written n
 -- But for the names of viewers these are the entries over every list of as many characters as were written.
 unfoldable pub ListsUnread : KeptDesktop → List Entry → Type 0
 ListsUnread d entries =
-    (all : List ℕ) → length all ≡ d.written → map without_name entries ≡ map without_name (entries_of (seen all d))
+    (all : List ℕ) → length all ≡ d.written → map without_name entries
+    ≡ map without_name (entries_of (seen all d))

@@ -52,7 +52,10 @@ module _ {T : Type 0} where
   -- the viewer shows its main text from that position on
   abbrev pub with_org : DesktopOf T → ℕ → ℕ → DesktopOf T
   with_org d v org =
-      record d { viewers = set_value (is_at (nat_cmp v)) d.viewers (record (viewer_of d v) { org = org }) }
+      record d {
+        viewers =
+            set_value (is_at (nat_cmp v)) d.viewers (record (viewer_of d v) { org = org });
+      }
 
   -- how many rows a viewer's main frame has
   abbrev pub rows_of : DesktopOf T → ℕ → ℕ
@@ -77,7 +80,8 @@ module _ {T : Type 0} where
   unselected d v = record d { selections = selections_outside (λ w. w == v) d.selections }
 
   abbrev pub with_selection : DesktopOf T → Selection → DesktopOf T
-  with_selection d s = record d { selections = selections_outside (λ w. w == s.viewer) d.selections ++ s ∷ [] }
+  with_selection d s =
+      record d { selections = selections_outside (λ w. w == s.viewer) d.selections ++ s ∷ [] }
 
   -- the desktop without a viewer, where one is meant
   abbrev pub without_viewer : DesktopOf T → Option ℕ → DesktopOf T
@@ -97,7 +101,8 @@ module _ {T : Type 0} where
 
   -- a viewer has a new track whole, over the one that a column showed, in which nothing is marked any more
   unfoldable pub covered_by : DesktopOf T → ℕ → Track → DesktopOf T
-  covered_by d v k = record (unmarked (is_shown_in d k) d) { columns = after_open_track d.columns v (left_of k) }
+  covered_by d v k =
+      record (unmarked (is_shown_in d k) d) { columns = after_open_track d.columns v (left_of k) }
 
 abbrev pub text_of : Desktop → ℕ → Text ℕ
 text_of d n = text_in d.texts n

@@ -23,7 +23,8 @@ pub fn steps_of_more()
     ensures newest { (d : Desktop) (events : List Event) (event : Event)
         → steps d (events ++ event ∷ []) ≡ (step (steps d events) event).desktop }
     ensures each { (version : ℕ) (d : Desktop) (events : List Event) (event : Event)
-        → steps_in version d (events ++ event ∷ []) ≡ (step_in version (steps_in version d events) event).desktop }
+        → steps_in version d (events ++ event ∷ [])
+        ≡ (step_in version (steps_in version d events) event).desktop }
 {}
 
 /// A desktop over its characters is seen as before once there are more of them.

@@ -97,7 +97,8 @@ fn counted<D: Disk>(
 /// The same where the pages are there.
 fn count_over<D: Disk>(disk: &mut D, pages: &mut Pages, again: bool) -> (u32, u32, u32)
     requires on_disk { base_of pages.old + saved_sectors pages.old ≤ D.size disk.old }
-    requires told { D.honest disk.old → AreTrue (now (D.trail disk.old)).reads (cached_of pages.old) }
+    requires told { D.honest disk.old
+        → AreTrue (now (D.trail disk.old)).reads (cached_of pages.old) }
 {
     let mut source = Paged::over(disk, pages);
     let first = count(&mut source);
@@ -129,10 +130,12 @@ fn one_failed_read_is_one_character_less(rt: HostRuntime) -> Result<(), Fail> {
 /// Adds two characters over a disk and reads the first one: where they were added.
 fn add_two<D: Disk>(disk: &mut D, pages: &mut Pages) -> Result<u32, Fail>
     requires on_disk { base_of pages.old + saved_sectors pages.old ≤ D.size disk.old }
-    requires told { D.honest disk.old → AreTrue (now (D.trail disk.old)).reads (cached_of pages.old) }
+    requires told { D.honest disk.old
+        → AreTrue (now (D.trail disk.old)).reads (cached_of pages.old) }
     ensures large { D.size disk.new ≡ D.size disk.old }
     ensures base { base_of pages.new ≡ base_of pages.old }
-    ensures told { D.honest disk.new → AreTrue (now (D.trail disk.new)).reads (cached_of pages.new) }
+    ensures told { D.honest disk.new
+        → AreTrue (now (D.trail disk.new)).reads (cached_of pages.new) }
 {
     let mut source = Paged::over(disk, pages);
     if source.len() == 0 || source.len() > ALL {

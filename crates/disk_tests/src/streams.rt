@@ -3,9 +3,9 @@ ghost use Rattle.std.specs.Prelude.{◌≡◌};
 
 use desk_image::{ByteSink, ByteSource};
 use sector_disk::{Disk, Fault, MemoryDisk};
-use store_layout::{Draining, Filling, SectorSink, SectorSource};
 use std::alloc::Global;
 use std::test::Fail;
+use store_layout::{Draining, Filling, SectorSink, SectorSource};
 
 /// Puts the bytes in two parts, of which the first is so long.
 fn put_parts<S: ByteSink>(sink: &mut S, bytes: &[u8], cut: usize) -> Result<(), Fault>

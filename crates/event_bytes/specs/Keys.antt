@@ -23,7 +23,8 @@ key_number Escape = 4
 -- all keys of the mouse, by their numbers: each alone, and with the two others while it is down
 abbrev pub all_of_mouse : List Keys
 all_of_mouse =
-    Left ∷ LeftMiddle ∷ LeftRight ∷ Middle ∷ MiddleLeft ∷ MiddleRight ∷ Right ∷ RightLeft ∷ RightMiddle ∷ []
+    Left ∷ LeftMiddle ∷ LeftRight ∷ Middle ∷ MiddleLeft ∷ MiddleRight ∷ Right ∷ RightLeft
+    ∷ RightMiddle ∷ []
 
 abbrev pub keys_of : ℕ → Option Keys
 keys_of n = slice_get all_of_mouse n

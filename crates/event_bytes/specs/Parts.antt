@@ -55,7 +55,8 @@ counted_at number_at bytes = do
   bytes_at n.0 n.1
 
 -- three values, one after another, and what is made of them
-abbrev pub three_at : {A B C X : Type 0} → Reader A → Reader B → Reader C → (A → B → C → X) → Reader X
+abbrev pub three_at : {A B C X : Type 0} → Reader A → Reader B → Reader C → (A → B → C → X)
+    → Reader X
 three_at first second third made bytes = do
   a ← first bytes
   b ← second a.1
@@ -75,6 +76,8 @@ pub record TakesValue {A : Type 0} (write : A → List ℕ) (Fits : A
   pub parts : bytes ≡ write x ++ rest
 
 -- What is read was written so, and what is written so is read, whatever follows.
-pub record IsPart {A : Type 0} (write : A → List ℕ) (Fits : A → Type 0) (read : Reader A) : Type 0 where
-  pub takes : (bytes : List ℕ) (x : A) (rest : List ℕ) → read bytes ≡ Some (x, rest) → TakesValue write Fits bytes x rest
+pub record IsPart {A : Type 0} (write : A → List ℕ) (Fits : A → Type 0)
+    (read : Reader A) : Type 0 where
+  pub takes : (bytes : List ℕ) (x : A) (rest : List ℕ) → read bytes ≡ Some (x, rest)
+      → TakesValue write Fits bytes x rest
   pub again : (x : A) (rest : List ℕ) → Fits x → read (write x ++ rest) ≡ Some (x, rest)

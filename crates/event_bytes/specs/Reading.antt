@@ -69,7 +69,10 @@ mark_body_at bytes = do
 unfoldable pub point_body_at : Reader Event
 point_body_at bytes = do
   drag ← drag_at bytes
-  Some (Point drag.0.keys drag.0.pressed.x drag.0.pressed.y drag.0.released.x drag.0.released.y, drag.1)
+  Some (
+    Point drag.0.keys drag.0.pressed.x drag.0.pressed.y drag.0.released.x drag.0.released.y,
+    drag.1,
+  )
 
 unfoldable pub file_body_at : Reader Event
 file_body_at bytes = do

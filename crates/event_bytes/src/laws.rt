@@ -6,7 +6,8 @@ ghost use Rattle.event_bytes.specs.Spelling.{IsEvent, spelling, BeginsWithEvent}
 /// Bytes begin with at most one event: two events never have one spelling, and no event's spelling is the beginning of
 /// another's.
 pub fn at_most_one_begins()
-    ensures { (bytes : List ℕ) (e f : Event) → BeginsWithEvent bytes e → BeginsWithEvent bytes f → e ≡ f }
+    ensures { (bytes : List ℕ) (e f : Event) → BeginsWithEvent bytes e → BeginsWithEvent bytes f
+        → e ≡ f }
 {}
 
 /// A spelling has at least 2 bytes and at most 935: it fits a sector of 1,024.

@@ -1,15 +1,16 @@
 //! The desktop.
-ghost use Rattle.std.specs.Prelude.{◌≡◌, ℕ, List, [], length, Ok, IfOk, IfSome, OnOk, IsErrOf, option_map};
+ghost use Rattle.std.specs.Prelude.{◌≡◌, ℕ, List, [], length, IfOk, IfSome, OnOk, IsErrOf, option_map};
 ghost use Rattle.readers_scanners.specs.Words.{contents};
 ghost use Rattle.command_table.specs.Versions.{version_number, newest_version};
-ghost use Rattle.desktop_definitions.specs.declared.reply.Reply.TheVariants.{No};
 ghost use Rattle.desktop_definitions.specs.Desktop.{KeptDesktop, empty_desktop, file_of};
-ghost use Rattle.desktop_definitions.specs.Step.{step_in, outcome_of};
-ghost use Rattle.desktop_definitions.specs.Unread.{StepsUnread, ListsUnread, characters_after};
-ghost use Rattle.desktop_definitions.specs.Outcome.{IsReply, IsUnchanged, IsSameSource};
+ghost use Rattle.desktop_definitions.specs.Step.{step_in};
+ghost use Rattle.desktop_definitions.specs.Unread.{ListsUnread, characters_after};
+ghost use Rattle.desktop_definitions.specs.Outcome.{IsSameSource};
 ghost use Rattle.desktop_definitions.specs.Listing.{entries_of};
 ghost use Rattle.desktop_definitions.specs.Shown.{shown_screen};
-ghost use Rattle.desk_bringing.specs.Bringing.{all_bytes, brought_in, BringsUnread};
+ghost use Rattle.desk_bringing.specs.Bringing.{all_bytes};
+ghost use Rattle.desktop_definitions.specs.Stepped.{IsStep};
+ghost use Rattle.desk_bringing.specs.Bringing.{IsBringing};
 ghost use Rattle.desk_image.specs.Streams.{Puts, IsImageFault};
 ghost use Rattle.desk_image.specs.Image.{Spells, image_of, image_bytes, IsSpellable};
 ghost use Rattle.desk_image.specs.Passing.{OnlyGets};
@@ -61,7 +62,8 @@ impl Model for Desktop {
 impl Desktop {
     /// The empty desktop: no file, nothing written. It is over no character. NoMemory where an allocation is refused.
     pub fn empty(alloc: Global) -> Result<Desktop, NoMemory>
-        ensures seen { IfOk result (λ d. (characters : List ℕ) → seen characters d ≡ empty_desktop) }
+        ensures seen { IfOk result (λ d. (characters : List ℕ) → seen characters d
+            ≡ empty_desktop) }
         ensures over { IfOk result (λ d. IsOver [] d) }
     {
         let desk = empty_desk(alloc)?;
@@ -72,19 +74,21 @@ impl Desktop {
     /// characters were written for it. Damaged exactly where an honest source has the image of no desktop; NoMemory
     /// where an allocation is refused; Fault where a byte could not be read.
     pub fn from_image<S: ByteSource>(
-        version: Version,
         alloc: Global,
+        version: Version,
         source: &mut S,
         written: u32,
     ) -> Result<Desktop, ImageFault>
         ensures spelled { IfOk result (λ d. S.honest source.old
             → Spells (version_number version) written (S.remaining source.old) d) }
         ensures damaged { IsErrOf result ImageFault.Damaged → S.honest source.old
-            → (d : KeptDesktop) → ¬ Spells (version_number version) written (S.remaining source.old) d }
+            → (d : KeptDesktop) → ¬ Spells (version_number version) written (S.remaining source.old)
+            d }
         ensures whole { IfOk result (λ d. IsKeptWhole d) }
         ensures count { IfOk result (λ d. d.written ≡ written) }
         ensures only { OnlyGets S.honest S.same_ground source.old source.new }
-        ensures faults { FailsAs ImageFault.Fault IsImageFault result (S.failures source.old) (S.failures source.new) }
+        ensures faults { FailsAs ImageFault.Fault IsImageFault result (S.failures source.old)
+            (S.failures source.new) }
     {
         images_are_read();
         desktops_fit();
@@ -102,22 +106,19 @@ impl Desktop {
     /// after either.
     pub fn step<S: CharSource>(
         &mut self,
-        version: Version,
         alloc: Global,
+        version: Version,
         event: &Event,
         source: &mut S,
     ) -> Result<Reply, Stop>
         requires { IsOver (S.characters source.old) self.old }
-        ensures done { IfOk result (λ reply. S.honest source.old
-            → outcome_of (seen (S.characters source.new) self.new) reply
-            ≡ step_in (version_number version) (seen (S.characters source.old) self.old) event.now) }
-        ensures unread { IfOk result (StepsUnread (version_number version) self.old self.new event.now) }
+        ensures stepped { IfOk result (IsStep (S.honest source.old) (version_number version)
+            event.now self.old self.new (seen (S.characters source.old) self.old)
+            (seen (S.characters source.new) self.new)) }
         ensures over { OnOk result (IsOver (S.characters source.new) self.new) }
-        ensures replies { IfOk result IsReply }
-        ensures refusal { (code : ℕ) → result ≡ Ok (No code)
-            → IsUnchanged (S.characters source.old) (S.characters source.new) self.old self.new }
         ensures source { IsSameSource S.failures S.honest S.same_ground source.old source.new }
-        ensures faults { FailsAs Stop.Fault IsStop result (S.failures source.old) (S.failures source.new) }
+        ensures faults { FailsAs Stop.Fault IsStop result (S.failures source.old)
+            (S.failures source.new) }
     {
         self.desk.alloc = alloc;
         act(&mut self.desk, version, event, source)
@@ -135,18 +136,15 @@ impl Desktop {
         source: &mut S,
     ) -> Result<Reply, Stop>
         requires { IsOver (S.characters source.old) self.old }
-        ensures done { IfOk result (λ reply. S.honest source.old
-            → outcome_of (seen (S.characters source.new) self.new) reply
-            ≡ brought_in (seen (S.characters source.old) self.old) documents.now) }
-        ensures unread { IfOk result (BringsUnread self.old self.new documents.now) }
+        ensures brought { IfOk result (IsBringing (S.honest source.old) documents.now
+            self.old self.new (seen (S.characters source.old) self.old)
+            (seen (S.characters source.new) self.new)) }
         ensures added { IfOk result (λ reply. S.characters source.new
             ≡ characters_after (S.characters source.old) (all_bytes documents.now) reply) }
         ensures over { OnOk result (IsOver (S.characters source.new) self.new) }
-        ensures replies { IfOk result IsReply }
-        ensures refusal { (code : ℕ) → result ≡ Ok (No code)
-            → IsUnchanged (S.characters source.old) (S.characters source.new) self.old self.new }
         ensures source { IsSameSource S.failures S.honest S.same_ground source.old source.new }
-        ensures faults { FailsAs Stop.Fault IsStop result (S.failures source.old) (S.failures source.new) }
+        ensures faults { FailsAs Stop.Fault IsStop result (S.failures source.old)
+            (S.failures source.new) }
     {
         self.desk.alloc = alloc;
         bring(&mut self.desk, documents, source)
@@ -155,7 +153,8 @@ impl Desktop {
     /// The text of the file of that name. None exactly where there is no file of that name.
     pub fn file(&self, name: &Name) -> Option<&Text>
         ensures kept { option_map (λ text. text.now) result ≡ file_of self.now name.now }
-        ensures seen { (characters : List ℕ) → option_map (λ text. contents characters (flat text.now)) result
+        ensures seen { (characters : List ℕ)
+            → option_map (λ text. contents characters (flat text.now)) result
             ≡ file_of (seen characters self.now) name.now }
         ensures within { (characters : List ℕ) → IsOver characters self.now
             → IfSome result (λ text. AreWithin (length characters) (flat text.now)) }
@@ -175,8 +174,10 @@ impl Desktop {
             → entries.items ≡ entries_of (seen (S.characters source.old) self.old)) }
         ensures unread { IfOk result (λ entries. ListsUnread self.old entries.items) }
         ensures unchanged { self.new ≡ self.old }
-        ensures reads { OnlyReads S.characters S.failures S.honest S.same_ground source.old source.new }
-        ensures faults { FailsAs Stop.Fault IsStop result (S.failures source.old) (S.failures source.new) }
+        ensures reads { OnlyReads S.characters S.failures S.honest S.same_ground source.old
+            source.new }
+        ensures faults { FailsAs Stop.Fault IsStop result (S.failures source.old)
+            (S.failures source.new) }
     {
         self.desk.alloc = alloc;
         let mut entries = entries(alloc, &self.desk.files)?;
@@ -191,7 +192,8 @@ impl Desktop {
     pub fn forget_stale(&self, event: &Event, lines: &mut KeptLines)
         ensures { (version : ℕ) (characters : List ℕ) → IsOver characters self.now
             → AreLinesOf (text_of (seen characters self.now)) lines.old
-            → AreLinesOf (text_of (step_in version (seen characters self.now) event.now).desktop) lines.new }
+            → AreLinesOf (text_of (step_in version (seen characters self.now) event.now).desktop)
+            lines.new }
     {
         forget(
             lines,
@@ -220,8 +222,10 @@ impl Desktop {
             → AreLinesOf (text_of (seen (S.characters source.old) self.old)) lines.old
             → AreLinesOf (text_of (seen (S.characters source.old) self.old)) lines.new }
         ensures unchanged { self.new ≡ self.old }
-        ensures reads { OnlyReads S.characters S.failures S.honest S.same_ground source.old source.new }
-        ensures faults { FailsAs Stop.Fault IsStop result (S.failures source.old) (S.failures source.new) }
+        ensures reads { OnlyReads S.characters S.failures S.honest S.same_ground source.old
+            source.new }
+        ensures faults { FailsAs Stop.Fault IsStop result (S.failures source.old)
+            (S.failures source.new) }
     {
         self.desk.alloc = alloc;
         paint(&self.desk, lines, source, screen)
@@ -234,7 +238,8 @@ impl Desktop {
         requires { IsKeptWhole self.now }
         ensures spelled { IfOk result (λ n. IsSpellable newest_version self.now
             × (n ≡ length (image_bytes newest_version (image_of self.now)))) }
-        ensures puts { Puts K.ByteSink result (image_bytes newest_version (image_of self.now)) sink.old sink.new }
+        ensures puts { Puts K.ByteSink result (image_bytes newest_version (image_of self.now))
+            sink.old sink.new }
     {
         put_image(&self.desk, sink)
     }

@@ -74,7 +74,8 @@ fn point_filler<S: CharSource>(
 ) -> StepResult
     requires over { IsOver (S.characters source.old) (kept_desktop desk.old) }
     requires cell { (cell.0 < COLUMNS) × (cell.1 < ROWS) }
-    ensures { DoesBringing S.CharSource (gesture_brings Filler keys) (λ all d. done_in_filler d keys cell.0 cell.1) result
+    ensures { DoesBringing S.CharSource (gesture_brings Filler keys)
+        (λ all d. done_in_filler d keys cell.0 cell.1) result
         source.old source.new (kept_desktop desk.old) (kept_desktop desk.new) }
 {
     match keys {
@@ -96,7 +97,8 @@ fn point_menu<S: CharSource>(
     requires placed { IsOnTop id (kept_desktop desk.old).columns }
     requires over { IsOver (S.characters source.old) (kept_desktop desk.old) }
     requires cell { (cell.0 < COLUMNS) × (cell.1 < ROWS) }
-    ensures { DoesUnread S.CharSource (gesture_needs_no_byte (kept_desktop desk.old) (Menu id) keys ≡ true)
+    ensures { DoesUnread S.CharSource (gesture_needs_no_byte (kept_desktop desk.old) (Menu id) keys
+        ≡ true)
         (λ d. done_in_menu (version_number version) d keys id cell.0 cell.1) result
         source.old source.new (kept_desktop desk.old) (kept_desktop desk.new) }
 {
@@ -118,7 +120,8 @@ fn call_in_menu<S: CharSource>(
 ) -> StepResult
     requires placed { IsOnTop id (kept_desktop desk.old).columns }
     requires over { IsOver (S.characters source.old) (kept_desktop desk.old) }
-    ensures { Does S.CharSource (λ d. after_call (version_number version) d id true (menu_position d id x)) result
+    ensures { Does S.CharSource
+        (λ d. after_call (version_number version) d id true (menu_position d id x)) result
         source.old source.new (kept_desktop desk.old) (kept_desktop desk.new) }
 {
     let pos = menu_position(desk, id, x, source)?;
@@ -135,8 +138,10 @@ fn point_bar<S: CharSource>(
     source: &mut S,
 ) -> StepResult
     requires at { IsMainRow (S.characters source.old) (kept_desktop desk.old) id row }
-    ensures { DoesUnread S.CharSource (gesture_needs_no_byte (kept_desktop desk.old) (Bar id) keys ≡ true)
-        (λ d. done_in_bar d keys id row) result source.old source.new (kept_desktop desk.old) (kept_desktop desk.new) }
+    ensures { DoesUnread S.CharSource (gesture_needs_no_byte (kept_desktop desk.old) (Bar id) keys
+        ≡ true)
+        (λ d. done_in_bar d keys id row) result source.old source.new (kept_desktop desk.old)
+        (kept_desktop desk.new) }
 {
     match keys {
         Keys::Left => scroll_row(desk, id, row, source),
@@ -156,8 +161,10 @@ fn point_text<S: CharSource>(
     source: &mut S,
 ) -> StepResult
     requires at { IsMainRow (S.characters source.old) (kept_desktop desk.old) id 0 }
-    ensures { DoesUnread S.CharSource (gesture_needs_no_byte (kept_desktop desk.old) (Body id) gesture.keys ≡ true)
-        (λ d. pointed (version_number version) d (Body id) gesture.keys gesture.from.0 gesture.from.1 gesture.to.0 gesture.to.1)
+    ensures { DoesUnread S.CharSource
+        (gesture_needs_no_byte (kept_desktop desk.old) (Body id) gesture.keys ≡ true)
+        (λ d. pointed (version_number version) d (Body id) gesture.keys gesture.from.0
+        gesture.from.1 gesture.to.0 gesture.to.1)
         result source.old source.new (kept_desktop desk.old) (kept_desktop desk.new) }
 {
     match gesture.keys {
@@ -184,7 +191,8 @@ fn point_cell<S: CharSource>(
     source: &mut S,
 ) -> StepResult
     requires at { IsMainRow (S.characters source.old) (kept_desktop desk.old) id 0 }
-    ensures { DoesUnread S.CharSource (gesture_needs_no_byte (kept_desktop desk.old) (Body id) keys ≡ true)
+    ensures { DoesUnread S.CharSource (gesture_needs_no_byte (kept_desktop desk.old) (Body id) keys
+        ≡ true)
         (λ d. done_at (version_number version) d keys id (text_position d id cell.0 cell.1)) result
         source.old source.new (kept_desktop desk.old) (kept_desktop desk.new) }
 {
@@ -203,7 +211,8 @@ fn point_position<S: CharSource>(
     source: &mut S,
 ) -> StepResult
     requires { IsMainPlace (S.characters source.old) (kept_desktop desk.old) id pos }
-    ensures { DoesUnread S.CharSource (gesture_needs_no_byte (kept_desktop desk.old) (Body id) keys ≡ true)
+    ensures { DoesUnread S.CharSource (gesture_needs_no_byte (kept_desktop desk.old) (Body id) keys
+        ≡ true)
         (λ d. done_at (version_number version) d keys id pos) result
         source.old source.new (kept_desktop desk.old) (kept_desktop desk.new) }
 {
@@ -224,8 +233,10 @@ fn point_stretch<S: CharSource>(
     drawn: Selection,
     source: &mut S,
 ) -> StepResult
-    requires { IsMainPlace (S.characters source.old) (kept_desktop desk.old) drawn.viewer drawn.end }
-    ensures { Does S.CharSource (λ d. done_with d keys drawn) result source.old source.new (kept_desktop desk.old) (kept_desktop desk.new) }
+    requires { IsMainPlace (S.characters source.old) (kept_desktop desk.old) drawn.viewer
+        drawn.end }
+    ensures { Does S.CharSource (λ d. done_with d keys drawn) result source.old source.new
+        (kept_desktop desk.old) (kept_desktop desk.new) }
 {
     match keys {
         Keys::Right => desk.select(drawn, source),
@@ -239,7 +250,8 @@ fn point_stretch<S: CharSource>(
 fn draw<S: CharSource>(desk: &mut Desk, id: u16, gesture: Gesture, source: &mut S) -> StepResult
     requires at { IsMainRow (S.characters source.old) (kept_desktop desk.old) id 0 }
     ensures { Does S.CharSource (λ d.
-        done_with d gesture.keys (stretch_drawn d id gesture.from.0 gesture.from.1 gesture.to.0 gesture.to.1)) result
+        done_with d gesture.keys
+        (stretch_drawn d id gesture.from.0 gesture.from.1 gesture.to.0 gesture.to.1)) result
         source.old source.new (kept_desktop desk.old) (kept_desktop desk.new) }
 {
     let drawn = stretch_drawn(desk, id, gesture.from, gesture.to, source)?;

@@ -16,11 +16,11 @@ ghost use Rattle.desk_core.specs.Kept.{kept_desktop};
 use desk_core::desk::Desk;
 use desk_core::marks::are_on_display;
 use desk_core::viewers::{ViewerTable, viewer_or_none};
+use desk_input::Stale;
 use desk_input::places::region_under;
 use desktop_definitions::{Caret, Region, Selection};
 use event_bytes::{Event, Key, Keys};
 use screen_cells::KeptLines;
-use desk_input::Stale;
 
 /// Which texts the event may change.
 pub fn stale_of(desk: &Desk, event: &Event) -> Stale
@@ -44,7 +44,8 @@ pub fn stale_of(desk: &Desk, event: &Event) -> Stale
 /// Which texts the mouse may change, whose keys went down at the cell `from` and up at `to`.
 fn stale_by_point(desk: &Desk, keys: Keys, from: (u8, u8), to: (u8, u8)) -> Stale
     ensures { result ≡ (if is_on_display from.0 from.1 && is_on_display to.0 to.1
-        then stale_by_gesture (kept_desktop desk.now).viewers (kept_desktop desk.now).caret (newest (kept_desktop desk.now))
+        then stale_by_gesture (kept_desktop desk.now).viewers (kept_desktop desk.now).caret
+        (newest (kept_desktop desk.now))
         (region_at (kept_desktop desk.now) from.0 from.1) keys else Nothing) }
 {
     if !are_on_display(from, to) {
@@ -104,7 +105,8 @@ fn stale_in_filler(keys: Keys) -> Stale
 /// Which texts the keys of the mouse may change in the menu of a viewer.
 #[tactic(auto, unfolding(desk_input::specs::Stale::stale_by_gesture))]
 fn stale_in_menu(keys: Keys) -> Stale
-    ensures { (viewers : List (ℕ × AViewer)) (caret : Option ACaret) (newest : Option ASelection) (v : ℕ)
+    ensures { (viewers : List (ℕ × AViewer)) (caret : Option ACaret) (newest : Option ASelection)
+        (v : ℕ)
         → result ≡ stale_by_gesture viewers caret newest (Menu v) keys }
 {
     match keys {
@@ -184,7 +186,8 @@ fn position_or_zero(caret: Option<Caret>) -> u32
 /// Gives up the lines of these texts that may change where a text changes from that position on. Those that are left
 /// are so of all texts of which the others are as before, and all have the same characters before the position.
 pub fn forget(lines: &mut KeptLines, stale: Stale, from: u32)
-    ensures { (before after : ℕ → AText ℕ) → ((n : ℕ) → is_stale stale n ≡ false → after n ≡ before n)
+    ensures { (before after : ℕ → AText ℕ)
+        → ((n : ℕ) → is_stale stale n ≡ false → after n ≡ before n)
         → ((n : ℕ) → take from (after n) ≡ take from (before n))
         → AreLinesOf before lines.old → AreLinesOf after lines.new }
 {

@@ -23,4 +23,5 @@ module _ {F : Type 0} (f : Ghosts F) where
   -- what stands there is no store, or a damaged one
   pub record IsNoneIn (file : F) (error : Error) : Type 0 where
     pub foreign : error ≡ NotAStore → f.honest file → IsForeign FILE_SECTORS (content_of file)
-    pub damaged : (n : ℕ) → error ≡ Damaged n → f.honest file → IsDamagedAt FILE_SECTORS (content_of file) n
+    pub damaged : (n : ℕ) → error ≡ Damaged n → f.honest file
+        → IsDamagedAt FILE_SECTORS (content_of file) n

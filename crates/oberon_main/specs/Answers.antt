@@ -35,7 +35,8 @@ session_after s Malformed = s
 -- the answers to lines, one after another
 abbrev pub answers_to : Session → List (List ℕ) → List ℕ
 answers_to s [] = []
-answers_to s (line ∷ lines) = answer s (request_of line) ++ answers_to (session_after s (request_of line)) lines
+answers_to s (line ∷ lines) = answer s (request_of line)
+    ++ answers_to (session_after s (request_of line)) lines
 
 abbrev pub after_all : Session → List (List ℕ) → Session
 after_all s [] = s

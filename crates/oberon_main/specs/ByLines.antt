@@ -30,14 +30,16 @@ pub record AreLines (script : List ℕ) (lines : List (List ℕ)) : Type 0 where
   pub are : lines ≡ lines_at_end ends rest
 
 -- These lines came whole of a script of which this was left when its reading failed.
-pub record CameWhole (script : List ℕ) (left : Option (List ℕ)) (lines : List (List ℕ)) : Type 0 where
+pub record CameWhole (script : List ℕ) (left : Option (List ℕ))
+    (lines : List (List ℕ)) : Type 0 where
   pub read : List ℕ
   pub came : Consumes (Some script) left read
   pub rest : List ℕ
   pub split : IsSplit read lines rest
 
 -- After these lines comes this one, in the script where its bytes are known.
-pub record IsNextLine (from : Option (List ℕ)) (lines : List (List ℕ)) (line : List ℕ) : Type 0 where
+pub record IsNextLine (from : Option (List ℕ)) (lines : List (List ℕ))
+    (line : List ℕ) : Type 0 where
   pub plain : IsLine line
   pub begins : IfSome from (λ script. BeginsWith script (lines ++ line ∷ []))
 
@@ -49,20 +51,23 @@ pub record IsUnanswered (line : List ℕ) (held held' : Option (List ℕ)) : Typ
 -- The word was written that says why a script ended; or the output failed in it, and so the script ends by that.
 pub data SaysWhy (why : PlayEnd) (held held' : Option (List ℕ)) : PlayEnd → Type 0 where
   said : Appends held held' (last_word why) → SaysWhy why held held' why
-  unsaid : why ≢ Done → why ≢ Output → AppendsFront held held' (last_word why) → SaysWhy why held held' Output
+  unsaid : why ≢ Done → why ≢ Output → AppendsFront held held' (last_word why)
+      → SaysWhy why held held' Output
 
 module _ {D : Type 0} (d : Ghosts D) where
   -- ---- one line
 
   -- a crash now leaves what the store shows
   abbrev pub Lasts : StoreView D → Type 0
-  Lasts store = Leaves (now (d.trail store.disk)) (Shows (d.size store.disk) store.layout store.epoch store.events
+  Lasts store = Leaves (now (d.trail store.disk))
+      (Shows (d.size store.disk) store.layout store.epoch store.events
       store.desktop)
 
   -- at every moment a crash leaves the desktop before the line or the one after it
   abbrev pub LeavesLine : List ℕ → StoreView D → StoreView D → Type 0
   LeavesLine line old new = LeavesOnly (d.trail old.disk) (d.trail new.disk)
-      (MeansEither (d.size old.disk) old.desktop (session_after (session_of old) (request_of line)).desktop)
+      (MeansEither (d.size old.disk) old.desktop
+      (session_after (session_of old) (request_of line)).desktop)
 
   -- The line was served: its answer was worked out. The store then shows the session after it, and a crash leaves that.
   pub record ServesLine (line : List ℕ) (old new : StoreView D) : Type 0 where
@@ -72,37 +77,47 @@ module _ {D : Type 0} (d : Ghosts D) where
     pub as_large : d.size new.disk ≡ d.size old.disk
 
   -- The line was served, and the writer took its whole answer.
-  pub record AnswersLine (line : List ℕ) (held held' : Option (List ℕ)) (old new : StoreView D) : Type 0 where
+  pub record AnswersLine (line : List ℕ) (held held' : Option (List ℕ))
+      (old new : StoreView D) : Type 0 where
     pub serves : ServesLine line old new
     pub written : Appends held held' (answer (session_of old) (request_of line))
 
   -- A script ends at a line. After a fault its event may be in an image or not, and for want of memory it is in none.
   -- Where the output failed the line was served before.
-  pub data EndsAt (line : List ℕ) (held held' : Option (List ℕ)) (old new : StoreView D) : PlayEnd → Type 0 where
-    faulty : IsUnanswered line held held' → LeavesLine line old new → EndsAt line held held' old new Fault
-    starved : IsUnanswered line held held' → LeavesFirst d old new → EndsAt line held held' old new Memory
-    cut_short : ServesLine line old new → AppendsFront held held' (answer (session_of old) (request_of line))
+  pub data EndsAt (line : List ℕ) (held held' : Option (List ℕ))
+      (old new : StoreView D) : PlayEnd → Type 0 where
+    faulty : IsUnanswered line held held' → LeavesLine line old new
+        → EndsAt line held held' old new Fault
+    starved : IsUnanswered line held held' → LeavesFirst d old new
+        → EndsAt line held held' old new Memory
+    cut_short : ServesLine line old new
+        → AppendsFront held held' (answer (session_of old) (request_of line))
         → EndsAt line held held' old new Output
 
   -- What comes of a line that is held, whatever the line is: it is answered, or the script ends at it.
-  abbrev pub PlaysLine : Line → Result Unit PlayEnd → Option (List ℕ) → Option (List ℕ) → StoreView D → StoreView D
+  abbrev pub PlaysLine : Line → Result Unit PlayEnd → Option (List ℕ) → Option (List ℕ)
+      → StoreView D → StoreView D
       → Type 0
   PlaysLine line result held held' old new = IsDurable d old → d.honest old.disk → (bytes : List ℕ)
       → HoldsLine line bytes → MatchResult result (λ _. AnswersLine bytes held held' old new)
       (λ end. EndsAt bytes held held' old new end)
 
   -- What comes of what stands after the last line feed: nothing, or a line.
-  pub data EndsInRest (rest : List ℕ) (held held' : Option (List ℕ)) (old new : StoreView D) : PlayEnd → Type 0 where
+  pub data EndsInRest (rest : List ℕ) (held held' : Option (List ℕ))
+      (old new : StoreView D) : PlayEnd → Type 0 where
     no_line : rest ≡ [] → Keeps held held' → new ≡ old → EndsInRest rest held held' old new Done
-    answered : rest ≢ [] → AnswersLine rest held held' old new → EndsInRest rest held held' old new Done
-    ended : {end : PlayEnd} → rest ≢ [] → EndsAt rest held held' old new end → EndsInRest rest held held' old new end
+    answered : rest ≢ [] → AnswersLine rest held held' old new
+        → EndsInRest rest held held' old new Done
+    ended : {end : PlayEnd} → rest ≢ [] → EndsAt rest held held' old new end
+        → EndsInRest rest held held' old new end
 
   -- ---- lines, one after another
 
   -- These lines led from the one state of the store to the other: each was served, from where those before it led.
   abbrev pub IsLineRun : List (List ℕ) → StoreView D → StoreView D → Type 0
   IsLineRun [] old new = new ≡ old
-  IsLineRun (line ∷ lines) old new = (mid : StoreView D) × ServesLine line old mid × IsLineRun lines mid new
+  IsLineRun (line ∷ lines) old new = (mid : StoreView D) × ServesLine line old mid
+      × IsLineRun lines mid new
 
   -- nothing is done, and nothing is written
   pub record IsSilent (old new : PlayState D) : Type 0 where
@@ -110,14 +125,16 @@ module _ {D : Type 0} (d : Ghosts D) where
     pub held : Keeps old.held new.held
 
   -- Why no line was answered after these: there is none, a read failed, or the script ended at the next one.
-  pub data ScriptStops (from : Option (List ℕ)) (answered : List (List ℕ)) (old new : PlayState D) : PlayEnd → Type 0
+  pub data ScriptStops (from : Option (List ℕ)) (answered : List (List ℕ))
+      (old new : PlayState D) : PlayEnd → Type 0
     where
       at_end : IsSilent old new → IfSome from (λ script. AreLines script answered)
           → ScriptStops from answered old new Done
       cut_off : IsSilent old new → IfSome from (λ script. CameWhole script new.left answered)
           → ScriptStops from answered old new Input
       at_line : {end : PlayEnd} (line : List ℕ) → IsNextLine from answered line
-          → EndsAt line old.held new.held old.store new.store end → ScriptStops from answered old new end
+          → EndsAt line old.held new.held old.store new.store end
+          → ScriptStops from answered old new end
 
   -- ---- a script
 

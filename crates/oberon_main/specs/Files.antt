@@ -16,4 +16,5 @@ abbrev pub FileScriptsSurvive : {F : Type 0} (f : Ghosts F) → DiskGhosts (File
 FileScriptsSurvive {F = F} f d = (script : List ℕ) (old new : PlayState (FileDisk F f))
     → (left : ScriptSurvives d script old new)
     → FileKeeps f old.store.desktop (accepted_of_lines (session_of old.store) left.answered)
-    (accepted_of_lines (session_of old.store) (lines_at_end left.begins.ends left.begins.rest)) old.store new.store
+    (accepted_of_lines (session_of old.store) (lines_at_end left.begins.ends left.begins.rest))
+    old.store new.store

@@ -10,15 +10,18 @@ use Rattle.oberon_main.specs.Surviving.{ScriptSurvives}
 
 -- what it is answered, where its bytes are known
 abbrev pub ScriptsAreAnswered : {D : Type 0} → Ghosts D → Type 0
-ScriptsAreAnswered {D = D} d = (why end : PlayEnd) (old new : PlayState D) → PlaysByLines d why end old new
+ScriptsAreAnswered {D = D} d = (why end : PlayEnd) (old new : PlayState D)
+    → PlaysByLines d why end old new
     → IfSome old.left (λ script. IsTold script why old new end)
 
 -- what a crash leaves at every moment of it
 abbrev pub ScriptsAreCutOff : {D : Type 0} → Ghosts D → Type 0
-ScriptsAreCutOff {D = D} d = (why end : PlayEnd) (old new : PlayState D) → PlaysByLines d why end old new
+ScriptsAreCutOff {D = D} d = (why end : PlayEnd) (old new : PlayState D)
+    → PlaysByLines d why end old new
     → LeavesLines d old new
 
 -- what a crash leaves of it in the end, where its bytes are known
 abbrev pub ScriptsSurvive : {D : Type 0} → Ghosts D → Type 0
-ScriptsSurvive {D = D} d = (why end : PlayEnd) (old new : PlayState D) → PlaysByLines d why end old new
+ScriptsSurvive {D = D} d = (why end : PlayEnd) (old new : PlayState D)
+    → PlaysByLines d why end old new
     → IfSome old.left (λ script. ScriptSurvives d script old new)

@@ -14,9 +14,11 @@ use Rattle.oberon_main.specs.Surviving.{led_to}
 -- These lines were answered one after another between two moments. At each moment of a line a crash leaves the desktop
 -- to which the events of the lines before it lead, or the one to which these and its own lead; and once it was
 -- answered, the second.
-pub data AreAnswered (size : ℕ) (s : Session) (trail : Trail) (from : ℕ) : ℕ → List (List ℕ) → Type 0 where
+pub data AreAnswered (size : ℕ) (s : Session) (trail : Trail) (from : ℕ) : ℕ → List
+    (List ℕ) → Type 0 where
   none : AreAnswered size s trail from from []
-  one_more : {mid to : ℕ} {lines : List (List ℕ)} (line : List ℕ) → AreAnswered size s trail from mid lines → mid ≤ to
+  one_more : {mid to : ℕ} {lines : List (List ℕ)} (line : List ℕ)
+      → AreAnswered size s trail from mid lines → mid ≤ to
       → ((t : ℕ) → mid ≤ t → t ≤ to
       → Leaves (trail.at t) (MeansEither size (led_to s lines) (led_to s (lines ++ line ∷ []))))
       → Leaves (trail.at to) (Means size (led_to s (lines ++ line ∷ [])))

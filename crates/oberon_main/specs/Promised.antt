@@ -16,25 +16,29 @@ abbrev pub IsEndOf : PlayEnd → PlayEnd → Type 0
 IsEndOf why end = (end ≡ why) ⊎ (end ≡ Output)
 
 -- How a script was read to an end, where so many reads may give bytes.
-pub record ReadsScript {R : Type 0} (r : ReaderGhosts R) (most : ℕ) (why : PlayEnd) (reader reader' : R) : Type 0 where
+pub record ReadsScript {R : Type 0} (r : ReaderGhosts R) (most : ℕ) (why : PlayEnd)
+    (reader reader' : R) : Type 0 where
   -- it came in so many pieces at most
   pub pieces : ComesInPieces most (r.remaining reader) (r.remaining reader')
   pub limit : r.reads reader' ≤ r.reads reader + most
   -- each read but one gave bytes: none follows the end of the script, or a read that failed
   pub one_blank : r.calls reader' + r.reads reader ≤ r.calls reader + r.reads reader' + 1
   -- a read failed exactly where the script ended for that, and there weren't too many
-  pub input : RisesWhere ((why ≡ Input) × (r.reads reader' ≢ r.reads reader + most)) (r.failures reader)
+  pub input : RisesWhere ((why ≡ Input)
+      × (r.reads reader' ≢ r.reads reader + most)) (r.failures reader)
       (r.failures reader')
 
 -- How its answers were written.
-pub record WritesAnswers {W : Type 0} (w : WriterGhosts W) (end : PlayEnd) (writer writer' : W) : Type 0 where
+pub record WritesAnswers {W : Type 0} (w : WriterGhosts W) (end : PlayEnd)
+    (writer writer' : W) : Type 0 where
   -- what was written was handed on too
   pub handed : end ≢ Output → w.unflushed writer ≡ 0 → w.unflushed writer' ≡ 0
   -- a write or a flush failed exactly where the script ended by that
   pub output : RisesWhere (end ≡ Output) (w.failures writer) (w.failures writer')
 
 -- A script was played from a reader to a writer over a store, where at most so many reads may give bytes, and ended so.
-pub record PlaysScript {R W D : Type 0} (r : ReaderGhosts R) (w : WriterGhosts W) (d : DiskGhosts D) (most : ℕ)
+pub record PlaysScript {R W D : Type 0} (r : ReaderGhosts R) (w : WriterGhosts W) (d : DiskGhosts D)
+    (most : ℕ)
     (end : PlayEnd) (reader reader' : R) (writer writer' : W) (old new : StoreView D) : Type 0 where
   -- why it stopped, before a word of that was written
   pub why : PlayEnd

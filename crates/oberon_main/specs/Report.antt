@@ -9,7 +9,8 @@ use Rattle.script_lines.specs.Script.{script_line}
 
 -- a store that can be used: its layout, its epoch, and how many events its journal has
 abbrev pub check_line : ℕ → ℕ → ℕ → List ℕ
-check_line layout epoch events = script_line (codes "ok layout " ++ decimal layout ++ codes " epoch " ++ decimal epoch
+check_line layout epoch events =
+    script_line (codes "ok layout " ++ decimal layout ++ codes " epoch " ++ decimal epoch
     ++ codes " events " ++ decimal events)
 
 abbrev pub error_line : Error → List ℕ

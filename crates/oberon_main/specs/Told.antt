@@ -44,15 +44,19 @@ abbrev pub TextOf : PlayEnd → List ℕ → Option (List ℕ) → Session → S
 TextOf Done script left before after text = IsPlayed script before after text
 TextOf Fault script left before after text = IsStopped (last_word Fault) script before text
 TextOf Memory script left before after text = IsStopped (last_word Memory) script before text
-TextOf Input script left before after text = IsCutOff (last_word Input) script left before after text
+TextOf Input script left before after text =
+    IsCutOff (last_word Input) script left before after text
 TextOf Output script left before after text = ⊥
 
 -- What was written is the text of the end. Where the output failed, it is a front of the text of why the script ended, or
 -- of the text that the script has where each line is answered.
-pub data IsTold {D : Type 0} (script : List ℕ) (why : PlayEnd) (old new : PlayState D) : PlayEnd → Type 0 where
-  whole : (text : List ℕ) → TextOf why script new.left (session_of old.store) (session_of new.store) text
+pub data IsTold {D : Type 0} (script : List ℕ) (why : PlayEnd)
+    (old new : PlayState D) : PlayEnd → Type 0 where
+  whole : (text : List ℕ) → TextOf why script new.left (session_of old.store)
+      (session_of new.store) text
       → Appends old.held new.held text → IsTold script why old new why
-  word_cut : (text : List ℕ) → TextOf why script new.left (session_of old.store) (session_of new.store) text
+  word_cut : (text : List ℕ) → TextOf why script new.left (session_of old.store)
+      (session_of new.store) text
       → AppendsFront old.held new.held text → IsTold script why old new Output
   answer_cut : (text : List ℕ) (after : Session) → why ≡ Output
       → TextOf Done script new.left (session_of old.store) after text

@@ -32,11 +32,14 @@ IsWorkEnd end = OneOf (Fault ∷ Memory ∷ []) end
 
 -- The answer to a request was worked out over a store, or could not be. What the store shows in the second case isn't
 -- said.
-pub record IsWorkedOut {D : Type 0} (d : Ghosts D) (request : Request) (result : Result Answer PlayEnd)
+pub record IsWorkedOut {D : Type 0} (d : Ghosts D) (request : Request)
+    (result : Result Answer PlayEnd)
     (old new : StoreView D) : Type 0 where
   -- over an honest disk the bytes are those of the answer, and the session is the one after the request
-  pub bytes : IfOk result (λ a. d.honest old.disk → bytes_of_answer a ≡ answer (session_of old) request)
-  pub session : OnOk result (d.honest old.disk → session_of new ≡ session_after (session_of old) request)
+  pub bytes : IfOk result (λ a. d.honest old.disk
+      → bytes_of_answer a ≡ answer (session_of old) request)
+  pub session : OnOk result (d.honest old.disk
+      → session_of new ≡ session_after (session_of old) request)
   -- the next request can be worked out
   pub usable : OnOk result (new.must_reopen ≡ false)
   -- the disk is as honest as it was

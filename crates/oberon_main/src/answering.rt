@@ -7,9 +7,13 @@ ghost use Rattle.oberon_main.specs.Worked.{bytes_of_answer, play_end_of, WorksOu
 
 use crate::playing::PlayEnd;
 use desk_journal::{Error, Store};
+use desktop_definitions::codes;
 use event_bytes::{Event, Name};
 use screen_cells::Screen;
-use script_lines::{Request, ShortLine, list_bytes, refusal_bytes, reply_bytes, screen_bytes, short_line, text_bytes};
+use script_lines::{
+    Request, ShortLine, list_bytes, refusal_bytes, reply_bytes, screen_bytes, short_line,
+    text_bytes,
+};
 use sector_disk::Disk;
 use std::alloc::Global;
 
@@ -92,7 +96,7 @@ fn show<D: Disk>(alloc: Global, name: &Name, store: &mut Store<D>) -> Result<Ans
     ensures { LooksOut D.Disk (Show name.now) result store.old store.new }
 {
     match store.file(alloc, name)? {
-        None => Ok(Answer::Short(refusal_bytes(NO_SUCH_FILE))),
+        None => Ok(Answer::Short(refusal_bytes(codes::NO_FILE))),
         Some(text) => Ok(Answer::Long(text_bytes(alloc, text.as_slice())?)),
     }
 }
@@ -117,6 +121,3 @@ fn screen<D: Disk>(alloc: Global, store: &mut Store<D>) -> Result<Answer, PlayEn
     store.screen(alloc, &mut screen)?;
     Ok(Answer::Long(screen_bytes(alloc, &screen)?))
 }
-
-/// The refusal of a look at a file that isn't there.
-const NO_SUCH_FILE: u8 = 5;

@@ -10,8 +10,11 @@ mod laws;
 mod playing;
 mod report;
 
+pub use byte_streams::{AnswerWriter, CountedReader, CountedWriter, ScriptReader};
 pub use desk_journal::{Error, STORE_SECTORS, Store, Version};
-pub use laws::{lines_are_steps, scripts_are_answered, scripts_are_cut_off, scripts_survive, scripts_survive_in_files};
+pub use laws::{
+    lines_are_steps, scripts_are_answered, scripts_are_cut_off, scripts_survive,
+    scripts_survive_in_files,
+};
 pub use playing::{PlayEnd, play, play_bounded};
 pub use report::{check, refuse, status};
-pub use byte_streams::{AnswerWriter, CountedReader, CountedWriter, ScriptReader};

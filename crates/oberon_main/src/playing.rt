@@ -12,9 +12,9 @@ ghost use Rattle.oberon_main.specs.Promised.{PlaysScript, ReadsScript, WritesAns
 ghost use Rattle.oberon_main.specs.Worked.{play_end_of};
 
 use crate::answering::work_out;
+use byte_streams::{AnswerWriter, ScriptReader};
 use desk_journal::{Error, Store};
 use script_lines::{Line, LineEnd, OutputFault, Request, Script, send, short_line};
-use byte_streams::{AnswerWriter, ScriptReader};
 use sector_disk::Disk;
 use std::alloc::{AllocError, Global};
 

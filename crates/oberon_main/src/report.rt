@@ -8,9 +8,9 @@ ghost use Rattle.oberon_main.specs.Report.{check_line, error_line, refusal_statu
 
 use crate::playing::PlayEnd;
 use arrayvec::ArrayVec;
+use byte_streams::AnswerWriter;
 use desk_journal::{Error, Store};
 use script_lines::{OutputFault, ShortLine, numbered_line, send, short_line};
-use byte_streams::AnswerWriter;
 use sector_disk::Disk;
 
 /// Says the layout, the epoch and the number of events of a store that can be used.

@@ -57,7 +57,8 @@ fn entered(list: &PieceList, before: Seam, front: Piece) -> Option<(Seam, Piece)
     ensures cursor { IfSome result (λ c. IsBackCursor list.now.chain.nodes c.0 c.1) }
     ensures some { IfSome result (λ c. 0 < c.1.len) }
     ensures text { MatchOption result (text_before list.now.chain.nodes before front ≡ [])
-        (λ c. text_before list.now.chain.nodes c.0 c.1 ≡ text_before list.now.chain.nodes before front) }
+        (λ c. text_before list.now.chain.nodes c.0 c.1
+        ≡ text_before list.now.chain.nodes before front) }
 {
     if front.len > 0 {
         Some((before, front))

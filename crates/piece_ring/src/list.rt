@@ -339,7 +339,8 @@ impl PieceList {
         requires seam { IsSeam self.old.chain.nodes seam }
         requires fits { self.old.len + other.len < 2 ^ 32 }
         ensures text { text_along self.new.chain.nodes
-            ≡ inserted seam.pos (flat (pieces other.chain.nodes)) (text_along self.old.chain.nodes) }
+            ≡ inserted seam.pos (flat (pieces other.chain.nodes))
+            (text_along self.old.chain.nodes) }
         ensures made { pieces_of self.new.chain.nodes
             ≡ with_put_in seam.index (pieces other.chain.nodes) (pieces_of self.old.chain.nodes) }
         ensures after { IsSeam self.new.chain.nodes result }
@@ -434,9 +435,11 @@ impl PieceList {
         ensures same { text_along self.new.chain.nodes ≡ text_along self.old.chain.nodes }
         ensures long { self.new.len ≡ self.old.len }
         ensures merged { IsMergedAt (pieces_of self.new.chain.nodes) seam.pos }
-        ensures elsewhere { (pos : ℕ) → seam.pos < pos → IsMergedAt (pieces_of self.old.chain.nodes) pos
+        ensures elsewhere { (pos : ℕ) → seam.pos < pos
+            → IsMergedAt (pieces_of self.old.chain.nodes) pos
             → IsMergedAt (pieces_of self.new.chain.nodes) pos }
-        ensures pieces { UnitesAtMost (pieces_of self.old.chain.nodes) (pieces_of self.new.chain.nodes) }
+        ensures pieces { UnitesAtMost (pieces_of self.old.chain.nodes)
+            (pieces_of self.new.chain.nodes) }
     {
         if seam.index == 0 || seam.index == self.count {
             return;
@@ -457,7 +460,8 @@ impl PieceList {
         ensures merged { IsMergedAt (pieces_of self.new.chain.nodes) pos }
         ensures elsewhere { (at : ℕ) → pos < at → IsMergedAt (pieces_of self.old.chain.nodes) at
             → IsMergedAt (pieces_of self.new.chain.nodes) at }
-        ensures pieces { UnitesAtMost (pieces_of self.old.chain.nodes) (pieces_of self.new.chain.nodes) }
+        ensures pieces { UnitesAtMost (pieces_of self.old.chain.nodes)
+            (pieces_of self.new.chain.nodes) }
     {
         match self.place(pos) {
             RingPlace::Between(seam) => self.merge(alloc, seam),
@@ -472,7 +476,8 @@ impl PieceList {
         ensures settled { IsSettledAt (fingered self.new.chain.nodes self.new.finger) pos }
         ensures elsewhere { (at : ℕ) → pos < at → IsMergedAt (pieces_of self.old.chain.nodes) at
             → IsMergedAt (pieces_of self.new.chain.nodes) at }
-        ensures pieces { UnitesAtMost (pieces_of self.old.chain.nodes) (pieces_of self.new.chain.nodes) }
+        ensures pieces { UnitesAtMost (pieces_of self.old.chain.nodes)
+            (pieces_of self.new.chain.nodes) }
     {
         self.merge_at(alloc, pos);
         self.locate(pos);

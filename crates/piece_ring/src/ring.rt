@@ -109,7 +109,8 @@ impl Ring {
         ensures text { ChangesTo (inserted pos (flat other.pieces) (flat self.old.pieces)) result
             (flat self.old.pieces) (flat self.new.pieces) }
         ensures settled { OnOk result (IsSettledAt self.new pos) }
-        ensures merged { OnOk result (IsMergedAt self.new.pieces (pos + length (flat other.pieces))) }
+        ensures merged { OnOk result (IsMergedAt self.new.pieces (pos
+            + length (flat other.pieces))) }
         ensures returned { IfErr result (λ e. flat e.1.pieces ≡ flat other.pieces) }
     {
         if other.list.len == 0 {

@@ -13,7 +13,10 @@ abbrev pub EndsWith : List DiskCall → List DiskCall → Type 0
 EndsWith calls since = (before : List DiskCall) × (calls ≡ before ++ since)
 
 abbrev pub blank_recording : ℕ → Recording
-blank_recording sectors = record { memory = record { size = sectors; calls = []; failures = 0 }; since = [] }
+blank_recording sectors = record {
+  memory = record { size = sectors; calls = []; failures = 0 };
+  since = [];
+}
 
 -- one call more
 abbrev pub recorded : DiskCall → Recording → Recording

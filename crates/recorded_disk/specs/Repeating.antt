@@ -8,7 +8,8 @@ use Rattle.sector_disk.specs.Memory.{replayed, trail_of}
 -- then on.
 abbrev pub RepeatsMoments : Type 0
 RepeatsMoments = (before since : List DiskCall) (k : ℕ) → k ≤ length since
-    → replayed (take k since) (now (trail_of before)) ≡ (trail_of (before ++ since)).at (length before + k)
+    → replayed (take k since) (now (trail_of before))
+    ≡ (trail_of (before ++ since)).at (length before + k)
 
 -- all of them give its present moment
 abbrev pub RepeatsAll : Type 0

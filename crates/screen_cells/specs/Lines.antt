@@ -31,7 +31,8 @@ IsSlotOf texts slot = IfSome slot (IsLineOf texts)
 abbrev pub IsCaretOf : (ℕ → Text ℕ) → KeptCaret → Type 0
 IsCaretOf texts c =
     c.cell
-    ≡ caret_at c.key.frame.width c.key.rows (texts c.key.frame.text) c.key.frame.org (Some c.key.position)
+    ≡ caret_at c.key.frame.width c.key.rows (texts c.key.frame.text) c.key.frame.org
+    (Some c.key.position)
 
 -- the cells that are kept in a line's place
 abbrev pub kept_cells : Option KeptLine → List ShownCell
@@ -53,11 +54,13 @@ pub record IsNumbered (texts : ℕ → Text ℕ) (characters : List ℕ) (s : Sh
 
 -- the row is that of the position in a frame that shows the text from org on, or 0, above which there is none
 abbrev pub IsAbove : Text ℕ → ℕ → ℕ → ℕ → Type 0
-IsAbove text p org row = (row ≡ 0) ⊎ ((org ≤ p) × (p ≤ length text) × (row ≡ row_of (map (λ c. c.0) text) org p))
+IsAbove text p org row = (row ≡ 0)
+    ⊎ ((org ≤ p) × (p ≤ length text) × (row ≡ row_of (map (λ c. c.0) text) org p))
 
 -- the rows above that one are the same in both texts, however wide they are
 abbrev pub HasSameRows : Text ℕ → Text ℕ → ℕ → ℕ → Type 0
-HasSameRows before after org row = (w r : ℕ) → r < row → row_cells w after org r ≡ row_cells w before org r
+HasSameRows before after org row = (w r : ℕ) → r < row
+    → row_cells w after org r ≡ row_cells w before org r
 
 -- ---- what is kept
 

@@ -14,7 +14,9 @@ abbrev pub painted_row : Columns → List Painted → Option (ℕ × ℕ) → �
 painted_row columns viewers marker y = values COLUMNS (λ x. picture columns viewers marker x y)
 
 -- the cell at column x of row y, where the tracks show these strips with these lines
-abbrev pub strips_cell : Strip → List ShownCell → Strip → List ShownCell → Option (ℕ × ℕ) → ℕ → ℕ → Cell
+abbrev pub strips_cell : Strip → List ShownCell → Strip → List ShownCell → Option (ℕ × ℕ) → ℕ → ℕ
+    → Cell
 strips_cell user line system other marker y x =
     with_marker (is_at marker x y)
-    (if nat_lt x SYSTEM_LEFT then strip_cell user line x else strip_cell system other (x - SYSTEM_LEFT))
+    (if nat_lt x SYSTEM_LEFT then strip_cell user line x
+    else strip_cell system other (x - SYSTEM_LEFT))

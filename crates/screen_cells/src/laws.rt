@@ -9,7 +9,8 @@ use viewer_tracks::{COLUMNS, ROWS};
 
 /// A screen has the cells that it is made of.
 pub fn cells_of_a_screen()
-    ensures { (f : ℕ → ℕ → ACell) (x y : ℕ) → x < COLUMNS → y < ROWS → cell_at (screen_of f) x y ≡ f x y }
+    ensures { (f : ℕ → ℕ → ACell) (x y : ℕ) → x < COLUMNS → y < ROWS
+        → cell_at (screen_of f) x y ≡ f x y }
 {}
 
 /// Where there is no viewer, all is filler.

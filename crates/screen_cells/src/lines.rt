@@ -9,7 +9,7 @@ ghost use Rattle.screen_pictures.specs.Picture.{caret_at};
 ghost use Rattle.screen_cells.specs.Shown.{IsShowable, as_read};
 ghost use Rattle.screen_cells.specs.Lines.{IsSlotOf, IsCaretOf, AreLinesOf, IsNumbered, HasLine, HasCaretKey, HavePlaces};
 ghost use Rattle.screen_cells.specs.Lines.{IsAbove, HasSameRows, kept_cells};
-ghost use Rattle.screen_cells.specs.Walks.{IsWalk};
+ghost use Rattle.screen_cells.specs.Walks.{IsWalk, IsOfSame, IsRowOf};
 
 use crate::shown::Shown;
 use crate::strip::{Filled, StripLine};
@@ -84,7 +84,8 @@ impl KeptLines {
     /// Makes a place for a line of each row, where there is none yet. NoMemory where an allocation is refused.
     pub fn prepare(&mut self) -> Result<(), AllocError>
         ensures ready { OnOk result (HavePlaces self.new) }
-        ensures lines { (texts : ℕ → AText ℕ) → AreLinesOf texts self.old → AreLinesOf texts self.new }
+        ensures lines { (texts : ℕ → AText ℕ) → AreLinesOf texts self.old
+            → AreLinesOf texts self.new }
     {
         fill(&mut self.user)?;
         fill(&mut self.system)?;
@@ -166,7 +167,8 @@ fn forget_in(slots: &mut Vec<Slot>, number: u16, org: u32, row: u8)
 /// Gives up a line, where it is one of that text, and not above that row of a frame that shows it from `org` on.
 fn forget_slot(slot: &mut Slot, number: u16, org: u32, row: u8)
     ensures { (before after : ℕ → AText ℕ) → ((n : ℕ) → ¬ (n ≡ number) → after n ≡ before n)
-        → HasSameRows (before number) (after number) org row → IsSlotOf before slot.old → IsSlotOf after slot.new }
+        → HasSameRows (before number) (after number) org row → IsSlotOf before slot.old
+        → IsSlotOf after slot.new }
 {
     if is_of(slot, number) && !is_above(slot, org, row) {
         *slot = None;
@@ -175,7 +177,8 @@ fn forget_slot(slot: &mut Slot, number: u16, org: u32, row: u8)
 
 /// Whether a line is kept of a row above that one of a frame that shows its text from `org` on.
 fn is_above(slot: &Slot, org: u32, row: u8) -> bool
-    ensures { IfSome slot.now (λ line. result ≡ ((line.key.frame.org == org) && nat_lt line.key.row row)) }
+    ensures { IfSome slot.now (λ line. result
+        ≡ ((line.key.frame.org == org) && nat_lt line.key.row row)) }
 {
     match slot {
         None => false,
@@ -219,7 +222,8 @@ pub(crate) fn kept_cells(slot: &Slot) -> &[Filled]
 /// Whether the line that is kept is the one of that key.
 fn is_kept(slot: &Slot, key: LineKey) -> bool
     ensures cells { result ≡ true → (texts : ℕ → AText ℕ) → IsSlotOf texts slot.now
-        → kept_cells slot.now ≡ row_cells key.frame.width (texts key.frame.text) key.frame.org key.row }
+        → kept_cells slot.now ≡ row_cells key.frame.width
+        (texts key.frame.text) key.frame.org key.row }
     ensures none { result ≡ false → ¬ HasLine key slot.now }
 {
     match slot {
@@ -240,9 +244,11 @@ pub(crate) fn keep_menu<S: CharSource>(
     requires showable { IsShowable (length (S.characters source.old)) shown.now }
     ensures cells { OnOk result (S.honest source.old → (texts : ℕ → AText ℕ)
         → IsNumbered texts (S.characters source.old) shown.now → IsSlotOf texts slot.old
-        → kept_cells slot.new ≡ row_cells width (as_read (S.characters source.old) shown.now).menu 0 0) }
+        → kept_cells slot.new ≡ row_cells width
+        (as_read (S.characters source.old) shown.now).menu 0 0) }
     ensures slot { S.honest source.old → (texts : ℕ → AText ℕ)
-        → IsNumbered texts (S.characters source.old) shown.now → IsSlotOf texts slot.old → IsSlotOf texts slot.new }
+        → IsNumbered texts (S.characters source.old) shown.now → IsSlotOf texts slot.old
+        → IsSlotOf texts slot.new }
     ensures reads { OnlyReads S.characters S.failures S.honest S.same_ground source.old source.new }
     ensures cause { CountsFault result (S.failures source.old) (S.failures source.new) }
 {
@@ -271,9 +277,7 @@ pub(crate) fn keep_row<S: CharSource>(
     slot: &mut Slot,
     source: &mut S,
 ) -> Result<(), Fault>
-    requires columns { w ≤ 50 }
-    requires rows { walk.old.h ≤ 31 }
-    requires row { row < walk.old.h }
+    requires row { IsRowOf w row walk.old }
     requires walk { IsWalk (S.honest source.old) (S.characters source.old) walk.old }
     ensures cells { OnOk result (S.honest source.old → (texts : ℕ → AText ℕ)
         → IsNumbered texts (S.characters source.old) walk.old.shown → IsSlotOf texts slot.old
@@ -283,8 +287,7 @@ pub(crate) fn keep_row<S: CharSource>(
         → IsNumbered texts (S.characters source.old) walk.old.shown → IsSlotOf texts slot.old
         → IsSlotOf texts slot.new }
     ensures walk { OnOk result (IsWalk (S.honest source.new) (S.characters source.new) walk.new) }
-    ensures viewer { walk.new.shown ≡ walk.old.shown }
-    ensures index { walk.new.index ≡ walk.old.index }
+    ensures viewer { IsOfSame walk.old walk.new }
     ensures reads { OnlyReads S.characters S.failures S.honest S.same_ground source.old source.new }
     ensures cause { CountsFault result (S.failures source.old) (S.failures source.new) }
 {

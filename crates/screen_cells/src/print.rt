@@ -27,7 +27,8 @@ impl Screen {
 
     /// Writes the line of each row's characters, from the top.
     fn print_characters<W: Write>(&self, writer: &mut W) -> Result<(), Fault>
-        ensures { Sends result (W.contents writer.old) (W.contents writer.new) (character_lines self.now) }
+        ensures { Sends result (W.contents writer.old) (W.contents writer.new)
+            (character_lines self.now) }
     {
         for y in (0..ROWS).rev() {
             let row = self.row(y);
@@ -38,7 +39,8 @@ impl Screen {
 
     /// Writes the line of each row that has a mark line, from the top.
     fn print_marks<W: Write>(&self, writer: &mut W) -> Result<(), Fault>
-        ensures { Sends result (W.contents writer.old) (W.contents writer.new) (mark_lines self.now) }
+        ensures { Sends result (W.contents writer.old) (W.contents writer.new)
+            (mark_lines self.now) }
     {
         for y in (0..ROWS).rev() {
             let row = self.row(y);

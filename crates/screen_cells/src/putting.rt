@@ -63,7 +63,8 @@ fn put_each(cells: &mut [Cell], line: &[Filled], row: FrameRow)
 
 /// Puts a line from the left, and a byte in the default look into the cells past its end.
 fn put_line(cells: &mut [Cell], blank: u8, line: &[Filled], mark: Mark)
-    ensures { cells.new ≡ values (length cells.old) (λ x. cell_with blank (slice_get line.now x) mark) }
+    ensures { cells.new ≡ values (length cells.old)
+        (λ x. cell_with blank (slice_get line.now x) mark) }
 {
     for x in 0..cells.len() {
         cells[x] = cell_with(blank, filled(line, x), mark);

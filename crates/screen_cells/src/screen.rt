@@ -4,6 +4,7 @@ ghost use Rattle.std.specs.Prelude.{◌≡◌, ◌<◌, ◌-◌, ℕ, if◌then�
 ghost use Rattle.std.specs.Prelude.{IfNone, Some, true, false};
 ghost use Rattle.sector_disk.specs.Trail.{CountsFault};
 ghost use Rattle.char_file.specs.Source.{OnlyReads};
+ghost use Rattle.readers_scanners.specs.Words.{ReadsOrFails};
 ghost use Rattle.screen_pictures.specs.Picture.{filler, is_at, with_marker, picture};
 ghost use Rattle.screen_cells.specs.Shown.{IsShowable, as_read, strip_cell};
 ghost use Rattle.screen_pictures.specs.Screen.{screen_of, cell_at, column_at, row_at, values};
@@ -95,12 +96,16 @@ impl Screen {
         requires showable { All (IsShowable (length (S.characters source.old))) shown.now }
         requires ready { HavePlaces lines.old }
         ensures painted { OnOk result (S.honest source.old → (texts : ℕ → AText ℕ)
-            → All (IsNumbered texts (S.characters source.old)) shown.now → AreLinesOf texts lines.old
-            → self.new ≡ screen_of (picture tracks.now (map (as_read (S.characters source.old)) shown.now) marker)) }
+            → All (IsNumbered texts (S.characters source.old)) shown.now
+            → AreLinesOf texts lines.old
+            → self.new ≡ screen_of (picture tracks.now
+            (map (as_read (S.characters source.old)) shown.now) marker)) }
         ensures lines { S.honest source.old → (texts : ℕ → AText ℕ)
-            → All (IsNumbered texts (S.characters source.old)) shown.now → AreLinesOf texts lines.old
+            → All (IsNumbered texts (S.characters source.old)) shown.now
+            → AreLinesOf texts lines.old
             → AreLinesOf texts lines.new }
-        ensures reads { OnlyReads S.characters S.failures S.honest S.same_ground source.old source.new }
+        ensures reads { OnlyReads S.characters S.failures S.honest S.same_ground source.old
+            source.new }
         ensures cause { CountsFault result (S.failures source.old) (S.failures source.new) }
     {
         let mut walks = Walks {
@@ -143,20 +148,20 @@ fn paint_row<'a, S: CharSource>(
     lines: &mut KeptLines,
     source: &mut S,
 ) -> Result<(), Fault>
-    requires row { y < ROWS }
-    requires ready { HavePlaces lines.old }
+    requires row { (y < ROWS) × HavePlaces lines.old }
     requires showable { All (IsShowable (length (S.characters source.old))) shown.now }
     requires kept { AreKept (S.honest source.old) (S.characters source.old) shown.now walks.old }
     ensures painted { OnOk result (S.honest source.old → (texts : ℕ → AText ℕ)
         → All (IsNumbered texts (S.characters source.old)) shown.now → AreLinesOf texts lines.old
-        → row.new ≡ painted_row tracks.now (map (as_read (S.characters source.old)) shown.now) marker y) }
+        → row.new ≡ painted_row tracks.now
+        (map (as_read (S.characters source.old)) shown.now) marker y) }
     ensures lines { S.honest source.old → (texts : ℕ → AText ℕ)
         → All (IsNumbered texts (S.characters source.old)) shown.now → AreLinesOf texts lines.old
         → AreLinesOf texts lines.new }
     ensures ready { HavePlaces lines.new }
-    ensures kept { OnOk result (AreKept (S.honest source.new) (S.characters source.new) shown.now walks.new) }
-    ensures reads { OnlyReads S.characters S.failures S.honest S.same_ground source.old source.new }
-    ensures cause { CountsFault result (S.failures source.old) (S.failures source.new) }
+    ensures kept { OnOk result (AreKept (S.honest source.new)
+        (S.characters source.new) shown.now walks.new) }
+    ensures source { ReadsOrFails S.CharSource result source.old source.new }
 {
     let at = usize::from(y);
     let user = track_strip(

@@ -2,16 +2,15 @@
 ghost use Rattle.std.specs.Prelude.{◌≡◌, ◌+◌, ◌<◌, ◌≤◌, ◌-◌, ◌==◌, ℕ, List, length, map, All};
 ghost use Rattle.std.specs.Prelude.{IfOk, OnOk, IfSome};
 ghost use Rattle.std.specs.List.{position_or_len};
-ghost use Rattle.readers_scanners.specs.Words.{CountsFault, OnlyReads};
-ghost use Rattle.text_frames.specs.Row.{ShownCell};
+ghost use Rattle.readers_scanners.specs.Words.{CountsFault, OnlyReads, ReadsOrFails};
 ghost use Rattle.viewer_tracks.specs.Display.{left_of};
 ghost use Rattle.viewer_tracks.specs.Viewers.{viewer_at, id_number};
 ghost use Rattle.viewer_tracks.specs.Columns.{shown_track as shown_track, StandsAt};
-ghost use Rattle.screen_pictures.specs.Picture.{filler, viewer_cell, width_of, track_cell};
+ghost use Rattle.screen_pictures.specs.Picture.{viewer_cell, width_of, track_cell};
 ghost use Rattle.screen_cells.specs.Shown.{IsShowable, as_read, strip_cell};
 ghost use Rattle.piece_ring.specs.Text.{Text as AText};
 ghost use Rattle.screen_cells.specs.Lines.{IsSlotOf, IsCaretOf, IsNumbered, kept_cells};
-ghost use Rattle.screen_cells.specs.Walks.{IsWalk, IsKeptWalk};
+ghost use Rattle.screen_cells.specs.Walks.{IsWalk, IsKeptWalk, IsOfSame, IsViewerRow};
 
 use crate::lines::{KeptCaret, Slot, caret_cell, keep_menu, keep_row};
 use crate::shown::Shown;
@@ -84,7 +83,8 @@ fn menu_strip<S: CharSource>(
         → (bottom column y : ℕ) → strip_cell strip (kept_cells slot.new) column
         ≡ viewer_cell (as_read (S.characters source.old) shown.now) width bottom (y + 1) column y) }
     ensures slot { S.honest source.old → (texts : ℕ → AText ℕ)
-        → IsNumbered texts (S.characters source.old) shown.now → IsSlotOf texts slot.old → IsSlotOf texts slot.new }
+        → IsNumbered texts (S.characters source.old) shown.now → IsSlotOf texts slot.old
+        → IsSlotOf texts slot.new }
     ensures reads { OnlyReads S.characters S.failures S.honest S.same_ground source.old source.new }
     ensures cause { CountsFault result (S.failures source.old) (S.failures source.new) }
 {
@@ -104,28 +104,24 @@ fn viewer_strip<S: CharSource>(
     caret: &mut Option<KeptCaret>,
     source: &mut S,
 ) -> Result<Strip, Fault>
-    requires some { 0 < width }
-    requires fits { width ≤ 50 }
-    requires display { top ≤ ROWS }
-    requires from { bottom ≤ y }
-    requires before { y < top }
-    requires rows { walk.old.h ≡ top - bottom - 1 }
+    requires at { IsViewerRow width bottom top y walk.old }
     requires walk { IsWalk (S.honest source.old) (S.characters source.old) walk.old }
     ensures strip { IfOk result (λ strip. S.honest source.old → (texts : ℕ → AText ℕ)
         → IsNumbered texts (S.characters source.old) walk.old.shown → IsSlotOf texts slot.old
-        → IfSome caret.old (IsCaretOf texts) → (column : ℕ) → strip_cell strip (kept_cells slot.new) column
-        ≡ viewer_cell (as_read (S.characters source.old) walk.old.shown) width bottom top column y) }
+        → IfSome caret.old (IsCaretOf texts) → (column : ℕ)
+        → strip_cell strip (kept_cells slot.new) column
+        ≡ viewer_cell (as_read (S.characters source.old) walk.old.shown) width bottom top column
+        y) }
     ensures slot { S.honest source.old → (texts : ℕ → AText ℕ)
         → IsNumbered texts (S.characters source.old) walk.old.shown → IsSlotOf texts slot.old
         → IsSlotOf texts slot.new }
     ensures caret { S.honest source.old → (texts : ℕ → AText ℕ)
-        → IsNumbered texts (S.characters source.old) walk.old.shown → IfSome caret.old (IsCaretOf texts)
+        → IsNumbered texts (S.characters source.old) walk.old.shown
+        → IfSome caret.old (IsCaretOf texts)
         → IfSome caret.new (IsCaretOf texts) }
     ensures walk { OnOk result (IsWalk (S.honest source.new) (S.characters source.new) walk.new) }
-    ensures viewer { walk.new.shown ≡ walk.old.shown }
-    ensures index { walk.new.index ≡ walk.old.index }
-    ensures reads { OnlyReads S.characters S.failures S.honest S.same_ground source.old source.new }
-    ensures cause { CountsFault result (S.failures source.old) (S.failures source.new) }
+    ensures viewer { IsOfSame walk.old walk.new }
+    ensures source { ReadsOrFails S.CharSource result source.old source.new }
 {
     if y + 1 == top {
         return menu_strip(&walk.shown, width, slot, source);
@@ -153,17 +149,6 @@ fn width(track: Track) -> u8
     }
 }
 
-/// Nothing, where no viewer is shown.
-fn filler_strip<S: CharSource>(source: &mut S) -> Result<Strip, Fault>
-    ensures strip { IfOk result (λ strip. (line : List ShownCell) (column : ℕ)
-        → strip_cell strip line column ≡ filler) }
-    ensures reads { OnlyReads S.characters S.failures S.honest S.same_ground source.old source.new }
-    ensures cause { CountsFault result (S.failures source.old) (S.failures source.new) }
-{
-    let _ = source;
-    Ok(Strip::Filler)
-}
-
 /// What a track shows in a row, where `kept` is the walk of the viewer that was painted last there, `slot` has the line
 /// that is kept of this row, and `caret` the caret that is kept. `Fault`: the source failed in this call.
 pub(crate) fn track_strip<'a, S: CharSource>(
@@ -178,27 +163,31 @@ pub(crate) fn track_strip<'a, S: CharSource>(
 ) -> Result<Strip, Fault>
     requires row { y < ROWS }
     requires showable { All (IsShowable (length (S.characters source.old))) shown.now }
-    requires kept { IfSome kept.old (IsKeptWalk (S.honest source.old) (S.characters source.old) shown.now) }
+    requires kept { IfSome kept.old
+        (IsKeptWalk (S.honest source.old) (S.characters source.old) shown.now) }
     ensures strip { IfOk result (λ strip. S.honest source.old → (texts : ℕ → AText ℕ)
         → All (IsNumbered texts (S.characters source.old)) shown.now → IsSlotOf texts slot.old
-        → IfSome caret.old (IsCaretOf texts) → (column : ℕ) → strip_cell strip (kept_cells slot.new) column
-        ≡ track_cell tracks.now (map (as_read (S.characters source.old)) shown.now) track column y) }
+        → IfSome caret.old (IsCaretOf texts) → (column : ℕ)
+        → strip_cell strip (kept_cells slot.new) column
+        ≡ track_cell tracks.now (map (as_read (S.characters source.old)) shown.now) track column
+        y) }
     ensures slot { S.honest source.old → (texts : ℕ → AText ℕ)
         → All (IsNumbered texts (S.characters source.old)) shown.now → IsSlotOf texts slot.old
         → IsSlotOf texts slot.new }
     ensures caret { S.honest source.old → (texts : ℕ → AText ℕ)
-        → All (IsNumbered texts (S.characters source.old)) shown.now → IfSome caret.old (IsCaretOf texts)
+        → All (IsNumbered texts (S.characters source.old)) shown.now
+        → IfSome caret.old (IsCaretOf texts)
         → IfSome caret.new (IsCaretOf texts) }
-    ensures kept { OnOk result (IfSome kept.new (IsKeptWalk (S.honest source.new) (S.characters source.new) shown.now)) }
-    ensures reads { OnlyReads S.characters S.failures S.honest S.same_ground source.old source.new }
-    ensures cause { CountsFault result (S.failures source.old) (S.failures source.new) }
+    ensures kept { OnOk result (IfSome kept.new
+        (IsKeptWalk (S.honest source.new) (S.characters source.new) shown.now)) }
+    ensures source { ReadsOrFails S.CharSource result source.old source.new }
 {
     let Some(viewer) = seen(tracks, track, y) else {
-        return filler_strip(source);
+        return Ok(Strip::Filler);
     };
     let index = index_of(shown, viewer);
     if index >= shown.len() {
-        return filler_strip(source);
+        return Ok(Strip::Filler);
     }
     let place = tracks.place_of(viewer);
     let h = place.top - place.bottom - 1;

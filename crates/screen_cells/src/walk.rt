@@ -36,7 +36,8 @@ pub(crate) fn walk_of<'a, S: CharSource>(
 ) -> Walk<'a>
     requires within { index < length shown.now }
     requires showable { All (IsShowable (length (S.characters source.now))) shown.now }
-    requires kept { IfSome kept (IsKeptWalk (S.honest source.now) (S.characters source.now) shown.now) }
+    requires kept { IfSome kept (IsKeptWalk (S.honest source.now)
+        (S.characters source.now) shown.now) }
     ensures walk { IsKeptWalk (S.honest source.now) (S.characters source.now) shown.now result }
     ensures index { result.index ≡ index }
     ensures rows { result.h ≡ h }

@@ -27,11 +27,13 @@ use Rattle.screen_drawing.specs.Spelling.{baseline, caret_width, cell_height, ce
 abbrev pub rectangle : ℕ → ℕ → ℕ → ℕ → ℕ → List ℕ
 rectangle x y width height colour = concat
     (codes "<rect x='" ∷ decimal x ∷ codes "' y='" ∷ decimal y ∷ codes "' width='" ∷ decimal width
-    ∷ codes "' height='" ∷ decimal height ∷ codes "' fill='" ∷ colour_code colour ∷ codes "'/>\n" ∷ [])
+    ∷ codes "' height='" ∷ decimal height ∷ codes "' fill='" ∷ colour_code colour ∷ codes "'/>\n"
+    ∷ [])
 
 -- cells of a paper from a column on, in a row from the top
 abbrev pub paper_cells : ℕ → ℕ → ℕ → ℕ → List ℕ
-paper_cells x y columns paper = rectangle (cell_width * x) (cell_height * y) (cell_width * columns) cell_height paper
+paper_cells x y columns paper =
+    rectangle (cell_width * x) (cell_height * y) (cell_width * columns) cell_height paper
 
 -- what weight, slant and rule of a pen add to a text
 abbrev pub weight_text : Weight → List ℕ
@@ -53,8 +55,10 @@ escaped_text faces = flat_map (λ face. escaped_byte face.byte) faces
 -- the characters of cells from a column on, in a row from the top
 abbrev pub text_cells : ℕ → ℕ → List Face → Pen → List ℕ
 text_cells x y faces pen = concat
-    (codes "<text x='" ∷ decimal (cell_width * x) ∷ codes "' y='" ∷ decimal (cell_height * y + baseline)
-    ∷ codes "' textLength='" ∷ decimal (cell_width * length faces) ∷ codes "' fill='" ∷ colour_code pen.ink
+    (codes "<text x='" ∷ decimal (cell_width * x) ∷ codes "' y='"
+    ∷ decimal (cell_height * y + baseline)
+    ∷ codes "' textLength='" ∷ decimal (cell_width * length faces) ∷ codes "' fill='"
+    ∷ colour_code pen.ink
     ∷ codes "'" ∷ weight_text pen.weight ∷ slant_text pen.is_italic ∷ rule_text pen.rule
     ∷ codes ">" ∷ escaped_text faces ∷ codes "</text>\n" ∷ [])
 
@@ -99,7 +103,8 @@ abbrev pub stretch_at : List Face → ℕ → List Face
 stretch_at row x = take (stretch_length (pen_at row x) (drop x row)) (drop x row)
 
 abbrev pub drawn_start : ℕ → List Face → ℕ → List ℕ
-drawn_start y row x = if is_start row x then drawn_stretch x y (stretch_at row x) (pen_at row x) else []
+drawn_start y row x = if is_start row x then drawn_stretch x y (stretch_at row x) (pen_at row x)
+    else []
 
 -- the caret at a cell
 abbrev pub drawn_caret : ℕ → ℕ → Mark → List ℕ
@@ -119,7 +124,8 @@ unfoldable pub drawn_cells : ℕ → List Cell → List Face → List ℕ
 drawn_cells y cells row = flat_map (drawn_column y cells row) (range_with_len 0 COLUMNS)
 
 unfoldable pub drawn_row : List (List Cell) → ℕ → List ℕ
-drawn_row screen y = drawn_cells y (row_at screen (ROWS - 1 - y)) (row_of_cells (row_at screen (ROWS - 1 - y)))
+drawn_row screen y = drawn_cells y (row_at screen (ROWS - 1 - y))
+    (row_of_cells (row_at screen (ROWS - 1 - y)))
 
 abbrev pub drawn_rows : List (List Cell) → List ℕ
 drawn_rows screen = flat_map (drawn_row screen) (range_with_len 0 ROWS)
@@ -128,7 +134,8 @@ drawn_rows screen = flat_map (drawn_row screen) (range_with_len 0 ROWS)
 abbrev pub heading : List ℕ
 heading = concat
     (codes "<svg xmlns='http://www.w3.org/2000/svg' width='" ∷ decimal (cell_width * COLUMNS)
-    ∷ codes "' height='" ∷ decimal (cell_height * ROWS) ∷ codes "' viewBox='0 0 " ∷ decimal (cell_width * COLUMNS)
+    ∷ codes "' height='" ∷ decimal (cell_height * ROWS) ∷ codes "' viewBox='0 0 "
+    ∷ decimal (cell_width * COLUMNS)
     ∷ codes " " ∷ decimal (cell_height * ROWS)
     ∷ codes "' font-family='DejaVu Sans Mono,Menlo,Consolas,monospace' font-size='15' xml:space='preserve'>\n"
     ∷ codes "<style>text{white-space:pre}</style>\n" ∷ [])

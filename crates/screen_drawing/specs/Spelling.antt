@@ -32,11 +32,13 @@ step_strength step = if step == 0 then 0 else 55 + 40 * step
 -- how strong the part of a colour is of which a step is this
 abbrev pub strength : ℕ → ℕ → ℕ
 strength one_step colour =
-    if nat_le 232 colour then 8 + 10 * (colour - 232) else step_strength ((colour - 16) / one_step % 6)
+    if nat_le 232 colour then 8 + 10 * (colour - 232)
+    else step_strength ((colour - 16) / one_step % 6)
 
 abbrev pub colour_text : ℕ → ℕ → ℕ → List ℕ
 colour_text red green blue =
-    codes "#" ++ (hex_digit (red / 16) ∷ hex_digit (red % 16) ∷ hex_digit (green / 16) ∷ hex_digit (green % 16)
+    codes "#" ++ (hex_digit (red / 16) ∷ hex_digit (red % 16) ∷ hex_digit (green / 16)
+    ∷ hex_digit (green % 16)
     ∷ hex_digit (blue / 16) ∷ hex_digit (blue % 16) ∷ [])
 
 -- a colour of the terminal as a number sign and two hexadecimal digits for each of red, green and blue

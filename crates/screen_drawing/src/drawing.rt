@@ -100,7 +100,8 @@ fn draw_rows<W: Write>(writer: &mut W, screen: &Rows) -> Drawing
 #[tactic(auto, unfolding(crate::specs::Drawn::drawn_row))]
 fn draw_row<W: Write>(writer: &mut W, y: u8, screen: &Rows) -> Drawing
     requires { y < rows }
-    ensures { Sends result (W.contents writer.old) (W.contents writer.new) (drawn_row screen.now y) }
+    ensures { Sends result (W.contents writer.old) (W.contents writer.new)
+        (drawn_row screen.now y) }
 {
     let cells = &screen[usize::from(ROWS - 1 - y)];
     draw_cells(writer, y, cells, &row_of_cells(cells))
@@ -108,7 +109,8 @@ fn draw_row<W: Write>(writer: &mut W, y: u8, screen: &Rows) -> Drawing
 
 /// Draws the cells of a row, from the left.
 fn draw_cells<W: Write>(writer: &mut W, y: u8, cells: &[Cell; COLUMN_COUNT], row: &Row) -> Drawing
-    ensures { Sends result (W.contents writer.old) (W.contents writer.new) (drawn_cells y cells.now row.now) }
+    ensures { Sends result (W.contents writer.old) (W.contents writer.new)
+        (drawn_cells y cells.now row.now) }
 {
     for x in 0..COLUMNS {
         draw_column(writer, (x, y), cells, row)?;
@@ -142,7 +144,8 @@ fn mark_at(cells: &[Cell; COLUMN_COUNT], x: u8) -> Mark
 /// Draws the stretch of cells in one pen that begins at a column, if one does.
 fn draw_start<W: Write>(writer: &mut W, place: (u8, u8), row: &Row) -> Drawing
     requires { place.0 < columns }
-    ensures { Sends result (W.contents writer.old) (W.contents writer.new) (drawn_start place.1 row.now place.0) }
+    ensures { Sends result (W.contents writer.old) (W.contents writer.new)
+        (drawn_start place.1 row.now place.0) }
 {
     if !is_start(row, place.0) {
         return Ok(());
@@ -209,7 +212,8 @@ fn draw_stretch<W: Write>(writer: &mut W, place: (u8, u8), faces: &[Face], pen: 
 
 /// Draws the background of cells, if it isn't white.
 fn draw_paper<W: Write>(writer: &mut W, place: (u8, u8), columns: u8, paper: u8) -> Drawing
-    ensures { Sends result (W.contents writer.old) (W.contents writer.new) (drawn_paper place.0 place.1 columns paper) }
+    ensures { Sends result (W.contents writer.old) (W.contents writer.new)
+        (drawn_paper place.0 place.1 columns paper) }
 {
     if paper == WHITE {
         return Ok(());
@@ -220,7 +224,8 @@ fn draw_paper<W: Write>(writer: &mut W, place: (u8, u8), columns: u8, paper: u8)
 /// Draws the characters of cells of one pen, if there is anything to see of them.
 fn draw_text<W: Write>(writer: &mut W, place: (u8, u8), faces: &[Face], pen: Pen) -> Drawing
     requires { length faces.now ≤ 80 }
-    ensures { Sends result (W.contents writer.old) (W.contents writer.new) (drawn_text place.0 place.1 faces.now pen) }
+    ensures { Sends result (W.contents writer.old) (W.contents writer.new)
+        (drawn_text place.0 place.1 faces.now pen) }
 {
     if is_bare(faces, pen) {
         return Ok(());
@@ -254,7 +259,8 @@ fn are_spaces(faces: &[Face]) -> bool
 
 /// Draws the caret, if there is one.
 fn draw_caret<W: Write>(writer: &mut W, place: (u8, u8), mark: Mark) -> Drawing
-    ensures { Sends result (W.contents writer.old) (W.contents writer.new) (drawn_caret place.0 place.1 mark) }
+    ensures { Sends result (W.contents writer.old) (W.contents writer.new)
+        (drawn_caret place.0 place.1 mark) }
 {
     match mark {
         Mark::Caret => rectangle(writer, caret_area(place), BLACK),

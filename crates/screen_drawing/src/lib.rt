@@ -9,5 +9,5 @@ mod pieces;
 mod shapes;
 mod spelling;
 
-pub use drawing::draw;
 pub use byte_streams::OutputFault;
+pub use drawing::draw;

@@ -11,7 +11,8 @@ pub(crate) type Drawing = Result<(), OutputFault>;
 
 /// Writes the pieces, one after another.
 pub(crate) fn send_all<W: Write>(writer: &mut W, pieces: &[&[u8]]) -> Drawing
-    ensures { Sends result (W.contents writer.old) (W.contents writer.new) (joined_pieces pieces.now) }
+    ensures { Sends result (W.contents writer.old) (W.contents writer.new)
+        (joined_pieces pieces.now) }
 {
     for piece in pieces {
         send(writer, piece)?;

@@ -48,7 +48,8 @@ pub(crate) fn paper_cells<W: Write>(
     columns: u8,
     paper: u8,
 ) -> Drawing
-    ensures { Sends result (W.contents writer.old) (W.contents writer.new) (paper_cells place.0 place.1 columns paper) }
+    ensures { Sends result (W.contents writer.old) (W.contents writer.new)
+        (paper_cells place.0 place.1 columns paper) }
 {
     let area = Area {
         x: CELL_WIDTH * u16::from(place.0),
@@ -67,7 +68,8 @@ pub(crate) fn text_cells<W: Write>(
     pen: Pen,
 ) -> Drawing
     requires { length faces.now ≤ 80 }
-    ensures { Sends result (W.contents writer.old) (W.contents writer.new) (text_cells place.0 place.1 faces.now pen) }
+    ensures { Sends result (W.contents writer.old) (W.contents writer.new)
+        (text_cells place.0 place.1 faces.now pen) }
 {
     let x = CELL_WIDTH * u16::from(place.0);
     let y = CELL_HEIGHT * u16::from(place.1) + BASELINE;

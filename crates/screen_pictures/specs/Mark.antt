@@ -8,7 +8,8 @@ use Rattle.screen_pictures.specs.declared.cell.Mark.TheVariants.{Marker, Caret, 
 -- the display
 abbrev pub mark_of : Bool → Bool → Bool → Mark → Mark
 mark_of has_marker has_caret is_selected part =
-    if has_marker then Marker else (if has_caret then Caret else (if is_selected then Selected else part))
+    if has_marker then Marker else (if has_caret then Caret
+    else (if is_selected then Selected else part))
 
 -- whether a mark has a letter of its own, being more than a part of the display
 abbrev pub has_letter : Mark → Bool

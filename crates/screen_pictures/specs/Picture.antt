@@ -78,7 +78,8 @@ caret_at w h text org (Some p) =
 abbrev pub frame_cell : Painted → ℕ → ℕ → ℕ → ℕ → Cell
 frame_cell v w h column row =
     if column == 0 then bar_cell else
-    text_cell (row_cells w v.main v.frame.org row) (caret_at w h v.main v.frame.org v.frame.caret) v.frame.selection
+    text_cell (row_cells w v.main v.frame.org row)
+    (caret_at w h v.main v.frame.org v.frame.caret) v.frame.selection
     (column - 1) row
 
 -- the cell in this column, from the viewer's left one, and row y of a viewer of that width and these rows
@@ -115,4 +116,5 @@ with_marker here cell = if here then record cell { mark = Marker } else cell
 -- the cell, with these columns, viewers and this marker
 unfoldable pub picture : Columns → List Painted → Option (ℕ × ℕ) → ℕ → ℕ → Cell
 picture columns viewers marker x y =
-    with_marker (is_at marker x y) (track_cell columns viewers (track_at x) (x - left_of (track_at x)) y)
+    with_marker (is_at marker x y)
+    (track_cell columns viewers (track_at x) (x - left_of (track_at x)) y)

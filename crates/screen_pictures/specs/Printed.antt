@@ -16,14 +16,16 @@ least n passes = position_or_len passes (range_with_len 0 n)
 
 -- the least prefix of the bytes after which all are `blank`
 unfoldable pub without_trailing : ℕ → List ℕ → List ℕ
-without_trailing blank bytes = take (least (length bytes) (λ n. list_all (λ b. b == blank) (drop n bytes))) bytes
+without_trailing blank bytes =
+    take (least (length bytes) (λ n. list_all (λ b. b == blank) (drop n bytes))) bytes
 
 abbrev pub ended_line : List ℕ → List ℕ
 ended_line text = text ++ line_feed ∷ []
 
 -- a row's number in two digits, a colon, and its bytes without blanks at their end
 abbrev pub row_line : ℕ → ℕ → List ℕ → List ℕ
-row_line y blank bytes = ended_line ((digit (y / 10) ∷ digit (y % 10) ∷ codes ":") ++ without_trailing blank bytes)
+row_line y blank bytes = ended_line ((digit (y / 10) ∷ digit (y % 10) ∷ codes ":")
+    ++ without_trailing blank bytes)
 
 abbrev pub character_line : ℕ → List Cell → List ℕ
 character_line y row = row_line y space (map (λ c. c.ch) row)
@@ -43,8 +45,10 @@ abbrev pub character_lines : List (List Cell) → List ℕ
 character_lines screen = flat_map (λ y. character_line y (row_at screen y)) (down_from ROWS)
 
 abbrev pub mark_lines : List (List Cell) → List ℕ
-mark_lines screen = flat_map (λ y. mark_line y (row_at screen y)) (filter (λ y. has_mark_line (row_at screen y))
+mark_lines screen = flat_map (λ y. mark_line y (row_at screen y))
+    (filter (λ y. has_mark_line (row_at screen y))
     (down_from ROWS))
 
 unfoldable pub printed : List (List Cell) → List ℕ
-printed screen = character_lines screen ++ (ended_line (codes "marks") ++ (mark_lines screen ++ ended_line (codes "end")))
+printed screen = character_lines screen
+    ++ (ended_line (codes "marks") ++ (mark_lines screen ++ ended_line (codes "end")))

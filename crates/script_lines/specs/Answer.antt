@@ -27,7 +27,8 @@ end_line = script_line (codes "end")
 -- a byte from the space to the tilde but the percent sign as itself, any other as a percent sign and two digits
 abbrev pub answer_byte : ℕ → List ℕ
 answer_byte b =
-    if is_script_byte b && not (b == 37) then b ∷ [] else 37 ∷ hex_digit (b / 16) ∷ hex_digit (b % 16) ∷ []
+    if is_script_byte b && not (b == 37) then b ∷ []
+    else 37 ∷ hex_digit (b / 16) ∷ hex_digit (b % 16) ∷ []
 
 abbrev pub escaped_answer : List ℕ → List ℕ
 escaped_answer bytes = flat_map answer_byte bytes
@@ -56,7 +57,8 @@ stretches (c ∷ text) = joined_stretches c (stretches text)
 
 -- font, colour and offset, each with a space after it, and the bytes
 abbrev pub look_words : Look → List ℕ
-look_words look = decimal look.font ++ 32 ∷ decimal look.colour ++ 32 ∷ signed_decimal look.voff ++ 32 ∷ []
+look_words look = decimal look.font ++ 32 ∷ decimal look.colour ++ 32 ∷ signed_decimal look.voff
+    ++ 32 ∷ []
 
 abbrev pub stretch_line : LookStretch → List ℕ
 stretch_line s = script_line (look_words s.look ++ escaped_answer s.bytes)
@@ -72,7 +74,8 @@ show_lines (Some text) = text_lines text
 
 abbrev pub entry_line : Entry → List ℕ
 entry_line (File name len) = script_line (codes "file " ++ name ++ 32 ∷ decimal len)
-entry_line (Viewer x bottom top name len) = script_line (codes "viewer " ++ decimal x ++ 32 ∷ decimal bottom
+entry_line (Viewer x bottom top name len) =
+    script_line (codes "viewer " ++ decimal x ++ 32 ∷ decimal bottom
     ++ 32 ∷ decimal top ++ 32 ∷ escaped_answer name ++ 32 ∷ decimal len)
 entry_line (Over x depth) = script_line (codes "over " ++ decimal x ++ 32 ∷ decimal depth)
 entry_line (Written n) = script_line (codes "written " ++ decimal n)

@@ -4,6 +4,7 @@ use Rattle.std.specs.Io.KnownBytes.{Consumes, IsAtEnd}
 use Rattle.script_lines.specs.Request.{longest_line}
 use Rattle.script_lines.specs.Script.{script_line, IsLine}
 use Rattle.script_lines.specs.declared.line.Line.{Line}
+use Rattle.script_lines.specs.declared.line.TheConstants.{LONGEST_PIECE}
 
 -- A line is held whole, or it is known that it is too long to be one of the language.
 pub record HoldsLine (held : Line) (line : List ℕ) : Type 0 where
@@ -17,7 +18,7 @@ pub record Unplayed : Type 0 where
 
 -- how many bytes a read gives at most
 abbrev pub longest_piece : ℕ
-longest_piece = 8192
+longest_piece = LONGEST_PIECE
 
 -- a bound on the bytes that so many reads give
 abbrev pub most_bytes : ℕ → ℕ
@@ -30,7 +31,8 @@ pub record ComesInPieces (reads : ℕ) (left left' : Option (List ℕ)) : Type 0
   pub few : length read ≤ most_bytes reads
 
 -- A piece was read, of so many bytes: none at the end of the script. No number: the read failed, or would be one too many.
-pub record ReadsPiece (result : Option ℕ) (left left' : Option (List ℕ)) (pending : List ℕ) : Type 0 where
+pub record ReadsPiece (result : Option ℕ) (left left' : Option (List ℕ))
+    (pending : List ℕ) : Type 0 where
   pub came : Consumes left left' pending
   pub count : MatchOption result (pending ≡ []) (λ n. (length pending ≡ n))
   pub most : length pending ≤ longest_piece
@@ -41,7 +43,8 @@ abbrev pub most_lines : Unplayed → ℕ
 most_lines u = u.reads * (longest_piece + 1) + length u.pending
 
 -- A line came first, in what was pending and what then was read; left is what the reader had left.
-pub record TakesLine (old new : Unplayed) (left left' : Option (List ℕ)) (held : Line) : Type 0 where
+pub record TakesLine (old new : Unplayed) (left left' : Option (List ℕ))
+    (held : Line) : Type 0 where
   pub line : List ℕ
   pub read : List ℕ
   pub came : Consumes left left' read
@@ -51,7 +54,8 @@ pub record TakesLine (old new : Unplayed) (left left' : Option (List ℕ)) (held
   pub holds : HoldsLine held line
 
 -- No line feed came any more: this rest is all that was pending and read.
-pub record TakesRest (old new : Unplayed) (left left' : Option (List ℕ)) (held : Line) : Type 0 where
+pub record TakesRest (old new : Unplayed) (left left' : Option (List ℕ))
+    (held : Line) : Type 0 where
   pub rest : List ℕ
   pub read : List ℕ
   pub came : Consumes left left' read

@@ -5,6 +5,7 @@ use Rattle.std.specs.List.{list_all}
 use Rattle.std.specs.Str.{bytes_eq}
 use Rattle.event_bytes.specs.Bytes.{lies_within, is_name, is_file_bytes, is_typed_bytes}
 use Rattle.event_bytes.specs.declared.event.Event.TheVariants.{Typed, Key, Mark, Point, File}
+use Rattle.script_lines.specs.declared.request.TheConstants.{LONGEST_LINE}
 use Rattle.script_lines.specs.declared.request.Request.{Request}
 use Rattle.script_lines.specs.declared.request.Request.TheVariants.{Post, Checkpoint, Show, Listing, Display, Malformed}
 use Rattle.script_lines.specs.Words.{first_word, argument, ◌>>=◌, leading, to_number, key_named, keys_named}
@@ -78,7 +79,8 @@ words_of name rest = if bytes_eq name (codes "type") then typed_of rest
     else (if bytes_eq name (codes "key") then key_request rest
     else (if bytes_eq name (codes "mark") then mark_request rest
     else (if bytes_eq name (codes "point") then point_of rest
-    else (if bytes_eq name (codes "file") then file_request (first_word rest) (unwrap_or (argument rest) [])
+    else (if bytes_eq name (codes "file")
+    then file_request (first_word rest) (unwrap_or (argument rest) [])
     else (if bytes_eq name (codes "show") then show_of rest else None)))))
 
 unfoldable pub command_of : List ℕ → Option (List ℕ) → Option Request
@@ -86,13 +88,14 @@ command_of name None = word_request name
 command_of name (Some rest) = words_of name rest
 
 abbrev pub longest_line : ℕ
-longest_line = 4096
+longest_line = LONGEST_LINE
 
 abbrev pub is_readable : List ℕ → Bool
 is_readable line = nat_le (length line) longest_line && list_all is_script_byte line
 
 unfoldable pub request_of : List ℕ → Request
-request_of line = if is_readable line then unwrap_or (command_of (first_word line) (argument line)) Malformed else Malformed
+request_of line = if is_readable line
+    then unwrap_or (command_of (first_word line) (argument line)) Malformed else Malformed
 
 -- what the text of a line asks for that types it, where each byte of it stands for itself
 abbrev pub typed_plain : List ℕ → Request

@@ -32,7 +32,8 @@ leading named text = do
 
 -- a number below 256 with a decimal digit more; nothing follows a zero at the beginning
 unfoldable pub one_more : ℕ → ℕ → Option ℕ
-one_more n b = if is_digit b && (not (n == 0) && nat_le (10 * n + (b - 48)) 255) then Some (10 * n + (b - 48))
+one_more n b = if is_digit b && (not (n == 0) && nat_le (10 * n + (b - 48)) 255)
+    then Some (10 * n + (b - 48))
     else None
 
 -- the number with these digits more
@@ -58,11 +59,13 @@ value_named is_name words values = do
 -- a key of the keyboard by its word
 unfoldable pub key_named : List ℕ → Option Key
 key_named name =
-    value_named (bytes_eq name) (codes "back" ∷ codes "copy" ∷ codes "paste" ∷ codes "cut" ∷ codes "escape" ∷ [])
+    value_named (bytes_eq name) (codes "back" ∷ codes "copy" ∷ codes "paste" ∷ codes "cut"
+    ∷ codes "escape" ∷ [])
     all_of_keyboard
 
 -- keys of the mouse by the first letters of each, in the order in which they are pressed
 unfoldable pub keys_named : List ℕ → Option Keys
 keys_named name =
-    value_named (bytes_eq name) (codes "l" ∷ codes "lm" ∷ codes "lr" ∷ codes "m" ∷ codes "ml" ∷ codes "mr" ∷ codes "r"
+    value_named (bytes_eq name) (codes "l" ∷ codes "lm" ∷ codes "lr" ∷ codes "m" ∷ codes "ml"
+    ∷ codes "mr" ∷ codes "r"
     ∷ codes "rl" ∷ codes "rm" ∷ []) all_of_mouse

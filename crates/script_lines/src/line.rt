@@ -5,15 +5,18 @@ ghost use Rattle.std.specs.Io.KnownBytes.{IsAtEnd};
 ghost use Rattle.script_lines.specs.Script.{script_line, IsLine};
 ghost use Rattle.script_lines.specs.Request.{request_of};
 
-use crate::request::{Request, ask};
+use crate::request::{LONGEST_LINE, Request, ask};
 use arrayvec::ArrayVec;
 use byte_streams::ScriptReader;
 use std::marker::Model;
 
+/// How many bytes a read gives at most.
+pub(crate) const LONGEST_PIECE: usize = 8192;
+
 /// A line of a script, as far as it is kept: of a line of more than 4,096 bytes it is only known that it is so long.
 #[derive(Drop)]
 pub struct Line {
-    bytes: ArrayVec<u8, 4096>,
+    bytes: ArrayVec<u8, LONGEST_LINE>,
     is_long: bool,
 }
 
@@ -84,7 +87,7 @@ pub enum LineEnd {
 /// A clause sees what of the piece is in no line yet, and how many reads may follow.
 #[derive(Drop)]
 pub struct Script {
-    piece: [u8; 8192],
+    piece: [u8; LONGEST_PIECE],
     next: usize,
     end: usize,
     reads: u32,
@@ -93,13 +96,13 @@ pub struct Script {
 impl Model for Script {
     ghost use Rattle.std.specs.Prelude.{◌≤◌};
     ghost use Rattle.std.specs.List.{between};
-    ghost use Rattle.script_lines.specs.Reading.{Unplayed};
+    ghost use Rattle.script_lines.specs.Reading.{Unplayed, longest_piece};
 
     ghost Value = { Unplayed };
 
     ghost view = { λ s. record { pending = between s.next s.end s.piece; reads = s.reads } };
 
-    ghost invariant = { λ s. (s.next ≤ s.end) × (s.end ≤ 8192) };
+    ghost invariant = { λ s. (s.next ≤ s.end) × (s.end ≤ longest_piece) };
 }
 
 impl Script {
@@ -113,7 +116,7 @@ impl Script {
         ensures reads { result.reads ≡ reads }
     {
         Script {
-            piece: [0; 8192],
+            piece: [0; LONGEST_PIECE],
             next: 0,
             end: 0,
             reads,

@@ -33,8 +33,8 @@ pub fn spelled(text: &[u8]) -> Option<Few>
     Some(bytes)
 }
 
-#[tactic(auto, unfolding(crate::specs::Percent::meant))]
 /// The first byte that a text stands for, and the text after its spelling.
+#[tactic(auto, unfolding(crate::specs::Percent::meant))]
 fn first_meant(first: u8, rest: &[u8]) -> Option<(u8, &[u8])>
     ensures meant { MatchOption result (meant (first ∷ rest.now) ≡ None)
         (λ x. meant (first ∷ rest.now) ≡ in_front x.0 (meant x.1.now)) }
@@ -47,8 +47,8 @@ fn first_meant(first: u8, rest: &[u8]) -> Option<(u8, &[u8])>
     }
 }
 
-#[tactic(auto, unfolding(crate::specs::Percent::escaped))]
 /// The byte that two hexadecimal digits spell at the beginning, and the text after them.
+#[tactic(auto, unfolding(crate::specs::Percent::escaped))]
 fn escaped(text: &[u8]) -> Option<(u8, &[u8])>
     ensures meant { MatchOption result (escape_meant text.now ≡ None)
         (λ x. escape_meant text.now ≡ in_front x.0 (meant x.1.now)) }

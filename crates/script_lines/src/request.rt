@@ -15,6 +15,9 @@ use crate::percent::{is_plain, spelled};
 use crate::words::{key, leading_keys, leading_number, number, split_word};
 use event_bytes::{Event, FileBytes, Name, TypedBytes};
 
+/// How many bytes a line has at most.
+pub(crate) const LONGEST_LINE: usize = 4096;
+
 /// What a line asks for.
 #[derive(Debug, PartialEq, Eq, Drop)]
 pub enum Request {
@@ -105,7 +108,7 @@ fn parse(line: &[u8]) -> Request
 fn is_text(line: &[u8]) -> bool
     ensures { result ≡ is_readable line.now }
 {
-    line.len() <= 4096 && are_printable(line)
+    line.len() <= LONGEST_LINE && are_printable(line)
 }
 
 /// Whether each byte is one from the space to the tilde.

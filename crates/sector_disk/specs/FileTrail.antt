@@ -44,20 +44,24 @@ file_synced m = record { reads = m.reads; pending = λ _. false }
 pub record ChangesOnly (area : ℕ → Type 0) (old new : FileTrail) : Type 0 where
   pub later : old.clock ≤ new.clock
   pub kept : (t : ℕ) → t ≤ old.clock → new.at t ≡ old.at t
-  pub reads : (t : ℕ) → old.clock ≤ t → t ≤ new.clock → (i : ℕ) → ¬ area i → (new.at t).reads i ≡ (current old).reads i
-  pub settled : (t : ℕ) → old.clock ≤ t → t ≤ new.clock → (i : ℕ) → ¬ area i → (current old).pending i ≡ false
+  pub reads : (t : ℕ) → old.clock ≤ t → t ≤ new.clock → (i : ℕ) → ¬ area i
+      → (new.at t).reads i ≡ (current old).reads i
+  pub settled : (t : ℕ) → old.clock ≤ t → t ≤ new.clock → (i : ℕ) → ¬ area i
+      → (current old).pending i ≡ false
       → (new.at t).pending i ≡ false
 
 -- calls that were confined to the bytes of an area: the file is honest exactly if it was, and where it is honest no other
 -- byte was touched
-pub record IsFileConfined {F : Type 0} (honest : F → Type 0) (trail : F → FileTrail) (area : ℕ → Type 0) (old new : F) :
+pub record IsFileConfined {F : Type 0} (honest : F → Type 0) (trail : F → FileTrail)
+    (area : ℕ → Type 0) (old new : F) :
     Type 0 where
   pub still : honest old → honest new
   pub already : honest new → honest old
   pub moments : honest old → ChangesOnly area (trail old) (trail new)
 
 -- a call after which nothing more is told of a file: what it was up to then stays as it was
-pub record EndsTrail {F : Type 0} (honest : F → Type 0) (trail : F → FileTrail) (old new : F) : Type 0 where
+pub record EndsTrail {F : Type 0} (honest : F → Type 0) (trail : F → FileTrail)
+    (old new : F) : Type 0 where
   pub still : honest old → honest new
   pub already : honest new → honest old
   pub same : trail new ≡ trail old

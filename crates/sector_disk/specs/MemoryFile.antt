@@ -19,4 +19,7 @@ file_replayed (call ∷ calls) m = file_replayed calls (file_after call m)
 
 -- moment t is the one after the first t of them
 abbrev pub file_trail_of : List FileCall → FileTrail
-file_trail_of calls = record { clock = length calls; at = λ t. file_replayed (take t calls) empty_file }
+file_trail_of calls = record {
+  clock = length calls;
+  at = λ t. file_replayed (take t calls) empty_file;
+}

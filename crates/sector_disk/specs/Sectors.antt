@@ -38,7 +38,8 @@ pub record IsSectorWritten (old new : Sectors) (n : ℕ) (bytes : List ℕ) : Ty
 -- a sector is pending, and else all is as it was
 pub record IsMadePending (old new : Sectors) (n : ℕ) : Type 0 where
   pub reads : (k : ℕ) → (moment_of new).reads k ≡ (moment_of old).reads k
-  pub pending : (k : ℕ) → (moment_of new).pending k ≡ (if k == n then true else (moment_of old).pending k)
+  pub pending : (k : ℕ) → (moment_of new).pending k
+      ≡ (if k == n then true else (moment_of old).pending k)
   pub settled : synced_content new ≡ synced_content old
 
 -- what is kept is what these calls left

@@ -39,7 +39,8 @@ pub trait Disk {
         requires { n < size self.old }
         ensures kept { IsConfined size honest trail Nowhere self.old self.new }
         ensures cause { CountsFault result (failures self.old) (failures self.new) }
-        ensures bytes { OnOk result (honest self.old → buffer.new ≡ (now (trail self.old)).reads n) };
+        ensures bytes { OnOk result (honest self.old
+            → buffer.new ≡ (now (trail self.old)).reads n) };
 
     /// Writes sector `n`, which is pending until the next sync. After a `Fault` that sector may read as anything.
     fn write(&mut self, n: u32, bytes: &Sector) -> Result<(), Fault>
@@ -53,6 +54,8 @@ pub trait Disk {
     fn sync(&mut self) -> Result<(), Fault>
         ensures kept { IsConfined size honest trail Nowhere self.old self.new }
         ensures cause { CountsFault result (failures self.old) (failures self.new) }
-        ensures settled { OnOk result (honest self.old → now (trail self.new) ≡ after_sync (now (trail self.old))) }
-        ensures unsettled { OnErr result (honest self.old → now (trail self.new) ≡ now (trail self.old)) };
+        ensures settled { OnOk result (honest self.old
+            → now (trail self.new) ≡ after_sync (now (trail self.old))) }
+        ensures unsettled { OnErr result (honest self.old
+            → now (trail self.new) ≡ now (trail self.old)) };
 }

@@ -72,11 +72,13 @@ pub trait HostFile {
     /// or not, and may read as anything.
     fn write_at(&mut self, bytes: &[u8], offset: u64) -> Result<usize, HostError>
         requires { intact self.old ≡ true }
-        ensures kept { IsFileConfined honest trail (Span offset (length bytes.now)) self.old self.new }
+        ensures kept { IsFileConfined honest trail
+            (Span offset (length bytes.now)) self.old self.new }
         ensures still_intact { intact self.new ≡ true }
         ensures within { IfOk result (λ n. n ≤ length bytes.now) }
         ensures written { IfOk result (λ n. honest self.old
-            → current (trail self.new) ≡ overwritten (current (trail self.old)) offset (take n bytes.now)) }
+            → current (trail self.new) ≡ overwritten (current (trail self.old)) offset
+            (take n bytes.now)) }
         ensures interrupted { IsErrOf result HostError.Interrupted → honest self.old
             → current (trail self.new) ≡ current (trail self.old) };
 

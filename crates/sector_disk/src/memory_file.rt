@@ -94,7 +94,8 @@ fn set_byte(bytes: &mut Vec<u8>, at: usize, value: u8) -> Result<(), NoMemory>
     requires { at < 2 ^ 63 }
     ensures set { OnOk result ((i : ℕ)
         → get_or bytes.new.items i 0 ≡ (if i == at then value else get_or bytes.old.items i 0)) }
-    ensures refused { OnErr result ((i : ℕ) → get_or bytes.new.items i 0 ≡ get_or bytes.old.items i 0) }
+    ensures refused { OnErr result ((i : ℕ)
+        → get_or bytes.new.items i 0 ≡ get_or bytes.old.items i 0) }
 {
     lengthen(bytes, at + 1)?;
     bytes[at] = value;

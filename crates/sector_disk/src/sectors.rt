@@ -42,7 +42,8 @@ fn overwrite(
     bytes: &Sector,
 ) -> Result<(), NoMemory>
     ensures put { OnOk result (place.new ≡ bytes.now) }
-    ensures kept { OnOk result (is_some (get nat_cmp settled.old n) ≡ true → settled.new ≡ settled.old) }
+    ensures kept { OnOk result (is_some (get nat_cmp settled.old n) ≡ true
+        → settled.new ≡ settled.old) }
     ensures keeps { OnOk result (is_some (get nat_cmp settled.old n) ≡ false
         → IsPut settled.old settled.new n (Some place.old)) }
     ensures refused { OnErr result (IsUnchanged settled.old settled.new) }
@@ -156,13 +157,15 @@ impl Sectors {
     fn put(&mut self, n: u32, bytes: &Sector) -> Result<bool, NoMemory>
         ensures room { IfOk result (λ there. there ≡ is_some (get nat_cmp self.old.latest n)) }
         ensures absent { result ≡ Ok false → IsAsBefore self.old self.new }
-        ensures put { result ≡ Ok true → Updates nat_cmp self.old.latest self.new.latest n (Some bytes.now) }
+        ensures put { result ≡ Ok true
+            → Updates nat_cmp self.old.latest self.new.latest n (Some bytes.now) }
         ensures kept { result ≡ Ok true → is_some (get nat_cmp self.old.settled n) ≡ true
             → self.new.settled ≡ self.old.settled }
         ensures keeps { result ≡ Ok true → is_some (get nat_cmp self.old.settled n) ≡ false
             → IsPut self.old.settled self.new.settled n (get nat_cmp self.old.latest n) }
         ensures refused { OnErr result (IsUnchanged self.old.settled self.new.settled) }
-        ensures left { OnErr result (IsPut self.old.latest self.new.latest n (get nat_cmp self.old.latest n)) }
+        ensures left { OnErr result (IsPut self.old.latest self.new.latest n
+            (get nat_cmp self.old.latest n)) }
     {
         match self.latest.get_mut(&n) {
             Some(place) => {
@@ -197,7 +200,8 @@ impl Sectors {
     /// The pending sectors, in rising order.
     pub(crate) fn pending_sectors(&self, alloc: Global) -> Result<Vec<u32>, NoMemory>
         ensures rising { IfOk result (λ v. IsStrictlySortedBy nat_cmp v.items) }
-        ensures which { IfOk result (λ v. (n : ℕ) → is_member nat_eq v.items n ≡ (moment_of self.now).pending n) }
+        ensures which { IfOk result (λ v. (n : ℕ)
+            → is_member nat_eq v.items n ≡ (moment_of self.now).pending n) }
     {
         self.settled.keys().copied().collect(alloc)
     }

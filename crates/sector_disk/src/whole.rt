@@ -41,7 +41,8 @@ pub(crate) fn read_whole<F: HostFile>(file: &mut F, buffer: &mut [u8], offset: u
 pub(crate) fn write_whole<F: HostFile>(file: &mut F, bytes: &[u8], offset: u64) -> bool
     requires intact { F.intact file.old ≡ true }
     requires room { offset + length bytes.now < 2 ^ 64 }
-    ensures kept { IsFileConfined F.honest F.trail (Span offset (length bytes.now)) file.old file.new }
+    ensures kept { IsFileConfined F.honest F.trail
+        (Span offset (length bytes.now)) file.old file.new }
     ensures still_intact { F.intact file.new ≡ true }
     ensures written { result ≡ true → F.honest file.old
         → current (F.trail file.new) ≡ overwritten (current (F.trail file.old)) offset bytes.now }

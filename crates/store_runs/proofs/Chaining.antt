@@ -14,6 +14,7 @@ use Rattle.desk_journal.specs.Checkpointing.{IsCheckpointed, IsRenewed}
 use Rattle.desk_journal.specs.Device.{IsSameDevice}
 use Rattle.desk_journal.specs.Errors.{OfPost, OfCheckpoint}
 use Rattle.desk_journal.specs.Posting.{IsPosted, IsAcknowledged}
+use Rattle.desk_journal.proofs.Stepped.{stepped_newest}
 use Rattle.desk_journal.proofs.Passing.{shows_means}
 use Rattle.store_runs.specs.Run.{StoreAnswer, Post, Served, ServesCall, IsCallRun, ComposingLaw, SurvivalLaw, served_of}
 use Rattle.store_runs.specs.Run.{posts_in}
@@ -79,7 +80,7 @@ module _ {D : Type 0} (d : Ghosts D) (old new : StoreView D) (honest : d.honest 
       (d.trail new.disk) old.desktop new.desktop old.must_reopen new.must_reopen
   posted_by_trails event answer p = record {
     any_moment = λ usable. p.any_moment usable honest;
-    stepped = IfOk-weaker answer _ _ (λ reply told. told.stepped honest) p.ok;
+    stepped = IfOk-weaker answer _ _ (λ reply told. stepped_newest d told honest) p.ok;
     acknowledged = shown_after event answer p.behaves.device.as_large (p.behaves.device.still honest) p.ok;
     memory = λ is usable. (p.memory is).unrecorded usable honest;
     broken_by_memory = λ is. (p.memory is).closed;

@@ -21,6 +21,7 @@ use Rattle.desk_journal.specs.Device.{WritesNothing, IsSameDevice, result_of}
 use Rattle.desk_journal.specs.Errors.{Error, OfOpen}
 use Rattle.desk_journal.specs.Opening.{IsNoStore}
 use Rattle.desk_journal.specs.Posting.{IsAcknowledged}
+use Rattle.desk_journal.proofs.Stepped.{stepped_newest}
 use Rattle.desk_journal.specs.Session.{session_of}
 use Rattle.desk_journal.proofs.Due.{due_or_room, has_it, has_none}
 use Rattle.desk_journal.proofs.Passing.{shows_means}
@@ -74,7 +75,7 @@ went_on d (Posting event) reply old new p = record {
   calm = p.behaves.faults.calm (λ wrong. absurd cc);
   usable = p.ok.usable;
   durable = p.ok.durable;
-  desktop = λ h. ap (λ (o : Outcome). o.desktop) (p.ok.stepped h);
+  desktop = λ h. ap (λ (o : Outcome). o.desktop) (stepped_newest d p.ok h);
   counts = counts_posted d event reply old new p.ok;
 }
 went_on d Checkpoint reply old new p = record {

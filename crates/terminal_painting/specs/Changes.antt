@@ -13,7 +13,8 @@ use Rattle.terminal_painting.specs.Pen.{blank_face, plain_pen, same_face, same_p
 abbrev pub operations_to_reach : Option Brush → ℕ → ℕ → Pen → List Operation
 operations_to_reach None row column pen = Go column row ∷ Take pen ∷ []
 operations_to_reach (Some b) row column pen =
-    (if b.column == column then [] else Go column row ∷ []) ++ (if same_pen b.pen pen then [] else Take pen ∷ [])
+    (if b.column == column then [] else Go column row ∷ []) ++ (if same_pen b.pen pen then []
+    else Take pen ∷ [])
 
 abbrev pub brush_at : ℕ → Pen → Option Brush
 brush_at column pen = Some (record { column = column; pen = pen })
@@ -27,8 +28,10 @@ strokes brush row column [] news = []
 strokes brush row column (o ∷ os) [] = []
 strokes brush row column (o ∷ os) (n ∷ ns) =
     if same_face o n then strokes brush row (column + 1) os ns
-    else (if list_all is_blank_face (n ∷ ns) then operations_to_reach brush row column (plain_pen WHITE) ++ (Clear ∷ [])
-    else operations_to_reach brush row column n.pen ++ (Put n.byte ∷ strokes (brush_at (column + 1) n.pen) row (column + 1) os ns))
+    else (if list_all is_blank_face (n ∷ ns)
+    then operations_to_reach brush row column (plain_pen WHITE) ++ (Clear ∷ [])
+    else operations_to_reach brush row column n.pen
+    ++ (Put n.byte ∷ strokes (brush_at (column + 1) n.pen) row (column + 1) os ns))
 
 unfoldable pub changes : ℕ → List Face → List Face → List Operation
 changes row olds news = strokes None row 1 olds news

@@ -37,7 +37,8 @@ pub record ShowsScene (scene : Scene) (g : Grid) : Type 0 where
 
 -- a writer took the bytes of these operations, by which a grid of which the one holds becomes one of which the other
 -- does
-pub record Leads (operations : List Operation) (old new : Option (List ℕ)) (before after : Grid → Type 0) : Type 0 where
+pub record Leads (operations : List Operation) (old new : Option (List ℕ))
+    (before after : Grid → Type 0) : Type 0 where
   pub sendable : AreSendable operations
   pub sent : Appends old new (spelled_all operations)
   pub led : (g : Grid) → before g → after (done operations g)
@@ -63,7 +64,8 @@ ending (Some place) = Go (place.0 + 1) (place.1 + 1) ∷ Show ∷ Release ∷ []
 
 -- the rows that are shown after the beginning
 abbrev pub begun_rows : List (List Face) → ℕ → List (List Face)
-begun_rows known rows = if length known == rows then known else replicate rows (replicate COLUMNS (blank_face WHITE))
+begun_rows known rows = if length known == rows then known
+    else replicate rows (replicate COLUMNS (blank_face WHITE))
 
 -- what changes the first n rows
 unfoldable pub rows_changes : ℕ → (ℕ → List Face) → (ℕ → List Face) → List Operation
@@ -79,13 +81,16 @@ painting known scene caret =
     ++ (rows_changes rows (λ y. slice_index_or olds y []) (scene_row scene) ++ ending caret)
 
 -- a writer took what makes every grid with room for a scene that shows the known rows show the scene
-pub record Paints (old new : Option (List ℕ)) (known : List (List Face)) (scene : Scene) : Type 0 where
+pub record Paints (old new : Option (List ℕ)) (known : List (List Face))
+    (scene : Scene) : Type 0 where
   pub caret : Option (ℕ × ℕ)
   pub stands : IsCaretCell scene caret
-  pub leads : Leads (painting known scene caret) old new (IsShown (height_of scene) known) (IsPainted scene)
+  pub leads : Leads (painting known scene caret) old new (IsShown (height_of scene) known)
+      (IsPainted scene)
 
 -- a writer took a front of that
-pub record PaintsFront (old new : Option (List ℕ)) (known : List (List Face)) (scene : Scene) : Type 0 where
+pub record PaintsFront (old new : Option (List ℕ)) (known : List (List Face))
+    (scene : Scene) : Type 0 where
   pub caret : Option (ℕ × ℕ)
   pub stands : IsCaretCell scene caret
   pub taken : AppendsFront old new (spelled_all (painting known scene caret))

@@ -74,7 +74,13 @@ face_of column cell = record { byte = sent_byte cell.ch; pen = pen_of column cel
 
 -- the pen of nothing but a paper
 abbrev pub plain_pen : ℕ → Pen
-plain_pen paper = record { ink = BLACK; paper = paper; weight = Regular; is_italic = false; rule = Plain }
+plain_pen paper = record {
+  ink = BLACK;
+  paper = paper;
+  weight = Regular;
+  is_italic = false;
+  rule = Plain;
+}
 
 abbrev pub blank_face : ℕ → Face
 blank_face paper = record { byte = space; pen = plain_pen paper }
@@ -100,7 +106,8 @@ IsCode number code = (number ≡ code) × (number < 100)
 abbrev pub same_pen : Pen → Pen → Bool
 same_pen a b =
     (a.ink == b.ink) && ((a.paper == b.paper) && ((weight_code a.weight == weight_code b.weight)
-    && ((slant_code a.is_italic == slant_code b.is_italic) && (rule_code a.rule == rule_code b.rule))))
+    && ((slant_code a.is_italic == slant_code b.is_italic)
+    && (rule_code a.rule == rule_code b.rule))))
 
 abbrev pub same_face : Face → Face → Bool
 same_face a b = (a.byte == b.byte) && same_pen a.pen b.pen

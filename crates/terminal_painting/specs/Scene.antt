@@ -34,7 +34,10 @@ seen_row scene y = row_at scene.screen.now (ROWS - 1 - scene.first - y)
 
 -- what a terminal shows for a text at a column
 abbrev pub letter_face : List ℕ → ℕ → Face
-letter_face text x = record { byte = sent_byte (unwrap_or (slice_get text x) space); pen = plain_pen WHITE }
+letter_face text x = record {
+  byte = sent_byte (unwrap_or (slice_get text x) space);
+  pen = plain_pen WHITE;
+}
 
 -- a row of cells, and a text, as a terminal shows them
 abbrev pub row_of_cells : List Cell → List Face
@@ -46,7 +49,8 @@ row_of_text text = values COLUMNS (letter_face text)
 -- its rows, from the top
 unfoldable pub scene_row : Scene → ℕ → List Face
 scene_row scene y =
-    if nat_lt y scene.rows then row_of_cells (seen_row scene y) else row_of_text (text_below scene.below)
+    if nat_lt y scene.rows then row_of_cells (seen_row scene y)
+    else row_of_text (text_below scene.below)
 
 unfoldable pub scene_rows : Scene → List (List Face)
 scene_rows scene = values (height_of scene) (scene_row scene)
@@ -57,4 +61,5 @@ HasCaretAt scene x y = (column_at (seen_row scene y) x).mark ≡ Caret
 
 abbrev pub IsCaretCell : Scene → Option (ℕ × ℕ) → Type 0
 IsCaretCell scene None = (x y : ℕ) → x < COLUMNS → y < scene.rows → HasCaretAt scene x y → ⊥
-IsCaretCell scene (Some place) = (place.0 < COLUMNS) × (place.1 < scene.rows) × HasCaretAt scene place.0 place.1
+IsCaretCell scene (Some place) = (place.0 < COLUMNS) × (place.1 < scene.rows)
+    × HasCaretAt scene place.0 place.1

@@ -36,7 +36,8 @@ control_sequence rest = escape ∷ 91 ∷ rest
 
 abbrev pub spelled_pen : Pen → List ℕ
 spelled_pen pen =
-    codes "0;" ++ two_digits (weight_code pen.weight) ++ codes ";" ++ two_digits (slant_code pen.is_italic) ++ codes ";"
+    codes "0;" ++ two_digits (weight_code pen.weight) ++ codes ";"
+    ++ two_digits (slant_code pen.is_italic) ++ codes ";"
     ++ two_digits (rule_code pen.rule) ++ codes ";38;5;" ++ three_digits pen.ink ++ codes ";48;5;"
     ++ three_digits pen.paper ++ codes "m"
 
@@ -46,7 +47,8 @@ operation_bytes Release = control_sequence (codes "?2026l")
 operation_bytes Hide = control_sequence (codes "?25l")
 operation_bytes Show = control_sequence (codes "?25h")
 operation_bytes Ring = bell ∷ []
-operation_bytes (Go column row) = control_sequence (three_digits row ++ codes ";" ++ three_digits column ++ codes "H")
+operation_bytes (Go column row) =
+    control_sequence (three_digits row ++ codes ";" ++ three_digits column ++ codes "H")
 operation_bytes (Take pen) = control_sequence (spelled_pen pen)
 operation_bytes (Put byte) = byte ∷ []
 operation_bytes Clear = control_sequence (codes "K")
@@ -77,7 +79,8 @@ abbrev pub two_at : List ℕ → ℕ → ℕ
 two_at bytes i = number_of_two (slice_index bytes i) (slice_index bytes (i + 1))
 
 abbrev pub number_of_three_at : List ℕ → ℕ → ℕ
-number_of_three_at bytes i = number_of_three (slice_index bytes i) (slice_index bytes (i + 1)) (slice_index bytes (i + 2))
+number_of_three_at bytes i = number_of_three (slice_index bytes i) (slice_index bytes (i + 1))
+    (slice_index bytes (i + 2))
 
 abbrev pub weight_told : ℕ → Weight
 weight_told code = if code == 1 then Bold else (if code == 2 then Faint else Regular)
@@ -98,7 +101,8 @@ pen_told bytes = record {
 -- of bytes that follow `ESC [ ?`
 abbrev pub private_told : List ℕ → Operation × List ℕ
 private_told bytes =
-    if slice_index bytes 1 == 48 then (if slice_index bytes 4 == 104 then Hold else Release, drop 5 bytes)
+    if slice_index bytes 1 == 48
+    then (if slice_index bytes 4 == 104 then Hold else Release, drop 5 bytes)
     else (if slice_index bytes 2 == 104 then Show else Hide, drop 3 bytes)
 
 -- of bytes that follow `ESC [`

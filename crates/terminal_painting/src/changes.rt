@@ -64,7 +64,8 @@ fn is_blank(faces: &[Face]) -> bool
 /// Adds what brings the cursor to a cell and the pen into its hand.
 fn reach(operations: &mut Changes, brush: Option<Brush>, row: u8, column: u8, pen: Pen)
     requires { array_vec_len operations.old + 2 ≤ MOST }
-    ensures value { operations.new.items ≡ operations.old.items ++ operations_to_reach brush row column pen }
+    ensures value { operations.new.items
+        ≡ operations.old.items ++ operations_to_reach brush row column pen }
     ensures few { array_vec_len operations.new ≤ array_vec_len operations.old + 2 }
 {
     let Some(brush) = brush else {

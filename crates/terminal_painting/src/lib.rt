@@ -15,11 +15,14 @@ mod pen;
 mod scene;
 mod sending;
 
+pub use byte_streams::OutputFault;
 pub use changes::{Changes, row_changes};
 pub use face::Face;
-pub use laws::{cells_are_shown, nothing_is_shown, one_telling, rest_is_kept, rows_are_shown, same_rows_change_nothing, spelled_is_told};
+pub use laws::{
+    cells_are_shown, nothing_is_shown, one_telling, rest_is_kept, rows_are_shown,
+    same_rows_change_nothing, spelled_is_told,
+};
 pub use operation::Operation;
-pub use byte_streams::OutputFault;
 pub use painter::{Painter, ring};
 pub use pen::{BLACK, Pen, Rule, WHITE, Weight};
 pub use scene::{Row, Scene, row_of_cells};

@@ -65,9 +65,11 @@ impl Painter {
     /// terminal.
     pub fn paint<W: Write>(&mut self, writer: &mut W, scene: &Scene<'_>) -> Result<(), OutputFault>
         requires { IsInSight scene.now }
-        ensures shown { OnOk result (Paints (W.contents writer.old) (W.contents writer.new) self.old scene.now) }
+        ensures shown { OnOk result (Paints (W.contents writer.old)
+            (W.contents writer.new) self.old scene.now) }
         ensures known { OnOk result (self.new ≡ scene_rows scene.now) }
-        ensures front { OnErr result (PaintsFront (W.contents writer.old) (W.contents writer.new) self.old scene.now) }
+        ensures front { OnErr result (PaintsFront (W.contents writer.old)
+            (W.contents writer.new) self.old scene.now) }
         ensures unknown { OnErr result (self.new ≡ []) }
     {
         let caret = scene.caret();
@@ -82,7 +84,8 @@ impl Painter {
 
 /// Rings the terminal's bell.
 pub fn ring<W: Write>(writer: &mut W) -> Result<(), OutputFault>
-    ensures { Sends result (W.contents writer.old) (W.contents writer.new) (operation_bytes Operation.Ring) }
+    ensures { Sends result (W.contents writer.old) (W.contents writer.new)
+        (operation_bytes Operation.Ring) }
 {
     send_last(writer, &[Operation::Ring])
 }
@@ -91,8 +94,10 @@ pub fn ring<W: Write>(writer: &mut W) -> Result<(), OutputFault>
 /// returns the rows that are shown then.
 fn begin<W: Write>(writer: &mut W, known: Rows, height: u8) -> Result<Rows, OutputFault>
     requires { height ≤ MOST_ROWS }
-    ensures led { OnOk result (Leads (beginning (length known.items == height)) (W.contents writer.old)
-        (W.contents writer.new) (IsShown height known.items) (IsShown height (begun_rows known.items height))) }
+    ensures led { OnOk result (Leads (beginning (length known.items
+        == height)) (W.contents writer.old)
+        (W.contents writer.new) (IsShown height known.items)
+        (IsShown height (begun_rows known.items height))) }
     ensures rows { IfOk result (λ olds. olds.items ≡ begun_rows known.items height) }
     ensures front { OnErr result (AppendsFront (W.contents writer.old) (W.contents writer.new)
         (spelled_all (beginning (length known.items == height)))) }
@@ -136,11 +141,14 @@ fn paint_rows<W: Write>(
     requires known { length olds.now ≡ height_of scene.now }
     ensures rows { IfOk result (λ rows. rows.items ≡ scene_rows scene.now) }
     ensures led { OnOk result (Leads
-        (rows_changes (height_of scene.now) (λ y. slice_index_or olds.now y []) (scene_row scene.now))
+        (rows_changes (height_of scene.now) (λ y. slice_index_or olds.now y [])
+        (scene_row scene.now))
         (W.contents writer.old) (W.contents writer.new) (IsShown (height_of scene.now) olds.now)
         (IsShown (height_of scene.now) (scene_rows scene.now))) }
-    ensures front { OnErr result (AppendsFront (W.contents writer.old) (W.contents writer.new) (spelled_all
-        (rows_changes (height_of scene.now) (λ y. slice_index_or olds.now y []) (scene_row scene.now)))) }
+    ensures front { OnErr result (AppendsFront (W.contents writer.old) (W.contents writer.new)
+        (spelled_all
+        (rows_changes (height_of scene.now) (λ y. slice_index_or olds.now y [])
+        (scene_row scene.now)))) }
 {
     let mut rows = Rows::new();
     for y in 0..scene.height() {
@@ -155,7 +163,8 @@ fn paint_rows<W: Write>(
 /// Ends a painting: the cursor goes to the caret, or is hidden.
 fn finish<W: Write>(writer: &mut W, caret: Option<(u8, u8)>) -> Result<(), OutputFault>
     requires { IfSome caret (λ place. (place.0 < columns) × (place.1 < rows)) }
-    ensures { Sends result (W.contents writer.old) (W.contents writer.new) (spelled_all (ending caret)) }
+    ensures { Sends result (W.contents writer.old) (W.contents writer.new)
+        (spelled_all (ending caret)) }
 {
     let Some((x, y)) = caret else {
         return send_last(writer, &[Operation::Hide, Operation::Release]);
@@ -170,7 +179,8 @@ fn finish<W: Write>(writer: &mut W, caret: Option<(u8, u8)>) -> Result<(), Outpu
 /// Writes the bytes of the operations and flushes the writer.
 fn send_last<W: Write>(writer: &mut W, operations: &[Operation]) -> Result<(), OutputFault>
     requires { length operations.now ≤ MOST }
-    ensures { Sends result (W.contents writer.old) (W.contents writer.new) (spelled_all operations.now) }
+    ensures { Sends result (W.contents writer.old) (W.contents writer.new)
+        (spelled_all operations.now) }
 {
     send(writer, operations)?;
     flush(writer)

@@ -119,7 +119,8 @@ fn letter_face(text: &[u8], x: u8) -> Face
 fn caret_in(cells: &[Cell; WIDTH]) -> Option<u8>
     ensures there { IfSome result (λ x. x < columns) }
     ensures caret { IfSome result (λ x. (column_at cells.now x).mark ≡ AMark.Caret) }
-    ensures nowhere { result ≡ None → (x : ℕ) → x < columns → (column_at cells.now x).mark ≢ AMark.Caret }
+    ensures nowhere { result ≡ None → (x : ℕ) → x < columns
+        → (column_at cells.now x).mark ≢ AMark.Caret }
 {
     for x in 0..COLUMNS {
         if cells[usize::from(x)].mark == Mark::Caret {

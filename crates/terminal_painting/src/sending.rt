@@ -20,7 +20,8 @@ type Bytes = ArrayVec<u8, ROOM>;
 /// Writes the bytes of the operations.
 pub(crate) fn send<W: Write>(writer: &mut W, operations: &[Operation]) -> Result<(), OutputFault>
     requires { length operations.now ≤ MOST }
-    ensures { Sends result (W.contents writer.old) (W.contents writer.new) (spelled_all operations.now) }
+    ensures { Sends result (W.contents writer.old) (W.contents writer.new)
+        (spelled_all operations.now) }
 {
     if operations.is_empty() {
         return Ok(());

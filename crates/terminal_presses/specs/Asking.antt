@@ -9,7 +9,9 @@ use Rattle.terminal_presses.specs.declared.press.Press.TheVariants.{FileFails, U
 use Rattle.terminal_presses.specs.declared.action.Action.{Action}
 use Rattle.terminal_presses.specs.declared.action.Action.TheVariants.{Nothing, Ring, LookAnew}
 use Rattle.terminal_presses.specs.declared.action.Action.TheVariants.{Leave, TypeFile, Move, Fit}
+use Rattle.terminal_presses.specs.declared.hand.TheConstants.{CONTROL_G, CONTROL_L, CONTROL_Q}
 use Rattle.terminal_presses.specs.HostNames.{is_host_byte, but_last}
+use Rattle.terminal_presses.specs.Pastes.{line_feed, return}
 
 -- the name as far as it is typed, where one is still asked for, and what is done
 abbrev pub Asked : Type 0
@@ -23,11 +25,12 @@ entered (b ∷ name) = (None, TypeFile (b ∷ name))
 -- a byte more, where it can stand in a name and there is room
 unfoldable pub lengthened : ℕ → List ℕ → Asked
 lengthened b name =
-    if is_host_byte b && nat_lt (length name) 255 then (Some (name ++ b ∷ []), Nothing) else (Some name, Ring)
+    if is_host_byte b && nat_lt (length name) 255 then (Some (name ++ b ∷ []), Nothing)
+    else (Some name, Ring)
 
 -- a carriage return ends the name
 unfoldable pub name_after_byte : ℕ → List ℕ → Asked
-name_after_byte b name = if b == 13 then entered name else lengthened b name
+name_after_byte b name = if b == return then entered name else lengthened b name
 
 -- the last byte is taken off
 unfoldable pub shortened_name : List ℕ → Asked
@@ -37,10 +40,10 @@ shortened_name (b ∷ name) = (Some (but_last (b ∷ name)), Nothing)
 -- what Ctrl comes to with G, J, L and Q; another letter rings
 unfoldable pub controlled_name : ℕ → List ℕ → Asked
 controlled_name b name =
-    if b == 7 then (None, Nothing) else
-    (if b == 10 then entered name else
-    (if b == 12 then (Some name, LookAnew) else
-    (if b == 17 then (Some name, Leave) else (Some name, Ring))))
+    if b == CONTROL_G then (None, Nothing) else
+    (if b == line_feed then entered name else
+    (if b == CONTROL_L then (Some name, LookAnew) else
+    (if b == CONTROL_Q then (Some name, Leave) else (Some name, Ring))))
 
 unfoldable pub by_function_amid : FunctionKey → Action
 by_function_amid F9 = LookAnew

@@ -23,10 +23,12 @@ use Rattle.terminal_presses.specs.declared.action.Action.TheVariants.{Move, Step
 use Rattle.terminal_presses.specs.declared.gesture.Gesture.{Gesture}
 use Rattle.terminal_presses.specs.declared.paste.Paste.{Paste}
 use Rattle.terminal_presses.specs.declared.hand.Hand.{Hand}
+use Rattle.terminal_presses.specs.declared.hand.TheConstants.{CONTROL_C, CONTROL_G, CONTROL_L, CONTROL_O, CONTROL_Q}
+use Rattle.terminal_presses.specs.declared.hand.TheConstants.{CONTROL_V, CONTROL_X, CONTROL_Y, CONTROL_Z}
 use Rattle.terminal_presses.specs.Gestures.{no_buttons, is_none_down, is_down, with_button, pressed_more, released}
 use Rattle.terminal_presses.specs.Gestures.{released_at}
 use Rattle.terminal_presses.specs.Asking.{Asked, answered, pasted_name}
-use Rattle.terminal_presses.specs.Pastes.{return, typing_action, new_paste, dropped, pasted_on}
+use Rattle.terminal_presses.specs.Pastes.{line_feed, return, typing_action, new_paste, dropped, pasted_on}
 
 -- the hand that has pressed nothing
 abbrev pub new_hand : Hand
@@ -45,19 +47,20 @@ asking name hand = record hand { paste = None; asked = Some name }
 -- what Ctrl comes to with C, J, L, Q, V, X, Y and Z; another letter rings
 unfoldable pub control : ℕ → Action
 control b =
-    if b == 3 then Post (Key key.Copy) else
-    (if b == 10 then typing_action (return ∷ []) else
-    (if b == 12 then LookAnew else
-    (if b == 17 then Leave else
-    (if b == 22 then Post (Key key.Paste) else
-    (if b == 24 then Post (Key key.Cut) else
-    (if b == 25 then Redo else
-    (if b == 26 then Undo else Ring)))))))
+    if b == CONTROL_C then Post (Key key.Copy) else
+    (if b == line_feed then typing_action (return ∷ []) else
+    (if b == CONTROL_L then LookAnew else
+    (if b == CONTROL_Q then Leave else
+    (if b == CONTROL_V then Post (Key key.Paste) else
+    (if b == CONTROL_X then Post (Key key.Cut) else
+    (if b == CONTROL_Y then Redo else
+    (if b == CONTROL_Z then Undo else Ring)))))))
 
 -- Where a function key has said what the next click is, the click is what it says by itself again, and no more.
 unfoldable pub hand_after_escape : Hand → Hand × Action
 hand_after_escape hand =
-    if is_some hand.armed then (record hand { armed = None }, Nothing) else (hand, Post (Key key.Escape))
+    if is_some hand.armed then (record hand { armed = None }, Nothing)
+    else (hand, Post (Key key.Escape))
 
 -- the name of a host file is asked for
 abbrev pub asks : Hand → Hand × Action
@@ -65,7 +68,8 @@ asks hand = (record hand { asked = Some [] }, Nothing)
 
 -- Ctrl-G is Escape too, and Ctrl-O asks for a name
 unfoldable pub controlled : ℕ → Hand → Hand × Action
-controlled b hand = if b == 7 then hand_after_escape hand else (if b == 15 then asks hand else (hand, control b))
+controlled b hand = if b == CONTROL_G then hand_after_escape hand
+    else (if b == CONTROL_O then asks hand else (hand, control b))
 
 abbrev pub armed_with : Click → Hand → Hand × Action
 armed_with click hand = (record hand { armed = Some click }, Nothing)
@@ -175,7 +179,8 @@ after_paste hand = record hand { paste = None }
 unfoldable pub pasting : Option Paste → Press → Hand → Hand × Action
 pasting None press hand = (hand, Nothing)
 pasting (Some paste) press hand =
-    if ends_paste press then (after_paste hand, typing_action paste.bytes) else with_paste (pasted_on press paste) hand
+    if ends_paste press then (after_paste hand, typing_action paste.bytes)
+    else with_paste (pasted_on press paste) hand
 
 abbrev pub is_pasting : Option Paste → Bool
 is_pasting None = false
@@ -193,7 +198,8 @@ answering name press hand =
 -- what it comes to while the name is pasted
 unfoldable pub pasting_name : List ℕ → Press → Hand → Hand × Action
 pasting_name name press hand =
-    if ends_paste press then (after_paste hand, Nothing) else with_asked (pasted_name press name) hand
+    if ends_paste press then (after_paste hand, Nothing)
+    else with_asked (pasted_name press name) hand
 
 -- where no name is asked for, a paste is a text; where one is, it is the name
 unfoldable pub by_question : Sight → Option (List ℕ) → Press → Hand → Hand × Action

@@ -23,7 +23,8 @@ typing_action bytes = if is_typed_bytes bytes then Post (Typed bytes) else Nothi
 -- with a byte more 900 of them are an event, and none are left
 unfoldable pub added : ℕ → List ℕ → List ℕ × Action
 added b bytes =
-    if nat_lt (length bytes + 1) 900 then (bytes ++ b ∷ [], Nothing) else ([], typing_action (bytes ++ b ∷ []))
+    if nat_lt (length bytes + 1) 900 then (bytes ++ b ∷ [], Nothing)
+    else ([], typing_action (bytes ++ b ∷ []))
 
 -- a byte that can't be typed is a question mark
 unfoldable pub in_profile : ℕ → ℕ
@@ -62,10 +63,12 @@ with_byte b is_return paste = let next = added b paste.bytes in
 -- a line feed right after a carriage return is nothing, and another one is a carriage return
 unfoldable pub after_line_feed : Paste → Paste × Action
 after_line_feed paste =
-    if paste.after_return then (record paste { after_return = false }, Nothing) else with_byte return false paste
+    if paste.after_return then (record paste { after_return = false }, Nothing)
+    else with_byte return false paste
 
 unfoldable pub pasted_more : ℕ → Paste → Paste × Action
-pasted_more b paste = if b == line_feed then after_line_feed paste else with_byte (in_profile b) (b == return) paste
+pasted_more b paste = if b == line_feed then after_line_feed paste
+    else with_byte (in_profile b) (b == return) paste
 
 abbrev pub pasted_if_any : Option ℕ → Paste → Paste × Action
 pasted_if_any None paste = (paste, Nothing)
@@ -74,4 +77,5 @@ pasted_if_any (Some b) paste = pasted_more b paste
 -- what a press comes to while a text is pasted; the terminal's size is no part of that
 unfoldable pub pasted_on : Press → Paste → Paste × Action
 pasted_on (Size rows columns) paste = (paste, Fit rows columns)
-pasted_on press paste = if paste.drops then (paste, Nothing) else pasted_if_any (pasted_byte press) paste
+pasted_on press paste = if paste.drops then (paste, Nothing)
+    else pasted_if_any (pasted_byte press) paste

@@ -135,7 +135,8 @@ reported_press s is_down =
 
 -- a mouse report ends with M for down and m for up
 unfoldable pub moused : Numbers → ℕ → Press
-moused s b = if b == 77 then reported_press s true else (if b == 109 then reported_press s false else Unknown)
+moused s b = if b == 77 then reported_press s true
+    else (if b == 109 then reported_press s false else Unknown)
 
 -- a size, as an answer or as news
 unfoldable pub sized : Numbers → Press
@@ -143,11 +144,13 @@ sized s = if (s.first == 8) || (s.first == 48) then Size s.second s.third else U
 
 -- a sequence with no mark ends with ~ after a key's number, with t after a size, or else with a key's letter
 unfoldable pub unmarked_press : Numbers → ℕ → Press
-unmarked_press s b = if b == 126 then numbered_key s.first else (if b == 116 then sized s else lettered b)
+unmarked_press s b = if b == 126 then numbered_key s.first
+    else (if b == 116 then sized s else lettered b)
 
 -- a sequence ends with this byte. M with no mark begins a mouse report of the older form: three bytes follow
 unfoldable pub sequence_end : Numbers → Mark → ℕ → SequencePlace × Presses
-sequence_end s mark.Plain b = if b == 77 then (place.Report 3, Nothing) else (place.Ground, One (unmarked_press s b))
+sequence_end s mark.Plain b = if b == 77 then (place.Report 3, Nothing)
+    else (place.Ground, One (unmarked_press s b))
 sequence_end s mark.Mouse b = (place.Ground, One (moused s b))
 sequence_end s mark.Odd b = (place.Ground, One Unknown)
 
@@ -184,7 +187,8 @@ after_console b =
 unfoldable pub after_report : ℕ → ℕ → SequencePlace × Presses
 after_report missing b =
     if nat_lt b 32 then cut_off b else
-    (if nat_le missing 1 then (place.Ground, One Unknown) else (place.Report (missing - 1), Nothing))
+    (if nat_le missing 1 then (place.Ground, One Unknown)
+    else (place.Report (missing - 1), Nothing))
 
 -- digits, ; between numbers, < in front of a mouse report; from @ to ~ a byte ends a sequence, but [ leads to a
 -- spelling of another kind
@@ -195,7 +199,8 @@ after_sequence s b =
     (if b == 60 then (place.Sequence (mouse_mark s s.mark), Nothing) else
     (if b == 91 then (place.Console, Nothing) else
     (if lies_within 64 126 b then sequence_end s s.mark b else
-    (if lies_within 32 63 b then (place.Sequence (record s { mark = mark.Odd }), Nothing) else cut_off b)))))
+    (if lies_within 32 63 b then (place.Sequence (record s { mark = mark.Odd }), Nothing)
+    else cut_off b)))))
 
 unfoldable pub after_byte : SequencePlace → ℕ → SequencePlace × Presses
 after_byte place.Ground b = after_ground b
@@ -220,7 +225,8 @@ unfoldable pub after_quiet : SequencePlace → SequencePlace × Presses
 after_quiet place.Escape = (place.Ground, One Escape)
 after_quiet place.Ground = (place.Ground, Nothing)
 after_quiet place.Shift = (place.Ground, One Unknown)
-after_quiet (place.Sequence s) = if is_bare_sequence s then (place.Ground, One Unknown) else (place.Sequence s, Nothing)
+after_quiet (place.Sequence s) = if is_bare_sequence s then (place.Ground, One Unknown)
+    else (place.Sequence s, Nothing)
 after_quiet place.Console = (place.Console, Nothing)
 after_quiet (place.Report missing) = (place.Report missing, Nothing)
 
@@ -236,7 +242,8 @@ at_rest = record { place = place.Ground }
 
 -- the parser after one thing more that it heard, and what that completes
 unfoldable pub heard_by : Parser → Heard → Parser × Presses
-heard_by parser heard = let next = sequence_after parser.place heard in (record { place = next.0 }, next.1)
+heard_by parser heard = let next = sequence_after parser.place heard
+    in (record { place = next.0 }, next.1)
 
 abbrev pub in_order : Presses → List Press
 in_order Nothing = []
@@ -251,4 +258,5 @@ parser_after parser (heard ∷ more) = parser_after (heard_by parser heard).0 mo
 -- what was pressed, by all that was heard
 abbrev pub presses_heard : Parser → List Heard → List Press
 presses_heard parser [] = []
-presses_heard parser (heard ∷ more) = in_order (heard_by parser heard).1 ++ presses_heard (heard_by parser heard).0 more
+presses_heard parser (heard ∷ more) =
+    in_order (heard_by parser heard).1 ++ presses_heard (heard_by parser heard).0 more

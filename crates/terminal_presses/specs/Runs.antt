@@ -43,10 +43,12 @@ events_of_action _ = []
 abbrev pub posted_events : Sight → Hand → List Press → List Event
 posted_events sight hand [] = []
 posted_events sight hand (press ∷ more) =
-    events_of_action (handled sight press hand).1 ++ posted_events sight (handled sight press hand).0 more
+    events_of_action (handled sight press hand).1
+    ++ posted_events sight (handled sight press hand).0 more
 
 -- the presses lead from one hand to the other, and make these events
-pub record MakesEvents (sight : Sight) (hand : Hand) (presses : List Press) (next : Hand) (events : List Event) : Type 0 where
+pub record MakesEvents (sight : Sight) (hand : Hand) (presses : List Press) (next : Hand)
+    (events : List Event) : Type 0 where
   pub hand_is : hand_after sight hand presses ≡ next
   pub events_are : posted_events sight hand presses ≡ events
 
@@ -109,7 +111,8 @@ together button.Right button.Right = Right
 abbrev pub click_event : Click → Sight → Corner → Corner → Event
 click_event Mark sight start end = MarkAt (spot_at sight start).x (spot_at sight start).y
 click_event (Keys keys) sight start end =
-    Point keys (spot_at sight start).x (spot_at sight start).y (spot_at sight end).x (spot_at sight end).y
+    Point keys (spot_at sight start).x (spot_at sight start).y (spot_at sight end).x
+    (spot_at sight end).y
 
 -- the click that a function key says
 abbrev pub says : FunctionKey → Option Click
@@ -136,7 +139,8 @@ pub record AreThree (a b c : Button) : Type 0 where
 -- question mark; those that go on with a character of several bytes are part of its question mark
 abbrev pub typed_byte : ℕ → Option ℕ
 typed_byte b =
-    if (b == 10) || is_text_byte b then Some b else (if lies_within 128 191 b then None else Some 63)
+    if (b == 10) || is_text_byte b then Some b
+    else (if lies_within 128 191 b then None else Some 63)
 
 -- lines end with carriage returns: a line feed is one, but nothing right after one
 abbrev pub line_ends : Bool → List ℕ → List ℕ
@@ -151,7 +155,8 @@ pasted_text text = line_ends false (filter_map typed_byte text)
 
 -- what is heard of it
 abbrev pub pasted : List ℕ → List Heard
-pasted text = bytes_heard (key_sequence (50 ∷ 48 ∷ 48 ∷ 126 ∷ [])) ++ (bytes_heard text ++ bytes_heard (key_sequence (50 ∷ 48 ∷ 49 ∷ 126 ∷ [])))
+pasted text = bytes_heard (key_sequence (50 ∷ 48 ∷ 48 ∷ 126 ∷ []))
+    ++ (bytes_heard text ++ bytes_heard (key_sequence (50 ∷ 48 ∷ 49 ∷ 126 ∷ [])))
 
 -- what is pressed for it: each of its bytes as it is by itself
 abbrev pub paste_of : List ℕ → List Press
@@ -162,7 +167,8 @@ abbrev pub Types : List Event → List ℕ → Type 0
 Types [] text = text ≡ []
 Types (event ∷ []) text = (event ≡ Typed text) × (1 ≤ length text) × (length text ≤ 900)
 Types (event ∷ next ∷ events) text =
-    (front : List ℕ) × (rest : List ℕ) × (event ≡ Typed front) × (length front ≡ 900) × (text ≡ front ++ rest)
+    (front : List ℕ) × (rest : List ℕ) × (event ≡ Typed front) × (length front ≡ 900)
+    × (text ≡ front ++ rest)
     × Types (next ∷ events) rest
 
 -- a name and the bytes of a text that is pasted behind it, as far as they can stand in a name and there is room

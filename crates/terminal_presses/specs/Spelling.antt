@@ -150,7 +150,8 @@ SpellsPress Foreign text = IsLongCharacter text
 SpellsPress (Control b) text = IsTrue (is_control b) × (text ≡ b ∷ [])
 SpellsPress Back text = IsOneOf ((8 ∷ []) ∷ (127 ∷ []) ∷ []) text
 SpellsPress Escape text = ⊥
-SpellsPress (Arrow key) text = IsOneOf (letter_alone (arrow_letter key) ∷ shifted_sequence (arrow_letter key) ∷ []) text
+SpellsPress (Arrow key) text =
+    IsOneOf (letter_alone (arrow_letter key) ∷ shifted_sequence (arrow_letter key) ∷ []) text
 SpellsPress (Page key) text = text ≡ page_spelling key
 SpellsPress (Function key) text = IsOneOf (function_spellings key) text
 SpellsPress (Mouse report) text = IsReport report text
@@ -172,10 +173,12 @@ pub record IsSpelled (press : Press) (heard : List Heard) : Type 0 where
   pub is : heard ≡ bytes_heard text
 
 abbrev pub IsPressHeard : Press → List Heard → Type 0
-IsPressHeard press heard = IsSpelled press heard ⊎ ((press ≡ Escape) × (heard ≡ Byte 27 ∷ Quiet ∷ []))
+IsPressHeard press heard = IsSpelled press heard
+    ⊎ ((press ≡ Escape) × (heard ≡ Byte 27 ∷ Quiet ∷ []))
 
 -- what is heard of presses, one after another
 abbrev pub AreHeard : List Press → List Heard → Type 0
 AreHeard [] heard = heard ≡ []
 AreHeard (press ∷ presses) heard =
-    (front : List Heard) × (rest : List Heard) × IsPressHeard press front × AreHeard presses rest × (heard ≡ front ++ rest)
+    (front : List Heard) × (rest : List Heard) × IsPressHeard press front × AreHeard presses rest
+    × (heard ≡ front ++ rest)

@@ -20,23 +20,23 @@ use crate::spot::Spot;
 use event_bytes::{CARRIAGE_RETURN, Event, Key, Keys};
 
 /// The byte of Ctrl-C.
-const CONTROL_C: u8 = 3;
+pub(crate) const CONTROL_C: u8 = 3;
 /// The byte of Ctrl-G.
-const CONTROL_G: u8 = 7;
+pub(crate) const CONTROL_G: u8 = 7;
 /// The byte of Ctrl-L.
-const CONTROL_L: u8 = 12;
+pub(crate) const CONTROL_L: u8 = 12;
 /// The byte of Ctrl-O.
-const CONTROL_O: u8 = 15;
+pub(crate) const CONTROL_O: u8 = 15;
 /// The byte of Ctrl-Q.
-const CONTROL_Q: u8 = 17;
+pub(crate) const CONTROL_Q: u8 = 17;
 /// The byte of Ctrl-V.
-const CONTROL_V: u8 = 22;
+pub(crate) const CONTROL_V: u8 = 22;
 /// The byte of Ctrl-X.
-const CONTROL_X: u8 = 24;
+pub(crate) const CONTROL_X: u8 = 24;
 /// The byte of Ctrl-Y.
-const CONTROL_Y: u8 = 25;
+pub(crate) const CONTROL_Y: u8 = 25;
 /// The byte of Ctrl-Z.
-const CONTROL_Z: u8 = 26;
+pub(crate) const CONTROL_Z: u8 = 26;
 
 /// What was pressed so far, as far as later events depend on it.
 #[derive(Drop)]
@@ -110,7 +110,10 @@ impl Hand {
     /// What a press comes to while a name is asked for that is typed as far as this, and none is pasted.
     #[tactic(auto, unfolding(crate::specs::Hands::answering))]
     fn answering(&mut self, name: HostName, press: Press) -> Action
-        ensures { ComesTo (answering_by name press (record self.old { asked = Some name })) self.new result }
+        ensures { ComesTo (answering_by name press (record self.old {
+          asked =
+              Some name;
+        })) self.new result }
     {
         if matches!(press, Press::PasteBegins) {
             self.paste = Some(Paste::new());
@@ -122,7 +125,10 @@ impl Hand {
     /// What a press comes to while the name that is asked for is pasted.
     #[tactic(auto, unfolding(crate::specs::Hands::pasting_name))]
     fn pasting_name(&mut self, name: HostName, press: Press) -> Action
-        ensures { ComesTo (pasting_name_by name press (record self.old { asked = Some name })) self.new result }
+        ensures { ComesTo (pasting_name_by name press (record self.old {
+          asked =
+              Some name;
+        })) self.new result }
     {
         if matches!(press, Press::PasteEnds) {
             self.paste = None;

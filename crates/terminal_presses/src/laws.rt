@@ -30,14 +30,17 @@ ghost use Rattle.terminal_presses.specs.Runs.{name_with, together, click_event, 
 #[tactic(auto, using(crate::proofs::Pieces::of_both))]
 pub fn pieces_do_not_matter()
     ensures presses { (parser : Parser) (first second : List Heard)
-        → presses_heard parser (first ++ second) ≡ presses_heard parser first ++ presses_heard (parser_after parser first) second }
+        → presses_heard parser (first ++ second)
+        ≡ presses_heard parser first ++ presses_heard (parser_after parser first) second }
     ensures parser { (parser : Parser) (first second : List Heard)
         → parser_after parser (first ++ second) ≡ parser_after (parser_after parser first) second }
     ensures events { (sight : Sight) (hand : Hand) (first second : List Press)
         → posted_events sight hand (first ++ second)
-        ≡ posted_events sight hand first ++ posted_events sight (hand_after sight hand first) second }
+        ≡ posted_events sight hand first
+        ++ posted_events sight (hand_after sight hand first) second }
     ensures hand { (sight : Sight) (hand : Hand) (first second : List Press)
-        → hand_after sight hand (first ++ second) ≡ hand_after sight (hand_after sight hand first) second }
+        → hand_after sight hand (first ++ second)
+        ≡ hand_after sight (hand_after sight hand first) second }
 {}
 
 /// Presses that are spelled one after another are found again, and nothing of them is left in the parser. The key
@@ -49,7 +52,8 @@ pub fn spelled_presses_are_found()
     ensures parser { (presses : List Press) (heard : List Heard) → AreHeard presses heard
         → parser_after at_rest heard ≡ at_rest }
     ensures escape { (b : ℕ) (more : List Heard) → b < 32
-        → presses_heard at_rest (Byte 27 ∷ Byte b ∷ more) ≡ Escape ∷ presses_heard at_rest (Byte b ∷ more) }
+        → presses_heard at_rest (Byte 27 ∷ Byte b ∷ more)
+        ≡ Escape ∷ presses_heard at_rest (Byte b ∷ more) }
     ensures alt { (b : ℕ) (more : List Heard) → IsTrue (is_alone_with_alt b)
         → presses_heard at_rest (Byte 27 ∷ Byte b ∷ more) ≡ Unknown ∷ presses_heard at_rest more }
 {}
@@ -58,7 +62,8 @@ pub fn spelled_presses_are_found()
 #[tactic(auto, using(crate::proofs::Spots::spots_seen))]
 pub fn spots_are_in_sight()
     ensures column { (sight : Sight) (column row : ℕ) → (spot_in sight column row).x < COLUMNS }
-    ensures row { (sight : Sight) (column row : ℕ) → IsSight sight → (spot_in sight column row).y ≤ sight.top
+    ensures row { (sight : Sight) (column row : ℕ) → IsSight sight
+        → (spot_in sight column row).y ≤ sight.top
         × sight.top < (spot_in sight column row).y + sight.rows }
     ensures same_column { (sight : Sight) (column row : ℕ) → 1 ≤ column → column ≤ COLUMNS
         → (spot_in sight column row).x + 1 ≡ column }
@@ -70,21 +75,28 @@ pub fn spots_are_in_sight()
 /// down, the cell of the first press and that of the last release. Three are none, and so is a click that begins where
 /// no cell is shown, as on the line below. The hand is then as it was.
 pub fn buttons_make_one_point()
-    ensures one { (sight : Sight) (button : Button) (start end : Corner) → IsTrue (is_seen sight start)
+    ensures one { (sight : Sight) (button : Button) (start end : Corner)
+        → IsTrue (is_seen sight start)
         → MakesEvents sight new_hand (down button start ∷ up button end ∷ []) new_hand
         (click_event (Keys (button_alone button)) sight start end ∷ []) }
-    ensures two { (sight : Sight) (first second : Button) (start p q end : Corner) → (first ≡ second → ⊥)
+    ensures two { (sight : Sight) (first second : Button) (start p q end : Corner)
+        → (first ≡ second → ⊥)
         → IsTrue (is_seen sight start)
-        → MakesEvents sight new_hand (down first start ∷ down second p ∷ up first q ∷ up second end ∷ []) new_hand
+        → MakesEvents sight new_hand (down first start ∷ down second p ∷ up first q ∷ up second end
+        ∷ []) new_hand
         (click_event (Keys (together first second)) sight start end ∷ []) }
-    ensures two_turned { (sight : Sight) (first second : Button) (start p q end : Corner) → (first ≡ second → ⊥)
+    ensures two_turned { (sight : Sight) (first second : Button) (start p q end : Corner)
+        → (first ≡ second → ⊥)
         → IsTrue (is_seen sight start)
-        → MakesEvents sight new_hand (down first start ∷ down second p ∷ up second q ∷ up first end ∷ []) new_hand
+        → MakesEvents sight new_hand (down first start ∷ down second p ∷ up second q ∷ up first end
+        ∷ []) new_hand
         (click_event (Keys (together first second)) sight start end ∷ []) }
     ensures three { (sight : Sight) (a b c x y z : Button) (start p q r s end : Corner)
         → AreThree a b c → AreThree x y z
-        → MakesEvents sight new_hand (down a start ∷ down b p ∷ down c q ∷ up x r ∷ up y s ∷ up z end ∷ []) new_hand [] }
-    ensures outside { (sight : Sight) (button : Button) (hand : Hand) (start end : Corner) → hand.gesture ≡ None
+        → MakesEvents sight new_hand (down a start ∷ down b p ∷ down c q ∷ up x r ∷ up y s
+        ∷ up z end ∷ []) new_hand [] }
+    ensures outside { (sight : Sight) (button : Button) (hand : Hand) (start end : Corner)
+        → hand.gesture ≡ None
         → IsTrue (not (is_seen sight start))
         → MakesEvents sight (idle hand) (down button start ∷ up button end ∷ []) (idle hand) [] }
 {}
@@ -93,7 +105,8 @@ pub fn buttons_make_one_point()
 /// function key it is what that says.
 #[tactic(auto, using(crate::proofs::Clicks::clicks_of_one))]
 pub fn one_button_is_enough()
-    ensures alt { (sight : Sight) (control : Bool) (start end : Corner) → IsTrue (is_seen sight start)
+    ensures alt { (sight : Sight) (control : Bool) (start end : Corner)
+        → IsTrue (is_seen sight start)
         → MakesEvents sight new_hand (down_with true control Left start ∷ up Left end ∷ []) new_hand
         (click_event (Keys keys.Middle) sight start end ∷ []) }
     ensures control { (sight : Sight) (start end : Corner) → IsTrue (is_seen sight start)
@@ -108,8 +121,10 @@ pub fn one_button_is_enough()
 /// The events of a paste type the pasted text, each 900 bytes of it, but the last. So do those of a host file, whose
 /// bytes are what each says by itself. Nothing of the text is left, and the hand is as it was.
 pub fn pastes_are_typed()
-    ensures paste { (sight : Sight) (hand : Hand) (text : List ℕ) → IsTrue (list_all (λ b. not (b == 27)) text)
-        → Types (posted_events sight (idle hand) (presses_heard at_rest (pasted text))) (pasted_text text) }
+    ensures paste { (sight : Sight) (hand : Hand) (text : List ℕ)
+        → IsTrue (list_all (λ b. not (b == 27)) text)
+        → Types (posted_events sight (idle hand) (presses_heard at_rest (pasted text)))
+        (pasted_text text) }
     ensures presses { (text : List ℕ) → IsTrue (list_all (λ b. not (b == 27)) text)
         → presses_heard at_rest (pasted text) ≡ paste_of text }
     ensures parser { (text : List ℕ) → IsTrue (list_all (λ b. not (b == 27)) text)
@@ -132,5 +147,6 @@ pub fn names_are_typed()
     ensures called_off { (sight : Sight) (hand : Hand) (name : List ℕ)
         → handled sight Escape (asking name hand) ≡ (idle hand, Nothing) }
     ensures pasted { (sight : Sight) (hand : Hand) (name text : List ℕ)
-        → MakesEvents sight (asking name hand) (paste_of text) (asking (name_with name text) hand) [] }
+        → MakesEvents sight (asking name hand) (paste_of text)
+        (asking (name_with name text) hand) [] }
 {}

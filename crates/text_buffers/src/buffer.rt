@@ -52,7 +52,8 @@ impl Buffer {
     /// Adds its characters to another buffer, at the end, and keeps them. If memory is refused the other buffer stays.
     pub fn copy_to(&self, alloc: Global, other: &mut Buffer) -> Result<(), NoMemory>
         requires fits { length (flat other.old) + length (flat self.now) < 2 ^ 32 }
-        ensures added { ChangesTo (flat other.old ++ flat self.now) result (flat other.old) (flat other.new) }
+        ensures added { ChangesTo (flat other.old
+            ++ flat self.now) result (flat other.old) (flat other.new) }
     {
         let copy = self.ring.copy(alloc, 0, self.ring.len())?;
         other.append(alloc, copy)
@@ -76,7 +77,8 @@ impl Buffer {
     /// Adds a piece at the end. If memory is refused the buffer stays.
     pub fn add(&mut self, alloc: Global, piece: Piece) -> Result<(), NoMemory>
         requires { HasRoomFor piece self.old }
-        ensures added { ChangesTo (flat self.old ++ characters_of piece) result (flat self.old) (flat self.new) }
+        ensures added { ChangesTo (flat self.old
+            ++ characters_of piece) result (flat self.old) (flat self.new) }
     {
         self.ring.add(alloc, piece)
     }
@@ -112,7 +114,8 @@ impl Buffer {
     /// ring is gone.
     pub fn append(&mut self, alloc: Global, ring: Ring) -> Result<(), NoMemory>
         requires fits { length (flat self.old) + length (flat ring.pieces) < 2 ^ 32 }
-        ensures added { ChangesTo (flat self.old ++ flat ring.pieces) result (flat self.old) (flat self.new) }
+        ensures added { ChangesTo (flat self.old
+            ++ flat ring.pieces) result (flat self.old) (flat self.new) }
         ensures merged { OnOk result (IsMergedAt self.new (length (flat self.old))) }
     {
         let end = self.ring.len();

@@ -24,7 +24,8 @@ pub record HasNoLine (bs : List ℕ) (org row p : ℕ) : Type 0 where
 
 -- p stands at the cell of that column and row
 abbrev pub IsAtCell : List ℕ → ℕ → ℕ → ℕ → ℕ → Type 0
-IsAtCell bs org column row p = HoldsCell bs org column row p ⊎ (EndsBefore bs org column row p ⊎ HasNoLine bs org row p)
+IsAtCell bs org column row p = HoldsCell bs org column row p
+    ⊎ (EndsBefore bs org column row p ⊎ HasNoLine bs org row p)
 
 -- the position at a cell is the one from org on that stands there
 abbrev pub PositionsAreAtCells : Type 0

@@ -45,7 +45,10 @@ impl Frame {
     /// Selects the characters from `beg` up to before `end`.
     pub fn select(&mut self, beg: u32, end: u32, rank: u8)
         requires { beg < end }
-        ensures { self.new ≡ record self.old { selection = Some (record { beg = beg; end = end; rank = rank }) } }
+        ensures { self.new ≡ record self.old {
+          selection =
+              Some (record { beg = beg; end = end; rank = rank });
+        } }
     {
         self.selection = Some(FrameSelection { beg, end, rank });
     }
@@ -73,7 +76,8 @@ impl Frame {
         requires place { p + inserted ≤ length (flat text.now) }
         requires org { self.old.org + inserted ≤ length (flat text.now) + deleted }
         requires offsets { AreWithin (length (S.characters source.old)) (flat text.now) }
-        ensures followed { OnOk result (IsFollowed (S.honest source.old) (S.characters source.old) (flat text.now)
+        ensures followed { OnOk result
+            (IsFollowed (S.honest source.old) (S.characters source.old) (flat text.now)
             p inserted deleted self.old self.new) }
         ensures refused { OnErr result (self.new ≡ self.old) }
         ensures source { ReadsOrFails S.CharSource result source.old source.new }
@@ -103,7 +107,8 @@ impl Frame {
         requires place { p ≤ length (flat text.now) }
         requires org { self.old.org ≤ length (flat text.now) }
         requires offsets { AreWithin (length (S.characters source.old)) (flat text.now) }
-        ensures brought { OnOk result (IsScrolledTo (S.honest source.old) (S.characters source.old) (flat text.now)
+        ensures brought { OnOk result (IsScrolledTo (S.honest source.old) (S.characters source.old)
+            (flat text.now)
             h p self.old self.new) }
         ensures refused { OnErr result (self.new ≡ self.old) }
         ensures source { ReadsOrFails S.CharSource result source.old source.new }
@@ -127,7 +132,8 @@ impl Frame {
         requires columns { w ≤ 50 }
         requires org { self.now.org ≤ length (flat text.now) }
         requires offsets { AreWithin (length (S.characters source.old)) (flat text.now) }
-        ensures cells { IfOk result (λ line. AreRowCells (S.honest source.old) (S.characters source.old) (flat text.now)
+        ensures cells { IfOk result (λ line. AreRowCells (S.honest source.old)
+            (S.characters source.old) (flat text.now)
             w self.now.org row line.items) }
         ensures source { ReadsOrFails S.CharSource result source.old source.new }
     {
@@ -147,7 +153,8 @@ impl Frame {
     ) -> Result<u32, Fault>
         requires org { self.now.org ≤ length (flat text.now) }
         requires offsets { AreWithin (length (S.characters source.old)) (flat text.now) }
-        ensures position { IfOk result (IsPositionAt (S.honest source.old) (S.characters source.old) (flat text.now)
+        ensures position { IfOk result
+            (IsPositionAt (S.honest source.old) (S.characters source.old) (flat text.now)
             self.now.org col row) }
         ensures source { ReadsOrFails S.CharSource result source.old source.new }
     {
@@ -171,7 +178,8 @@ impl Frame {
         requires rows { h ≤ 31 }
         requires place { p ≤ length (flat text.now) }
         requires offsets { AreWithin (length (S.characters source.old)) (flat text.now) }
-        ensures cell { IfOk result (IsCellOf (S.honest source.old) (S.characters source.old) (flat text.now)
+        ensures cell { IfOk result (IsCellOf (S.honest source.old) (S.characters source.old)
+            (flat text.now)
             w h self.now.org p) }
         ensures source { ReadsOrFails S.CharSource result source.old source.new }
     {
@@ -201,7 +209,8 @@ pub fn org_after<S: CharSource>(
     requires org { org + inserted ≤ length (flat text.now) + deleted }
     requires offsets { AreWithin (length (S.characters source.old)) (flat text.now) }
     ensures exact { IfOk result (λ new. S.honest source.old
-        → new ≡ changed_org (bytes_of_text (S.characters source.old) (flat text.now)) p inserted deleted org) }
+        → new ≡ changed_org (bytes_of_text (S.characters source.old) (flat text.now)) p inserted
+        deleted org) }
     ensures range { IfOk result (λ new. new ≤ length (flat text.now)) }
     ensures source { ReadsOrFails S.CharSource result source.old source.new }
 {

@@ -32,7 +32,8 @@ pub fn line_start<S: CharSource>(text: &Text, pos: u32, source: &mut S) -> Resul
 fn to_line_start<S: CharSource>(reader: &mut BackReader<'_>, source: &mut S) -> Result<u32, Fault>
     requires offsets { AreWithin (length (S.characters source.old)) reader.old.text }
     ensures start { IfOk result (λ start. S.honest source.old
-        → start ≡ line_start (bytes_of_text (S.characters source.old) reader.old.text) reader.old.position) }
+        → start ≡ line_start (bytes_of_text (S.characters source.old) reader.old.text)
+        reader.old.position) }
     ensures range { IfOk result (λ start. start ≤ reader.old.position) }
     ensures moves { IfOk result (λ start. reader.new.position ≡ start - 1) }
     ensures text { OnOk result (reader.new.text ≡ reader.old.text) }
@@ -83,7 +84,8 @@ pub(crate) fn ends_between<S: CharSource>(
     ensures exact { IfOk result (λ ends. S.honest source.old → ends < h
         → ends ≡ ends_between (bytes_of_text (S.characters source.old) (flat text.now)) org pos) }
     ensures few { IfOk result (λ ends. S.honest source.old
-        → nat_lt ends h ≡ nat_lt (ends_between (bytes_of_text (S.characters source.old) (flat text.now)) org pos) h) }
+        → nat_lt ends h ≡ nat_lt (ends_between
+        (bytes_of_text (S.characters source.old) (flat text.now)) org pos) h) }
     ensures source { ReadsOrFails S.CharSource result source.old source.new }
 {
     let mut reader = Reader::open(text, org);
@@ -111,9 +113,11 @@ pub(crate) fn row_start<S: CharSource>(
     requires order { org ≤ reader.old.position }
     requires offsets { AreWithin (length (S.characters source.old)) reader.old.text }
     ensures start { IfOk result (λ start. S.honest source.old → MatchOption start
-        (row_start (bytes_of_text (S.characters source.old) reader.old.text) org reader.old.position + most
+        (row_start (bytes_of_text (S.characters source.old) reader.old.text) org reader.old.position
+        + most
         ≤ reader.old.position)
-        (λ start. start ≡ row_start (bytes_of_text (S.characters source.old) reader.old.text) org reader.old.position)) }
+        (λ start. start ≡ row_start (bytes_of_text (S.characters source.old) reader.old.text) org
+        reader.old.position)) }
     ensures range { IfOk result (λ start. IfSome start (λ start. start ≤ reader.old.position)) }
     ensures source { ReadsOrFails S.CharSource result source.old source.new }
 {

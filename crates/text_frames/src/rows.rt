@@ -24,7 +24,8 @@ impl Frame {
     /// The rows of the frame in this text, before any of them is read.
     pub fn rows<'a>(&self, text: &'a Text) -> FrameRows<'a>
         requires org { self.now.org ≤ length (flat text.now) }
-        ensures rows { (characters : List ℕ) → AreRows ⊤ characters (flat text.now) self.now.org result }
+        ensures rows { (characters : List ℕ)
+            → AreRows ⊤ characters (flat text.now) self.now.org result }
     {
         FrameRows {
             reader: Reader::open(text, self.org),
@@ -46,15 +47,17 @@ impl Frame {
         source: &mut S,
     ) -> Result<RowCells, Fault>
         requires columns { w ≤ 50 }
-        requires rows { h ≤ 31 }
-        requires row { row < h }
+        requires row { (row < h) × (h ≤ 31) }
         requires org { self.now.org ≤ length (flat text.now) }
         requires offsets { AreWithin (length (S.characters source.old)) (flat text.now) }
-        requires so_far { AreRows (S.honest source.old) (S.characters source.old) (flat text.now) self.now.org
+        requires so_far { AreRows (S.honest source.old) (S.characters source.old)
+            (flat text.now) self.now.org
             rows.old }
-        ensures cells { IfOk result (λ line. AreRowCells (S.honest source.old) (S.characters source.old) (flat text.now)
+        ensures cells { IfOk result (λ line. AreRowCells (S.honest source.old)
+            (S.characters source.old) (flat text.now)
             w self.now.org row line.items) }
-        ensures read { OnOk result (AreRows (S.honest source.new) (S.characters source.new) (flat text.now)
+        ensures read { OnOk result (AreRows (S.honest source.new) (S.characters source.new)
+            (flat text.now)
             self.now.org rows.new) }
         ensures source { ReadsOrFails S.CharSource result source.old source.new }
     {

@@ -7,7 +7,8 @@ use Rattle.viewer_tracks.specs.Viewers.{Entry}
 -- the viewers with their heights, where the lowest begins at row `bottom`
 abbrev pub entries_from : ℕ → List Edge → List Entry
 entries_from bottom [] = []
-entries_from bottom (e ∷ es) = record { viewer = e.viewer.0; height = e.top - bottom } ∷ entries_from e.top es
+entries_from bottom (e ∷ es) =
+    record { viewer = e.viewer.0; height = e.top - bottom } ∷ entries_from e.top es
 
 -- each viewer ends above the row at which it begins, and none above the display
 abbrev pub Rises : ℕ → List Edge → Type 0

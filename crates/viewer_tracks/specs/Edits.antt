@@ -41,7 +41,8 @@ put_into t v i top =
     let h = top - bottom_of t i in
     if takes_place t i top
     then with_entry (entry_with_viewer v) t i
-    else insert (with_entry (λ e. with_height (e.height - h) e) t i) i (record { viewer = v; height = h })
+    else insert (with_entry (λ e. with_height (e.height - h) e) t i) i
+    (record { viewer = v; height = h })
 
 -- the track after v opened at row y
 unfoldable pub opened : List Entry → ℕ → ℕ → List Entry
@@ -63,7 +64,8 @@ unfoldable pub changed : List Entry → ℕ → ℕ → List Entry
 changed t i y =
     let z = change_top t i y in
     if nat_lt (bottom_of t i) z
-    then with_entry (with_height (top_of t (i + 1) - z)) (with_entry (with_height (z - bottom_of t i)) t i) (i + 1)
+    then with_entry (with_height (top_of t (i + 1) - z))
+    (with_entry (with_height (z - bottom_of t i)) t i) (i + 1)
     else t
 
 -- the track after the viewer i was closed

@@ -16,4 +16,5 @@ tallest t = position_or_len (λ e. e.height == greatest_height t) t
 -- the row at which the new viewer opens: the filler's top, or the middle of the tallest viewer
 unfoldable pub free_row : List Entry → ℕ
 free_row t =
-    if nat_le (bottom_of t (length t) + 4) ROWS then ROWS else bottom_of t (tallest t) + greatest_height t / 2
+    if nat_le (bottom_of t (length t) + 4) ROWS then ROWS else bottom_of t (tallest t)
+    + greatest_height t / 2

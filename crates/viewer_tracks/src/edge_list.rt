@@ -49,8 +49,8 @@ impl EdgeList {
         &self.edges[..self.count]
     }
 
-    #[tactic(auto, using(crate::proofs::InPlace::moved_up, crate::proofs::InPlace::as_many))]
     /// Puts an edge before the one at `index`, or after the last.
+    #[tactic(auto, using(crate::proofs::InPlace::moved_up, crate::proofs::InPlace::as_many))]
     pub fn insert(&mut self, index: usize, edge: Edge)
         requires in_bounds { index ≤ length self.old }
         requires room { length self.old < ROWS }
@@ -61,8 +61,8 @@ impl EdgeList {
         self.count += 1;
     }
 
-    #[tactic(auto, using(crate::proofs::InPlace::moved_down, crate::proofs::InPlace::as_many))]
     /// Takes out the edge at `index`.
+    #[tactic(auto, using(crate::proofs::InPlace::moved_down, crate::proofs::InPlace::as_many))]
     pub fn remove(&mut self, index: usize)
         requires { index < length self.old }
         ensures { self.new ≡ remove self.old index }
@@ -71,8 +71,8 @@ impl EdgeList {
         self.count -= 1;
     }
 
-    #[tactic(auto, using(crate::proofs::InPlace::set_within, crate::proofs::InPlace::as_many))]
     /// Puts an edge in place of the one at `index`.
+    #[tactic(auto, using(crate::proofs::InPlace::set_within, crate::proofs::InPlace::as_many))]
     pub fn set(&mut self, index: usize, edge: Edge)
         requires { index < length self.old }
         ensures { self.new ≡ slice_set self.old index edge }

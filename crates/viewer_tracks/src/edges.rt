@@ -33,7 +33,8 @@ pub fn reaching(edges: &[Edge], y: u8) -> usize
 /// The edge of a viewer, or the number of edges.
 pub fn index_of(edges: &[Edge], viewer: ViewerId) -> usize
     ensures entry { result ≡ entry_of (entries_from 0 edges.now) viewer.0 }
-    ensures placed { (0 < times_in viewer.0 (entries_from 0 edges.now)) ↔ (result < length edges.now) }
+    ensures placed { (0 < times_in viewer.0 (entries_from 0 edges.now))
+        ↔ (result < length edges.now) }
 {
     edges
         .iter()

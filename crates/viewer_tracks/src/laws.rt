@@ -17,7 +17,8 @@ pub fn open_takes_rows_of_one_entry()
 
 /// A viewer whose top moves trades rows with the one above it alone.
 pub fn change_moves_one_border()
-    ensures { (t : List Entry) (i y : ℕ) → IsTrack t → i < length t → bottom_of t i < change_top t i y
+    ensures { (t : List Entry) (i y : ℕ) → IsTrack t → i < length t
+        → bottom_of t i < change_top t i y
         → ChangesRows t i y }
 {}
 
@@ -28,11 +29,14 @@ pub fn close_gives_to_the_one_above()
 
 /// Columns stay sound: heights fit the display, overlays have viewers, and each viewer stands in one place at most.
 pub fn edits_keep_columns()
-    ensures opened { (c : Columns) (v x y : ℕ) → IsColumns c → ¬ IsPlaced v c → IsColumns (after_open c v x y) }
+    ensures opened { (c : Columns) (v x y : ℕ) → IsColumns c → ¬ IsPlaced v c
+        → IsColumns (after_open c v x y) }
     ensures covered { (c : Columns) (v x : ℕ) → IsColumns c → ¬ IsPlaced v c
         → length (stack_of c (track_at x)) < DEPTH → IsColumns (after_open_track c v x) }
-    ensures changed { (c : Columns) (v y : ℕ) → IsColumns c → IsOnTop v c → IsColumns (columns_changed c v y) }
-    ensures closed { (c : Columns) (v : ℕ) → IsColumns c → IsOnTop v c → IsColumns (after_close c v) }
+    ensures changed { (c : Columns) (v y : ℕ) → IsColumns c → IsOnTop v c
+        → IsColumns (columns_changed c v y) }
+    ensures closed { (c : Columns) (v : ℕ) → IsColumns c → IsOnTop v c
+        → IsColumns (after_close c v) }
 {}
 
 /// An opened viewer is placed and the replaced one is no longer, a closed one is no longer, and no other comes or goes.
@@ -72,16 +76,19 @@ pub fn edits_leave_the_covered()
 
 /// A viewer that opened in a track of its own and is closed leaves the columns as they were.
 pub fn close_uncovers()
-    ensures { (c : Columns) (v x : ℕ) → IsColumns c → ¬ IsPlaced v c → length (stack_of c (track_at x)) < DEPTH
+    ensures { (c : Columns) (v x : ℕ) → IsColumns c → ¬ IsPlaced v c
+        → length (stack_of c (track_at x)) < DEPTH
         → after_close (after_open_track c v x) v ≡ c }
 {}
 
 /// A viewer that opened in a track of its own and is changed to a row has the rows below it, and the filler the others.
 pub fn change_lowers_a_new_track()
-    ensures { (c : Columns) (v x y : ℕ) → IsColumns c → ¬ IsPlaced v c → length (stack_of c (track_at x)) < DEPTH
+    ensures { (c : Columns) (v x y : ℕ) → IsColumns c → ¬ IsPlaced v c
+        → length (stack_of c (track_at x)) < DEPTH
         → 0 < y → y ≤ ROWS
         → columns_changed (after_open_track c v x) v y
-        ≡ with_stack c (track_at x) ((record { viewer = v; height = y } ∷ []) ∷ stack_of c (track_at x)) }
+        ≡ with_stack c (track_at x)
+        ((record { viewer = v; height = y } ∷ []) ∷ stack_of c (track_at x)) }
 {}
 
 /// A shown viewer is placed.
@@ -91,7 +98,8 @@ pub fn shown_viewers_are_placed()
 
 /// The track in which a shown viewer stands is the one that its column shows.
 pub fn shown_viewers_stand_on_top()
-    ensures { (c : Columns) (v : ℕ) → IsColumns c → IsOnTop v c → placed_in c v ≡ shown_track c (track_of c v) }
+    ensures { (c : Columns) (v : ℕ) → IsColumns c → IsOnTop v c → placed_in c v
+        ≡ shown_track c (track_of c v) }
 {}
 
 /// A viewer that is seen at a cell is shown and has that cell.

@@ -82,8 +82,10 @@ impl Stack {
     /// The rows that a viewer has in its track.
     pub fn rows_of(&self, viewer: ViewerId) -> Range<u8>
         requires { 0 < times_on viewer.0 self.now }
-        ensures start { let t = track_with viewer.0 self.now in result.start ≡ bottom_of t (entry_of t viewer.0) }
-        ensures end { let t = track_with viewer.0 self.now in result.end ≡ top_of t (entry_of t viewer.0) }
+        ensures start { let t =
+            track_with viewer.0 self.now in result.start ≡ bottom_of t (entry_of t viewer.0) }
+        ensures end { let t =
+            track_with viewer.0 self.now in result.end ≡ top_of t (entry_of t viewer.0) }
         ensures some { result.start < result.end }
         ensures within { result.end ≤ ROWS }
     {
@@ -113,7 +115,9 @@ impl Stack {
     /// Moves the top of a viewer of the shown track to row `y`, or as near to it as may be.
     pub fn change(&mut self, viewer: ViewerId, y: u8)
         requires { 0 < times_in viewer.0 (topmost self.old) }
-        ensures { let t = topmost self.old in self.new ≡ with_topmost self.old (changed t (entry_of t viewer.0) y) }
+        ensures { let t =
+            topmost self.old in self.new
+            ≡ with_topmost self.old (changed t (entry_of t viewer.0) y) }
     {
         self.tracks[self.covered].change(viewer, y);
     }

@@ -109,9 +109,9 @@ impl Tracks {
         }
     }
 
-    #[tactic(auto, using(crate::proofs::ColumnLemmas::after_opens))]
     /// Opens a viewer in the track of column `x`, up to row `y` (any row above the display is its upper edge), and
     /// returns the viewer whose whole place it took.
+    #[tactic(auto, using(crate::proofs::ColumnLemmas::after_opens))]
     pub fn open(&mut self, viewer: ViewerId, x: u8, y: u8) -> Option<ViewerId>
         requires fresh { ¬ IsPlaced viewer.0 self.old }
         requires in_display { x < COLUMNS }
@@ -125,8 +125,8 @@ impl Tracks {
         }
     }
 
-    #[tactic(auto, using(crate::proofs::ColumnLemmas::after_covers))]
     /// Covers the track of column `x` by a new one, all of which a viewer has.
+    #[tactic(auto, using(crate::proofs::ColumnLemmas::after_covers))]
     pub fn open_track(&mut self, viewer: ViewerId, x: u8)
         requires fresh { ¬ IsPlaced viewer.0 self.old }
         requires in_display { x < COLUMNS }
@@ -148,9 +148,9 @@ impl Tracks {
         self.stack(Track::at(x)).shown().replaced(y)
     }
 
-    #[tactic(auto, using(crate::proofs::ColumnLemmas::after_changes))]
     /// Moves the top of a shown viewer to row `y`, or as near to it as the display and a viewer above let it. Where `y`
     /// would leave the viewer no row, nothing changes.
+    #[tactic(auto, using(crate::proofs::ColumnLemmas::after_changes))]
     pub fn change(&mut self, viewer: ViewerId, y: u8)
         requires { IsOnTop viewer.0 self.old }
         ensures changed { self.new ≡ columns_changed self.old viewer.0 y }
@@ -162,9 +162,9 @@ impl Tracks {
         }
     }
 
-    #[tactic(auto, using(crate::proofs::ColumnLemmas::after_closes))]
     /// Takes a shown viewer away. The viewer above it, or the filler, gets its rows; the only viewer of a track that
     /// covers another takes its track away with it.
+    #[tactic(auto, using(crate::proofs::ColumnLemmas::after_closes))]
     pub fn close(&mut self, viewer: ViewerId)
         requires { IsOnTop viewer.0 self.old }
         ensures closed { self.new ≡ after_close self.old viewer.0 }
@@ -212,8 +212,8 @@ impl Tracks {
         self.stack(Track::at(x)).track(level).at(y)
     }
 
-    #[tactic(auto, using(crate::proofs::ColumnLemmas::track_of_user, crate::proofs::ColumnLemmas::track_of_system))]
     /// Where a viewer stands, in a shown track or a covered one.
+    #[tactic(auto, using(crate::proofs::ColumnLemmas::track_of_user, crate::proofs::ColumnLemmas::track_of_system))]
     pub fn place_of(&self, viewer: ViewerId) -> Place
         requires { IsPlaced viewer.0 self.now }
         ensures x { result.x ≡ left_of (track_of self.now viewer.0) }
@@ -258,7 +258,8 @@ impl Tracks {
         requires some { 0 < level }
         requires within { level ≤ length (stack_of self.now track) }
         requires in_bounds { index < length (track_on (stack_of self.now track) level) }
-        ensures entry { slice_get (track_on (stack_of self.now track) level) index ≡ Some (as_entry result) }
+        ensures entry { slice_get (track_on (stack_of self.now track) level) index
+            ≡ Some (as_entry result) }
         ensures placed { IsPlaced result.0.0 self.now }
     {
         self.stack(track).track(level).entry(index)

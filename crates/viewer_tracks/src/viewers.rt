@@ -155,8 +155,8 @@ impl Viewers {
         edges::bottom(edges, index)..edges::top(edges, index)
     }
 
-    #[tactic(auto, using(crate::proofs::Tallest::free_row_filler, crate::proofs::Tallest::free_row_divided))]
     /// The row at which to open a new viewer.
+    #[tactic(auto, using(crate::proofs::Tallest::free_row_filler, crate::proofs::Tallest::free_row_divided))]
     pub fn free_row(&self) -> u8
         ensures value { result ≡ free_row self.now }
         ensures within { result ≤ ROWS }

@@ -13,4 +13,5 @@ number_text width value = right_aligned width (signed_decimal value)
 
 -- each number of 64 bits is written in at most 20 bytes, or in as many as fill a greater width
 abbrev pub NumbersAreShort : Type 0
-NumbersAreShort = (width : ℕ) (value : ℤ) → mag value < 2 ^ 63 → length (number_text width value) ≤ max width 20
+NumbersAreShort = (width : ℕ) (value : ℤ) → mag value < 2 ^ 63
+    → length (number_text width value) ≤ max width 20

@@ -7,7 +7,7 @@ use Rattle.desk_bringing.specs.Bringing.{all_filed}
 use Rattle.desk_bringing.proofs.BringingLaws.{brought_many, brought_full, all_filed_shown}
 use Rattle.desk_bringing.proofs.Gathering.{gathered_done, gathered_unread}
 use Rattle.desktop_definitions.specs.declared.reply.Reply.TheVariants.{Done}
-use Rattle.desk_bringing.proofs.Calm.{uses_as}
+use Rattle.desk_core.proofs.Calm.{uses_as}
 use Rattle.desk_bringing.proofs.Sums.{many_told, few_told}
 use Rattle.desk_bringing.proofs.bringing.bring.Goals as goal
 

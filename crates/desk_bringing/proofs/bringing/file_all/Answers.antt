@@ -7,7 +7,7 @@ use Rattle.desk_core.specs.Words.{Uses, kept_desktop}
 use Rattle.desk_bringing.specs.Bringing.{Documents}
 use Rattle.desk_bringing.proofs.Gathering.{gathered_none, gathered_more}
 use Rattle.desk_bringing.specs.Gathered.{IsGathered}
-use Rattle.desk_bringing.proofs.Calm.{calm_uses, grown_on, uses_on}
+use Rattle.desk_core.proofs.Calm.{calm_uses, grown_on, uses_on}
 use Rattle.desk_bringing.proofs.bringing.file_all.Goals as goal
 
 pub loop-document-init : goal.loop-document-init

@@ -2,7 +2,7 @@ use Rattle.std.proofs.Common.{◌≡◌, ◌+◌, take}
 use Rattle.desk_core.specs.Words.{kept_desktop}
 use Rattle.desk_bringing.specs.Bringing.{many_bytes}
 use Rattle.desk_bringing.specs.Gathered.{IsGathered}
-use Rattle.desk_bringing.proofs.Calm.{IsCalm}
+use Rattle.desk_core.proofs.Calm.{IsCalm}
 use Rattle.desk_bringing.proofs.bringing.file_all.Given as goal
 
 -- the documents so far were filed

@@ -4,33 +4,45 @@ use Rattle.piece_ring.specs.Flat.{flat}
 use Rattle.piece_ring.proofs.Lengths.{length-run}
 use Rattle.piece_ring.proofs.Offsets.{run-AreWithin}
 use Rattle.piece_ring.specs.Text.{AreWithin}
-use Rattle.desktop_definitions.proofs.RowLaws.{text_held}
+use Rattle.desktop_definitions.proofs.RowLaws.{built_longer, text_held}
 use Rattle.desktop_definitions.proofs.LogLaws.{log_kept, line_put, line_logged}
 use Rattle.desk_core.specs.Kept.{kept_desktop}
 use Rattle.desktop_definitions.specs.Looks.{AreLooks}
 use Rattle.desktop_definitions.proofs.LookedLaws.{default_is_look, run_looks}
 use Rattle.desk_commands.proofs.log.log_line.Goals as goal
 
-pub insert-requires-clause-there : goal.insert-requires-clause-there
-insert-requires-clause-there g c = log_kept _ (kept_desktop c.args.desk.now) c.requires.stands.built
-
-pub insert-requires-clause-short : goal.insert-requires-clause-short
-insert-requires-clause-short g c =
-    let all = text_held (kept_desktop c.args.desk.now) 0 in
-    let low = c.requires.short in
-    let size : length (flat c.in_ok-buffer.buffer) ≡ length c.args.line.now =
-    ap length c.in_ok-buffer.ensures ∙ length-run c.args.desk.now.written (length c.args.line.now) default_look in
-    omega (arith, all, low, size)
-
-pub insert-requires-clause-within : goal.insert-requires-clause-within
-insert-requires-clause-within g c =
+pub insert-requires-clause-at : goal.insert-requires-clause-at
+insert-requires-clause-at g c =
     let old = g.S.CharSource.characters c.args.source.now in
     let now = g.S.CharSource.characters c.append.new.self in
     let grown : length now ≡ length old + length c.args.line.now =
     ap length c.in_ok-append.ensures.added ∙ length-append old c.args.line.now in
-    subst (AreWithin (length now)) (sym c.in_ok-buffer.ensures)
-    (run-AreWithin (length now) c.args.desk.now.written (length c.args.line.now) default_look
-    (omega (arith, grown, c.requires.stands.counted)))
+    let place = c.log_len-end.ensures in
+    record {
+      built = built_longer (length old) (length now) (kept_desktop c.args.desk.now) (omega (arith, grown))
+          c.requires.stands.built;
+      there = log_kept _ (kept_desktop c.args.desk.now) c.requires.stands.built;
+      place = omega (arith, place);
+    }
+
+pub insert-requires-clause-goes : goal.insert-requires-clause-goes
+insert-requires-clause-goes g c =
+    let all = text_held (kept_desktop c.args.desk.now) 0 in
+    let low = c.requires.short in
+    let size : length (flat c.in_ok-buffer.buffer) ≡ length c.args.line.now =
+    ap length c.in_ok-buffer.ensures ∙ length-run c.args.desk.now.written (length c.args.line.now) default_look in
+    let old = g.S.CharSource.characters c.args.source.now in
+    let now = g.S.CharSource.characters c.append.new.self in
+    let grown : length now ≡ length old + length c.args.line.now =
+    ap length c.in_ok-append.ensures.added ∙ length-append old c.args.line.now in
+    record {
+      short = omega (arith, all, low, size);
+      within = subst (AreWithin (length now)) (sym c.in_ok-buffer.ensures)
+          (run-AreWithin (length now) c.args.desk.now.written (length c.args.line.now) default_look
+          (omega (arith, grown, c.requires.stands.counted)));
+      looks = subst AreLooks (sym c.in_ok-buffer.ensures)
+          (run_looks c.args.desk.now.written (length c.args.line.now) default_look default_is_look);
+    }
 
 pub show_log_end-requires : goal.show_log_end-requires
 show_log_end-requires g c =
@@ -44,11 +56,6 @@ show_log_end-requires g c =
           (λ h. reads.same (premise.1 h)) c.in_ok-buffer.ensures c.log_len-end.ensures
           c.in_ok-insert.ensures.changed).stands.built;
     }
-
-pub insert-requires-clause-looks : goal.insert-requires-clause-looks
-insert-requires-clause-looks g c =
-    subst AreLooks (sym c.in_ok-buffer.ensures)
-    (run_looks c.args.desk.now.written (length c.args.line.now) default_look default_is_look)
 
 pub returns : goal.returns
 returns g c = record {

@@ -4,7 +4,7 @@ use Rattle.desktop_definitions.specs.Log.{logged}
 use Rattle.desktop_definitions.specs.Changed.{IsExtended}
 use Rattle.desktop_definitions.proofs.LogLaws.{logging_more, logging_whole}
 use Rattle.desk_core.specs.Kept.{kept_desktop}
-use Rattle.desk_commands.proofs.LogLemmas.{grown_on}
+use Rattle.desk_core.proofs.Calm.{grown_on}
 use Rattle.desk_commands.proofs.log.log_lines.Goals as goal
 
 pub loop-line-preserved : goal.loop-line-preserved

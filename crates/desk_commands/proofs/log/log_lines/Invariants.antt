@@ -2,7 +2,7 @@ use Rattle.std.proofs.Common.{drop}
 use Rattle.desktop_definitions.proofs.LogLaws.{IsLogging}
 use Rattle.desk_core.specs.Kept.{kept_desktop}
 use Rattle.desk_commands.specs.Lines.{bytes_of_lines}
-use Rattle.desk_commands.proofs.LogLemmas.{IsCalm}
+use Rattle.desk_core.proofs.Calm.{IsCalm}
 use Rattle.desk_commands.proofs.log.log_lines.Given as goal
 
 -- some lines were put in, and nothing failed

@@ -22,25 +22,24 @@ returns-clause-renewed g c = λ honest live version number count before was.
     (c.change_slot.ensures.kept.moments honest) (c.in_ok-change_slot.ensures.front honest) c.settle.ensures.desktop
     c.settle.ensures.same)) (c.in_ok-change_slot.ensures.renewed honest live version number count before was)
 
-pub returns-clause-named : goal.returns-clause-named
-returns-clause-named g c = λ honest.
-    named_settled _ _ c.args.place c.args.desktop.now c.settle.new.self c.requires.live c.requires.goes
-    (c.change_slot.ensures.kept.moments honest) (c.in_ok-change_slot.ensures.front honest) c.settle.ensures.desktop
-    c.settle.ensures.same c.settle.ensures.area c.settle.ensures.counted
-
-pub returns-clause-shown : goal.returns-clause-shown
-returns-clause-shown g c = λ honest.
+pub returns-clause-left : goal.returns-clause-left
+returns-clause-left g c =
+    let shown = λ (honest : g.D.Disk.honest c.args.disk.now).
     shown_settled _ _ c.args.place c.args.desktop.now c.settle.new.self c.requires.live c.requires.goes
-    (c.change_slot.ensures.kept.moments honest) (c.in_ok-change_slot.ensures.front honest) c.settle.ensures.desktop
-    c.settle.ensures.same
-
-pub returns-clause-told : goal.returns-clause-told
-returns-clause-told g c = λ told.
-    lines_stay g.D.Disk c.args.desktop.now c.settle.new.self c.change_slot.ensures.kept
-    (λ honest. shown_settled _ _ c.args.place c.args.desktop.now c.settle.new.self c.requires.live c.requires.goes
-    (c.change_slot.ensures.kept.moments honest) (c.in_ok-change_slot.ensures.front honest) c.settle.ensures.desktop
-    c.settle.ensures.same)
-    c.settle.ensures.lines told
-    (λ honest. subst (λ l. AreTrue (now (g.D.Disk.trail c.change_slot.new.disk)).reads l) (sym c.settle.ensures.cached)
-    (told_stays g.D.Disk c.args.desktop.now.pages c.change_slot.ensures.kept
-    (apart_renewal c.args.desktop.now c.args.place c.requires.live c.requires.goes) told.pages honest))
+    (c.change_slot.ensures.kept.moments honest) (c.in_ok-change_slot.ensures.front honest)
+    c.settle.ensures.desktop c.settle.ensures.same in
+    record {
+      live = c.settle.ensures.live;
+      told = λ told.
+          lines_stay g.D.Disk c.args.desktop.now c.settle.new.self c.change_slot.ensures.kept shown
+          c.settle.ensures.lines told
+          (λ honest. subst (λ l. AreTrue (now (g.D.Disk.trail c.change_slot.new.disk)).reads l)
+          (sym c.settle.ensures.cached)
+          (told_stays g.D.Disk c.args.desktop.now.pages c.change_slot.ensures.kept
+          (apart_renewal c.args.desktop.now c.args.place c.requires.live c.requires.goes) told.pages honest));
+      named = λ honest.
+          named_settled _ _ c.args.place c.args.desktop.now c.settle.new.self c.requires.live c.requires.goes
+          (c.change_slot.ensures.kept.moments honest) (c.in_ok-change_slot.ensures.front honest)
+          c.settle.ensures.desktop c.settle.ensures.same c.settle.ensures.area c.settle.ensures.counted;
+      shown = shown;
+    }

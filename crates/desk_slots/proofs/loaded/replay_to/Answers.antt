@@ -46,10 +46,12 @@ returns-in-None-clause-read g c = λ honest.
       ended = λ _. subst (λ r. is_open (r (gate c.args.slot c.loop-k.k)) ≡ false) same closed;
     }
 
-pub returns-in-None-clause-told : goal.returns-in-None-clause-told
-returns-in-None-clause-told g c =
-    live_stays g.D.Disk c.loop-k.desktop c.read_event.ensures.kept (apart_nowhere c.loop-k.desktop.pages)
-    c.loop-k.invariant.told
+pub returns-in-None-clause-left : goal.returns-in-None-clause-left
+returns-in-None-clause-left g c = record {
+  live = c.loop-k.invariant.live;
+  told = live_stays g.D.Disk c.loop-k.desktop c.read_event.ensures.kept (apart_nowhere c.loop-k.desktop.pages)
+      c.loop-k.invariant.told;
+}
 
 pub step-requires-clause-told : goal.step-requires-clause-told
 step-requires-clause-told g c =
@@ -63,7 +65,7 @@ loop-k-preserved g c =
     record {
       kept = confined.joined g.D.Disk.size g.D.Disk.honest g.D.Disk.trail
           (confined.joined g.D.Disk.size g.D.Disk.honest g.D.Disk.trail i.kept c.read_event.ensures.kept)
-          c.step.ensures.disk;
+          c.step.ensures.reads.confined;
       calm = search rules;
       read = λ honest.
           let same = still_all (g.D.Disk.trail c.args.disk.now) (g.D.Disk.trail c.loop-k.disk)
@@ -76,14 +78,14 @@ loop-k-preserved g c =
           c.in-Some.event (i.read honest) (omega (arith, c.loop-k-test.true))
           (subst (λ r. is_open (r (gate c.args.slot k)) ≡ true) same found.0)
           (subst (λ r. BeginsWithEvent (r (body c.args.slot k)) c.in-Some.event) same found.1)
-          (ap (λ (o : Outcome). o.desktop) (c.in_ok-step-in-Some.ensures.done (c.read_event.ensures.kept.still mid))
+          (ap (λ (o : Outcome). o.desktop) (c.in_ok-step-in-Some.ensures.stepped.done (c.read_event.ensures.kept.still mid))
           ∙ ap (λ (r : Content).
           (step_in (version_number c.args.version) (seen_live r c.loop-k.desktop) c.in-Some.event).desktop)
           read);
-      live = c.in_ok-step-in-Some.ensures.live;
-      told = c.in_ok-step-in-Some.ensures.told;
+      live = c.in_ok-step-in-Some.ensures.left.live;
+      told = c.in_ok-step-in-Some.ensures.left.told;
       area = c.step.ensures.area ∙ i.area;
-      counted = λ not. c.step.ensures.counted not ∙ i.counted (c.step.ensures.before not);
+      counted = λ not. c.step.ensures.reads.counted not ∙ i.counted (c.step.ensures.reads.before not);
     }
 
 pub returns-clause-read : goal.returns-clause-read

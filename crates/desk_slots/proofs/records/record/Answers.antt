@@ -12,81 +12,86 @@ use Rattle.desktop_definitions.specs.Step.{Outcome}
 
 pub returns-in_err-reply-clause-any_moment : goal.returns-in_err-reply-clause-any_moment
 returns-in_err-reply-clause-any_moment g c = λ honest number kept.
-    read_only g.D.Disk c.step.ensures.disk honest kept c.args.event.now
+    read_only g.D.Disk c.step.ensures.reads.confined honest kept c.args.event.now
 
 pub returns-in_err-reply-clause-unrecorded : goal.returns-in_err-reply-clause-unrecorded
 returns-in_err-reply-clause-unrecorded g c = λ refused honest number kept.
-    unrecorded g.D.Disk c.step.ensures.disk honest kept
+    unrecorded g.D.Disk c.step.ensures.reads.confined honest kept
 
 pub returns-in_err-add_record-clause-any_moment : goal.returns-in_err-add_record-clause-any_moment
 returns-in_err-add_record-clause-any_moment g c = λ honest number kept.
-    let s = c.step.ensures.disk in
+    let s = c.step.ensures.reads.confined in
     read_then g.D.Disk s honest kept c.args.event.now
     (c.add_record.ensures.any_moment (s.still honest) _ number _ (kept_then g.D.Disk s honest kept))
 
 pub returns-clause-any_moment : goal.returns-clause-any_moment
 returns-clause-any_moment g c = λ honest number kept.
-    let s = c.step.ensures.disk in
+    let s = c.step.ensures.reads.confined in
     read_then g.D.Disk s honest kept c.args.event.now
     (c.add_record.ensures.any_moment (s.still honest) _ number _ (kept_then g.D.Disk s honest kept))
 
 pub returns-clause-added : goal.returns-clause-added
 returns-clause-added g c = λ honest number kept.
-    let s = c.step.ensures.disk in
-    let live = c.in_ok-reply.ensures.live in
+    let s = c.step.ensures.reads.confined in
+    let live = c.in_ok-reply.ensures.left.live in
     kept_after g.D.Disk s honest kept c.args.event.now
     (shown_stays _ _ c.step.new.self (c.add_record.ensures.kept.moments (s.still honest))
     (apart_record c.step.new.self.pages c.step.new.self.area c.args.slot c.args.k live.based c.requires.at.two
     c.requires.at.index)
-    ∙ ap (λ (o : Outcome). o.desktop) (c.in_ok-reply.ensures.done honest)
+    ∙ ap (λ (o : Outcome). o.desktop) (c.in_ok-reply.ensures.stepped.done honest)
     ∙ ap (λ (o : Outcome). o.desktop) (in_newest _ c.args.event.now))
     (c.in_ok-add_record.ensures.added (s.still honest) _ number _ (kept_then g.D.Disk s honest kept))
 
 pub returns-clause-stepped : goal.returns-clause-stepped
-returns-clause-stepped g c = λ honest.
-    let s = c.step.ensures.disk in
-    let live = c.in_ok-reply.ensures.live in
-    answer_stays (shown_stays _ _ c.step.new.self (c.add_record.ensures.kept.moments (s.still honest))
-    (apart_record c.step.new.self.pages c.step.new.self.area c.args.slot c.args.k live.based c.requires.at.two
-    c.requires.at.index))
-    (c.in_ok-reply.ensures.done honest ∙ in_newest _ c.args.event.now)
-
-pub returns-clause-told : goal.returns-clause-told
-returns-clause-told g c =
-    let live = c.in_ok-reply.ensures.live in
-    live_stays g.D.Disk c.step.new.self c.add_record.ensures.kept
-    (apart_record c.step.new.self.pages c.step.new.self.area c.args.slot c.args.k live.based c.requires.at.two
-    c.requires.at.index)
-    c.in_ok-reply.ensures.told
-
-pub returns-clause-named : goal.returns-clause-named
-returns-clause-named g c = λ honest named.
-    let s = c.step.ensures.disk in
-    let head_now = head_stays _ _ c.args.slot c.args.k c.requires.at.two c.requires.at.index
-    (c.add_record.ensures.kept.moments (s.still honest))
-    ∙ ap (λ (r : Content). r (slot_head c.args.slot)) (still_all _ _ (s.moments honest)) in
+returns-clause-stepped g c =
+    let s = c.step.ensures.reads.confined in
+    let r = c.in_ok-reply.ensures in
     record {
-      area_is = ap (λ b. (head_of b).area) head_now ∙ named.area_is ∙ sym c.step.ensures.area;
-      named = λ not. ap (λ b. full_sectors (head_of b).written) head_now ∙ named.named (c.step.ensures.before not)
-          ∙ ap (λ n. n / SECTOR_BYTES) (sym (c.step.ensures.counted not));
+      done = λ honest. answer_stays (shown_stays _ _ c.step.new.self (c.add_record.ensures.kept.moments (s.still honest))
+          (apart_record c.step.new.self.pages c.step.new.self.area c.args.slot c.args.k r.left.live.based
+          c.requires.at.two c.requires.at.index)) (r.stepped.done honest);
+      unread = r.stepped.unread;
+      known = r.stepped.known;
+      refusal = r.stepped.refusal;
+    }
+
+pub returns-clause-left : goal.returns-clause-left
+returns-clause-left g c =
+    let s = c.step.ensures.reads.confined in
+    let r = c.in_ok-reply.ensures in
+    record {
+      live = r.left.live;
+      told = live_stays g.D.Disk c.step.new.self c.add_record.ensures.kept
+          (apart_record c.step.new.self.pages c.step.new.self.area c.args.slot c.args.k r.left.live.based
+          c.requires.at.two c.requires.at.index) r.left.told;
+      named = λ honest named.
+          let head_now = head_stays _ _ c.args.slot c.args.k c.requires.at.two c.requires.at.index
+          (c.add_record.ensures.kept.moments (s.still honest))
+          ∙ ap (λ (r : Content). r (slot_head c.args.slot)) (still_all _ _ (s.moments honest)) in
+          record {
+            area_is = ap (λ b. (head_of b).area) head_now ∙ named.area_is ∙ sym c.step.ensures.area;
+            named = λ not. ap (λ b. full_sectors (head_of b).written) head_now
+                ∙ named.named (c.step.ensures.reads.before not)
+                ∙ ap (λ n. n / SECTOR_BYTES) (sym (c.step.ensures.reads.counted not));
+          };
     }
 
 pub returns-clause-behind : goal.returns-clause-behind
 returns-clause-behind g c = λ honest s at.
-    let reads = c.step.ensures.disk in
+    let reads = c.step.ensures.reads.confined in
     subst (λ n. IsSettled n (g.D.Disk.trail c.add_record.new.disk) (and_then s c.args.event.now)) reads.as_large
     (c.in_ok-add_record.ensures.behind (reads.still honest) s (still_up g.D.Disk at reads honest))
 
 pub returns-in_err-reply-clause-broken : goal.returns-in_err-reply-clause-broken
 returns-in_err-reply-clause-broken g c = λ fault honest number kept.
-    inl (unrecorded g.D.Disk c.step.ensures.disk honest kept)
+    inl (unrecorded g.D.Disk c.step.ensures.reads.confined honest kept)
 
 pub returns-in_err-add_record-clause-broken : goal.returns-in_err-add_record-clause-broken
 returns-in_err-add_record-clause-broken g c = λ fault honest number kept.
-    let s = c.step.ensures.disk in
-    let live = c.in_ok-reply.ensures.live in
+    let s = c.step.ensures.reads.confined in
+    let live = c.in_ok-reply.ensures.left.live in
     inr (shown_stays _ _ c.step.new.self (c.add_record.ensures.kept.moments (s.still honest))
     (apart_record c.step.new.self.pages c.step.new.self.area c.args.slot c.args.k live.based c.requires.at.two
     c.requires.at.index)
-    ∙ ap (λ (o : Outcome). o.desktop) (c.in_ok-reply.ensures.done honest)
+    ∙ ap (λ (o : Outcome). o.desktop) (c.in_ok-reply.ensures.stepped.done honest)
     ∙ ap (λ (o : Outcome). o.desktop) (in_newest _ c.args.event.now))

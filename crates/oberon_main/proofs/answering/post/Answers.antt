@@ -2,6 +2,7 @@ use Rattle.std.proofs.Common.{◌∙◌, ap, sym, Err}
 use Rattle.std.proofs.lemmas.Bool.{false≢true}
 use Rattle.desk_journal.specs.Errors.{OfPost}
 use Rattle.desk_journal.specs.Session.{session_of}
+use Rattle.desk_journal.proofs.Stepped.{stepped_newest}
 use Rattle.oberon_main.proofs.Sessions.{worn_answer, worn_after, reply_answer, reply_after}
 use Rattle.oberon_main.proofs.Surviving.{post_withstands}
 use Rattle.oberon_main.proofs.Ends.{counts_call, counts_done, only_memory}
@@ -14,11 +15,11 @@ returns-in-Ok g c = record {
     bytes = λ honest. c.reply_bytes.ensures
         ∙ sym (reply_answer (session_of c.args.store.now) c.args.event.now c.post.new.self.desktop c.in-Ok.reply
         (λ worn. absurd (cc (c.in-Ok.ensures.worn.always ((c.requires, worn.0), worn.1))))
-        (c.in-Ok.ensures.ok.stepped honest));
+        (stepped_newest g.D.Disk c.in-Ok.ensures.ok honest));
     session = λ honest. reply_after (session_of c.args.store.now)
         (session_of c.post.new.self) c.args.event.now c.in-Ok.reply
         (λ worn. absurd (cc (c.in-Ok.ensures.worn.always ((c.requires, worn.0), worn.1))))
-        (c.in-Ok.ensures.ok.stepped honest) c.in-Ok.ensures.ok.more c.in-Ok.ensures.ok.anew
+        (stepped_newest g.D.Disk c.in-Ok.ensures.ok honest) c.in-Ok.ensures.ok.more c.in-Ok.ensures.ok.anew
         c.in-Ok.ensures.ok.layout;
     usable = c.in-Ok.ensures.ok.usable;
     premise = (c.in-Ok.ensures.behaves.device.already, c.in-Ok.ensures.behaves.device.still);

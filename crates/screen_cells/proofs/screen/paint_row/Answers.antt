@@ -25,7 +25,7 @@ row_slot texts slots y at slot here row ready is told =
 
 pub track_strip-requires-2-clause-kept : goal.track_strip-requires-2-clause-kept
 track_strip-requires-2-clause-kept g c =
-    let reads = c.in_ok-user.ensures.reads in
+    let reads = c.in_ok-user.ensures.source.reads in
     kept_still _ _ _ _ reads.already reads.same reads.as_long c.args.shown.now c.args.walks.now.system
     c.requires.kept.system
 
@@ -34,11 +34,11 @@ returns-clause-painted g c = λ h texts numbered told.
     let columns = c.args.tracks.now in
     let shown = c.args.shown.now in
     let lines = c.args.lines.now in
-    let reads = c.in_ok-user.ensures.reads in
+    let reads = c.in_ok-user.ensures.source.reads in
     let at = c.from-at.result in
-    let low : at < length lines.user.items = omega (arith, c.from-at.ensures, c.requires.row, c.requires.ready.user) in
+    let low : at < length lines.user.items = omega (arith, c.from-at.ensures, c.requires.row.0, c.requires.row.1.user) in
     let low2 : at < length lines.system.items =
-    omega (arith, c.from-at.ensures, c.requires.row, c.requires.ready.system) in
+    omega (arith, c.from-at.ensures, c.requires.row.0, c.requires.row.1.system) in
     let lined : c.kept_cells-line.result.now ≡ kept_cells c.track_strip.new.slot =
     c.kept_cells-line.ensures
     ∙ ap kept_cells (c.index.ensures ∙ get_or-set_same lines.user.items at c.track_strip.new.slot _ low) in
@@ -51,11 +51,11 @@ returns-clause-painted g c = λ h texts numbered told.
     ∙ strips_painted columns (map (as_read (g.S.CharSource.characters c.args.source.now)) shown) c.args.marker
     c.args.y c.in_ok-user.user _ c.in_ok-system.system _
     (c.in_ok-user.ensures.strip h texts numbered
-    (row_slot texts lines.user.items c.args.y at _ c.from-at.ensures c.requires.row c.requires.ready.user
+    (row_slot texts lines.user.items c.args.y at _ c.from-at.ensures c.requires.row.0 c.requires.row.1.user
     c.index_mut.ensures.value told.user) told.caret)
     (λ column. c.in_ok-system.ensures.strip (reads.still h) texts
     (all_numbered_still texts _ _ shown (reads.same h) numbered)
-    (row_slot texts lines.system.items c.args.y at _ c.from-at.ensures c.requires.row c.requires.ready.system
+    (row_slot texts lines.system.items c.args.y at _ c.from-at.ensures c.requires.row.0 c.requires.row.1.system
     c.index_mut-2.ensures.value told.system)
     (c.in_ok-user.ensures.caret h texts numbered told.caret) column
     ∙ ap (λ (read : List ℕ). track_cell columns (map (as_read read) shown) System column c.args.y) (reads.same h))
@@ -64,17 +64,17 @@ pub returns-clause-lines : goal.returns-clause-lines
 returns-clause-lines g c = λ h texts numbered told.
     let shown = c.args.shown.now in
     let lines = c.args.lines.now in
-    let reads = c.in_ok-user.ensures.reads in
+    let reads = c.in_ok-user.ensures.source.reads in
     let at = c.from-at.result in
     let later = all_numbered_still texts _ _ shown (reads.same h) numbered in
     record {
       user = All-set (IsSlotOf texts) lines.user.items at c.track_strip.new.slot
           (c.in_ok-user.ensures.slot h texts numbered
-          (row_slot texts lines.user.items c.args.y at _ c.from-at.ensures c.requires.row c.requires.ready.user
+          (row_slot texts lines.user.items c.args.y at _ c.from-at.ensures c.requires.row.0 c.requires.row.1.user
           c.index_mut.ensures.value told.user)) told.user;
       system = All-set (IsSlotOf texts) lines.system.items at c.track_strip-2.new.slot
           (c.in_ok-system.ensures.slot (reads.still h) texts later
-          (row_slot texts lines.system.items c.args.y at _ c.from-at.ensures c.requires.row c.requires.ready.system
+          (row_slot texts lines.system.items c.args.y at _ c.from-at.ensures c.requires.row.0 c.requires.row.1.system
           c.index_mut-2.ensures.value told.system)) told.system;
       caret = c.in_ok-system.ensures.caret (reads.still h) texts later
           (c.in_ok-user.ensures.caret h texts numbered told.caret);
@@ -82,7 +82,7 @@ returns-clause-lines g c = λ h texts numbered told.
 
 pub returns-clause-kept : goal.returns-clause-kept
 returns-clause-kept g c =
-    let reads = c.in_ok-system.ensures.reads in record {
+    let reads = c.in_ok-system.ensures.source.reads in record {
       user = kept_still _ _ _ _ reads.already reads.same reads.as_long c.args.shown.now _ c.in_ok-user.ensures.kept;
       system = c.in_ok-system.ensures.kept;
     }

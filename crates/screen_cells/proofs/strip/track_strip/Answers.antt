@@ -1,38 +1,21 @@
-use Rattle.std.proofs.Common.{ap, sym, ◌∙◌, ◌==◌, map, rules}
+use Rattle.std.proofs.Common.{ap, sym, ◌∙◌, ◌==◌, map}
 use Rattle.std.proofs.lemmas.Result.{IfOk-weaker}
 use Rattle.screen_pictures.specs.Picture.{Painted, seen_cell, shown_cell, viewer_cell}
 use Rattle.screen_cells.specs.Lines.{IsNumbered}
 use Rattle.screen_cells.specs.Shown.{as_read}
 use Rattle.screen_cells.proofs.Strips.{found_first, found_none, all_got}
-use Rattle.screen_cells.proofs.Walking.{kept_still}
 use Rattle.screen_cells.proofs.strip.track_strip.Goals as goal
 
-pub returns-in_default-clause-kept : goal.returns-in_default-clause-kept
-returns-in_default-clause-kept g c =
-    let reads = c.filler_strip.ensures.reads in
-    let still = kept_still _ _ _ _ reads.already reads.same reads.as_long c.args.shown.now c.args.kept.now
-    c.requires.kept in
-    search rules
-
-pub returns-then-index-shown-clause-kept : goal.returns-then-index-shown-clause-kept
-returns-then-index-shown-clause-kept g c =
-    let reads = c.filler_strip-then-index-shown.ensures.reads in
-    let still = kept_still _ _ _ _ reads.already reads.same reads.as_long c.args.shown.now c.args.kept.now
-    c.requires.kept in
-    search rules
-
 pub returns-then-index-shown-clause-strip : goal.returns-then-index-shown-clause-strip
-returns-then-index-shown-clause-strip g c =
+returns-then-index-shown-clause-strip g c = λ h texts numbered line_told caret_told column.
     let columns = c.args.tracks.now in
     let viewers = map (as_read (g.S.CharSource.characters c.args.source.now)) c.args.shown.now in
     let id = c.in-Some.viewer.0 in
-    IfOk-weaker c.filler_strip-then-index-shown.result _ _ (λ strip fact h texts numbered line_told caret_told column.
-    fact _ column ∙ sym (
+    sym (
     ap (seen_cell columns viewers c.args.track column c.args.y) (sym c.in-Some.ensures.seen)
     ∙ ap (shown_cell columns c.args.track id column c.args.y)
     (found_none (λ (v : Painted). v.id == id) (as_read (g.S.CharSource.characters c.args.source.now))
-    c.args.shown.now c.index_of-index.result c.index_of-index.ensures c.if-index-shown.true)))
-    c.filler_strip-then-index-shown.ensures.strip
+    c.args.shown.now c.index_of-index.result c.index_of-index.ensures c.if-index-shown.true))
 
 pub returns-clause-strip : goal.returns-clause-strip
 returns-clause-strip g c =

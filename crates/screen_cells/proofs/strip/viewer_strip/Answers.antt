@@ -34,5 +34,5 @@ returns-clause-strip g c = λ h texts numbered line_told caret_told column.
     (c.args.top - 2 - c.args.y)) (reads.same h))
     (c.in_ok-cell.ensures.cell h texts numbered caret_told
     ∙ ap (λ rows. caret_at (c.args.width - 1) rows (as_read characters walk.shown).main
-    walk.shown.frame.now.org walk.shown.frame.now.caret) c.requires.rows)
+    walk.shown.frame.now.org walk.shown.frame.now.caret) c.requires.at.rows)
     refl

@@ -9,10 +9,10 @@ invariant_of-self-clause-few c =
     let p = c.args.self.now in
     let left : length c.drop_front.new.bytes.items ≡ length p.rest.items - (c.args.saved - p.saved) =
     ap length c.drop_front.ensures ∙ length-drop (c.args.saved - p.saved) p.rest.items in
-    omega (arith, left, c.requires.more, c.requires.within, p.few)
+    omega (arith, left, c.requires.more.0, c.requires.more.1, p.few)
 
 pub invariant_of-self-clause-below : goal.invariant_of-self-clause-below
 invariant_of-self-clause-below c =
     let p = c.args.self.now in
-    below_moved {many = p.saved / SECTOR_BYTES} {more = c.args.saved / SECTOR_BYTES} (omega (arith, c.requires.more))
+    below_moved {many = p.saved / SECTOR_BYTES} {more = c.args.saved / SECTOR_BYTES} (omega (arith, c.requires.more.0))
     (λ some. c.requires.place (omega (arith, some))) p.below

@@ -1,4 +1,4 @@
-use Rattle.std.proofs.Common.{ℕ, IsSome, subst, sym}
+use Rattle.std.proofs.Common.{rules, ℕ, IsSome, subst, sym}
 use Rattle.viewer_tracks.specs.Columns.{IsOnTop}
 use Rattle.desktop_definitions.specs.Tables.{text_numbered}
 use Rattle.desktop_definitions.proofs.RowLaws.{main_kept}
@@ -8,11 +8,14 @@ use Rattle.desk_core.specs.Kept.{kept_desktop}
 use Rattle.desktop_definitions.proofs.PlaceLaws.{on_top_placed}
 use Rattle.desk_core.proofs.desk.Desk.put_in.Goals as goal
 
-pub insert-requires-clause-there : goal.insert-requires-clause-there
-insert-requires-clause-there g c =
-    subst (λ (n : ℕ). IsSome (text_numbered c.args.self.now.texts.entries n)) (sym c.main_of-number.ensures)
-    (main_kept _ (kept_desktop c.args.self.now) c.requires.at.built c.args.id
-    (on_top_placed c.args.self.now.tracks c.args.id c.requires.at.stands.placed))
+pub insert-requires-clause-at : goal.insert-requires-clause-at
+insert-requires-clause-at g c = record {
+  built = c.requires.at.built;
+  there = subst (λ (n : ℕ). IsSome (text_numbered c.args.self.now.texts.entries n)) (sym c.main_of-number.ensures)
+      (main_kept _ (kept_desktop c.args.self.now) c.requires.at.built c.args.id
+      (on_top_placed c.args.self.now.tracks c.args.id c.requires.at.stands.placed));
+  place = search rules;
+}
 
 pub show_caret-requires-clause-at : goal.show_caret-requires-clause-at
 show_caret-requires-clause-at g c = record {

@@ -1,4 +1,4 @@
-use Rattle.std.proofs.Common.{◌∙◌, ◌+◌, ◌-◌, Ok, ap, sym, subst, refl, arith, rules, false}
+use Rattle.std.proofs.Common.{◌∙◌, ◌+◌, ◌-◌, ap, sym, subst, refl, arith, rules, false}
 use Rattle.sector_disk.specs.Trail.{now, LeavesOnly}
 use Rattle.command_table.specs.Versions.{version_number}
 use Rattle.desktop_definitions.specs.Step.{outcome_of}
@@ -49,8 +49,8 @@ invariant_of-self-in-No g c = λ _.
     let s = c.self.inside in
     let r = c.in_ok-reply.ensures in
     refused_knows g.D.Disk s.slot (version_number s.version) s.epoch s.events s.disk c.bring.new.disk s.desktop
-    c.bring.new.self (c.self.invariant c.if-self.false) c.bring.ensures.disk c.bring.ensures.named r.live r.told
-    (λ honest. refused_shown c.args.documents.now c.in-No.is (r.done honest))
+    c.bring.new.self (c.self.invariant c.if-self.false) c.bring.ensures.disk c.bring.ensures.named r.left.live r.left.told
+    (λ honest. refused_shown c.args.documents.now c.in-No.is (r.brought.done honest))
 
 pub returns-in-No-clause-ok : goal.returns-in-No-clause-ok
 returns-in-No-clause-ok g c =
@@ -69,24 +69,22 @@ returns-in-No-clause-ok g c =
       must_reopen = false;
     } in
     let knows = refused_knows d s.slot (version_number s.version) s.epoch s.events s.disk disk s.desktop
-    c.bring.new.self (c.self.invariant c.if-self.false) c.bring.ensures.disk c.bring.ensures.named r.live r.told
-    (λ honest. refused_shown c.args.documents.now c.in-No.is (r.done honest)) in
+    c.bring.new.self (c.self.invariant c.if-self.false) c.bring.ensures.disk c.bring.ensures.named r.left.live r.left.told
+    (λ honest. refused_shown c.args.documents.now c.in-No.is (r.brought.done honest)) in
     subst (λ old. AreBrought d c.args.documents.now c.in_ok-reply.reply old store) c.self.view_is (record {
-      brought = r.done;
+      brought = r.brought;
       durable = λ honest. kept_shows (d.size disk) (d.trail disk) s.slot (version_number s.version) s.epoch s.events
           live (knows.5 honest).0;
       usable = refl;
-      known = r.replies;
       done = λ is. absurd (cc (sym c.in-No.is ∙ is));
       refusal = λ code is. record {
-        desktop = λ honest. refused_shown c.args.documents.now is (r.done honest);
-        kept = r.refusal code (ap (λ x. Ok x) is);
+        desktop = λ honest. refused_shown c.args.documents.now is (r.brought.done honest);
+        kept = r.brought.refusal code is;
         layout = refl;
         epoch = refl;
         events = refl;
         unwritten = search rules;
       };
-      unread = r.unread;
     })
 
 pub returns-in_err-renew-clause-any_moment : goal.returns-in_err-renew-clause-any_moment
@@ -99,9 +97,9 @@ returns-in_err-renew-clause-any_moment g c = λ usable honest.
     subst (λ old. d.honest old.disk → LeavesOnly (d.trail old.disk) (d.trail c.renew.new.disk)
     (MeansEither (d.size old.disk) old.desktop (brought_in old.desktop documents).desktop)) c.self.view_is
     (λ first. all_or_none d s.slot (version_number s.version) s.epoch s.events s.disk c.bring.new.disk s.desktop
-    c.bring.new.self was c.bring.ensures.disk c.bring.ensures.named _ r.live (omega (arith, was.0)) refl
+    c.bring.new.self was c.bring.ensures.disk c.bring.ensures.named _ r.left.live (omega (arith, was.0)) refl
     (goes_by c.next_area.ensures.area c.saved.ensures) c.renew.new.disk _ c.renew.ensures.any_moment first
-    (brought_desktop _ documents (r.done first))) honest
+    (brought_desktop _ documents (r.brought.done first))) honest
 
 pub returns-clause-any_moment : goal.returns-clause-any_moment
 returns-clause-any_moment g c = λ usable honest.
@@ -113,9 +111,9 @@ returns-clause-any_moment g c = λ usable honest.
     subst (λ old. d.honest old.disk → LeavesOnly (d.trail old.disk) (d.trail c.renew.new.disk)
     (MeansEither (d.size old.disk) old.desktop (brought_in old.desktop documents).desktop)) c.self.view_is
     (λ first. all_or_none d s.slot (version_number s.version) s.epoch s.events s.disk c.bring.new.disk s.desktop
-    c.bring.new.self was c.bring.ensures.disk c.bring.ensures.named _ r.live (omega (arith, was.0)) refl
+    c.bring.new.self was c.bring.ensures.disk c.bring.ensures.named _ r.left.live (omega (arith, was.0)) refl
     (goes_by c.next_area.ensures.area c.saved.ensures) c.renew.new.disk _ c.renew.ensures.any_moment first
-    (brought_desktop _ documents (r.done first))) honest
+    (brought_desktop _ documents (r.brought.done first))) honest
 
 pub invariant_of-self-2 : goal.invariant_of-self-2
 invariant_of-self-2 g c = λ _.
@@ -127,13 +125,13 @@ invariant_of-self-2 g c = λ _.
       omega (arith, was.0),
       omega arith,
       omega (arith, was.2, r.device.as_large, c.bring.ensures.disk.as_large),
-      r.live,
-      r.told b.told,
+      r.left.live,
+      r.left.told b.left.told,
       λ honest. (
         brought_kept d s.slot (version_number s.version) s.epoch s.events s.disk c.bring.new.disk s.desktop
-            c.bring.new.self was c.bring.ensures.disk c.bring.ensures.named _ b.live (omega (arith, was.0)) refl
+            c.bring.new.self was c.bring.ensures.disk c.bring.ensures.named _ b.left.live (omega (arith, was.0)) refl
             (goes_by c.next_area.ensures.area c.saved.ensures) c.renew.new.disk _ r.device r.renewed honest,
-        r.named (r.device.already honest),
+        r.left.named (r.device.already honest),
       ),
     )
 
@@ -157,16 +155,20 @@ returns-clause-ok g c =
       must_reopen = false;
     } in
     subst (λ old. AreBrought d c.args.documents.now c.in_ok-reply.reply old store) c.self.view_is (record {
-      brought = λ honest. ap (λ x. outcome_of x c.in_ok-reply.reply) (r.shown (run.still honest)) ∙ b.done honest;
+      brought = record {
+        done = λ honest. ap (λ x. outcome_of x c.in_ok-reply.reply) (r.left.shown (run.still honest))
+            ∙ b.brought.done honest;
+        unread = subst (λ x. BringsUnread s.desktop.desktop x c.args.documents.now c.in_ok-reply.reply) (sym r.kept)
+            b.brought.unread;
+        known = b.brought.known;
+        refusal = λ code is. absurd (c.in_default.not-No code is);
+      };
       durable = λ honest.
           kept_shows (d.size after.disk) (d.trail after.disk) (1 - s.slot) LAYOUT (s.epoch + 1) 0 live
           (brought_kept d s.slot (version_number s.version) s.epoch s.events s.disk c.bring.new.disk s.desktop
-          c.bring.new.self was run c.bring.ensures.named _ b.live (omega (arith, was.0)) refl
+          c.bring.new.self was run c.bring.ensures.named _ b.left.live (omega (arith, was.0)) refl
           (goes_by c.next_area.ensures.area c.saved.ensures) after.disk _ r.device r.renewed honest);
       usable = refl;
-      known = b.replies;
       done = λ is. record { layout = refl; epoch = refl; events = refl };
       refusal = λ code is. absurd (c.in_default.not-No code is);
-      unread = subst (λ x. BringsUnread s.desktop.desktop x c.args.documents.now c.in_ok-reply.reply) (sym r.kept)
-          b.unread;
     })

@@ -18,13 +18,13 @@ invariant_of-self-2 g c = λ _.
       omega (arith, was.0),
       omega arith,
       omega (arith, was.2, r.device.as_large),
-      r.live,
-      r.told was.4,
+      r.left.live,
+      r.left.told was.4,
       λ honest. (
         renewed_kept g.D.Disk s.slot (version_number s.version) s.epoch s.events s.disk c.renew.new.disk s.desktop
             c.renew.new.desktop
             _ was r.device (omega (arith, was.0)) refl (goes_by c.next_area.ensures.area c.saved.ensures) r.renewed honest,
-        r.named (r.device.already honest),
+        r.left.named (r.device.already honest),
       ),
     )
 
@@ -45,7 +45,7 @@ returns-clause-ok g c =
       must_reopen = false;
     } in
     subst (λ old. IsRenewed g.D.Disk old store) c.self.view_is (record {
-      desktop = r.shown;
+      desktop = r.left.shown;
       kept = r.kept;
       layout = refl;
       epoch = refl;

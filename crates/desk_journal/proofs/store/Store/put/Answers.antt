@@ -1,4 +1,4 @@
-use Rattle.std.proofs.Common.{◌≡◌, inl, inr, ◌<◌, ◌+◌, Ok, ap, sym, subst, refl, arith, false}
+use Rattle.std.proofs.Common.{◌≡◌, inl, inr, ◌<◌, ◌+◌, sym, subst, refl, arith, false}
 use Rattle.store_layout.specs.declared.layout.TheConstants.{JOURNAL_EVENTS, LAYOUT}
 use Rattle.command_table.specs.Versions.{version_number}
 use Rattle.store_layout.specs.Kept.{ShowsSettled, IsSettled}
@@ -32,12 +32,12 @@ returns-clause-ok g c =
     subst (λ old. IsAcknowledged g.D.Disk c.args.event.now c.in_ok-reply.reply old store) c.self.view_is (record {
       stepped = r.stepped;
       durable = λ honest.
-          let before = r.device.already honest in
+          let before = r.uses.device.already honest in
           kept_shows (g.D.Disk.size after.disk) (g.D.Disk.trail after.disk) s.slot (version_number s.version) s.epoch
           (s.events + 1) live
           (subst (λ n. ShowsSettled n (g.D.Disk.trail after.disk) s.slot (version_number s.version) s.epoch (s.events + 1)
           live)
-          (sym r.device.as_large)
+          (sym r.uses.device.as_large)
           (subst (λ v. ShowsSettled (g.D.Disk.size s.disk) (g.D.Disk.trail after.disk) s.slot v s.epoch (s.events + 1) live)
           (sym room.1) (r.added before s.epoch
           (subst (λ v. ShowsSettled (g.D.Disk.size s.disk) (g.D.Disk.trail s.disk) s.slot v s.epoch s.events
@@ -50,9 +50,6 @@ returns-clause-ok g c =
       ];
       layout = room.1;
       usable = refl;
-      known = r.replies;
-      refusal = λ code is. r.refusal code (ap (λ x. Ok x) is);
-      unread = r.unread;
     })
 
 pub returns-clause-added : goal.returns-clause-added
@@ -74,12 +71,12 @@ returns-clause-added g c =
       behind = λ honest. (
         standing g.D.Disk was honest,
         (subst (λ n. IsSettled n (g.D.Disk.trail after.disk) (and_then (standing g.D.Disk was honest) c.args.event.now))
-            (sym r.device.as_large)
+            (sym r.uses.device.as_large)
             (r.behind honest (standing g.D.Disk was honest) (up_to g.D.Disk was honest))).stands,
         (was.5 honest).0.is,
       );
       more = λ honest room x at.
-          (subst (λ n. IsSettled n (g.D.Disk.trail after.disk) (and_then x c.args.event.now)) (sym r.device.as_large)
+          (subst (λ n. IsSettled n (g.D.Disk.trail after.disk) (and_then x c.args.event.now)) (sym r.uses.device.as_large)
           (r.behind honest x (up_to_any g.D.Disk was honest c.standing_law.ensures x at))).stands;
     })
 

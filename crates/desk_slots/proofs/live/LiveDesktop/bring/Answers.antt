@@ -9,12 +9,23 @@ use Rattle.desk_slots.proofs.Brought.{lines_left}
 use Rattle.desk_slots.proofs.Settled.{over_all}
 use Rattle.desk_slots.proofs.live.LiveDesktop.bring.Goals as goal
 
-pub returns-clause-live : goal.returns-clause-live
-returns-clause-live g c = record {
-  over = over_all c.bring_over.new.pages c.bring_over.new.desktop (now (g.D.Disk.trail c.bring_over.new.disk)).reads
-      c.in_ok-bring_over.ensures.over;
-  low = c.requires.live.low;
-  based = c.bring_over.ensures.reads.base ∙ c.requires.live.based;
+pub returns-clause-left : goal.returns-clause-left
+returns-clause-left g c = record {
+  live = record {
+    over = over_all c.bring_over.new.pages c.bring_over.new.desktop (now (g.D.Disk.trail c.bring_over.new.disk)).reads
+        c.in_ok-bring_over.ensures.over;
+    low = c.requires.live.low;
+    based = c.bring_over.ensures.reads.base ∙ c.requires.live.based;
+  };
+  told = record {
+    pages = c.bring_over.ensures.reads.told;
+    lines = λ honest.
+        let before = c.bring_over.ensures.reads.confined.already honest in
+        let content = (now (g.D.Disk.trail c.args.disk.now)).reads in
+        lines_left (seen_live content c.args.self.now) _ c.args.documents.now _ c.args.self.now.lines
+        ((c.requires.live.over content).whole.sound (live_characters content c.args.self.now))
+        (c.in_ok-bring_over.ensures.brought.done before) (c.requires.told.lines before);
+  };
 }
 
 pub returns-clause-named : goal.returns-clause-named
@@ -27,14 +38,3 @@ returns-clause-named g c = λ slot honest named.
       named = λ not. ap (λ (r : Content). full_sectors (head r slot).written) same ∙ named.named (reads.before not)
           ∙ ap (λ n. n / SECTOR_BYTES) (sym (reads.counted not));
     }
-
-pub returns-clause-told : goal.returns-clause-told
-returns-clause-told g c = record {
-  pages = c.bring_over.ensures.reads.told;
-  lines = λ honest.
-      let before = c.bring_over.ensures.reads.confined.already honest in
-      let content = (now (g.D.Disk.trail c.args.disk.now)).reads in
-      lines_left (seen_live content c.args.self.now) _ c.args.documents.now _ c.args.self.now.lines
-      ((c.requires.live.over content).whole.sound (live_characters content c.args.self.now))
-      (c.in_ok-bring_over.ensures.done before) (c.requires.told.lines before);
-}

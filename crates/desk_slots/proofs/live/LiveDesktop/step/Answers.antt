@@ -9,22 +9,22 @@ use Rattle.desk_slots.specs.Live.{live_characters}
 use Rattle.desk_slots.proofs.Settled.{over_all}
 use Rattle.desk_slots.proofs.live.LiveDesktop.step.Goals as goal
 
-pub returns-clause-told : goal.returns-clause-told
-returns-clause-told g c = record {
-  pages = c.step_over.ensures.reads.told;
-  lines = λ honest.
-      let before = c.step_over.ensures.reads.confined.already honest in
-      let content = (now (g.D.Disk.trail c.args.disk.now)).reads in
-      subst (λ (d : Desktop). AreLinesOf (text_of d) c.forget_stale.new.lines)
-      (sym (ap (λ (o : Outcome). o.desktop) (c.in_ok-step_over.ensures.done before)))
-      (c.forget_stale.ensures (version_number c.args.version) (live_characters content c.args.self.now)
-      (c.requires.live.over content) (c.requires.told.lines before));
-}
-
-pub returns-clause-live : goal.returns-clause-live
-returns-clause-live g c = record {
-  over = over_all c.step_over.new.pages c.step_over.new.desktop (now (g.D.Disk.trail c.step_over.new.disk)).reads
-      c.in_ok-step_over.ensures.over;
-  low = c.requires.live.low;
-  based = c.step_over.ensures.reads.base ∙ c.requires.live.based;
+pub returns-clause-left : goal.returns-clause-left
+returns-clause-left g c = record {
+  live = record {
+    over = over_all c.step_over.new.pages c.step_over.new.desktop (now (g.D.Disk.trail c.step_over.new.disk)).reads
+        c.in_ok-step_over.ensures.over;
+    low = c.requires.live.low;
+    based = c.step_over.ensures.reads.base ∙ c.requires.live.based;
+  };
+  told = record {
+    pages = c.step_over.ensures.reads.told;
+    lines = λ honest.
+        let before = c.step_over.ensures.reads.confined.already honest in
+        let content = (now (g.D.Disk.trail c.args.disk.now)).reads in
+        subst (λ (d : Desktop). AreLinesOf (text_of d) c.forget_stale.new.lines)
+        (sym (ap (λ (o : Outcome). o.desktop) (c.in_ok-step_over.ensures.stepped.done before)))
+        (c.forget_stale.ensures (version_number c.args.version) (live_characters content c.args.self.now)
+        (c.requires.live.over content) (c.requires.told.lines before));
+  };
 }

@@ -8,14 +8,14 @@ use Rattle.readers_scanners.proofs.reader.Reader.count.Goals as goal
 pub count_from-requires-clause-some : goal.count_from-requires-clause-some
 count_from-requires-clause-some g c =
     let is = standing _ _ _ _ _ _ c.self.view_is c.self.invariant in
-    let here = some_here _ _ _ _ _ is c.requires.more in let least = c.min.ensures in
-    let some = c.requires.some in omega (arith, here, least, some)
+    let here = some_here _ _ _ _ _ is c.requires.more.1 in let least = c.min.ensures in
+    let some = c.requires.more.0 in omega (arith, here, least, some)
 
 pub count_from-requires-clause-within : goal.count_from-requires-clause-within
 count_from-requires-clause-within g c =
     let is = standing _ _ _ _ _ _ c.self.view_is c.self.invariant in
-    let here = some_here _ _ _ _ _ is c.requires.more in let least = c.min.ensures in
-    let some = c.requires.some in
+    let here = some_here _ _ _ _ _ is c.requires.more.1 in let least = c.min.ensures in
+    let some = c.requires.more.0 in
     few_end _ _ _ _ _ is _ c.min.result c.requires.offsets (omega (arith, least)) (omega (arith, here, least, some))
 
 pub overflow_sub-self : goal.overflow_sub-self
