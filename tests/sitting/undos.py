@@ -36,10 +36,11 @@ def deed(line):
 
 
 class History:
-    """The events that a store can take back: those since its last checkpoint. An event that is refused stands there too."""
+    """The events that a store can take back: those of its journal, and of the one before it. An event that is refused
+    stands there too."""
 
     def __init__(self, lines):
-        self.journal = list(lines)
+        self.before, self.journal = [], list(lines)
 
     def add(self, line):
         if len(self.journal) == JOURNAL:
@@ -47,14 +48,16 @@ class History:
         self.journal.append(line)
 
     def checkpoint(self):
-        self.journal = []
+        self.before, self.journal = self.journal, []
 
     def take_back(self):
         """The last event; None where there is none."""
+        if not self.journal:
+            self.before, self.journal = [], self.before
         return self.journal.pop() if self.journal else None
 
     def __len__(self):
-        return len(self.journal)
+        return len(self.before) + len(self.journal)
 
 
 class Undoing(Model):

@@ -8,6 +8,7 @@
 
 mod bringing;
 mod call;
+mod crossings;
 mod fillings;
 mod images;
 mod random;

@@ -1,6 +1,7 @@
 //! Rounds of the search: the stores of a round, and what is stopped over them.
 
 use crate::call::{Call, after_call};
+use crate::crossings::{Passed, crossing, no_crossing};
 use crate::random::Random;
 use crate::search::Search;
 use crate::stores::{after, aged, fresh};
@@ -119,17 +120,25 @@ fn add_lines(script: &mut Vec<u8>, random: &mut Random, count: u32) -> Result<()
     Ok(())
 }
 
-/// A store in slot 0 after some events, of a desk and documents whose characters stand in the area. Both journals have
-/// gates and events of an earlier use.
-fn paged(alloc: Global, random: &mut Random) -> Result<MemoryDisk, AllocError> {
+/// A store in slot 0, of a desk and documents whose characters stand in the area, after a checkpoint from slot 1 and some
+/// events. Both journals have gates and events of an earlier use.
+fn paged(alloc: Global, random: &mut Random) -> Result<Passed, AllocError> {
     let mut script = Vec::new(alloc);
     add_desk_and_documents(&mut script)?;
     script.extend_from_slice(CHECKPOINT)?;
     add_lines(&mut script, random, 12)?;
-    script.extend_from_slice(CHECKPOINT)?;
-    let count = random.below(8);
-    add_lines(&mut script, random, count)?;
-    after(alloc, &fresh(alloc)?, &script)
+    let before = after(alloc, &fresh(alloc)?, &script)?;
+    let mut script = CHECKPOINT.to_vec(alloc)?;
+    let events = random.below(8);
+    add_lines(&mut script, random, events)?;
+    let disk = after(alloc, &before, &script)?;
+    Ok(Passed {
+        before,
+        slot: 1,
+        disk,
+        events,
+        is_long: false,
+    })
 }
 
 /// Stops two events, one after the other, and opening after each. The store after them.
@@ -161,44 +170,101 @@ fn checkpoint(
     after(alloc, &disk, CHECKPOINT)
 }
 
-/// Stops taking back the last event, then some more, and events that are posted after that, behind which gates and events
-/// stand that were taken back. The store after them.
+/// Stops taking back an event, and posting it again. The store after it.
+fn redone(
+    alloc: Global,
+    search: &mut Search,
+    disk: MemoryDisk,
+    name: &'static str,
+) -> Result<MemoryDisk, AllocError> {
+    let event = line(&mut search.random);
+    let posted = after(alloc, &disk, event)?;
+    let trial = Trial::toward(alloc, name, &posted, Call::Undo(1), false, disk)?;
+    search.run_trial(alloc, &trial)?;
+    let undone = after_call(alloc, &posted, &Call::Undo(1))?;
+    let again = posted.crash(alloc, &[])?;
+    let call = Call::line(alloc, event)?;
+    let trial = Trial::toward(
+        alloc,
+        "an event that is posted again",
+        &undone,
+        call,
+        false,
+        again,
+    )?;
+    search.run_trial(alloc, &trial)?;
+    after(alloc, &undone, event)
+}
+
+/// Stops taking back an event and posting it again, then taking back some, and events that are posted after that, behind
+/// which gates and events stand that were taken back. The store after them.
 fn undos(
     alloc: Global,
     search: &mut Search,
     disk: MemoryDisk,
     name: &'static str,
 ) -> Result<MemoryDisk, AllocError> {
-    let mut disk = disk;
-    for count in [1, 3] {
-        let trial = Trial::new(alloc, name, &disk, Call::Undo(count), false)?;
-        search.run_trial(alloc, &trial)?;
-        disk = after_call(alloc, &disk, &Call::Undo(count))?;
-    }
+    let disk = redone(alloc, search, disk, name)?;
+    let trial = Trial::new(alloc, name, &disk, Call::Undo(3), false)?;
+    search.run_trial(alloc, &trial)?;
     posts(
         alloc,
         search,
-        disk,
+        after_call(alloc, &disk, &Call::Undo(3))?,
         "an event behind which events were taken back",
     )
 }
 
-/// Fills the journal after a checkpoint, and stops the event that finds it full.
+/// Stops taking events back across a checkpoint, also where the slot beside is damaged, and then events and a checkpoint.
+fn crossings(
+    alloc: Global,
+    search: &mut Search,
+    passed: &Passed,
+    name: &'static str,
+) -> Result<(), AllocError> {
+    let mut disk = crossing(alloc, search, passed, name)?;
+    disk = posts(alloc, search, disk, "an event after a crossing")?;
+    checkpoint(alloc, search, disk, "a checkpoint after a crossing")?;
+    no_crossing(
+        alloc,
+        search,
+        passed,
+        "events taken back beside a damaged slot",
+    )
+}
+
+/// Fills the journal of this slot after a checkpoint, and stops the event that finds it full, and its taking back with
+/// some of the full journal.
 fn full_journal(
     alloc: Global,
     search: &mut Search,
     disk: MemoryDisk,
-    name: &'static str,
+    slot: u32,
 ) -> Result<(), AllocError> {
     if search.is_done() {
         return Ok(());
     }
     let mut script = Vec::new(alloc);
     add_lines(&mut script, &mut search.random, JOURNAL)?;
-    let full = after(alloc, &disk, &script)?;
+    let before = after(alloc, &disk, &script)?;
     let event = line(&mut search.random);
-    let trial = Trial::new(alloc, name, &full, Call::line(alloc, event)?, true)?;
-    search.run_trial(alloc, &trial)
+    let call = Call::line(alloc, event)?;
+    let trial = Trial::new(alloc, "an event at a full journal", &before, call, true)?;
+    search.run_trial(alloc, &trial)?;
+    let passed = Passed {
+        disk: after(alloc, &before, event)?,
+        before,
+        slot,
+        events: 1,
+        is_long: true,
+    };
+    crossing(
+        alloc,
+        search,
+        &passed,
+        "events of a full journal taken back",
+    )?;
+    Ok(())
 }
 
 /// A store that has all its events in the journal of slot 0.
@@ -229,23 +295,55 @@ fn migrations(alloc: Global, search: &mut Search, version: Version) -> Result<()
     Ok(())
 }
 
-/// One round: events, those that are taken back, and checkpoints in both directions, stores of the older versions, and a full journal in one slot or
-/// the other.
+/// A checkpoint from slot 0 to slot 1, and events there, those that are taken back, and across the checkpoint, before
+/// there are events in slot 1 and after. The store after them.
+fn passes(
+    alloc: Global,
+    search: &mut Search,
+    before: MemoryDisk,
+) -> Result<MemoryDisk, AllocError> {
+    let name = "a checkpoint from slot 0 to slot 1";
+    let disk = checkpoint(alloc, search, before.crash(alloc, &[])?, name)?;
+    let passed = Passed {
+        before,
+        slot: 0,
+        disk,
+        events: 0,
+        is_long: false,
+    };
+    crossings(alloc, search, &passed, "events of slot 0 taken back")?;
+    let disk = passed.disk.crash(alloc, &[])?;
+    let disk = posts(alloc, search, disk, "an event in slot 1")?;
+    let later = Passed {
+        before: passed.before,
+        slot: 0,
+        disk: disk.crash(alloc, &[])?,
+        events: 2,
+        is_long: false,
+    };
+    crossings(alloc, search, &later, "events of slots 1 and 0 taken back")?;
+    undos(alloc, search, disk, "events taken back in slot 1")
+}
+
+/// One round: events, those that are taken back, and checkpoints in both directions, stores of the older versions, and
+/// a full journal in one slot or the other.
 fn round(alloc: Global, search: &mut Search, is_odd: bool) -> Result<(), AllocError> {
-    let mut disk = paged(alloc, &mut search.random)?;
-    disk = posts(alloc, search, disk, "an event in slot 0")?;
+    let passed = paged(alloc, &mut search.random)?;
+    let name = "events of slots 0 and 1 taken back";
+    if is_odd {
+        crossings(alloc, search, &passed, name)?;
+    }
+    let mut disk = posts(alloc, search, passed.disk, "an event in slot 0")?;
     disk = undos(alloc, search, disk, "events taken back in slot 0")?;
     migrations(alloc, search, Version::V1)?;
-    disk = checkpoint(alloc, search, disk, "a checkpoint from slot 0 to slot 1")?;
-    disk = posts(alloc, search, disk, "an event in slot 1")?;
-    disk = undos(alloc, search, disk, "events taken back in slot 1")?;
+    disk = passes(alloc, search, disk)?;
     migrations(alloc, search, Version::V2)?;
     disk = checkpoint(alloc, search, disk, "a checkpoint from slot 1 to slot 0")?;
     if is_odd {
-        return full_journal(alloc, search, disk, "an event at a full journal in slot 0");
+        return full_journal(alloc, search, disk, 0);
     }
     disk = after(alloc, &disk, CHECKPOINT)?;
-    full_journal(alloc, search, disk, "an event at a full journal in slot 1")
+    full_journal(alloc, search, disk, 1)
 }
 
 /// Tries at least so many images, or fewer where one is wrong.

@@ -79,6 +79,15 @@ pub fn aged(alloc: Global, disk: &MemoryDisk, version: Version) -> Result<Memory
     old.crash(alloc, &[])
 }
 
+/// The store with a sector that means nothing, where it was synced.
+pub fn spoiled(alloc: Global, disk: &MemoryDisk, n: u32) -> Result<MemoryDisk, AllocError> {
+    let mut new = disk.crash(alloc, &[])?;
+    if n < new.sectors() && new.write(n, &[0xff; 1024]).is_ok() && new.sync().is_ok() {
+        return Ok(new);
+    }
+    Err(AllocError)
+}
+
 /// What a store shows; or why there is none.
 pub fn shown(alloc: Global, disk: MemoryDisk) -> Vec<u8> {
     let mut said = Vec::new(alloc);

@@ -32,7 +32,7 @@ pub struct Trial {
 }
 
 impl Trial {
-    /// The call of the store.
+    /// The call of the store, which leads to what it leads to where nothing stops it.
     pub fn new(
         alloc: Global,
         name: &'static str,
@@ -40,8 +40,21 @@ impl Trial {
         call: Call,
         is_long: bool,
     ) -> Result<Trial, AllocError> {
+        let left = after_call(alloc, disk, &call)?;
+        Trial::toward(alloc, name, disk, call, is_long, left)
+    }
+
+    /// The call of the store, which is to lead to what this other store shows.
+    pub fn toward(
+        alloc: Global,
+        name: &'static str,
+        disk: &MemoryDisk,
+        call: Call,
+        is_long: bool,
+        other: MemoryDisk,
+    ) -> Result<Trial, AllocError> {
         let before = shown(alloc, disk.crash(alloc, &[])?);
-        let after = shown(alloc, after_call(alloc, disk, &call)?);
+        let after = shown(alloc, other);
         Ok(Trial {
             name,
             disk: disk.crash(alloc, &[])?,

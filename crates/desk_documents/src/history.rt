@@ -55,8 +55,9 @@ fn take_back(rt: &HostRuntime, file: LockedFile, count: u32) -> Result<(), Stop>
 
 /// How many events can be taken back.
 fn events_of(rt: &HostRuntime, path: &str) -> Result<u32, Stop> {
-    let store = opened_locked(rt, looked_at(rt, path)?)?;
-    Ok(store.info()?.events)
+    let mut store = opened_locked(rt, looked_at(rt, path)?)?;
+    let events = store.history(rt.alloc())?;
+    Ok(events.len() as u32)
 }
 
 /// An event as the line of a script.

@@ -1,27 +1,32 @@
 -- What a store knows of its disk before and after its last events were taken back. `d` is what is known of a disk.
-use Rattle.std.proofs.Common.{◌≡◌, inr, ◌-◌, ◌<◌, ℕ, List, [], ◌++◌, length, take, drop, refl, sym, ◌∙◌, ap, subst, arith, false}
-use Rattle.std.proofs.lemmas.List.{append-nil, length-take-le, take-append-drop}
-use Rattle.std.proofs.Math.Seq.{take-length}
+use Rattle.std.proofs.Common.{◌≡◌, inl, inr, ◌+◌, ◌<◌, ◌≤◌, ℕ, List, [], ◌++◌, length, refl, sym, ◌∙◌, ap, subst, arith, Bool, false}
+use Rattle.std.specs.Prelude.{IfErr, Result, Ok, Err}
+use Rattle.std.proofs.lemmas.Bool.{cases_lt}
+use Rattle.std.proofs.lemmas.List.{append-nil}
 use Rattle.sector_disk.specs.declared.disk.Disk.{Ghosts}
 use Rattle.sector_disk.specs.Confined.{IsConfined}
-use Rattle.sector_disk.specs.Trail.{now, LeavesOnly, Touches, Nowhere, Only}
-use Rattle.sector_disk.proofs.Touching.{chained, spared}
+use Rattle.sector_disk.specs.Trail.{now, LeavesOnly, Touches, Nowhere}
+use Rattle.sector_disk.proofs.Touching.{chained, spared, still_all, still_reads}
 use Rattle.event_bytes.specs.declared.event.Event.{Event}
-use Rattle.store_layout.specs.Layout.{gate, head_of}
-use Rattle.store_layout.specs.Meaning.{Standing, Stands, StandsEither, desktop_of, and_all, cut_to, full_sectors}
+use Rattle.store_layout.specs.declared.layout.TheConstants.{JOURNAL_EVENTS, SLOTS}
+use Rattle.store_layout.specs.Layout.{head_of, slot_head}
+use Rattle.store_layout.specs.Meaning.{Standing, Stands, desktop_of, and_all, full_sectors}
 use Rattle.store_layout.specs.Kept.{IsSettled}
 use Rattle.store_layout.specs.Finding.{StandingLaw}
 use Rattle.desk_slots.specs.declared.live.LiveDesktop.{LiveDesktop}
+use Rattle.desk_slots.specs.Beside.{GoesBackTo, InUndo, IsCountedBack, IsEarlier, IsRest, StandsOneOf, within}
 use Rattle.desk_slots.specs.Live.{seen_live, IsLive, HasTrueCache}
-use Rattle.desk_slots.specs.Load.{IsEarlier}
-use Rattle.desk_slots.specs.Written.{HasEventAt, IsUpTo}
-use Rattle.desk_slots.proofs.Staying.{apart_nowhere, live_stays, shown_stays}
-use Rattle.desk_slots.proofs.TakingBack.{apart_gate, head_kept, reads_either, still_up_to}
+use Rattle.desk_slots.specs.Written.{IsUpTo}
+use Rattle.desk_slots.proofs.Settling.{kept_shows}
+use Rattle.desk_slots.proofs.Staying.{IsApart, apart_nowhere, live_stays, shown_stays}
+use Rattle.desk_slots.proofs.TakingBack.{still_up_to}
+use Rattle.desk_slots.specs.declared.error.Error.{Error}
 use Rattle.desk_slots.specs.Device.{IsSameDevice, StaysWithin}
+use Rattle.desk_slots.specs.Errors.{OfDesktop, OfLook}
 use Rattle.sector_disk.proofs.Confinement as confined
 use Rattle.desk_journal.specs.Checkpointing.{IsRenewed}
 use Rattle.desk_journal.specs.Posting.{IsDueBefore}
-use Rattle.desk_journal.specs.Undoing.{IsAdded, ShowsStanding, IsWithout, events_left}
+use Rattle.desk_journal.specs.Undoing.{IsAdded, IsLeft, IsTakenBack, LeavesRest, ShowsStanding}
 use Rattle.desk_journal.specs.View.{StoreView}
 use Rattle.desk_journal.proofs.Between.{no_need}
 use Rattle.desk_journal.proofs.Storing.{Knows, looked_at}
@@ -63,145 +68,24 @@ module _ {D : Type 0} (d : Ghosts D) {slot version epoch events : ℕ} {old : D}
   up_to_any law s stands = subst (λ x. IsUpTo (d.size old) (d.trail old) slot events x)
       (law (d.size old) (now (d.trail old)).reads standing s stands_now stands) up_to
 
-  -- where there are more than k, one stands under gate k
-  pub more_than : {s : Standing} {k : ℕ} → k < events → IsUpTo (d.size old) (d.trail old) slot events s
-      → HasEventAt (d.size old) (d.trail old) slot k s
-  more_than low up = record { settled = up.settled; slot_is = up.slot_is; more = omega (arith, low, up.count) }
+  -- its epoch, and its version
+  pub epoch_any : StandingLaw → (s : Standing) → Stands (d.size old) (now (d.trail old)).reads s → s.epoch ≡ epoch
+  epoch_any law s stands =
+      ap (λ x. x.epoch) (sym (law (d.size old) (now (d.trail old)).reads standing s stands_now stands))
+      ∙ ((was.5 honest).0).epoch
 
--- from this store on, up to this state of its disk, a crash leaves what the disk showed, or its first events alone
+-- what stops a desktop stops a look
+pub as_look : {V : Type 0} (result : Result V Error) → IfErr result OfDesktop → IfErr result OfLook
+as_look (Ok value) stops = tt
+as_look (Err e) (inl memory) = inl memory
+as_look (Err e) (inr fault) = inr (inl fault)
+
+-- from this store on, up to this state of its disk, a crash leaves what the disk showed, or the rest of it
 abbrev pub Leaving : {D : Type 0} → Ghosts D → ℕ → StoreView D → D → Type 0
 Leaving d count old disk = old.must_reopen ≡ false → d.honest old.disk → (s : Standing) → ShowsStanding d old s
-    → LeavesOnly (d.trail old.disk) (d.trail disk) (StandsEither (d.size old.disk) (events_left d count old) s)
+    → (events : List Event) × (rest : Standing) × (length events ≤ count) × LeavesRest d events s rest old.disk disk
 
--- and at most one gate is touched
-abbrev pub Closing : {D : Type 0} → Ghosts D → ℕ → StoreView D → D → Type 0
-Closing d count old disk = old.must_reopen ≡ false → d.honest old.disk → (s : Standing) → ShowsStanding d old s
-    → IsConfined d.size d.honest d.trail (Only (gate s.slot (events_left d count old))) old.disk disk
-
--- nothing was written
-pub looked_either : {D : Type 0} (d : Ghosts D) {old new : D} {slot n : ℕ} {s : Standing} (k : ℕ)
-    → IsUpTo (d.size old) (d.trail old) slot n s → Touches Nowhere (d.trail old) (d.trail new)
-    → LeavesOnly (d.trail old) (d.trail new) (StandsEither (d.size old) k s)
-looked_either d {old = old} {s = s} k at run = spared (StandsEither (d.size old) k s) at.settled.quiet run
-    (λ c same. inr (subst (λ x. Stands (d.size old) x s) (sym (λ i n. same n (λ none. none) i)) at.settled.stands))
-
-pub looked_closing : {D : Type 0} (d : Ghosts D) {old new : D} (n : ℕ)
-    → IsConfined d.size d.honest d.trail Nowhere old new → IsConfined d.size d.honest d.trail (Only n) old new
-looked_closing d n run = confined.widened d.size d.honest d.trail (λ n none. absurd none) run
-
--- reads, and then writes that leave either
-pub undone_moments : {D : Type 0} (d : Ghosts D) {old mid new : D} {slot n k : ℕ} {s : Standing} → k < n
-    → IsUpTo (d.size old) (d.trail old) slot n s → IsConfined d.size d.honest d.trail Nowhere old mid → d.honest old
-    → (d.honest mid → (s : Standing) → HasEventAt (d.size mid) (d.trail mid) slot k s
-    → LeavesOnly (d.trail mid) (d.trail new) (StandsEither (d.size mid) k s))
-    → LeavesOnly (d.trail old) (d.trail new) (StandsEither (d.size old) k s)
-undone_moments d {mid = mid} {new = new} {k = k} {s = s} low at run honest after =
-    let still = still_up_to d at run honest in
-    chained (reads_either d at run honest k)
-    (subst (λ n. LeavesOnly (d.trail mid) (d.trail new) (StandsEither n k s)) run.as_large
-    (after (run.still honest) s
-    (record { settled = still.settled; slot_is = still.slot_is; more = omega (arith, low, still.count) })))
-
--- reads, and then writes to one gate
-pub undone_closing : {D : Type 0} (d : Ghosts D) {old mid new : D} {slot n : ℕ} {s : Standing} (k : ℕ)
-    → IsUpTo (d.size old) (d.trail old) slot n s → IsConfined d.size d.honest d.trail Nowhere old mid
-    → IsConfined d.size d.honest d.trail (Only (gate slot k)) mid new
-    → IsConfined d.size d.honest d.trail (Only (gate s.slot k)) old new
-undone_closing d {old = old} {new = new} k at run shut =
-    subst (λ n. IsConfined d.size d.honest d.trail (Only (gate n k)) old new) (sym at.slot_is)
-    (confined.joined d.size d.honest d.trail (looked_closing d _ run) shut)
-
-module _ {D : Type 0} (d : Ghosts D) {slot version epoch events : ℕ} {old mid new : D} {live live' : LiveDesktop}
-    {k : ℕ} {undone : List Event} (was : Knows d old slot version epoch events live) (low : k < events)
-    (run : IsConfined d.size d.honest d.trail Nowhere old mid)
-    (shut : IsConfined d.size d.honest d.trail (Only (gate slot k)) mid new)
-    (is_live : IsLive live') (told : HasTrueCache d mid live')
-    (shown : d.honest old → (s : Standing) → IsUpTo (d.size old) (d.trail old) slot events s
-    → IsEarlier (now (d.trail mid)).reads slot k s live' undone)
-    (taken : d.honest mid → (s : Standing) → HasEventAt (d.size mid) (d.trail mid) slot k s
-    → IsSettled (d.size mid) (d.trail new) (cut_to k s)) where
-  before_new : d.honest new → d.honest old
-  before_new honest = run.already (shut.already honest)
-
-  seen_after : d.honest mid → seen_live (now (d.trail new)).reads live' ≡ seen_live (now (d.trail mid)).reads live'
-  seen_after honest = shown_stays (d.trail mid) (d.trail new) live' (shut.moments honest)
-      (apart_gate live' slot k is_live was.0 (omega (arith, was.1, low)))
-
-  settled_after : d.honest old → (s : Standing) → IsUpTo (d.size old) (d.trail old) slot events s
-      → IsSettled (d.size new) (d.trail new) (cut_to k s)
-  settled_after honest s at =
-      let still = still_up_to d at run honest in
-      subst (λ n. IsSettled n (d.trail new) (cut_to k s)) (sym shut.as_large)
-      (taken (run.still honest) s
-      (record { settled = still.settled; slot_is = still.slot_is; more = omega (arith, low, still.count) }))
-
-  pub undone_knows : Knows d new slot version epoch k live'
-  undone_knows = (
-    was.0,
-    omega (arith, was.1, low),
-    omega (arith, was.2, run.as_large, shut.as_large),
-    is_live,
-    live_stays d live' shut (apart_gate live' slot k is_live was.0 (omega (arith, was.1, low))) told,
-    λ honest.
-        let before = before_new honest in
-        let mid_honest = shut.already honest in
-        let s = standing d was before in
-        let at = up_to d was before in
-        let has = shown before s at in
-        let kept = (was.5 before).0 in
-        let head_now = head_kept (d.trail mid) (d.trail new) slot k was.0 (shut.moments mid_honest) in (
-          record {
-            standing = cut_to k s;
-            settled = settled_after before s at;
-            slot = kept.slot;
-            version_is = kept.version_is;
-            epoch = kept.epoch;
-            events = length-take-le k s.events (omega (arith, low, kept.events));
-            is = sym has.shown ∙ sym (seen_after mid_honest);
-          },
-          record {
-            area_is = ap (λ b. (head_of b).area) head_now ∙ has.named.area_is;
-            named = λ not. ap (λ b. full_sectors (head_of b).written) head_now ∙ has.named.named not;
-          },
-        ),
-  )
-
-  -- a standing is its first events, and then the others
-  parted : (s : Standing) → drop k s.events ≡ undone → s ≡ and_all (cut_to k s) undone
-  parted s others = λ i. record {
-    slot = s.slot;
-    version = s.version;
-    epoch = s.epoch;
-    start = s.start;
-    events = (sym (take-append-drop k s.events) ∙ ap (λ l. take k s.events ++ l) others) i;
-  }
-
-  pub back : StandingLaw → length undone ≡ events - k → d.honest old → (s : Standing)
-      → Stands (d.size old) (now (d.trail old)).reads s
-      → (s ≡ and_all (cut_to (length s.events - length undone) s) undone)
-      × Stands (d.size new) (now (d.trail new)).reads (cut_to (length s.events - length undone) s)
-      × (seen_live (now (d.trail new)).reads live' ≡ desktop_of (cut_to (length s.events - length undone) s))
-  back law many honest s stands =
-      let at = up_to_any d was honest law s stands in
-      let has = shown honest s at in
-      let here : k ≡ length s.events - length undone = omega (arith, many, low, at.count) in
-      subst (λ n. (s ≡ and_all (cut_to n s) undone) × Stands (d.size new) (now (d.trail new)).reads (cut_to n s)
-      × (seen_live (now (d.trail new)).reads live' ≡ desktop_of (cut_to n s))) here
-      (parted s has.others, (settled_after honest s at).stands, seen_after (run.still honest) ∙ has.shown)
-
--- ---- no event is taken back
-
--- a standing is itself without the last none
-pub none_taken : (s : Standing) → s ≡ cut_to (length s.events - 0) s
-none_taken s =
-    let all : length s.events - 0 ≡ length s.events = omega arith in
-    λ i. record {
-      slot = s.slot;
-      version = s.version;
-      epoch = s.epoch;
-      start = s.start;
-      events = (sym (take-length s.events) ∙ ap (λ n. take n s.events) (sym all)) i;
-    }
+-- ---- nothing is taken back
 
 pub none_behind_it : (s : Standing) → s ≡ and_all s []
 none_behind_it s = λ i. record {
@@ -212,13 +96,247 @@ none_behind_it s = λ i. record {
   events = sym (append-nil s.events) i;
 }
 
-pub unchanged_back : {D : Type 0} (d : Ghosts D) (store : StoreView D) (s : Standing) → ShowsStanding d store s
-    → store.desktop ≡ desktop_of s → IsWithout d [] s (cut_to (length s.events - 0) s) store
-unchanged_back d store s at shows = subst (λ rest. IsWithout d [] s rest store) (none_taken s) (record {
-  last = none_behind_it s;
-  left = at;
-  desktop = shows;
-})
+-- nothing was written
+pub looked_only : {D : Type 0} (d : Ghosts D) {old new : D} {slot n : ℕ} {s : Standing} (t : Standing)
+    → IsUpTo (d.size old) (d.trail old) slot n s → Touches Nowhere (d.trail old) (d.trail new)
+    → LeavesOnly (d.trail old) (d.trail new) (StandsOneOf (d.size old) s t)
+looked_only d {old = old} {s = s} t at run = spared (StandsOneOf (d.size old) s t) at.settled.quiet run
+    (λ c same. inr (subst (λ x. Stands (d.size old) x s) (sym (λ i n. same n (λ none. none) i)) at.settled.stands))
+
+pub nothing_back : {D : Type 0} (d : Ghosts D) {old new : D} {slot n : ℕ} {s : Standing}
+    → IsUpTo (d.size old) (d.trail old) slot n s → IsConfined d.size d.honest d.trail Nowhere old new → d.honest old
+    → LeavesRest d [] s s old new
+nothing_back d {s = s} at run honest = record {
+  is_rest = within (none_behind_it s);
+  any_moment = looked_only d s at (run.moments honest);
+  gates = confined.widened d.size d.honest d.trail (λ n none. absurd none) run;
+}
+
+-- a store as its callers see it
+abbrev pub viewed : {D : Type 0} → Ghosts D → D → LiveDesktop → ℕ → ℕ → ℕ → Bool → StoreView D
+viewed d disk live version epoch events must_reopen = record {
+  disk = disk;
+  desktop = seen_live (now (d.trail disk)).reads live;
+  kept = live.desktop;
+  layout = version;
+  epoch = epoch;
+  events = events;
+  must_reopen = must_reopen;
+}
+
+-- nothing was written, and the store is as it was
+pub is_left : {D : Type 0} (d : Ghosts D) {old mid : D} (live : LiveDesktop) (version epoch events : ℕ) (must_reopen : Bool)
+    → IsConfined d.size d.honest d.trail Nowhere old mid
+    → IsLeft d (viewed d old live version epoch events must_reopen) (viewed d mid live version epoch events must_reopen)
+is_left d {old = old} {mid = mid} live version epoch events must_reopen run = record {
+  desktop = λ honest. shown_stays (d.trail old) (d.trail mid) live (run.moments honest) (apart_nowhere live.pages);
+  kept = refl;
+  layout = refl;
+  epoch = refl;
+  events = refl;
+  disk = record {
+    device = record { as_large = run.as_large; still = run.still; already = run.already };
+    unwritten = λ honest.
+        let touches = run.moments honest in
+        record {
+          later = touches.later;
+          kept = touches.kept;
+          each = λ t above below c image n quiet. image n (touches.settled t above below n (λ none. none) quiet)
+              ∙ touches.reads t above below n (λ none. none);
+        };
+  };
+}
+
+-- Ok, and none was there
+pub nothing_taken : {D : Type 0} (d : Ghosts D) {slot version epoch events count slot' number left : ℕ} {old mid : D}
+    {live : LiveDesktop} (must_reopen : Bool) (law : StandingLaw) (was : Knows d old slot version epoch events live)
+    → (run : IsConfined d.size d.honest d.trail Nowhere old mid)
+    → IsCountedBack slot epoch events count slot' number left 0 → must_reopen ≡ false
+    → IsLeft d (viewed d old live version epoch events must_reopen) (viewed d mid live version epoch events must_reopen)
+    → IsTakenBack d count [] (viewed d old live version epoch events must_reopen)
+    (viewed d mid live version epoch events must_reopen)
+nothing_taken d {events = events} {count = count} {mid = mid} {live = live} must_reopen law was run counted usable is_left =
+    record {
+      back = λ honest s at. (
+        s,
+        record {
+          leaves = nothing_back d (up_to_any d was honest law s at) run honest;
+          left = (still_up_to d (up_to_any d was honest law s at) run honest).settled.stands;
+          desktop = is_left.desktop honest ∙ sym ((was.5 honest).0).is
+              ∙ ap desktop_of (law _ _ (standing d was honest) s (stands_now d was honest) at);
+        },
+      );
+      durable = λ honest. let knows = read_beside d run was in
+          kept_shows _ _ _ _ _ _ _ (knows.5 honest).0;
+      few = omega arith;
+      as_many = elim (cases_lt events count) [
+        | inl less ↦ elim (counted.other less) [
+          | inl same ↦ inr (sym same.3)
+          | inr other ↦ absurd (omega (arith, other.2))
+        ]
+        | inr room ↦ elim counted.as_many [
+          | inl none ↦ inr (omega (arith, none, (counted.own room).2))
+          | inr all ↦ inl all
+        ]
+      ];
+      own = λ room. (refl, omega arith);
+      other = λ less. elim (counted.other less) [
+        | inl same ↦ inl (refl, sym same.3, same.3)
+        | inr other ↦ absurd (omega (arith, other.2))
+      ];
+      layout = refl;
+      usable = usable;
+      none = λ _. is_left;
+    }
+
+-- ---- events are taken back
+
+-- what the gates are apart from
+apart_gates : (live : LiveDesktop) (slot to k : ℕ) → IsLive live → slot < SLOTS → to < SLOTS → k < JOURNAL_EVENTS
+    → IsApart (InUndo slot to k) live.pages
+apart_gates live slot to k is low low_to room n from to_end here = elim here [
+  | inl a ↦ omega (arith, is.based, from, a, low_to, room)
+  | inr a ↦ omega (arith, is.based, from, a.1, low)
+]
+
+module _ {D : Type 0} (d : Ghosts D) {slot version epoch events : ℕ} {old mid new : D} {live live' : LiveDesktop}
+    {slot' number left count : ℕ} {undone : List Event} (was : Knows d old slot version epoch events live)
+    (law : StandingLaw) (run : IsConfined d.size d.honest d.trail Nowhere old mid)
+    (writes : IsConfined d.size d.honest d.trail (InUndo slot slot' left) mid new)
+    (counted : IsCountedBack slot epoch events count slot' number left (length undone)) (some : 0 < length undone)
+    (shown : d.honest old → (s : Standing) → IsUpTo (d.size old) (d.trail old) slot events s → s.epoch ≡ epoch
+    → IsEarlier (now (d.trail mid)).reads slot' number left s live' undone) where
+  module _ (honest : d.honest old) (s : Standing) (stands : Stands (d.size old) (now (d.trail old)).reads s) where
+    at : IsUpTo (d.size old) (d.trail old) slot events s
+    at = up_to_any d was honest law s stands
+
+    pub earlier : IsEarlier (now (d.trail mid)).reads slot' number left s live' undone
+    earlier = shown honest s at (epoch_any d was honest law s stands)
+
+    goes : GoesBackTo (d.size mid) (d.trail mid) slot slot' left s earlier.rest undone
+    goes =
+        let still = still_up_to d at run honest in
+        record {
+          settled = still.settled;
+          slot_is = still.slot_is;
+          some = some;
+          is_rest = earlier.is_rest;
+          to_is = earlier.slot_is;
+          long = earlier.long;
+        }
+
+    -- whatever the gates hold
+    pub undone_moments : (d.honest mid → (s rest : Standing) (events : List Event)
+        → GoesBackTo (d.size mid) (d.trail mid) slot slot' left s rest events
+        → LeavesOnly (d.trail mid) (d.trail new) (StandsOneOf (d.size mid) s rest))
+        → LeavesRest d undone s earlier.rest old new
+    undone_moments after = record {
+      is_rest = subst (λ c. IsRest c undone s earlier.rest)
+          (still_all (d.trail old) (d.trail mid) (run.moments honest)) earlier.is_rest;
+      any_moment = chained (looked_only d earlier.rest at (run.moments honest))
+          (subst (λ n. LeavesOnly (d.trail mid) (d.trail new) (StandsOneOf n s earlier.rest)) run.as_large
+          (after (run.still honest) s earlier.rest undone goes));
+      gates = subst (λ n. IsConfined d.size d.honest d.trail (InUndo n earlier.rest.slot (length earlier.rest.events)) old new)
+          (sym at.slot_is)
+          (subst (λ n. IsConfined d.size d.honest d.trail (InUndo slot n (length earlier.rest.events)) old new)
+          (sym earlier.slot_is)
+          (subst (λ n. IsConfined d.size d.honest d.trail (InUndo slot slot' n) old new) (sym earlier.long)
+          (confined.joined d.size d.honest d.trail
+          (confined.widened d.size d.honest d.trail (λ n none. absurd none) run) writes)));
+    }
+
+    -- they are closed
+    settled_after : (d.honest mid → (s rest : Standing) (events : List Event)
+        → GoesBackTo (d.size mid) (d.trail mid) slot slot' left s rest events
+        → IsSettled (d.size mid) (d.trail new) rest) → IsSettled (d.size new) (d.trail new) earlier.rest
+    settled_after after = subst (λ n. IsSettled n (d.trail new) earlier.rest) (sym writes.as_large)
+        (after (run.still honest) s earlier.rest undone goes)
+
+  module _ (is_live : IsLive live') (told : HasTrueCache d mid live')
+      (after : d.honest mid → (s rest : Standing) (events : List Event)
+      → GoesBackTo (d.size mid) (d.trail mid) slot slot' left s rest events
+      → IsSettled (d.size mid) (d.trail new) rest) where
+    seen_after : d.honest mid → seen_live (now (d.trail new)).reads live' ≡ seen_live (now (d.trail mid)).reads live'
+    seen_after honest = shown_stays (d.trail mid) (d.trail new) live' (writes.moments honest)
+        (apart_gates live' slot slot' left is_live was.0 counted.two (counted.short some))
+
+    head_after : d.honest mid → (now (d.trail new)).reads (slot_head slot') ≡ (now (d.trail mid)).reads (slot_head slot')
+    head_after honest =
+        let low = counted.two in
+        let room = counted.short some in
+        still_reads (d.trail mid) (d.trail new) (writes.moments honest) (slot_head slot') (λ here. elim here [
+          | inl a ↦ omega (arith, a, low, room)
+          | inr a ↦ omega (arith, a.1, low, was.0)
+        ])
+
+    pub undone_knows : Knows d new slot' version number left live'
+    undone_knows = (
+      counted.two,
+      (let room = counted.short some in omega (arith, room)),
+      omega (arith, was.2, run.as_large, writes.as_large),
+      is_live,
+      live_stays d live' writes (apart_gates live' slot slot' left is_live was.0 counted.two (counted.short some)) told,
+      λ honest.
+          let before = run.already (writes.already honest) in
+          let mid_honest = writes.already honest in
+          let s = standing d was before in
+          let stands = stands_now d was before in
+          let e = earlier before s stands in
+          let kept = (was.5 before).0 in
+          let head_now = head_after mid_honest in (
+            record {
+              standing = e.rest;
+              settled = settled_after before s stands after;
+              slot = e.slot_is;
+              version_is = e.version_is ∙ kept.version_is;
+              epoch = e.epoch_is;
+              events = e.long;
+              is = sym e.shown ∙ sym (seen_after mid_honest);
+            },
+            record {
+              area_is = ap (λ b. (head_of b).area) head_now ∙ e.named.area_is;
+              named = λ not. ap (λ b. full_sectors (head_of b).written) head_now ∙ e.named.named not;
+            },
+          ),
+    )
+
+    shows_rest : (honest : d.honest old) (s : Standing) (stands : Stands (d.size old) (now (d.trail old)).reads s)
+        → Stands (d.size new) (now (d.trail new)).reads (earlier honest s stands).rest
+        × (seen_live (now (d.trail new)).reads live' ≡ desktop_of (earlier honest s stands).rest)
+    shows_rest honest s stands = (
+      (settled_after honest s stands after).stands,
+      seen_after (run.still honest) ∙ (earlier honest s stands).shown,
+    )
+
+    pub some_taken : (must_reopen : Bool) → (d.honest mid → (s rest : Standing) (events : List Event)
+        → GoesBackTo (d.size mid) (d.trail mid) slot slot' left s rest events
+        → LeavesOnly (d.trail mid) (d.trail new) (StandsOneOf (d.size mid) s rest))
+        → IsTakenBack d count undone (viewed d old live version epoch events must_reopen)
+        (viewed d new live' version number left false)
+    some_taken must_reopen moments = record {
+      back = λ honest s at. (
+        (earlier honest s at).rest,
+        record {
+          leaves = undone_moments honest s at moments;
+          left = (shows_rest honest s at).0;
+          desktop = (shows_rest honest s at).1;
+        },
+      );
+      durable = λ honest. kept_shows _ _ _ _ _ _ _ (undone_knows.5 honest).0;
+      few = counted.few;
+      as_many = elim counted.as_many [
+        | inl none ↦ inr none
+        | inr all ↦ inl all
+      ];
+      own = λ room. ((counted.own room).1, (counted.own room).2);
+      other = λ less. elim (counted.other less) [
+        | inl same ↦ inl (same.1, same.2, same.3)
+        | inr other ↦ inr (other.1, other.2)
+      ];
+      layout = refl;
+      usable = refl;
+      none = λ none. absurd (omega (arith, some, ap length none));
+    }
 
 -- reads, and then writes
 pub read_then_same : {D : Type 0} (d : Ghosts D) {old mid new : D} → IsConfined d.size d.honest d.trail Nowhere old mid
@@ -231,8 +349,27 @@ read_then_same d run same = record {
 
 pub read_then_within : {D : Type 0} (d : Ghosts D) {old mid new : D} → IsConfined d.size d.honest d.trail Nowhere old mid
     → StaysWithin d mid new → StaysWithin d old new
-read_then_within d run within = confined.joined d.size d.honest d.trail
-    (confined.widened d.size d.honest d.trail (λ n none. absurd none) run) within
+read_then_within d run inside = confined.joined d.size d.honest d.trail
+    (confined.widened d.size d.honest d.trail (λ n none. absurd none) run) inside
+
+-- reads, and then gates
+pub gates_same : {D : Type 0} (d : Ghosts D) {old mid new : D} {area : ℕ → Type 0}
+    → IsConfined d.size d.honest d.trail Nowhere old mid → IsConfined d.size d.honest d.trail area mid new
+    → IsSameDevice d old new
+gates_same d run writes = read_then_same d run (record {
+  as_large = writes.as_large;
+  still = writes.still;
+  already = writes.already;
+})
+
+pub gates_within : {D : Type 0} (d : Ghosts D) {old mid new : D} {slot to k : ℕ} → slot < SLOTS → to < SLOTS
+    → k < JOURNAL_EVENTS → IsConfined d.size d.honest d.trail Nowhere old mid
+    → IsConfined d.size d.honest d.trail (InUndo slot to k) mid new → StaysWithin d old new
+gates_within d low low_to room run writes = read_then_within d run (confined.widened d.size d.honest d.trail
+    (λ n here. elim here [
+      | inl a ↦ omega (arith, a, low_to, room)
+      | inr a ↦ omega (arith, a.1, low)
+    ]) writes)
 
 -- a checkpoint first, and then the event
 pub added_behind : {D : Type 0} (d : Ghosts D) (event : Event) (old mid new : StoreView D) → IsRenewed d old mid

@@ -1,13 +1,14 @@
 -- What taking the last events back promises, outcome by outcome. `d` is what is known of a disk.
-use Rattle.std.specs.Prelude.{◌≡◌, ◌⊎◌, ◌+◌, ◌-◌, ℕ, List, [], length, false}
+use Rattle.std.specs.Prelude.{◌≡◌, ◌⊎◌, ◌+◌, ◌<◌, ◌≤◌, ℕ, List, [], length, false}
 use Rattle.sector_disk.specs.declared.disk.Disk.{Ghosts}
 use Rattle.sector_disk.specs.Confined.{IsConfined}
-use Rattle.sector_disk.specs.Trail.{now, LeavesOnly, Only}
+use Rattle.sector_disk.specs.Trail.{now, LeavesOnly}
 use Rattle.event_bytes.specs.declared.event.Event.{Event}
+use Rattle.desktop_definitions.specs.Step.{steps}
 use Rattle.store_layout.specs.declared.layout.TheConstants.{LAYOUT}
-use Rattle.store_layout.specs.Layout.{gate}
-use Rattle.store_layout.specs.Meaning.{Standing, Stands, StandsEither, desktop_of, and_all, and_then, cut_to}
+use Rattle.store_layout.specs.Meaning.{Standing, Stands, desktop_of, and_all, and_then}
 use Rattle.desk_slots.specs.declared.error.Error.{Error}
+use Rattle.desk_slots.specs.Beside.{InUndo, IsRest, StandsOneOf}
 use Rattle.desk_slots.specs.Device.{IsOnlyRead}
 use Rattle.desk_slots.specs.Errors.{OfLook, OfOpen}
 use Rattle.desk_journal.specs.Posting.{HasJournalRoom}
@@ -25,46 +26,38 @@ module _ {D : Type 0} (d : Ghosts D) where
   -- Ok of a post: where the event stands on the disk
   pub record IsAdded (event : Event) (old new : StoreView D) : Type 0 where
     -- behind events that lead to the desktop from before it
-    pub behind : d.honest old.disk → (s : Standing) × ShowsStanding new (and_then s event) × (desktop_of s ≡ old.desktop)
+    pub behind : d.honest old.disk → (s : Standing) × ShowsStanding new (and_then s event)
+        × (desktop_of s ≡ old.desktop)
     -- and, where no checkpoint was due, behind all that the disk showed
-    pub more : d.honest old.disk → HasJournalRoom old → (s : Standing) → ShowsStanding old s → ShowsStanding new (and_then s event)
+    pub more : d.honest old.disk → HasJournalRoom old → (s : Standing) → ShowsStanding old s
+        → ShowsStanding new (and_then s event)
 
-  -- how many events are left where so many are taken back, or all, if there are fewer
-  abbrev pub events_left : ℕ → StoreView D → ℕ
-  events_left count store = store.events - count
+  -- From the one state of the disk to the other a crash leaves what the disk showed, or the rest of it, where these events are taken
+  -- back. No sector is touched but the gate of the first of them, and, where that stands in the slot beside the one in use,
+  -- the gate of the slot in use.
+  pub record LeavesRest (events : List Event) (s rest : Standing) (old new : D) : Type 0 where
+    pub is_rest : IsRest (now (d.trail old)).reads events s rest
+    pub any_moment : LeavesOnly (d.trail old) (d.trail new) (StandsOneOf (d.size old) s rest)
+    pub gates : IsConfined d.size d.honest d.trail (InUndo s.slot rest.slot
+        (length rest.events)) old new
 
-  -- at every moment of the call a crash leaves what the disk showed before it, or the same without the last events
+  -- At every moment of the call a crash leaves what the disk showed before it, or the rest of it without its last events, at
+  -- most so many. Nothing else on the disk changes but two gates at most.
   abbrev pub LeavesUndone : ℕ → StoreView D → StoreView D → Type 0
-  LeavesUndone count old new = old.must_reopen ≡ false → d.honest old.disk → (s : Standing) → ShowsStanding old s
-      → LeavesOnly (d.trail old.disk) (d.trail new.disk) (StandsEither (d.size old.disk) (events_left count old) s)
+  LeavesUndone count old new = old.must_reopen ≡ false → d.honest old.disk → (s : Standing)
+      → ShowsStanding old s
+      → (events : List Event) × (rest : Standing) × (length events ≤ count)
+      × LeavesRest events s rest old.disk new.disk
 
-  -- nothing on the disk changes but one gate, that of the first event that is taken back
-  abbrev pub ClosesOneGate : ℕ → StoreView D → StoreView D → Type 0
-  ClosesOneGate count old new = old.must_reopen ≡ false → d.honest old.disk → (s : Standing) → ShowsStanding old s
-      → IsConfined d.size d.honest d.trail (Only (gate s.slot (events_left count old))) old.disk new.disk
-
-  -- The disk showed this, and the events were the last of it. Now the disk shows the rest of it, and the store the
-  -- desktop of that.
-  pub record IsWithout (events : List Event) (s rest : Standing) (new : StoreView D) : Type 0 where
-    pub last : s ≡ and_all rest events
+  -- The disk showed this, and these events were the last that led there. Now the disk shows the rest of it, and the store
+  -- the desktop of that.
+  pub record IsWithout (events : List Event) (s rest : Standing) (old new : StoreView D)
+      : Type 0 where
+    pub leaves : LeavesRest events s rest old.disk new.disk
     pub left : ShowsStanding new rest
     pub desktop : new.desktop ≡ desktop_of rest
 
-  -- Ok: these events were the last, and are taken back
-  pub record IsTakenBack (count : ℕ) (events : List Event) (old new : StoreView D) : Type 0 where
-    pub back : d.honest old.disk → (s : Standing) → ShowsStanding old s
-        → IsWithout events s (cut_to (length s.events - length events) s) new
-    -- from now on a crash leaves the rest
-    pub durable : IsDurable d new
-    pub fewer : new.events ≡ events_left count old
-    pub as_many : new.events + length events ≡ old.events
-    pub epoch : new.epoch ≡ old.epoch
-    pub layout : new.layout ≡ old.layout
-    pub usable : new.must_reopen ≡ false
-    -- where there was none nothing changes
-    pub none : events ≡ [] → new ≡ old
-
-  -- An error before anything was written: the store is in use, and shows what it showed.
+  -- Nothing was written: the store is in use, and shows what it showed.
   pub record IsLeft (old new : StoreView D) : Type 0 where
     pub desktop : d.honest old.disk → new.desktop ≡ old.desktop
     pub kept : new.kept ≡ old.kept
@@ -73,13 +66,42 @@ module _ {D : Type 0} (d : Ghosts D) where
     pub events : new.events ≡ old.events
     pub disk : IsOnlyRead d old.disk new.disk
 
+  -- Ok: these events were the last, and are taken back
+  pub record IsTakenBack (count : ℕ) (events : List Event) (old new : StoreView D) : Type 0 where
+    pub back : d.honest old.disk → (s : Standing) → ShowsStanding old s → (rest : Standing)
+        × IsWithout events s rest old new
+    -- from now on a crash leaves the rest
+    pub durable : IsDurable d new
+    -- as many as were asked for, or fewer, where no more are left in the journal in use
+    pub few : length events ≤ count
+    pub as_many : (length events ≡ count) ⊎ (new.events ≡ 0)
+    -- those of the journal in use, and then those of the one before
+    pub own : count ≤ old.events → (new.epoch ≡ old.epoch)
+        × (new.events + length events ≡ old.events)
+    pub other : old.events < count → (new.epoch ≡ old.epoch) × (new.events ≡ 0)
+        × (length events ≡ old.events)
+        ⊎ (new.epoch + 1 ≡ old.epoch) × (old.events < length events)
+    pub layout : new.layout ≡ old.layout
+    pub usable : new.must_reopen ≡ false
+    -- where there was none nothing is written
+    pub none : events ≡ [] → IsLeft old new
+
 -- ---- posts, and then undos
 
 -- From the one store to the other these events came, and stand behind what the disk showed.
-pub record IsBehind {D : Type 0} (d : Ghosts D) (events : List Event) (old new : StoreView D) : Type 0 where
+pub record IsBehind {D : Type 0} (d : Ghosts D) (events : List Event) (old new : StoreView D)
+    : Type 0 where
   pub still : d.honest old.disk → d.honest new.disk
   pub layout : new.layout ≡ LAYOUT
   pub count : new.events ≡ old.events + length events
   pub versions : d.honest old.disk → (s : Standing) → ShowsStanding d old s → s.version ≡ LAYOUT
-  pub at : d.honest old.disk → (s : Standing) → ShowsStanding d old s → ShowsStanding d new (and_all s events)
-  pub desktop : d.honest old.disk → (s : Standing) → ShowsStanding d old s → new.desktop ≡ desktop_of (and_all s events)
+  pub at : d.honest old.disk → (s : Standing) → ShowsStanding d old s
+      → ShowsStanding d new (and_all s events)
+  pub desktop : d.honest old.disk → (s : Standing) → ShowsStanding d old s
+      → new.desktop ≡ desktop_of (and_all s events)
+
+-- from the one store to the other these events were posted
+pub record IsLedOn {D : Type 0} (d : Ghosts D) (events : List Event) (old new : StoreView D)
+    : Type 0 where
+  pub still : d.honest old.disk → d.honest new.disk
+  pub desktop : d.honest old.disk → new.desktop ≡ steps old.desktop events

@@ -17,7 +17,8 @@ ghost use Rattle.desk_journal.specs.Posting.{LeavesEither, IsAcknowledged, IsSta
 ghost use Rattle.desk_journal.specs.Posting.{Behaves, HasJournalRoom, AnswersMustReopen, IsDueBefore, RecordsDone, TurnsAway};
 ghost use Rattle.desk_journal.specs.Migrating.{ChecksFirst};
 ghost use Rattle.command_table.specs.Versions.{version_number};
-ghost use Rattle.desk_journal.specs.Undoing.{ClosesOneGate, IsAdded, ShowsStanding, IsLeft, IsTakenBack, LeavesUndone, OfUndo};
+ghost use Rattle.desk_slots.specs.Beside.{IsHistory};
+ghost use Rattle.desk_journal.specs.Undoing.{IsAdded, ShowsStanding, IsLeft, IsTakenBack, LeavesUndone, OfUndo};
 ghost use Rattle.desk_journal.specs.View.{IsDurable};
 ghost use Rattle.desk_slots.specs.Words.{Leaves, Nowhere, now, IsConfined, FailsAs, entries_of};
 ghost use Rattle.desk_slots.specs.Words.{ListsUnread, shown_screen};
@@ -26,8 +27,8 @@ mod bringing;
 
 use command_table::{NEWEST, Version};
 use desk_slots::{
-    Earlier, Error, LiveDesktop, SlotPlace, lay_out, load, load_earlier, read_events, record,
-    renew, take_back,
+    Earlier, Error, LiveDesktop, SlotPlace, lay_out, load, load_earlier, read_history, record,
+    renew, undo_to,
 };
 use desktop_definitions::{Entry, Reply};
 use event_bytes::{Event, Name};
@@ -106,7 +107,8 @@ impl<D: Disk> Store<D> {
         ensures small { IsErrOf (result_of result) Error.TooSmall ↔ (D.size disk < STORE_SECTORS) }
         ensures untouched { IfErr result (λ e. e.0 ≡ Error.TooSmall → e.1 ≡ disk) }
         ensures within { StaysWithin D.Disk disk (disk_after (λ new. new) result) }
-        ensures faults { FailsAs Error.Fault OfFormat (result_of result) (D.failures disk) (D.failures (disk_after
+        ensures faults { FailsAs Error.Fault OfFormat (result_of result) (D.failures disk)
+            (D.failures (disk_after
             (λ new. new) result)) }
     {
         Store::format_as(disk, NEWEST)
@@ -118,11 +120,13 @@ impl<D: Disk> Store<D> {
     /// `Fault`, after which it may be no store.
     pub fn format_as(disk: D, version: Version) -> Result<D, (Error, D)>
         ensures empty { IfOk result (λ new. D.honest disk
-            → Leaves (now (D.trail new)) (Shows (D.size new) (version_number version) 1 0 empty_desktop)) }
+            → Leaves (now (D.trail new)) (Shows (D.size new)
+            (version_number version) 1 0 empty_desktop)) }
         ensures small { IsErrOf (result_of result) Error.TooSmall ↔ (D.size disk < STORE_SECTORS) }
         ensures untouched { IfErr result (λ e. e.0 ≡ Error.TooSmall → e.1 ≡ disk) }
         ensures within { StaysWithin D.Disk disk (disk_after (λ new. new) result) }
-        ensures faults { FailsAs Error.Fault OfFormat (result_of result) (D.failures disk) (D.failures (disk_after
+        ensures faults { FailsAs Error.Fault OfFormat (result_of result) (D.failures disk)
+            (D.failures (disk_after
             (λ new. new) result)) }
     {
         let mut disk = disk;
@@ -149,8 +153,10 @@ impl<D: Disk> Store<D> {
         ensures ok { IfOk result (λ store. IsOpened D.Disk disk store) }
         ensures no_store { IfErr result (λ e. IsNoStore D.Disk disk e.0) }
         ensures any_moment { IsOnlyRead D.Disk disk (disk_after (λ store. store.disk) result) }
-        ensures untouched { IsConfined D.size D.honest D.trail Nowhere disk (disk_after (λ store. store.disk) result) }
-        ensures faults { FailsAs Error.Fault OfOpen (result_of result) (D.failures disk) (D.failures (disk_after
+        ensures untouched { IsConfined D.size D.honest D.trail Nowhere disk (disk_after (λ store.
+            store.disk) result) }
+        ensures faults { FailsAs Error.Fault OfOpen (result_of result) (D.failures disk)
+            (D.failures (disk_after
             (λ store. store.disk) result)) }
     {
         let mut disk = disk;
@@ -180,7 +186,8 @@ impl<D: Disk> Store<D> {
         ensures ok { IfOk result (λ reply. IsAcknowledged D.Disk event.now reply self.old self.new) }
         ensures memory { IsErrOf result Error.NoMemory → IsStarved D.Disk self.old self.new }
         ensures fault { IsErrOf result Error.Fault → IsBroken self.new }
-        ensures recorded { IsErrOf result Error.Fault → RecordsDone D.Disk event.now self.old self.new }
+        ensures recorded { IsErrOf result Error.Fault
+            → RecordsDone D.Disk event.now self.old self.new }
         ensures worn { AnswersWorn result self.old self.new }
         ensures behaves { Behaves D.Disk OfPost result self.old self.new }
         ensures first { self.old.must_reopen ≡ false → IsDueBefore self.old
@@ -208,7 +215,8 @@ impl<D: Disk> Store<D> {
         ensures ok { IfOk result (λ reply. IsAcknowledged D.Disk event.now reply self.old self.new) }
         ensures memory { IsErrOf result Error.NoMemory → IsStarved D.Disk self.old self.new }
         ensures fault { IsErrOf result Error.Fault → IsBroken self.new }
-        ensures recorded { IsErrOf result Error.Fault → RecordsDone D.Disk event.now self.old self.new }
+        ensures recorded { IsErrOf result Error.Fault
+            → RecordsDone D.Disk event.now self.old self.new }
         ensures behaves { Behaves D.Disk OfLook result self.old self.new }
         ensures added { OnOk result (IsAdded D.Disk event.now self.old self.new) }
     {
@@ -230,20 +238,22 @@ impl<D: Disk> Store<D> {
         Ok(reply)
     }
 
-    /// Takes the last events back, so many, or all that are in the journal, if there are fewer: the disk shows the events
-    /// before them, and the store their desktop, which is read from the disk beside the one in memory before anything is
-    /// written. It writes one gate, so that a crash leaves either desktop, and hands back the events in their order.
+    /// Takes the last events back, so many, or all, if there are fewer: those of the journal, and before them those of the
+    /// journal before, if the slot in use starts from the desktop to which they led. The disk shows what there was without
+    /// them, and so does the store: its desktop is read from the disk beside the one in memory before anything is written.
+    /// It writes one gate, or two, and a crash leaves either desktop. It hands back the events in their order.
     ///
     /// Errors: `MustReopen` after an earlier `NoMemory` or `Fault` of a call that writes; `NoMemory`, and the store
     /// is in use and shows what it showed; `Fault`, and the same holds, unless it came in the write, after which the
     /// store must be opened again. Over a disk that isn't honest, those of `open` too.
     pub fn undo(&mut self, alloc: Global, count: u32) -> Result<Vec<Event>, Error>
         ensures any_moment { LeavesUndone D.Disk count self.old self.new }
-        ensures one_gate { ClosesOneGate D.Disk count self.old self.new }
-        ensures ok { IfOk result (λ events. IsTakenBack D.Disk count events.items self.old self.new) }
+        ensures ok { IfOk result (λ events. IsTakenBack D.Disk count events.items self.old
+            self.new) }
         ensures left { IsErr result → self.old.must_reopen ≡ false → self.new.must_reopen ≡ false
             → IsLeft D.Disk self.old self.new }
-        ensures in_use { IfErr result (λ e. e ≢ Error.Fault → e ≢ Error.MustReopen → self.new.must_reopen ≡ false) }
+        ensures in_use { IfErr result (λ e. e ≢ Error.Fault → e ≢ Error.MustReopen
+            → self.new.must_reopen ≡ false) }
         ensures stops { D.honest self.old.disk → IfErr result OfLook }
         ensures behaves { Behaves D.Disk OfUndo result self.old self.new }
     {
@@ -251,38 +261,54 @@ impl<D: Disk> Store<D> {
         if self.must_reopen {
             return Err(Error::MustReopen);
         }
-        let end = self.events;
-        let left = end.saturating_sub(count);
-        if left == end {
-            return Ok(Vec::new(alloc));
+        let earlier = load_earlier(
+            alloc,
+            &mut self.disk,
+            self.slot,
+            self.epoch,
+            self.events,
+            count,
+        )?;
+        let Earlier {
+            desktop,
+            slot,
+            epoch,
+            left,
+            events,
+        } = earlier;
+        if events.is_empty() {
+            return Ok(events);
         }
-        let earlier = load_earlier(alloc, &mut self.disk, self.slot, left, end)?;
-        let Earlier { desktop, events } = earlier;
         self.must_reopen = true;
-        take_back(&mut self.disk, self.slot, left)?;
+        undo_to(&mut self.disk, self.slot, slot, left)?;
         self.desktop = desktop;
+        self.slot = slot;
+        self.epoch = epoch;
         self.events = left;
         self.must_reopen = false;
         Ok(events)
     }
 
-    /// The events that can be taken back: those of the journal, in their order.
+    /// The events that can be taken back, in their order: those of the journal, and before them those of the journal
+    /// before, if the slot in use starts from the desktop to which they led.
     ///
     /// Errors: `MustReopen`; `NoMemory`; `Fault`. Over a disk that isn't honest, `Damaged` too.
     pub fn history(&mut self, alloc: Global) -> Result<Vec<Event>, Error>
-        ensures events { IfOk result (λ events. D.honest self.old.disk → (s : Standing) → ShowsStanding D.Disk self.old s
-            → s.events ≡ events.items) }
+        ensures events { IfOk result (λ events. D.honest self.old.disk → (s : Standing)
+            → ShowsStanding D.Disk self.old s
+            → IsHistory (now (D.trail self.old.disk)).reads s events.items) }
         ensures looks { IsLeft D.Disk self.old self.new }
         ensures usable { self.new.must_reopen ≡ self.old.must_reopen }
         ensures reopen { AnswersMustReopen result self.old self.new }
         ensures stops { D.honest self.old.disk → IfErr result OfLook }
-        ensures faults { FailsAs Error.Fault OfUndo result (D.failures self.old.disk) (D.failures self.new.disk) }
+        ensures faults { FailsAs Error.Fault OfUndo result (D.failures self.old.disk)
+            (D.failures self.new.disk) }
     {
         standing_law();
         if self.must_reopen {
             return Err(Error::MustReopen);
         }
-        read_events(alloc, &mut self.disk, self.slot, 0, self.events)
+        read_history(alloc, &mut self.disk, self.slot, self.epoch, self.events)
     }
 
     /// Puts the desktop whole into the slot that isn't in use, in the newest version, and makes that the slot in use,
@@ -324,7 +350,8 @@ impl<D: Disk> Store<D> {
     /// Errors: `MustReopen`; `NoMemory`, only where there is such a file; `Fault`.
     pub fn file(&mut self, alloc: Global, name: &Name) -> Result<Option<Vec<(u8, Look)>>, Error>
         ensures found { IfOk result (λ file. D.honest self.old.disk
-            → option_map (λ characters. characters.items) file ≡ file_of self.old.desktop name.now) }
+            → option_map (λ characters. characters.items) file
+            ≡ file_of self.old.desktop name.now) }
         ensures memory { IsErrOf result Error.NoMemory → D.honest self.old.disk
             → ¬ (file_of self.old.desktop name.now ≡ None) }
         ensures looks { OnlyLooks D.Disk result self.old self.new }
@@ -354,7 +381,8 @@ impl<D: Disk> Store<D> {
     ///
     /// Errors: `MustReopen`; `NoMemory`; `Fault`.
     pub fn screen(&mut self, alloc: Global, screen: &mut Screen) -> Result<(), Error>
-        ensures shown { OnOk result (D.honest self.old.disk → screen.new ≡ shown_screen self.old.desktop) }
+        ensures shown { OnOk result (D.honest self.old.disk
+            → screen.new ≡ shown_screen self.old.desktop) }
         ensures looks { OnlyLooks D.Disk result self.old self.new }
     {
         if self.must_reopen {

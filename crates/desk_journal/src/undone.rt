@@ -2,7 +2,7 @@
 ghost use Rattle.std.specs.Prelude.{◌≡◌, ◌+◌, ◌-◌, ◌≤◌, ◌∷◌, [], false, length, take, IfOk, OnOk};
 ghost use Rattle.desktop_definitions.specs.Step.{steps};
 ghost use Rattle.store_layout.specs.declared.layout.TheConstants.{JOURNAL_EVENTS, LAYOUT};
-ghost use Rattle.desk_journal.specs.Undoing.{IsBehind};
+ghost use Rattle.desk_journal.specs.Undoing.{IsBehind, IsLedOn};
 ghost use Rattle.desk_journal.specs.View.{IsDurable};
 
 use crate::store::Store;
@@ -21,7 +21,8 @@ pub fn post_and_undo<D: Disk>(
     alloc: Global,
     event: &Event,
 ) -> Result<Vec<Event>, Error>
-    ensures { IfOk result (λ undone. D.honest store.old.disk → (store.new.desktop ≡ store.old.desktop)
+    ensures { IfOk result (λ undone. D.honest store.old.disk
+        → (store.new.desktop ≡ store.old.desktop)
         × (undone.items ≡ event.now ∷ [])) }
 {
     let _ = store.post(alloc, event)?;
@@ -69,6 +70,18 @@ pub fn post_and_undo_some<D: Disk>(
     Ok(())
 }
 
+/// Posts the events, one after another.
+///
+/// Errors: those of `post`.
+fn post_all<D: Disk>(store: &mut Store<D>, alloc: Global, events: &[Event]) -> Result<(), Error>
+    ensures led { OnOk result (IsLedOn D.Disk events.now store.old store.new) }
+{
+    for event in events {
+        let _ = store.post(alloc, event)?;
+    }
+    Ok(())
+}
+
 /// Takes the last events back, so many, and posts them again: the store shows what it showed. The slot in use has the
 /// newest version, by which the events are stepped again.
 ///
@@ -81,5 +94,5 @@ pub fn undo_and_redo<D: Disk>(store: &mut Store<D>, alloc: Global, count: u32) -
     // What the store shows is what a crash would leave now, and its journal has no more events than there may be.
     let _ = store.info();
     let undone = store.undo(alloc, count)?;
-    post_each(store, alloc, undone.as_slice())
+    post_all(store, alloc, undone.as_slice())
 }

@@ -10,11 +10,11 @@ use Rattle.sector_disk.specs.Faults.{FailsAs}
 use Rattle.sector_disk.specs.Trail.{now, LeavesOnly}
 use Rattle.sector_disk.proofs.Touching.{read_is_an_image, weakened}
 use Rattle.event_bytes.specs.declared.event.Event.{Event}
-use Rattle.store_layout.specs.Meaning.{MeansEither, cut_to, desktop_of}
+use Rattle.store_layout.specs.Meaning.{MeansEither}
 use Rattle.desk_journal.specs.Device.{IsSameDevice}
 use Rattle.desk_journal.specs.Errors.{Error, NoMemory, Fault, MustReopen, OfLook}
 use Rattle.desk_journal.specs.Posting.{AnswersMustReopen}
-use Rattle.desk_journal.specs.Undoing.{IsTakenBack, LeavesUndone, OfUndo, events_left}
+use Rattle.desk_journal.specs.Undoing.{IsTakenBack, LeavesUndone, OfUndo}
 use Rattle.desk_journal.specs.View.{StoreView, IsDurable}
 use Rattle.desk_journal.proofs.Passing.{at_start, shows_means}
 use Rattle.desk_sitting.specs.declared.saying.Saying.TheVariants.{NothingAgain}
@@ -52,13 +52,10 @@ module _ {D : Type 0} (d : Ghosts D) where
       → LeavesOnly (d.trail old.disk) (d.trail new.disk) (MeansEither (d.size old.disk) old.desktop new.desktop)
   undone_either count events old new taken moments usable honest durable =
       let shows = durable honest (now (d.trail old.disk)).reads (read_is_an_image (now (d.trail old.disk))) in
-      let s = shows.standing in
-      let w = taken.back honest s shows.stands in
-      let here : events_left d count old ≡ length s.events - length events =
-      omega (arith, shows.events, taken.as_many, taken.fewer) in
-      weakened (moments usable honest s shows.stands) (λ c either. elim either [
-        | inl cut ↦ inr (cut_to (events_left d count old) s, cut, ap (λ n. desktop_of (cut_to n s)) here ∙ sym w.desktop)
-        | inr all ↦ inl (s, all, shows.is)
+      let w = taken.back honest shows.standing shows.stands in
+      weakened w.1.leaves.any_moment (λ c either. elim either [
+        | inl rest ↦ inr (w.0, rest, sym w.1.desktop)
+        | inr all ↦ inl (shows.standing, all, shows.is)
       ])
 
   -- nothing was written

@@ -1,24 +1,19 @@
 -- What a closed gate of the slot in use makes of a settled disk.
-use Rattle.std.proofs.Common.{◌≡◌, ◌≢◌, ◌⊎◌, inl, inr, ℕ, ◌+◌, ◌<◌, ◌≤◌, length, refl, sym, ◌∙◌, ap, subst, arith, true, false}
-use Rattle.sector_disk.specs.Trail.{Content, Trail, now, LeavesOnly, Touches, Nowhere}
-use Rattle.sector_disk.proofs.Touching.{spared, still_reads, still_all, stays_put}
-use Rattle.store_layout.specs.declared.layout.TheConstants.{AREA, IMAGE_SECTORS, JOURNAL_EVENTS, LABEL}
+use Rattle.std.proofs.Common.{◌≡◌, ◌≢◌, ◌⊎◌, inl, inr, ℕ, ◌+◌, ◌-◌, ◌<◌, ◌≤◌, List, ◌∷◌, ◌++◌, length, take, refl, sym, ◌∙◌, ap, subst, arith, length-append, true, false}
+use Rattle.sector_disk.specs.Trail.{Content, Trail, now, LeavesOnly, Only, Touches}
+use Rattle.sector_disk.proofs.Touching.{spared, still_reads}
+use Rattle.store_layout.specs.declared.layout.TheConstants.{AREA, IMAGE_SECTORS, JOURNAL_EVENTS, LABEL, SLOTS}
 use Rattle.store_layout.proofs.Bits.{true_or_false, clash}
 use Rattle.store_layout.specs.Layout.{is_label, is_open, slot_gate, slot_head, gate, body, image_at, area_at, head}
 use Rattle.store_layout.specs.Layout.{head_of, IsGoodHead}
-use Rattle.store_layout.specs.Meaning.{IsJournal, HasImage, Standing, Stands, full_sectors}
+use Rattle.store_layout.specs.Meaning.{Standing, Stands, and_all, cut_to, full_sectors}
 use Rattle.store_layout.specs.Kept.{InCheckpoint, IsSettled, OpenGate, SparesArea}
 use Rattle.store_layout.proofs.StandingLaws.{area_apart, standing_carried, image_stays, journal_short, journal_stays, older_stays}
-use Rattle.store_layout.specs.declared.head.Head.{Head}
-use Rattle.desktop_definitions.specs.Desktop.{Desktop}
-use Rattle.desktop_definitions.specs.Step.{steps_in}
-use Rattle.char_pages.specs.Pages.{saved_sectors, renewed_of}
-use Rattle.desk_slots.specs.declared.live.LiveDesktop.{LiveDesktop}
-use Rattle.desk_slots.specs.Live.{seen_live}
-use Rattle.desk_slots.specs.Load.{IsReadWhole}
-use Rattle.desk_slots.proofs.Loading.{named_after}
-use Rattle.desk_slots.specs.Beside.{StandsOver, StandsBeside, StandsOneOf, IsLoadedBeside, IsBesideRead}
-use Rattle.desk_slots.specs.Written.{HasGate}
+use Rattle.desk_slots.specs.Beside.{GoesBackTo, IsRest, StandsOver, StandsBeside, StandsOneOf, across, within}
+use Rattle.desk_slots.proofs.TakingBack.{journal_cut}
+use Rattle.event_bytes.specs.declared.event.Event.{Event}
+use Rattle.std.proofs.Math.Seq.{take-append_seam}
+use Rattle.desk_slots.specs.Written.{HasEventAt, HasGate}
 
 module _ {size : ℕ} (c c' : Content) (s t : Standing) (was : Stands size c s) (beside : StandsBeside c s.slot t)
     (same : (n : ℕ) → n ≢ slot_gate s.slot → c' n ≡ c n) where
@@ -82,57 +77,123 @@ module _ {size : ℕ} {old new : Trail} {slot : ℕ} {s t : Standing} (at : Stan
         (subst (λ n. is_open ((now new).reads (slot_gate n)) ≡ false) (sym at.slot_is) has.is);
   }
 
--- ---- what is read of a slot
+-- ---- a gate of the journal beside
 
-pub loaded_of : {old late last : Trail} {slot version count : ℕ} {h : Head} {start : Desktop} (live : LiveDesktop)
-    → head (now old).reads slot ≡ h → Touches Nowhere old late → Touches Nowhere late last
-    → HasImage (now old).reads slot start
-    → IsReadWhole (now late).reads slot version count start (seen_live (now last).reads live)
-    → live.area ≡ h.area → (renewed_of live.pages ≡ false → saved_sectors live.pages ≡ full_sectors h.written)
-    → h.version ≡ version
-    → IsLoadedBeside (now old).reads slot h.version count (now last).reads live
-loaded_of {old = old} {late = late} {last = last} {slot = slot} {version = version} {h = h} {start = start} live is loads
-    replays image whole area counted by_head = record {
-      start = start;
-      events = whole.events;
-      image = image;
-      journal = subst (λ c. IsJournal c slot 0 whole.events) (still_all old late loads) whole.journal;
-      long = whole.long;
-      is = whole.is ∙ ap (λ v. steps_in v start whole.events) (sym by_head);
-      named = named_after slot live is (stays_put Nowhere old) loads replays area counted;
-    }
+module _ {size : ℕ} (c c' : Content) (slot k : ℕ) (s t : Standing) (slot_is : s.slot ≡ slot) (was : Stands size c s)
+    (beside : StandsBeside c slot t) (more : k < length t.events) (same : (n : ℕ) → n ≢ gate t.slot k → c' n ≡ c n) where
+  k_room : k < JOURNAL_EVENTS
+  k_room = let few = journal_short t.events c t.slot 0 (omega arith) beside.journal in omega (arith, few, more)
 
-pub beside_read : {old mid : Trail} (last : Trail) {slot other number count : ℕ} {h : Head} {live : LiveDesktop}
-    → slot + other ≡ 1 → (is_open ((now old).reads (slot_gate other)) ≡ true) × (head (now old).reads other ≡ h)
-    → IsGoodHead h → h.epoch + 1 ≡ number → Touches Nowhere old mid
-    → (head (now mid).reads other ≡ h → IsLoadedBeside (now mid).reads other h.version count (now last).reads live)
-    → IsBesideRead (now old).reads slot number count (now last).reads live
-beside_read {old = old} {mid = mid} last {slot = slot} {other = other} {number = number} {count = count} {h = h}
-    {live = live} two opened good epoch first loads =
-    let has = subst (λ c. head c other ≡ h → IsLoadedBeside c other h.version count (now last).reads live)
-    (still_all old mid first) loads opened.1 in
-    record {
-      standing = record {
-        slot = other;
-        version = h.version;
-        epoch = h.epoch;
-        start = has.start;
-        events = has.events;
-      };
-      beside = record {
-        two = two;
-        live = opened.0;
-        good = subst IsGoodHead (sym opened.1) good;
-        version = ap (λ x. x.version) opened.1;
-        epoch = ap (λ x. x.epoch) opened.1;
-        image = has.image;
-        journal = has.journal;
-      };
-      epoch = epoch;
-      long = has.long;
-      is = has.is;
-      named = has.named;
-    }
+  two : t.slot < SLOTS
+  two = omega (arith, beside.two)
+
+  -- the slot in use shows what it showed
+  stands_aside : Stands size c' s
+  stands_aside = standing_carried c c' s was (same LABEL (omega (arith, k_room, two)))
+      (ap is_open (same (slot_gate s.slot) (omega (arith, was.two, k_room, two))) ∙ was.live)
+      (same (slot_head s.slot) (omega (arith, was.two, k_room, two)))
+      (λ idle is opened.
+      let before = sym (ap is_open (same (slot_gate idle) (omega (arith, is, k_room, two)))) ∙ opened in
+      older_stays c c' s.epoch idle (same (slot_head idle) (omega (arith, is, k_room, two))) (was.other idle is before))
+      (λ i within. same (image_at s.slot + i) (omega (arith, was.two, k_room, two)))
+      (λ i within. same (area_at (head c s.slot).area i) (omega (arith, was.two, k_room, two)))
+      (journal_stays s.events c c' s.slot 0 (length s.events) (omega arith)
+      (λ i low high room. same (gate s.slot i) (omega (arith, slot_is, beside.two, k_room, room)))
+      (λ i low high. same (body s.slot i) (omega arith))
+      was.journal)
+
+  head_aside : c' (slot_head t.slot) ≡ c (slot_head t.slot)
+  head_aside = same (slot_head t.slot) (omega (arith, two, k_room))
+
+  -- and where the gate is closed, the slot beside it its first events
+  cut_aside : is_open (c' (gate t.slot k)) ≡ false → StandsBeside c' slot (cut_to k t)
+  cut_aside off = record {
+    two = beside.two;
+    live = ap is_open (same (slot_gate t.slot) (omega (arith, two, k_room))) ∙ beside.live;
+    good = subst (λ b. IsGoodHead (head_of b)) (sym head_aside) beside.good;
+    version = ap (λ b. (head_of b).version) head_aside ∙ beside.version;
+    epoch = ap (λ b. (head_of b).epoch) head_aside ∙ beside.epoch;
+    image = image_stays c c' t.slot t.start head_aside
+        (λ i within. same (image_at t.slot + i) (omega (arith, two, k_room)))
+        (λ i within. same (area_at (head c t.slot).area i) (omega (arith, two, k_room))) beside.image;
+    journal = journal_cut t.events c c' t.slot 0 k k (omega arith) more same off beside.journal;
+  }
+
+-- The gate of an event beside the slot in use, and then that of the slot in use.
+module _ {size : ℕ} {old mid : Trail} {slot to k : ℕ} {s t : Standing} (at : StandsOver size old slot s t)
+    (more : k < length t.events) (to_is : to ≡ 1 - slot) (shut : Touches (Only (gate to k)) old mid) where
+  to_here : to ≡ t.slot
+  to_here = omega (arith, to_is, at.beside.two)
+
+  shut_here : Touches (Only (gate t.slot k)) old mid
+  shut_here = subst (λ n. Touches (Only (gate n k)) old mid) to_here shut
+
+  pub first_moments : LeavesOnly old mid (StandsOneOf size s (cut_to k t))
+  first_moments = spared (StandsOneOf size s (cut_to k t)) at.settled.quiet shut_here
+      (λ c same. inr (stands_aside (now old).reads c slot k s t at.slot_is at.settled.stands at.beside more same))
+
+  pub over_rest : is_open ((now mid).reads (gate to k)) ≡ false → ((n : ℕ) → (now mid).pending n ≡ false)
+      → StandsOver size mid slot s (cut_to k t)
+  over_rest off quiet = record {
+    settled = record {
+      quiet = quiet;
+      stands = stands_aside (now old).reads (now mid).reads slot k s t at.slot_is at.settled.stands at.beside more
+          (still_reads old mid shut_here);
+    };
+    slot_is = at.slot_is;
+    beside = cut_aside (now old).reads (now mid).reads slot k s t at.slot_is at.settled.stands at.beside more
+        (still_reads old mid shut_here) (subst (λ n. is_open ((now mid).reads (gate n k)) ≡ false) to_here off);
+  }
+
+-- ---- where the rest stands
+
+-- a standing without these events at its end
+cut_off : (rest s : Standing) (events : List Event) (k : ℕ) → s ≡ and_all rest events → length rest.events ≡ k
+    → cut_to k s ≡ rest
+cut_off rest s events k is long = subst (λ x. cut_to k x ≡ rest) (sym is) (λ i. record {
+  slot = rest.slot;
+  version = rest.version;
+  epoch = rest.epoch;
+  start = rest.start;
+  events = (ap (λ n. take n (rest.events ++ events)) (sym long) ∙ take-append_seam rest.events events) i;
+})
+
+module _ {size : ℕ} {disk : Trail} {slot to k : ℕ} {s rest : Standing} {events : List Event}
+    (goes : GoesBackTo size disk slot to k s rest events) where
+  -- in the same slot
+  pub back_within : to ≡ slot → HasEventAt size disk slot k s × (cut_to k s ≡ rest)
+  back_within here = found goes.is_rest
+    where
+      found : IsRest (now disk).reads events s rest → HasEventAt size disk slot k s × (cut_to k s ≡ rest)
+      found (within is) = (
+        record {
+          settled = goes.settled;
+          slot_is = goes.slot_is;
+          more = omega (arith, ap (λ x. length x.events) is, length-append rest.events events, goes.long, goes.some);
+        },
+        cut_off rest s events k is goes.long,
+      )
+      found (across t event more before is all) =
+          absurd (omega (arith, before.beside.two, ap (λ x. x.slot) is, goes.to_is, here, goes.slot_is))
+
+  -- in the other one
+  pub back_across : to ≢ slot
+      → (t : Standing) × StandsOver size disk slot s t × (k < length t.events) × (cut_to k t ≡ rest)
+  back_across other = found goes.is_rest
+    where
+      found : IsRest (now disk).reads events s rest
+          → (t : Standing) × StandsOver size disk slot s t × (k < length t.events) × (cut_to k t ≡ rest)
+      found (within is) = absurd (other (sym goes.to_is ∙ sym (ap (λ x. x.slot) is) ∙ goes.slot_is))
+      found (across t event more before is all) = (
+        t,
+        record {
+          settled = goes.settled;
+          slot_is = goes.slot_is;
+          beside = subst (λ n. StandsBeside (now disk).reads n t) goes.slot_is before.beside;
+        },
+        omega (arith, ap (λ x. length x.events) is, length-append rest.events (event ∷ more), goes.long),
+        cut_off rest t (event ∷ more) k is goes.long,
+      )
 
 -- ---- what a checkpoint leaves beside
 

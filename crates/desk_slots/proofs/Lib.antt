@@ -14,4 +14,6 @@ pub mod Starting
 pub mod Staying
 pub mod Streaming
 pub mod Beside
+pub mod SlotStarts
+pub mod Formers
 pub mod Brought

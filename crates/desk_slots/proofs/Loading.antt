@@ -89,7 +89,7 @@ not_read c slot version k from to was room opened none = record {
 }
 
 -- the journal behind its first events
-journal_rest : (events : List Event) (c : Content) (slot k end n : ℕ) → end ≡ k + n → n ≤ length events
+pub journal_rest : (events : List Event) (c : Content) (slot k end n : ℕ) → end ≡ k + n → n ≤ length events
     → IsJournal c slot k events → IsJournal c slot end (drop n events)
 journal_rest [] c slot k end zero is low journal =
     let here : k ≡ end = omega (arith, is) in subst (λ j. IsJournal c slot j []) here journal

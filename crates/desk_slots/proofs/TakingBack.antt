@@ -2,7 +2,7 @@
 use Rattle.std.proofs.Common.{◌≡◌, ◌≢◌, inl, inr, ℕ, zero, suc, ◌+◌, ◌<◌, List, [], ◌∷◌, ◌++◌, length, take, drop, ◌≤◌}
 use Rattle.std.proofs.Common.{refl, sym, ◌∙◌, ap, subst, arith, true, false}
 use Rattle.std.proofs.lemmas.Bool.{cases_eq}
-use Rattle.std.proofs.lemmas.List.{drop-append-le, length-take-le, take_all}
+use Rattle.std.proofs.lemmas.List.{drop-append-le, length-take-le, take-append-drop, take_all}
 use Rattle.std.proofs.Math.ListN.{drop_of_length-le}
 use Rattle.sector_disk.specs.declared.disk.Disk.{Ghosts}
 use Rattle.sector_disk.specs.Confined.{IsConfined}
@@ -23,14 +23,15 @@ use Rattle.desk_slots.specs.declared.error.Error.TheVariants.{NotAStore, Damaged
 use Rattle.desk_slots.specs.Errors.{OfDesktop, OfOpen, OfReplay}
 use Rattle.desk_slots.specs.Live.{IsLive, IsNamed}
 use Rattle.desk_slots.proofs.Staying.{IsApart, apart_record}
-use Rattle.desk_slots.specs.Load.{IsCutTo, IsEarlier}
+use Rattle.desk_slots.specs.Beside.{HasEvents, IsEarlier, IsRest, within}
+use Rattle.desk_slots.specs.Load.{IsCutTo}
 use Rattle.desk_slots.specs.Written.{HasEventAt, IsUpTo}
 use Rattle.desk_slots.proofs.Recording.{only_gate}
 
 -- ---- journals, where only one gate differs, that of an event
 
 -- it is closed now: the journal ends there
-journal_cut : (events : List Event) (c c' : Content) (slot k end m : ℕ) → end ≡ k + m → m < length events
+pub journal_cut : (events : List Event) (c c' : Content) (slot k end m : ℕ) → end ≡ k + m → m < length events
     → ((n : ℕ) → n ≢ gate slot end → c' n ≡ c n) → is_open (c' (gate slot end)) ≡ false → IsJournal c slot k events
     → IsJournal c' slot k (take m events)
 journal_cut [] c c' slot k end m is low same off journal = absurd (omega (arith, low))
@@ -118,7 +119,7 @@ journal_at (event ∷ events) c slot k end (suc j) is low journal =
     (rest.0, rest.1, rest.2, ap (λ l. event ∷ l) rest.3)
 
 -- bytes begin with one event at most
-abbrev BeginLaw : Type 0
+abbrev pub BeginLaw : Type 0
 BeginLaw = (bytes : List ℕ) (e f : Event) → BeginsWithEvent bytes e → BeginsWithEvent bytes f → e ≡ f
 
 -- no event was read yet, and all were read
@@ -129,35 +130,32 @@ pub all_of : (k end : ℕ) (events read : List Event) → length events ≡ end 
     → drop k events ≡ read
 all_of k end events read long is = ap (drop k) (sym (take_all end events (omega (arith, long)))) ∙ is
 
-module _ {size : ℕ} {disk : Trail} {slot end : ℕ} {s : Standing} (at : IsUpTo size disk slot end s) (n : ℕ)
-    (low : n < end) where
-  found : (e : Event) × (is_open ((now disk).reads (gate slot n)) ≡ true) × BeginsWithEvent ((now disk).reads (body slot n)) e
-      × (take (suc n) s.events ≡ take n s.events ++ e ∷ [])
-  found = subst (λ m. (e : Event) × (is_open ((now disk).reads (gate m n)) ≡ true)
-      × BeginsWithEvent ((now disk).reads (body m n)) e × (take (suc n) s.events ≡ take n s.events ++ e ∷ [])) at.slot_is
-      (journal_at s.events (now disk).reads s.slot 0 n n (omega arith) (omega (arith, low, at.count))
-      at.settled.stands.journal)
+module _ {c : Content} {slot end : ℕ} {events : List Event} (has : HasEvents c slot end events) (n : ℕ) (low : n < end)
+  where
+    found : (e : Event) × (is_open (c (gate slot n)) ≡ true) × BeginsWithEvent (c (body slot n)) e
+        × (take (suc n) events ≡ take n events ++ e ∷ [])
+    found = journal_at events c slot 0 n n (omega arith) (omega (arith, low, has.long)) has.journal
 
-  -- its gate is open
-  pub not_closed : is_open ((now disk).reads (gate slot n)) ≡ false → ⊥
-  not_closed off = clash found.1 off
+    -- its gate is open
+    pub not_closed : is_open (c (gate slot n)) ≡ false → ⊥
+    not_closed off = clash found.1 off
 
-  -- and there is an event
-  pub not_none : ((event : Event) → BeginsWithEvent ((now disk).reads (body slot n)) event → ⊥) → ⊥
-  not_none none = none found.0 found.2
+    -- and there is an event
+    pub not_none : ((event : Event) → BeginsWithEvent (c (body slot n)) event → ⊥) → ⊥
+    not_none none = none found.0 found.2
 
-  -- which comes behind those that were read
-  pub one_more : BeginLaw → (k : ℕ) (read : List Event) (event : Event) → k ≤ n
-      → BeginsWithEvent ((now disk).reads (body slot n)) event → drop k (take n s.events) ≡ read
-      → drop k (take (n + 1) s.events) ≡ read ++ event ∷ []
-  one_more law k read event behind begins is =
-      let next : n + 1 ≡ suc n = omega arith in
-      ap (λ m. drop k (take m s.events)) next
-      ∙ ap (drop k) found.3
-      ∙ drop-append-le k (take n s.events) (found.0 ∷ [])
-      (omega (arith, behind, length-take-le n s.events (omega (arith, low, at.count))))
-      ∙ ap (λ l. l ++ found.0 ∷ []) is
-      ∙ ap (λ e. read ++ e ∷ []) (law ((now disk).reads (body slot n)) found.0 event found.2 begins)
+    -- which comes behind those that were read
+    pub one_more : BeginLaw → (k : ℕ) (read : List Event) (event : Event) → k ≤ n
+        → BeginsWithEvent (c (body slot n)) event → drop k (take n events) ≡ read
+        → drop k (take (n + 1) events) ≡ read ++ event ∷ []
+    one_more law k read event behind begins is =
+        let next : n + 1 ≡ suc n = omega arith in
+        ap (λ m. drop k (take m events)) next
+        ∙ ap (drop k) found.3
+        ∙ drop-append-le k (take n events) (found.0 ∷ [])
+        (omega (arith, behind, length-take-le n events (omega (arith, low, has.long))))
+        ∙ ap (λ l. l ++ found.0 ∷ []) is
+        ∙ ap (λ e. read ++ e ∷ []) (law (c (body slot n)) found.0 event found.2 begins)
 
 -- ---- reads before that
 
@@ -181,19 +179,41 @@ module _ {D : Type 0} (d : Ghosts D) {disk disk' : D} {slot end : ℕ} {s : Stan
   reads_either k = spared (StandsEither (d.size disk) k s) at.settled.quiet (run.moments honest)
       (λ c same. inr (subst (λ x. Stands (d.size disk) x s) (sym (λ i n. same n (λ none. none) i)) at.settled.stands))
 
+  -- its journal
+  pub events_of : HasEvents (now (d.trail disk)).reads slot end s.events
+  events_of = record {
+    journal = subst (λ n. IsJournal (now (d.trail disk)).reads n 0 s.events) at.slot_is at.settled.stands.journal;
+    long = at.count;
+  }
+
+  pub events_after : HasEvents (now (d.trail disk')).reads slot end s.events
+  events_after = subst (λ c. HasEvents c slot end s.events)
+      (sym (still_all (d.trail disk) (d.trail disk') (run.moments honest))) events_of
+
   -- what was loaded before the events were read
-  pub is_earlier : {disk'' : D} {k : ℕ} (live : LiveDesktop) {events : List Event} → k ≤ end
+  pub is_earlier : {disk'' : D} {k number : ℕ} (live : LiveDesktop) {events : List Event} → k ≤ end → s.epoch ≡ number
       → IsCutTo (d.size disk) (now (d.trail disk)).reads k (now (d.trail disk')).reads live
       → IsConfined d.size d.honest d.trail Nowhere disk' disk'' → drop k s.events ≡ events
-      → IsEarlier (now (d.trail disk'')).reads slot k s live events
-  is_earlier {disk'' = disk''} {k = k} live {events = events} few cut more others =
+      → IsEarlier (now (d.trail disk'')).reads slot number k s live events
+  is_earlier {disk'' = disk''} {k = k} {number = number} live {events = events} few epoch cut more others =
       let all = cut s at.settled.stands (omega (arith, few, at.count)) in
-      subst (λ c. IsEarlier c slot k s live events)
+      subst (λ c. IsEarlier c slot number k s live events)
       (sym (still_all (d.trail disk') (d.trail disk'') (more.moments (run.still honest))))
       (record {
+        rest = cut_to k s;
+        is_rest = within (λ i. record {
+          slot = s.slot;
+          version = s.version;
+          epoch = s.epoch;
+          start = s.start;
+          events = (sym (take-append-drop k s.events) ∙ ap (λ l. take k s.events ++ l) others) i;
+        });
+        slot_is = at.slot_is;
+        version_is = refl;
+        epoch_is = epoch;
+        long = length-take-le k s.events (omega (arith, few, at.count));
         shown = all.0;
         named = subst (λ n. IsNamed (now (d.trail disk')).reads n live) at.slot_is all.1;
-        others = others;
       })
 
 -- why reading a store stops, where there is one
@@ -214,9 +234,9 @@ stops_behind e (inr (n, bad)) sound = absurd (sound n bad)
 
 pub apart_gate : (live : LiveDesktop) (slot k : ℕ) → IsLive live → slot < SLOTS → k < JOURNAL_EVENTS
     → IsApart (Only (gate slot k)) live.pages
-apart_gate live slot k is low index n from to within =
-    apart_record live.pages live.area slot k is.based low index n from to (inr within)
+apart_gate live slot k is low index n from to here =
+    apart_record live.pages live.area slot k is.based low index n from to (inr here)
 
 pub head_kept : (old new : Trail) (slot k : ℕ) → slot < SLOTS → Touches (Only (gate slot k)) old new
     → (now new).reads (slot_head slot) ≡ (now old).reads (slot_head slot)
-head_kept old new slot k low run = still_reads old new run (slot_head slot) (λ within. omega (arith, within, low))
+head_kept old new slot k low run = still_reads old new run (slot_head slot) (λ here. omega (arith, here, low))

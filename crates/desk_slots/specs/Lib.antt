@@ -6,3 +6,4 @@ pub mod Live
 pub mod Written
 pub mod Words
 pub mod Beside
+pub mod Comparing

@@ -103,11 +103,3 @@ IsChosen (Some first) (Some second) chosen =
 abbrev pub IsCutTo : ℕ → Content → ℕ → Content → LiveDesktop → Type 0
 IsCutTo size c most c' live = (s : Standing) → Stands size c s → most ≤ length s.events
     → (seen_live c' live ≡ desktop_of (cut_to most s)) × IsNamed c' s.slot live
-
--- This desktop is what the standing shows by its first k events alone, and these are the others. The head of the slot in
--- use names what it has in the area.
-pub record IsEarlier (c : Content) (slot k : ℕ) (s : Standing) (live : LiveDesktop)
-    (events : List Event) : Type 0 where
-  pub shown : seen_live c live ≡ desktop_of (cut_to k s)
-  pub named : IsNamed c slot live
-  pub others : drop k s.events ≡ events

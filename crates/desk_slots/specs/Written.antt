@@ -26,6 +26,12 @@ pub record IsInJournal (size slot k : ℕ) : Type 0 where
   pub two : slot < SLOTS
   pub index : k < JOURNAL_EVENTS
 
+-- a journal of so many events stands in a slot of a store
+pub record HasJournalTo (size slot count : ℕ) : Type 0 where
+  pub room : STORE_SECTORS ≤ size
+  pub two : slot < SLOTS
+  pub index : count ≤ JOURNAL_EVENTS
+
 -- where event k goes, and its gate
 abbrev pub InRecord : ℕ → ℕ → ℕ → Type 0
 InRecord slot k n = NextRecord slot k n ⊎ (n ≡ gate slot k)

@@ -25,8 +25,10 @@ use char_pages::Pages;
 use desk_image::{ByteSource, ImageFault};
 use event_loop::{Desktop, Version};
 use sector_disk::{Disk, SECTOR_BYTES, Sector};
-use store_layout::{AREAS, Draining, Head, SLOTS, STORE_SECTORS, SectorSource, area_start, image_at};
 use std::alloc::{AllocError as NoMemory, Global};
+use store_layout::{
+    AREAS, Draining, Head, SLOTS, STORE_SECTORS, SectorSource, area_start, image_at,
+};
 
 /// Why a store isn't opened, where its image isn't read: it is damaged at the image's first sector, or for the same
 /// reason.

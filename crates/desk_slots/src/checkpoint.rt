@@ -23,7 +23,10 @@ use crate::live::LiveDesktop;
 use crate::place::SlotPlace;
 use desk_image::{IMAGE_BYTES, images_have_room};
 use sector_disk::{Disk, Fault, SECTOR_BYTES};
-use store_layout::{AREA_SECTORS, Filling, Head, IMAGE_SECTORS, LAYOUT, SLOTS, STORE_SECTORS, SectorSink, area_at, closed_gate, gate, image_at, is_open_gate, open_gate, slot_gate, slot_head};
+use store_layout::{
+    AREA_SECTORS, Filling, Head, IMAGE_SECTORS, LAYOUT, SLOTS, STORE_SECTORS, SectorSink, area_at,
+    closed_gate, gate, image_at, is_open_gate, open_gate, slot_gate, slot_head,
+};
 
 /// Closes the gate of a slot, if it is open. A closed gate isn't written: while such a write is pending a crash could
 /// leave the gate open.

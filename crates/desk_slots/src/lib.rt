@@ -9,8 +9,10 @@
 
 mod characters;
 mod checkpoint;
+mod comparing;
 mod error;
 mod format;
+mod former;
 mod leaving;
 mod live;
 mod loaded;
@@ -24,8 +26,9 @@ pub use checkpoint::renew;
 pub use error::Error;
 pub use event_loop::Document;
 pub use format::lay_out;
-pub use leaving::leave_slot;
+pub use former::{Earlier, load_earlier, read_history};
+pub use leaving::undo_to;
 pub use live::LiveDesktop;
-pub use loaded::{Earlier, Loaded, load, load_beside, load_earlier, load_front, read_events};
+pub use loaded::{Loaded, load, load_front};
 pub use place::SlotPlace;
-pub use records::{record, take_back};
+pub use records::record;

@@ -1,32 +1,31 @@
 //! Opening a disk: the slot in use, the desktop that it starts from, and the events of its journal.
-ghost use Rattle.std.specs.Prelude.{◌≡◌, ◌-◌, ◌<◌, ◌≤◌, ◌∷◌, [], ℕ, true, false, OnOk, IfOk, IfErr, IfSome, IfNone, IsErrOf};
+ghost use Rattle.std.specs.Prelude.{◌≡◌, ◌-◌, ◌<◌, ◌≤◌, ◌∷◌, [], ℕ, List, true, false, OnOk, IfOk, IfSome, IfNone, IsErrOf};
 ghost use Rattle.std.specs.Prelude.{length, drop};
 ghost use Rattle.event_bytes.specs.declared.event.Event.{Event};
 ghost use Rattle.event_bytes.specs.Spelling.{BeginsWithEvent};
 ghost use Rattle.char_pages.specs.Pages.{saved_of, renewed_of};
 ghost use Rattle.command_table.specs.Versions.{version_number};
-ghost use Rattle.store_layout.specs.Layout.{is_open, gate, body, IsGoodHead, head as head_at};
-ghost use Rattle.desk_slots.specs.Beside.{IsBesideRead, IsLoadedBeside};
+ghost use Rattle.store_layout.specs.Layout.{is_open, gate, body, IsGoodHead};
+ghost use Rattle.desk_slots.specs.Beside.{HasEvents};
 ghost use Rattle.store_layout.specs.Finding.{IsForeign, IsDamagedAt, IsNoEvent};
-ghost use Rattle.store_layout.specs.Meaning.{Shows, Standing};
+ghost use Rattle.store_layout.specs.Meaning.{Shows};
 ghost use Rattle.store_layout.specs.Kept.{ShowsSettled};
-ghost use Rattle.desk_slots.specs.Errors.{OfDesktop, OfOpen, OfReplay};
+ghost use Rattle.desk_slots.specs.Errors.{OfOpen, OfReplay};
 ghost use Rattle.desk_slots.specs.Live.{seen_live, IsLive, IsLiveOn, IsNamed, HasTrueCache};
-ghost use Rattle.desk_slots.specs.Load.{HasSlotInUse, IsCutTo, IsEarlier, IsLoaded, IsReadUpTo, IsReadWhole};
+ghost use Rattle.desk_slots.specs.Load.{HasSlotInUse, IsCutTo, IsLoaded, IsReadUpTo, IsReadWhole};
 ghost use Rattle.desk_slots.specs.Words.{Nowhere, now, IsConfined, FailsAs, OneOf};
-ghost use Rattle.desk_slots.specs.Written.{IsUpTo};
+ghost use Rattle.desk_slots.specs.Written.{HasJournalTo};
 
 use crate::Error;
 use crate::characters::load_slot;
 use crate::live::LiveDesktop;
-use crate::slots::{locate, read_slot};
+use crate::slots::locate;
 use event_bytes::{Event, at_most_one_begins};
 use event_loop::{NEWEST, Version};
 use sector_disk::{Disk, SECTOR_BYTES};
 use std::alloc::Global;
 use store_layout::{
-    Head, JOURNAL_EVENTS, SLOTS, STORE_SECTORS, body, event_of, finding_law, gate, is_open_gate,
-    standing_law,
+    Head, JOURNAL_EVENTS, SLOTS, STORE_SECTORS, body, event_of, gate, is_open_gate, standing_law,
 };
 
 /// What was loaded of a disk.
@@ -78,7 +77,7 @@ fn read_event<D: Disk>(disk: &mut D, slot: u32, k: u32) -> Result<Option<Event>,
 }
 
 /// The version of a slot in use.
-fn version_of(head: &Head) -> Version
+pub fn version_of(head: &Head) -> Version
     requires { IsGoodHead head.now }
     ensures { version_number result ≡ head.now.version }
 {
@@ -90,7 +89,7 @@ fn version_of(head: &Head) -> Version
 
 /// Does the first of the journal's events, at most so many, with the commands of that version, and returns how many
 /// were done.
-fn replay_to<D: Disk>(
+pub fn replay_to<D: Disk>(
     alloc: Global,
     disk: &mut D,
     slot: u32,
@@ -217,7 +216,7 @@ pub fn load_front<D: Disk>(alloc: Global, disk: &mut D, most: u32) -> Result<Liv
     Ok(desktop)
 }
 
-/// The events of the journal from gate k on, up to the last one, which stands before gate `end`.
+/// The events of the journal of a slot from gate k on, up to the last one, which stands before gate `end`.
 pub fn read_events<D: Disk>(
     alloc: Global,
     disk: &mut D,
@@ -225,19 +224,17 @@ pub fn read_events<D: Disk>(
     k: u32,
     end: u32,
 ) -> Result<Vec<Event>, Error>
-    requires room { STORE_SECTORS ≤ D.size disk.old }
-    requires two { slot < SLOTS }
+    requires at { HasJournalTo (D.size disk.old) slot end }
     requires some { k ≤ end }
-    requires index { end ≤ JOURNAL_EVENTS }
     ensures kept { IsConfined D.size D.honest D.trail Nowhere disk.old disk.new }
     ensures faults { FailsAs Error.Fault OfReplay result (D.failures disk.old)
         (D.failures disk.new) }
     ensures count { IfOk result (λ events. length events.items ≡ end - k) }
-    ensures others { IfOk result (λ events. D.honest disk.old → (s : Standing)
-        → IsUpTo (D.size disk.old) (D.trail disk.old) slot end s → drop k s.events ≡ events.items) }
+    ensures others { IfOk result (λ events. D.honest disk.old → (all : List Event)
+        → HasEvents (now (D.trail disk.old)).reads slot end all → drop k all ≡ events.items) }
     ensures damaged { (n : ℕ) → IsErrOf result (Error.Damaged n) → D.honest disk.old
-        → (s : Standing)
-        → IsUpTo (D.size disk.old) (D.trail disk.old) slot end s → ⊥ }
+        → (all : List Event)
+        → HasEvents (now (D.trail disk.old)).reads slot end all → ⊥ }
 {
     at_most_one_begins();
     let mut events = Vec::with_capacity(alloc, (end - k) as usize)?;
@@ -248,103 +245,4 @@ pub fn read_events<D: Disk>(
         }
     }
     Ok(events)
-}
-
-/// What a store was before the last events of its journal.
-#[derive(Drop)]
-pub struct Earlier {
-    /// The desktop without the events.
-    pub desktop: LiveDesktop,
-    pub events: Vec<Event>,
-}
-
-/// Reads what the disk shows by the first k events of the slot in use alone, and the events behind them, of which the
-/// last one stands before gate `end`.
-pub fn load_earlier<D: Disk>(
-    alloc: Global,
-    disk: &mut D,
-    slot: u32,
-    k: u32,
-    end: u32,
-) -> Result<Earlier, Error>
-    requires room { STORE_SECTORS ≤ D.size disk.old }
-    requires two { slot < SLOTS }
-    requires some { k ≤ end }
-    requires index { end ≤ JOURNAL_EVENTS }
-    ensures kept { IsConfined D.size D.honest D.trail Nowhere disk.old disk.new }
-    ensures faults { FailsAs Error.Fault OfOpen result (D.failures disk.old) (D.failures disk.new) }
-    ensures live { IfOk result (λ x. IsLive x.desktop) }
-    ensures told { IfOk result (λ x. HasTrueCache D.Disk disk.new x.desktop) }
-    ensures count { IfOk result (λ x. length x.events.items ≡ end - k) }
-    ensures shown { IfOk result (λ x. D.honest disk.old → (s : Standing)
-        → IsUpTo (D.size disk.old) (D.trail disk.old) slot end s
-        → IsEarlier (now (D.trail disk.new)).reads slot k s x.desktop x.events.items) }
-    ensures stops { D.honest disk.old → (s : Standing)
-        → IsUpTo (D.size disk.old) (D.trail disk.old) slot end s
-        → IfErr result OfDesktop }
-{
-    finding_law();
-    let desktop = load_front(alloc, disk, k)?;
-    let events = read_events(alloc, disk, slot, k, end)?;
-    Ok(Earlier { desktop, events })
-}
-
-/// Reads the desktop and the journal of a slot of this head.
-fn load_of<D: Disk>(alloc: Global, disk: &mut D, slot: u32, head: &Head) -> Result<Loaded, Error>
-    requires room { STORE_SECTORS ≤ D.size disk.old }
-    requires two { slot < SLOTS }
-    requires good { IsGoodHead head.now }
-    ensures kept { IsConfined D.size D.honest D.trail Nowhere disk.old disk.new }
-    ensures faults { FailsAs Error.Fault OfReplay result (D.failures disk.old)
-        (D.failures disk.new) }
-    ensures few { IfOk result (λ x. x.events ≤ JOURNAL_EVENTS) }
-    ensures live { IfOk result (λ x. IsLive x.desktop) }
-    ensures told { IfOk result (λ x. HasTrueCache D.Disk disk.new x.desktop) }
-    ensures shown { IfOk result
-        (λ x. D.honest disk.old → head_at (now (D.trail disk.old)).reads slot ≡ head.now
-        → IsLoadedBeside (now (D.trail disk.old)).reads slot head.now.version x.events
-        (now (D.trail disk.new)).reads
-        x.desktop) }
-{
-    let version = version_of(head);
-    let mut desktop = load_slot(alloc, disk, slot, version, head)?;
-    let count = replay(alloc, disk, slot, version, &mut desktop)?;
-    Ok(Loaded {
-        desktop,
-        slot,
-        version,
-        epoch: head.epoch,
-        events: count,
-    })
-}
-
-/// Reads what the slot beside this one shows, if it is open under the epoch before.
-pub fn load_beside<D: Disk>(
-    alloc: Global,
-    disk: &mut D,
-    slot: u32,
-    epoch: u32,
-) -> Result<Option<Loaded>, Error>
-    requires room { STORE_SECTORS ≤ D.size disk.old }
-    requires two { slot < SLOTS }
-    requires later { 1 ≤ epoch }
-    ensures kept { IsConfined D.size D.honest D.trail Nowhere disk.old disk.new }
-    ensures few { IfOk result (λ found. IfSome found (λ x. x.events ≤ JOURNAL_EVENTS)) }
-    ensures live { IfOk result (λ found. IfSome found (λ x. IsLive x.desktop)) }
-    ensures told { IfOk result
-        (λ found. IfSome found (λ x. HasTrueCache D.Disk disk.new x.desktop)) }
-    ensures shown { IfOk result (λ found. IfSome found (λ x. D.honest disk.old
-        → IsBesideRead (now (D.trail disk.old)).reads slot epoch x.events
-        (now (D.trail disk.new)).reads x.desktop)) }
-{
-    match read_slot(disk, 1 - slot)? {
-        None => Ok(None),
-        Some(head) => {
-            if head.epoch != epoch - 1 {
-                return Ok(None);
-            }
-            let loaded = load_of(alloc, disk, 1 - slot, &head)?;
-            Ok(Some(loaded))
-        }
-    }
 }

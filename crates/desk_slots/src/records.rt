@@ -137,7 +137,7 @@ pub fn record<D: Disk>(
 }
 
 /// Closes gate k.
-fn shut<D: Disk>(disk: &mut D, slot: u32, k: u32) -> Result<(), Fault>
+pub fn shut<D: Disk>(disk: &mut D, slot: u32, k: u32) -> Result<(), Fault>
     requires { IsInJournal (D.size disk.old) slot k }
     ensures kept { IsConfined D.size D.honest D.trail (Only (gate slot k)) disk.old disk.new }
     ensures cause { CountsFault result (D.failures disk.old) (D.failures disk.new) }

@@ -36,14 +36,15 @@ pub fn opened(rt: &HostRuntime, path: &str) -> Result<Store<FileDisk>, Trouble>
     }
 }
 
-/// A new store on a disk, whose desktop has a text with all commands. Its journal is empty, so that nobody takes that
-/// desktop back.
+/// A new store on a disk, whose desktop has a text with all commands. Its journal is empty, and so is that of the slot
+/// beside it, so that nobody takes that desktop back.
 pub(crate) fn new_store<D: Disk + Drop>(rt: &HostRuntime, disk: D) -> Result<Store<D>, Error>
     ensures { IfOk result (λ store. store.must_reopen ≡ false) }
 {
     let mut store = opened_on(rt, formatted(disk)?)?;
     furnish(rt.alloc(), &mut store)?;
     store.checkpoint()?;
+    store.checkpoint()?; // the slot from before it has the events that made the desktop, and is written over
     Ok(store)
 }
 

@@ -7,6 +7,7 @@ use Rattle.std.proofs.lemmas.Result.{IfOk-weaker, IfErr-at_err}
 use Rattle.sector_disk.specs.declared.disk.Disk.{Ghosts}
 use Rattle.sector_disk.specs.Trail.{now, Leaves}
 use Rattle.event_bytes.specs.declared.event.Event.{Event}
+use Rattle.desktop_definitions.specs.Desktop.{Desktop}
 use Rattle.store_layout.specs.Meaning.{Means}
 use Rattle.store_runs.specs.declared.call.StoreCall.{StoreCall}
 use Rattle.store_runs.specs.declared.call.StoreCall.TheVariants.{Post as Posting, Checkpoint}
@@ -107,32 +108,32 @@ module _ {D : Type 0} (d : Ghosts D) (old new : StoreView D) (honest : d.honest 
 -- ---- all the calls of a run
 
 -- the posts so far, and this call
-abbrev posts_then : List Post → StoreCall → StoreAnswer → List Post
+abbrev pub posts_then : List Post → StoreCall → StoreAnswer → List Post
 posts_then done (Posting event) answer = done ++ record { event = event; answer = answer } ∷ []
 posts_then done Checkpoint answer = done
 
-posts_next : (done : List Post) (call : StoreCall) (answer : StoreAnswer) (more : List Served)
+pub posts_next : (done : List Post) (call : StoreCall) (answer : StoreAnswer) (more : List Served)
     → posts_then done call answer ++ posts_in more
     ≡ done ++ posts_in (record { call = call; answer = answer } ∷ more)
 posts_next done (Posting event) answer more = append_assoc done (record { event = event; answer = answer } ∷ [])
     (posts_in more)
 posts_next done Checkpoint answer more = refl
 
-module _ {D : Type 0} (d : Ghosts D) (size : ℕ) (first : StoreView D) (from : ℕ) where
+module _ {D : Type 0} (d : Ghosts D) (size : ℕ) (first : Desktop) (from : ℕ) where
   abbrev Running : StoreView D → List Post → Type 0
-  Running store posts = IsRunning size first.desktop (d.trail store.disk) from store.desktop store.must_reopen posts
+  Running store posts = IsRunning size first (d.trail store.disk) from store.desktop store.must_reopen posts
 
-  call_on : (done : List Post) (call : StoreCall) (answer : StoreAnswer) (store next : StoreView D)
+  pub call_on : (done : List Post) (call : StoreCall) (answer : StoreAnswer) (store next : StoreView D)
       → d.honest store.disk
       → d.size store.disk ≡ size → Running store done → ServesCall d call answer store next
       → Running next (posts_then done call answer)
   call_on done (Posting event) answer store next honest as_large was serves =
-      runs_on size first.desktop (d.trail store.disk) (d.trail next.disk) from store.desktop next.desktop
+      runs_on size first (d.trail store.disk) (d.trail next.disk) from store.desktop next.desktop
       store.must_reopen next.must_reopen done event was answer
       (subst (λ n. Posted n event answer (d.trail store.disk) (d.trail next.disk) store.desktop next.desktop
       store.must_reopen next.must_reopen) as_large (posted_by_trails d store next honest event answer serves))
   call_on done Checkpoint answer store next honest as_large was serves =
-      checkpoint_on size first.desktop (d.trail store.disk) (d.trail next.disk) from store.desktop next.desktop
+      checkpoint_on size first (d.trail store.disk) (d.trail next.disk) from store.desktop next.desktop
       store.must_reopen next.must_reopen done was answer
       (subst (λ n. Checkpointed n answer (d.trail store.disk) (d.trail next.disk) store.desktop next.desktop
       store.must_reopen next.must_reopen) as_large (checkpointed_by_trails d store next honest answer serves.0))
@@ -157,6 +158,6 @@ survives d served old new run usable durable honest =
     let trail = d.trail old.disk in
     let begun = begins_running size trail old.desktop (λ content image. shows_means size old.epoch old.events
     old.desktop content (durable honest content image)) in
-    (goes_on d size old trail.clock [] served old new honest refl
+    (goes_on d size old.desktop trail.clock [] served old new honest refl
     (subst (λ b. IsRunning size old.desktop trail trail.clock old.desktop b [])
     (sym usable) begun) run).survived

@@ -1,3 +1,4 @@
 pub mod Chaining
 pub mod Reopening
 pub mod Running
+pub mod Undone

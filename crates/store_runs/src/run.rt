@@ -6,11 +6,13 @@ ghost use Rattle.desk_journal.specs.Device.{IsSameDevice, disk_after, result_of}
 ghost use Rattle.desk_journal.specs.Errors.{OfReopen};
 ghost use Rattle.store_runs.specs.Run.{IsCallRun, SurvivesRun, ServesCall, MeansSome, IsReopened, served_of, events_in};
 ghost use Rattle.store_runs.specs.Run.{StopsAReopening};
+ghost use Rattle.store_runs.specs.Undone.{PromisesUndo, told_of};
 
 use crate::call::{StoreAnswer, StoreCall};
 use crate::laws::{reopening_law, runs_survive};
 use desk_journal::{Error, Store, finding_law};
 use desktop_definitions::Reply;
+use event_bytes::Event;
 use sector_disk::{Disk, NoMemory};
 use std::alloc::Global;
 
@@ -27,6 +29,19 @@ pub fn serve<D: Disk>(alloc: Global, store: &mut Store<D>, call: &StoreCall) -> 
             Err(error) => Err(error),
         },
     }
+}
+
+/// Takes the last events back, so many, and hands them back.
+///
+/// Errors: those of `Store::undo`.
+pub fn take_back<D: Disk>(
+    alloc: Global,
+    store: &mut Store<D>,
+    count: u32,
+) -> Result<Vec<Event>, Error>
+    ensures { PromisesUndo D.Disk count (told_of (λ events. events.items) result) store.old store.new }
+{
+    store.undo(alloc, count)
 }
 
 /// Makes the calls in order, and returns what each returned. It allocates the memory for that first, and changes

@@ -1,8 +1,8 @@
-use Rattle.std.proofs.Common.{◌≡◌, ◌+◌, length, take, drop}
-use Rattle.sector_disk.specs.Trail.{Nowhere}
+use Rattle.std.proofs.Common.{◌≡◌, ◌+◌, List, length, take, drop}
+use Rattle.sector_disk.specs.Trail.{Nowhere, now}
 use Rattle.sector_disk.specs.Confined.{IsConfined}
-use Rattle.store_layout.specs.Meaning.{Standing}
-use Rattle.desk_slots.specs.Written.{IsUpTo}
+use Rattle.event_bytes.specs.declared.event.Event.{Event}
+use Rattle.desk_slots.specs.Beside.{HasEvents}
 use Rattle.desk_slots.proofs.loaded.read_events.Given as goal
 
 -- nothing is written, and the events from gate k up to this one have been read
@@ -11,7 +11,7 @@ invariant-loop-at g l = record {
   kept : IsConfined g.D.Disk.size g.D.Disk.honest g.D.Disk.trail Nowhere l.fn.disk l.disk;
   calm : g.D.Disk.failures l.disk ≡ g.D.Disk.failures l.fn.disk;
   count : length l.events.items + l.k ≡ l.at;
-  others : g.D.Disk.honest l.fn.disk → (s : Standing)
-      → IsUpTo (g.D.Disk.size l.fn.disk) (g.D.Disk.trail l.fn.disk) l.slot l.end s
-      → drop l.k (take l.at s.events) ≡ l.events.items;
+  others : g.D.Disk.honest l.fn.disk → (all : List Event)
+      → HasEvents (now (g.D.Disk.trail l.fn.disk)).reads l.slot l.end all
+      → drop l.k (take l.at all) ≡ l.events.items;
 }

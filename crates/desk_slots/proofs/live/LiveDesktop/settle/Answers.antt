@@ -15,14 +15,7 @@ settle-requires-clause-more c =
     let p = c.args.self.now.pages in
     let n : IsCounted p c.args.self.now.desktop c.written.result =
     counted p c.args.self.now.desktop c.written.result c.requires.live.over c.written.ensures in
-    omega (arith, n.long, p.whole)
-
-pub settle-requires-clause-within : goal.settle-requires-clause-within
-settle-requires-clause-within c =
-    let p = c.args.self.now.pages in
-    let n : IsCounted p c.args.self.now.desktop c.written.result =
-    counted p c.args.self.now.desktop c.written.result c.requires.live.over c.written.ensures in
-    omega (arith, n.long)
+    (omega (arith, n.long, p.whole), omega (arith, n.long))
 
 pub returns-clause-live : goal.returns-clause-live
 returns-clause-live c =

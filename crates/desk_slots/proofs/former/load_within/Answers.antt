@@ -2,15 +2,15 @@ use Rattle.std.proofs.Common.{◌≡◌, ◌∙◌, ap, sym, subst, Err, IfErr}
 use Rattle.std.proofs.lemmas.Result.{err_from_is_err_and, IfErr-at_err}
 use Rattle.desk_slots.specs.Errors.{OfDesktop, OfOpen, OfReplay}
 use Rattle.desk_slots.proofs.Staying.{apart_nowhere, live_stays}
-use Rattle.desk_slots.proofs.TakingBack.{still_up_to, is_earlier, stops_there, stops_behind}
-use Rattle.desk_slots.proofs.loaded.load_earlier.Goals as goal
+use Rattle.desk_slots.proofs.TakingBack.{events_after, is_earlier, stops_there, stops_behind}
+use Rattle.desk_slots.proofs.former.load_within.Goals as goal
 
 pub returns-clause-shown : goal.returns-clause-shown
-returns-clause-shown g c = λ honest s at.
+returns-clause-shown g c = λ honest s at epoch.
     let run = c.load_front.ensures.kept in
-    is_earlier g.D.Disk at run honest c.in_ok-desktop.desktop c.requires.some (c.in_ok-desktop.ensures.shown honest)
+    is_earlier g.D.Disk at run honest c.in_ok-desktop.desktop c.requires.some epoch (c.in_ok-desktop.ensures.shown honest)
     c.read_events.ensures.kept
-    (c.in_ok-events.ensures.others (run.still honest) s (still_up_to g.D.Disk at run honest))
+    (c.in_ok-events.ensures.others (run.still honest) s.events (events_after g.D.Disk at run honest))
 
 pub returns-in_err-desktop-clause-stops : goal.returns-in_err-desktop-clause-stops
 returns-in_err-desktop-clause-stops g c = λ honest s at.
@@ -29,10 +29,12 @@ returns-in_err-events-clause-stops g c = λ honest s at.
     let was : c.read_events.result ≡ Err p.0 = cc (p.1, p.2, c.in_err-events.was) in
     subst (λ r. IfErr r OfDesktop) (sym p.1)
     (stops_behind p.0 (IfErr-at_err OfReplay was c.read_events.ensures.faults.errors)
-    (λ n is. c.read_events.ensures.damaged n (was ∙ ap (λ e. Err e) is) (run.still honest) s
-    (still_up_to g.D.Disk at run honest)))
+    (λ n is. c.read_events.ensures.damaged n (was ∙ ap (λ e. Err e) is) (run.still honest) s.events
+    (events_after g.D.Disk at run honest)))
 
-pub returns-clause-told : goal.returns-clause-told
-returns-clause-told g c =
-    live_stays g.D.Disk c.in_ok-desktop.desktop c.read_events.ensures.kept (apart_nowhere c.in_ok-desktop.desktop.pages)
-    c.in_ok-desktop.ensures.told
+pub returns-clause-left : goal.returns-clause-left
+returns-clause-left g c = record {
+  live = c.in_ok-desktop.ensures.live;
+  told = live_stays g.D.Disk c.in_ok-desktop.desktop c.read_events.ensures.kept
+      (apart_nowhere c.in_ok-desktop.desktop.pages) c.in_ok-desktop.ensures.told;
+}

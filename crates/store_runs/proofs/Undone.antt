@@ -1,0 +1,295 @@
+-- Runs between which events are taken back, and what a crash leaves of them.
+use Rattle.std.proofs.Common.{◌≡◌, ◌⊎◌, inl, inr, ℕ, ◌≤◌, List, [], ◌∷◌, ◌++◌, Result, Ok, Err, append_assoc, refl, sym}
+use Rattle.std.proofs.Common.{◌∙◌, ap, subst, arith, true, false}
+use Rattle.std.specs.Prelude.{IfOk, IsErr, IsErrOf}
+use Rattle.std.proofs.lemmas.List.{append-nil}
+use Rattle.sector_disk.specs.declared.disk.Disk.{Ghosts}
+use Rattle.sector_disk.specs.Trail.{Content, Trail, now, IsCrashImage, Leaves, LeavesOnly}
+use Rattle.sector_disk.proofs.Confinement as confined
+use Rattle.sector_disk.proofs.Touching.{at_last, read_is_an_image, weakened}
+use Rattle.event_bytes.specs.declared.event.Event.{Event}
+use Rattle.desktop_definitions.specs.Desktop.{Desktop}
+use Rattle.desktop_definitions.specs.Step.{steps_in}
+use Rattle.store_layout.proofs.Bits.{true_or_false, clash}
+use Rattle.store_layout.specs.declared.layout.TheConstants.{LAYOUT, STORE_SECTORS}
+use Rattle.store_layout.specs.Meaning.{Standing, Stands, Means, MeansEither, desktop_of}
+use Rattle.desk_journal.specs.Device.{StaysWithin}
+use Rattle.desk_journal.specs.Errors.{Error, MustReopen}
+use Rattle.desk_journal.specs.Posting.{AnswersMustReopen}
+use Rattle.desk_journal.specs.Undoing.{IsLeft, IsTakenBack, LeavesUndone, ShowsStanding}
+use Rattle.desk_journal.specs.View.{StoreView, IsDurable}
+use Rattle.desk_journal.proofs.Behind.{led_back}
+use Rattle.desk_journal.proofs.Passing.{shows_means}
+use Rattle.store_runs.specs.declared.call.StoreCall.{StoreCall}
+use Rattle.store_runs.specs.declared.call.StoreCall.TheVariants.{Post as Posting, Checkpoint}
+use Rattle.store_runs.specs.Run.{RunSurvives, Served, ServesCall, StoreAnswer, MeansPostsPrefix, posts_in}
+use Rattle.store_runs.specs.Undone.{Deed, DoesDeed, IsDeedRun, PromisesUndo, SurvivesDeeds, UndoSurvivalLaw, deeds_of, led_by}
+use Rattle.store_runs.specs.Undone.{call_made, undo_made, called, stopped, told_of, went_back}
+use Rattle.store_runs.proofs.Chaining.{call_on, posts_next, posts_then}
+use Rattle.store_runs.proofs.Running.{IsRunning, begins_running, carried, whole}
+
+-- what was returned, by the events that it hands back
+pub told_undone : {D V : Type 0} (d : Ghosts D) (items : V → List Event) (count : ℕ) (result : Result V Error)
+    (old new : StoreView D) → LeavesUndone d count old new → IfOk result (λ v. IsTakenBack d count (items v) old new)
+    → (IsErr result → old.must_reopen ≡ false → new.must_reopen ≡ false → IsLeft d old new)
+    → AnswersMustReopen result old new → StaysWithin d old.disk new.disk
+    → PromisesUndo d count (told_of items result) old new
+told_undone d items count (Ok v) old new moments ok left reopen within = record {
+  any_moment = moments;
+  ok = ok;
+  left = λ wrong. absurd cc;
+  reopen = record {
+    only = λ wrong. absurd cc;
+    always = λ must. absurd (let never : IsErrOf (Ok v) MustReopen = reopen.always must in cc);
+    unchanged = λ wrong. absurd cc;
+  };
+  within = within;
+}
+told_undone {V = V} d items count (Err e) old new moments ok left reopen within = record {
+  any_moment = moments;
+  ok = tt;
+  left = λ wrong. left refl;
+  reopen = record {
+    only = λ is. reopen.only (same is);
+    always = λ must. let there : e ≡ MustReopen = cc (reopen.always must) in ap (λ x. Err x) there;
+    unchanged = λ is. reopen.unchanged (same is);
+  };
+  within = within;
+}
+  where
+    same : IsErrOf {T = List Event} (Err e) MustReopen → IsErrOf {T = V} (Err e) MustReopen
+    same is = let there : e ≡ MustReopen = cc is in ap (λ x. Err x) there
+
+-- ---- what every deed leaves of the disk
+
+serves_within : {D : Type 0} (d : Ghosts D) (call : StoreCall) (answer : StoreAnswer) (old new : StoreView D)
+    → ServesCall d call answer old new → StaysWithin d old.disk new.disk
+serves_within d (Posting event) answer old new serves = serves.behaves.within
+serves_within d Checkpoint answer old new serves = serves.0.behaves.within
+
+deed_within : {D : Type 0} (d : Ghosts D) (deed : Deed) (old new : StoreView D) → DoesDeed d deed old new
+    → StaysWithin d old.disk new.disk
+deed_within d (call_made s) old new does = serves_within d s.call s.answer old new does
+deed_within d (undo_made count answer) old new does = does.within
+
+deeds_within : {D : Type 0} (d : Ghosts D) (deeds : List Deed) (old new : StoreView D) → IsDeedRun d deeds old new
+    → StaysWithin d old.disk new.disk
+deeds_within d [] old new run = subst (λ v. StaysWithin d old.disk v.disk) (sym run)
+    (confined.stays_put d.size d.honest d.trail _ old.disk)
+deeds_within d (deed ∷ more) old new run = confined.joined d.size d.honest d.trail
+    (deed_within d deed old run.0 run.1) (deeds_within d more run.0 new run.2)
+
+-- ---- where the store must be opened again nothing changes
+
+serves_stay : {D : Type 0} (d : Ghosts D) (call : StoreCall) (answer : StoreAnswer) (old new : StoreView D)
+    → ServesCall d call answer old new → old.must_reopen ≡ true → new ≡ old
+serves_stay d (Posting event) answer old new serves must =
+    serves.behaves.reopen.unchanged (serves.behaves.reopen.always must)
+serves_stay d Checkpoint answer old new serves must =
+    serves.0.behaves.reopen.unchanged (serves.0.behaves.reopen.always must)
+
+deed_stays : {D : Type 0} (d : Ghosts D) (deed : Deed) (old new : StoreView D) → DoesDeed d deed old new
+    → old.must_reopen ≡ true → new ≡ old
+deed_stays d (call_made s) old new does must = serves_stay d s.call s.answer old new does must
+deed_stays d (undo_made count answer) old new does must = does.reopen.unchanged (does.reopen.always must)
+
+all_stay : {D : Type 0} (d : Ghosts D) (deeds : List Deed) (old new : StoreView D) → IsDeedRun d deeds old new
+    → old.must_reopen ≡ true → new ≡ old
+all_stay d [] old new run must = run
+all_stay d (deed ∷ more) old new run must =
+    let same = deed_stays d deed old run.0 run.1 must in
+    all_stay d more run.0 new run.2 (ap (λ v. v.must_reopen) same ∙ must) ∙ same
+
+-- ---- one call more
+
+posts_append : (a b : List Served) → posts_in (a ++ b) ≡ posts_in a ++ posts_in b
+posts_append [] b = refl
+posts_append (s ∷ a) b =
+    sym (posts_next [] s.call s.answer (a ++ b))
+    ∙ ap (λ l. posts_then [] s.call s.answer ++ l) (posts_append a b)
+    ∙ sym (append_assoc (posts_then [] s.call s.answer) (posts_in a) (posts_in b))
+    ∙ ap (λ l. l ++ posts_in b) (posts_next [] s.call s.answer a)
+
+posts_grow : (calls : List Served) (s : Served) → posts_in (calls ++ s ∷ []) ≡ posts_then (posts_in calls) s.call s.answer
+posts_grow calls s =
+    posts_append calls (s ∷ [])
+    ∙ sym (posts_next (posts_in calls) s.call s.answer [])
+    ∙ append-nil (posts_then (posts_in calls) s.call s.answer)
+
+deeds_move : (calls : List Served) (s : Served) (more : List Deed)
+    → deeds_of (calls ++ s ∷ []) ++ more ≡ deeds_of calls ++ call_made s ∷ more
+deeds_move [] s more = refl
+deeds_move (x ∷ calls) s more = ap (λ l. call_made x ∷ l) (deeds_move calls s more)
+
+module _ {D : Type 0} (d : Ghosts D) (size : ℕ) where
+  -- what is known between two deeds, since these calls began
+  abbrev Running : Desktop → ℕ → StoreView D → List Served → Type 0
+  Running first from store calls =
+      IsRunning size first (d.trail store.disk) from store.desktop store.must_reopen (posts_in calls)
+
+  abbrev Survives : Desktop → ℕ → StoreView D → List Deed → Type 0
+  Survives first from last deeds = SurvivesDeeds size (d.trail last.disk) first from (d.trail last.disk).clock deeds
+
+  -- events are taken back, or not
+  module _ (first : Desktop) (from count : ℕ) (calls : List Served) (more : List Deed) (store mid last : StoreView D)
+      (answer : Result (List Event) Error) (honest : d.honest store.disk) (as_large : d.size store.disk ≡ size)
+      (was : Running first from store calls) (does : PromisesUndo d count answer store mid) (run : IsDeedRun d more mid last)
+      (goes : Running mid.desktop (d.trail mid.disk).clock mid []
+      → Survives mid.desktop (d.trail mid.disk).clock last more) where
+    abbrev Goal : Type 0
+    Goal = Survives first from last (deeds_of calls ++ undo_made count answer ∷ more)
+
+    abbrev led : Desktop
+    led = led_by first calls
+
+    mid_honest : d.honest mid.disk
+    mid_honest = does.within.still honest
+
+    later : (d.trail store.disk).clock ≤ (d.trail mid.disk).clock
+    later = (does.within.moments honest).later
+
+    kept : (t : ℕ) → t ≤ (d.trail mid.disk).clock → (d.trail last.disk).at t ≡ (d.trail mid.disk).at t
+    kept = ((deeds_within d more mid last run).moments mid_honest).kept
+
+    before : RunSurvives size first (d.trail last.disk) from (d.trail store.disk).clock (posts_in calls)
+    before = carried was.survived
+        (λ t le. kept t (omega (arith, le, later)) ∙ (does.within.moments honest).kept t le)
+
+    -- the call is over, and one goes on from what is left
+    goes_back : (version : ℕ) (events : List Event) → steps_in version mid.desktop events ≡ led
+        → IfOk answer (λ back. back ≡ events)
+        → LeavesOnly (d.trail store.disk) (d.trail mid.disk) (MeansEither size led mid.desktop)
+        → Leaves (now (d.trail mid.disk)) (Means size mid.desktop) → mid.must_reopen ≡ false → Goal
+    goes_back version events back told moments means usable =
+        went_back calls count answer more version events before later back told
+        (λ t above below. subst (λ m. Leaves m (MeansEither size led mid.desktop)) (sym (kept t below))
+        (moments.each t above below))
+        (subst (λ m. Leaves m (Means size mid.desktop)) (sym (kept (d.trail mid.disk).clock (omega arith))) means)
+        (goes (subst (λ b. IsRunning size mid.desktop (d.trail mid.disk) (d.trail mid.disk).clock mid.desktop b [])
+        (sym usable) (begins_running size (d.trail mid.disk) mid.desktop means)))
+
+    -- the store must be opened again
+    stops : (rest : Desktop) (version : ℕ) (events : List Event) → steps_in version rest events ≡ led → IsErr answer
+        → ((t : ℕ) → (d.trail store.disk).clock ≤ t → t ≤ (d.trail mid.disk).clock → Leaves ((d.trail mid.disk).at t)
+        (λ c. MeansPostsPrefix size first (posts_in calls) (posts_in calls) c ⊎ Means size rest c))
+        → mid.must_reopen ≡ true → Goal
+    stops rest version events back wrong moments must =
+        let same : d.trail last.disk ≡ d.trail mid.disk = ap (λ v. d.trail v.disk) (all_stay d more mid last run must) in
+        let clocks : (d.trail last.disk).clock ≡ (d.trail mid.disk).clock = ap (λ (x : Trail). x.clock) same in
+        stopped {rest = rest} calls count answer more version events before (omega (arith, clocks, later)) back wrong
+        (λ t above below. let low : t ≤ (d.trail mid.disk).clock = omega (arith, below, clocks) in
+        subst (λ m. Leaves m (λ c. MeansPostsPrefix size first (posts_in calls) (posts_in calls) c ⊎ Means size rest c))
+        (sym (kept t low)) (moments t above low))
+
+    -- before it the store must be opened again already
+    stays_stopped : store.must_reopen ≡ true → IsErr answer → Goal
+    stays_stopped must wrong =
+        let same = does.reopen.unchanged (does.reopen.always must) in
+        let clocks : (d.trail mid.disk).clock ≡ (d.trail store.disk).clock =
+        ap (λ (v : StoreView D). (d.trail v.disk).clock) same in
+        stops led LAYOUT [] refl wrong
+        (λ t above below c image.
+        let here : t ≡ (d.trail mid.disk).clock = omega (arith, above, below, clocks) in
+        inl (was.prefix c (subst (λ (v : StoreView D). IsCrashImage (now (d.trail v.disk)) c) same
+        (subst (λ i. IsCrashImage ((d.trail mid.disk).at i) c) here image))))
+        (ap (λ (v : StoreView D). v.must_reopen) same ∙ must)
+
+    module _ (usable : store.must_reopen ≡ false) where
+      abbrev shown : Means size store.desktop (now (d.trail store.disk)).reads
+      shown = was.shown usable (now (d.trail store.disk)).reads (read_is_an_image (now (d.trail store.disk)))
+
+      abbrev s : Standing
+      s = shown.0
+
+      here : ShowsStanding d store s
+      here = subst (λ n. Stands n (now (d.trail store.disk)).reads s) (sym as_large) shown.1
+
+      s_led : desktop_of s ≡ led
+      s_led = shown.2 ∙ was.is usable
+
+      either : (rest : Standing) (desktop : Desktop) → desktop_of rest ≡ desktop → (c : Content)
+          → Stands (d.size store.disk) c rest ⊎ Stands (d.size store.disk) c s → MeansEither size led desktop c
+      either rest desktop is c stands = elim stands [
+        | inl left ↦ inr (rest, subst (λ n. Stands n c rest) as_large left, is)
+        | inr all ↦ inl (s, subst (λ n. Stands n c s) as_large all, s_led)
+      ]
+
+      -- they were taken back
+      is_back : (back : List Event) → IsTakenBack d count back store mid → IfOk answer (λ told. told ≡ back) → Goal
+      is_back back taken told =
+          let b = taken.back honest s here in
+          goes_back s.version back
+          (ap (λ x. steps_in s.version x back) b.1.desktop ∙ sym (led_back back s b.0 b.1.leaves.is_rest) ∙ s_led)
+          told (weakened b.1.leaves.any_moment (either b.0 mid.desktop (sym b.1.desktop)))
+          (λ c image. subst (λ n. Means n mid.desktop c) (does.within.as_large ∙ as_large)
+          (shows_means (d.size mid.disk) mid.epoch mid.events mid.desktop c (taken.durable mid_honest c image)))
+          taken.usable
+
+      -- nothing was written
+      is_left : IsLeft d store mid → mid.must_reopen ≡ false → IfOk answer (λ told. told ≡ []) → Goal
+      is_left left still told =
+          let same = left.desktop honest in
+          let unwritten = left.disk.unwritten honest in
+          goes_back LAYOUT [] (same ∙ was.is usable) told
+          (weakened unwritten (λ c old. inl (subst (λ x. Means size x c) (was.is usable) (was.shown usable c old))))
+          (λ c image. subst (λ x. Means size x c) (sym same) (was.shown usable c (at_last unwritten c image))) still
+
+      -- it stopped amid the write
+      is_cut : IsErr answer → mid.must_reopen ≡ true → Goal
+      is_cut wrong must =
+          let m = does.any_moment usable honest s here in
+          stops (desktop_of m.1) s.version m.0 (sym (led_back m.0 s m.1 m.3.is_rest) ∙ s_led) wrong
+          (λ t above below c image. elim (m.3.any_moment.each t above below c image) [
+            | inl rest ↦ inr (m.1, subst (λ n. Stands n c m.1) as_large rest, refl)
+            | inr all ↦ inl (whole size first (posts_in calls) (posts_in calls) c (omega arith)
+                (s, subst (λ n. Stands n c s) as_large all, s_led))
+          ]) must
+
+  undo_on : (first : Desktop) (from count : ℕ) (calls : List Served) (more : List Deed) (store mid last : StoreView D)
+      (answer : Result (List Event) Error) → d.honest store.disk → d.size store.disk ≡ size
+      → Running first from store calls → PromisesUndo d count answer store mid → IsDeedRun d more mid last
+      → (Running mid.desktop (d.trail mid.disk).clock mid [] → Survives mid.desktop (d.trail mid.disk).clock last more)
+      → Survives first from last (deeds_of calls ++ undo_made count answer ∷ more)
+  undo_on first from count calls more store mid last (Ok back) honest as_large was does run goes =
+      elim (true_or_false store.must_reopen) [
+        | inl must ↦ absurd (let never : IsErrOf (Ok back) MustReopen = does.reopen.always must in cc)
+        | inr usable ↦ is_back first from count calls more store mid last (Ok back) honest as_large was does run goes usable
+            back does.ok refl
+      ]
+  undo_on first from count calls more store mid last (Err e) honest as_large was does run goes =
+      elim (true_or_false store.must_reopen) [
+        | inl must ↦ stays_stopped first from count calls more store mid last (Err e) honest as_large was does run goes must refl
+        | inr usable ↦ elim (true_or_false mid.must_reopen) [
+          | inl must ↦ is_cut first from count calls more store mid last (Err e) honest as_large was does run goes usable refl must
+          | inr still ↦ is_left first from count calls more store mid last (Err e) honest as_large was does run goes usable
+              (does.left refl usable still) still tt
+        ]
+      ]
+
+  -- all that comes
+  deeds_on : (first : Desktop) (from : ℕ) (calls : List Served) (more : List Deed) (store last : StoreView D)
+      → d.honest store.disk → d.size store.disk ≡ size → Running first from store calls → IsDeedRun d more store last
+      → Survives first from last (deeds_of calls ++ more)
+  deeds_on first from calls [] store last honest as_large was run =
+      subst (λ v. Survives first from v (deeds_of calls ++ [])) (sym run)
+      (subst (Survives first from store) (sym (append-nil (deeds_of calls))) (called calls was.survived))
+  deeds_on first from calls (call_made s ∷ more) store last honest as_large was run =
+      let within = deed_within d (call_made s) store run.0 run.1 in
+      subst (Survives first from last) (deeds_move calls s more)
+      (deeds_on first from (calls ++ s ∷ []) more run.0 last (within.still honest) (within.as_large ∙ as_large)
+      (subst (IsRunning size first (d.trail run.0.disk) from run.0.desktop run.0.must_reopen) (sym (posts_grow calls s))
+      (call_on d size first from (posts_in calls) s.call s.answer store run.0 honest as_large was run.1)) run.2)
+  deeds_on first from calls (undo_made count answer ∷ more) store last honest as_large was run =
+      let within = deed_within d (undo_made count answer) store run.0 run.1 in
+      undo_on first from count calls more store run.0 last answer honest as_large was run.1 run.2
+      (λ again. deeds_on run.0.desktop (d.trail run.0.disk).clock [] more run.0 last (within.still honest)
+      (within.as_large ∙ as_large) again run.2)
+
+pub undos_survive_all : {D : Type 0} (d : Ghosts D) → UndoSurvivalLaw d
+undos_survive_all d deeds old new run usable durable honest =
+    let size = d.size old.disk in
+    let trail = d.trail old.disk in
+    let begun = begins_running size trail old.desktop (λ content image. shows_means size old.epoch old.events
+    old.desktop content (durable honest content image)) in
+    deeds_on d size old.desktop trail.clock [] deeds old new honest refl
+    (subst (λ b. IsRunning size old.desktop trail trail.clock old.desktop b []) (sym usable) begun) run
