@@ -8,4 +8,13 @@ for words in 'export my.disk A.Text' 'list my.disk' 'list my.disk --json' 'check
     "$DESK_PROGRAM" $words >&-
     echo "$words: $?"
 done
+# So does a sitting, which has a cause to end so: where nothing more can be heard it ends well, and where a read fails by that.
+"$DESK_PROGRAM" sit 33 my.disk > /dev/full < /dev/null
+echo "sit 33 my.disk: $?"
+"$DESK_PROGRAM" sit 33 my.disk >&- < /dev/null
+echo "sit 33 my.disk: $?"
+"$DESK_PROGRAM" sit 33 my.disk > shown < /dev/null
+echo "sit 33 my.disk, at the end of its input: $?"
+"$DESK_PROGRAM" sit 33 my.disk > shown < .
+echo "sit 33 my.disk, in a folder: $?"
 cmp before.disk my.disk && echo 'the store is as it was'

@@ -15,6 +15,7 @@ from sitting import Ended, Sitting
 
 LETTERS = 'abcdefghijklmnopqrstuvwxyz'
 STORE = b'\x1b[<1;48;1M\x1b[<1;48;1m'  # a middle click on Edit.Store in the menu of A.Text
+TESTS = os.path.dirname(os.path.dirname(os.path.realpath(__file__)))
 BEGIN = ['file System.Tool Edit.Open A.Text%0d', 'point m 60 31 60 31', 'point m 52 30 52 30', 'point l 1 30 1 30']
 
 
@@ -168,9 +169,9 @@ def hung_up(before):
 
 
 def control_c(trial):
-    """What is a signal elsewhere is a key."""
+    """What is a signal elsewhere is a key. (What Ctrl-Z takes back, the click before the sitting, Ctrl-Y does again.)"""
     sitting = trial.sit_anew()
-    for key in (b'\x03', b'\x1a', b'\x1c', b'\x04', b'\x13'):
+    for key in (b'\x03', b'\x1a', b'\x19', b'\x1c', b'\x04', b'\x13'):
         sitting.press(key)
     sitting.press(b'stillhere')
     trial.check(sitting.look_anew(), 'no scene')
@@ -192,6 +193,43 @@ def escape(trial):
     sitting.press(b'\x1b')
     trial.check(sitting.wait(lambda: 25 not in sitting.terminal.modes, 5), 'the caret stays')
     trial.leaves(sitting)
+
+
+# ---- a host that refuses
+
+
+def refusing(trial, call, number):
+    """Words before a program: the host refuses this one of its calls of that name (tests/fail_calls.c)."""
+    library = f'{trial.folder}/calls.so'
+    subprocess.run(['cc', '-shared', '-fPIC', '-o', library, f'{TESTS}/fail_calls.c'], check=True)
+    return ['env', f'FAIL={call}', f'AT={number}', f'LD_PRELOAD={library}']
+
+
+def disk_fails(trial):
+    """Where a write or a sync of the store fails the sitting ends, and says so; what was seen is kept."""
+    for call in ('pwrite', 'fdatasync'):
+        sitting = trial.sit_anew(refusing(trial, call, 60))
+        text = ''.join(trial.chance.choice(LETTERS) for _ in range(100))
+        try:
+            for letter in text:
+                sitting.press(letter.encode())
+                sitting.read(0.02)
+        except Ended:
+            pass
+        trial.check(sitting.end() == 4 and sitting.is_put_back, f'status {sitting.status} after a {call} that fails')
+        said = ''.join(sitting.terminal.lines())
+        trial.check(f'reading or writing "{trial.path}" failed' in said, f'it says {said!r}')
+        trial.kept(text, text_of(shown(sitting.terminal.left)))
+        os.remove(trial.path)
+
+
+def folder_not_synced(trial):
+    """Where the folder of a new store can't be synced that is told, and the store stays."""
+    sitting = trial.begin(*refusing(trial, 'fsync', 0), trial.desk, trial.path, rows=33, columns=80)
+    trial.check(sitting.end() == 4 and sitting.is_put_back, f'status {sitting.status}')
+    said = ''.join(sitting.terminal.lines())
+    trial.check('its folder could not be synced' in said, f'it says {said!r}')
+    trial.check(trial.oberon_says('check', trial.path).startswith('ok'), 'there is no store')
 
 
 # ---- texts
@@ -447,6 +485,20 @@ def resized(trial):
     trial.leaves(sitting)
 
 
+def first_scene(trial):
+    """The first scene has the rows of the window, with the caret among them, also where the terminal doesn't tell how many
+    these are."""
+    trial.store()
+    trial.oberon_says('play', trial.path, lines=['type ' + '%0d' * 25 + 'last'])
+    for rows in (24, 12):
+        sitting = trial.begin(trial.desk, trial.path, rows=rows, columns=80)
+        sitting.answers = False
+        sitting.wait(lambda: sitting.terminal.scenes > 0)
+        lines = sitting.terminal.lines()
+        trial.check(lines[-1] == GREETING and any('last' in line for line in lines[:-1]), f'in {rows} rows: {lines}')
+        trial.leaves(sitting)
+
+
 def too_small(trial):
     for rows, columns in ((11, 80), (33, 79), (0, 0)):
         trial.refused(2, trial.path, rows=rows, columns=columns, says=[f' {columns} and {rows}'] if rows else ())
@@ -652,6 +704,8 @@ TRIALS = {
     'Ctrl-C': control_c,
     'keys after the one that leaves': left_amid,
     'Escape': escape,
+    'a disk that fails': disk_fails,
+    'a folder that is not synced': folder_not_synced,
     'pastes': pasted,
     'signal 9 amid a paste': killed_amid_paste,
     'files of the host': host_file,
@@ -667,6 +721,7 @@ TRIALS = {
     'another size amid a paste': resized_amid_paste,
     'a narrow window': narrow,
     'another size of the window': resized,
+    'a first scene': first_scene,
     'a small window': too_small,
     'no terminal': no_terminal,
     'no file': new_store,

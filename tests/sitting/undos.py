@@ -8,31 +8,69 @@ import sys
 import tempfile
 
 from main import begin, characters
-from model import Model
+from model import COLUMNS, Model
 from presses import FILES, drag, press
 from sitting import MODES, Ended, Sitting, TooSlow
 
 PRESSES = 100
-MOST_AGAIN = 32  # events that can be done again
+MOST_AGAIN = 512  # presses that can be done again
+MOST_DONE = 512  # presses of which it is known what they did
 JOURNAL = 256  # events of a journal
 ROWS = 33  # of the window, which shows the whole display
 KEYS = {'back': 'a character deleted', 'copy': 'a copy', 'paste': 'what was put in', 'cut': 'a cut', 'escape': 'Escape'}
 CLICKS = {'l': 'the caret, or a viewer that was drawn', 'm': 'a command', 'r': 'a selection',
           'lm': 'what was copied to the caret', 'lr': 'a look', 'rl': 'what was deleted', 'rm': 'what was copied',
           'ml': 'a click', 'mr': 'a click'}
+PART = "a part of it, and the rest can't be"
 
 
-def deed(line):
-    """What the event of a line did, in the words of the line below."""
-    word, *rest = line.split(' ', 2)
-    if word == 'type':
+class Deed:
+    """What a press did whose first event is this line."""
+
+    def __init__(self, line):
+        word, *rest = line.split(' ', 2)
+        self.typed, self.cell = None, None
+        if word == 'type':
+            self.typed = self.length(line)
+        elif word == 'key':
+            self.words = KEYS[rest[0]]
+        elif word == 'mark':
+            self.words = 'the marker'
+        else:
+            self.words = CLICKS[rest[0]]
+            if rest[0] == 'm':
+                self.cell = tuple(int(number) for number in rest[1].split(' ')[:2])
+
+    @staticmethod
+    def length(line):
         text = line[len('type '):]
-        return f'{len(text) - 2 * text.count("%")} characters typed'
-    if word == 'key':
-        return KEYS[rest[0]]
-    if word == 'mark':
-        return 'the marker'
-    return CLICKS[rest[0]]
+        return len(text) - 2 * text.count('%')
+
+    def add(self, line):
+        """Its press has an event more."""
+        if self.typed is not None and line.startswith('type '):
+            self.typed += self.length(line)
+
+    def told(self, screen=None):
+        """In the words of the line below. The screen as it was before the press shows the word that it called."""
+        if self.typed is not None:
+            return f'typed {self.typed} character' + ('s' if self.typed != 1 else '')
+        return screen and self.cell and word_at(screen, *self.cell) or self.words
+
+
+def word_at(screen, x, y):
+    """The letters, digits and periods around a cell."""
+    row = screen.rows[-1 - y].ljust(COLUMNS)
+    start, end = x, x
+    while start > 0 and is_in_word(row[start - 1]):
+        start -= 1
+    while end < len(row) and is_in_word(row[end]):
+        end += 1
+    return row[start:end][:48]
+
+
+def is_in_word(character):
+    return character.isascii() and character.isalnum() or character == '.'
 
 
 class History:
@@ -50,22 +88,29 @@ class History:
     def checkpoint(self):
         self.before, self.journal = self.journal, []
 
-    def take_back(self):
-        """The last event; None where there is none."""
-        if not self.journal:
-            self.before, self.journal = [], self.before
-        return self.journal.pop() if self.journal else None
+    def take_back(self, count):
+        """So many of the last events, or all: those of the journal before too, where this one has too few."""
+        whole = self.before + self.journal
+        at = max(0, len(whole) - count)
+        if at < len(self.before):
+            self.before, self.journal = [], self.before[:at]
+        else:
+            self.journal = whole[len(self.before):at]
+        return whole[at:]
 
     def __len__(self):
         return len(self.before) + len(self.journal)
 
 
 class Undoing(Model):
-    """The desktop of the events that stand: where one is taken back, all the others are played to a new store."""
+    """The desktop of the events that stand: where some are taken back, all the others are played to a new store. What the
+    presses did is known as far as they changed something: how many events each has, and its deed. An event that is
+    refused goes with the press before it."""
 
     def __init__(self, oberon, store, window, folder):
         self.base, self.folder, self.count = store, folder, 0
         self.history, self.undone, self.stands = History(['', '', '', '']), [], []
+        self.presses, self.refused, self.joins = [], 0, False
         copy = self.copied()
         super().__init__(oberon, copy, window)
         self.oberon = oberon
@@ -76,6 +121,10 @@ class Undoing(Model):
         shutil.copy(self.base, name)
         return name
 
+    def take(self, meaning):
+        self.joins = False
+        super().take(meaning)
+
     def post(self, line):
         self.undone = []
         return self.posted(line)
@@ -83,47 +132,70 @@ class Undoing(Model):
     def posted(self, line):
         self.history.add(line)
         self.stands.append(line)
-        return super().post(line)
+        done = super().post(line)
+        if not done and not self.presses:
+            self.refused += 1
+        elif not done:
+            self.presses[-1][0] += 1
+        elif self.joins:
+            self.presses[-1][0] += 1
+            self.presses[-1][1].add(line)
+        else:
+            self.presses = [*self.presses, [1, Deed(line)]][-MOST_DONE:]
+            self.joins = True
+        return done
 
     def undo(self):
-        """The last event is taken back, of this sitting."""
-        line = self.history.take_back()
-        if line is None:
+        """The last press is taken back, of this sitting."""
+        lines = self.history.take_back(self.presses[-1][0] if self.presses else self.refused + 1)
+        if not lines:
             self.saying = 'There is nothing to take back.'
             return
-        self.stands.pop()
-        self.undone = (self.undone + [line])[-MOST_AGAIN:]
+        self.stands = self.stands[:-len(lines)]
+        deed = self.deed_of(lines)
+        self.undone = [*self.undone, (lines, deed)][-MOST_AGAIN:]
         self.end()
         self.play = subprocess.Popen([self.oberon, 'play', self.copied()], stdin=subprocess.PIPE, stdout=subprocess.PIPE)
-        lines = ''.join(line + '\n' for line in self.stands)
-        self.play.stdin.write(lines.encode())
-        self.play.stdin.flush()
-        for _ in self.stands:
-            self.play.stdout.readline()
+        for line in self.stands:
+            self.ask(line)
         self.follows = True
-        self.saying = 'took back: ' + deed(line)
+        self.saying = 'took back: ' + (deed.told(self.screen()) if deed else PART)
+
+    def deed_of(self, lines):
+        """What these events did, which were taken back; None where they are a part of a press."""
+        if not self.presses:
+            self.refused = max(0, self.refused - len(lines))
+            return Deed(lines[0])
+        press = self.presses[-1]
+        if press[0] > len(lines):
+            press[0] -= len(lines)
+            return None
+        self.presses.pop()
+        return press[1]
 
     def redo(self):
         if not self.undone:
             self.saying = 'There is nothing to do again.'
             return
-        line = self.undone.pop()
-        self.posted(line)
-        self.saying = 'did again: ' + deed(line)
+        lines, deed = self.undone.pop()
+        self.joins = False
+        for line in lines:
+            self.posted(line)
+        self.saying = 'did again: ' + (deed.told() if deed else PART)
 
 
 def presses_of(chance, model):
     """One press, or a run of Ctrl-Z or Ctrl-Y. Of these the bytes come alone."""
     kind = chance.randrange(12)
     if kind < 2:
-        for _ in range(min(chance.choice([1, 1, 2, 3, 5, 12, 40]), len(model.stands))):
+        for _ in range(min(chance.choice([1, 1, 2, 3, 5, 12, 40]), len(model.presses))):
             yield b'\x1a', model.undo
     elif kind == 2:
         for _ in range(chance.choice([1, 1, 2, 3, 40])):
             yield b'\x19', model.redo
     else:
-        data, meanings = press(chance, ROWS, False)
-        if any(meaning[0] in ('file', 'fit') for meaning in meanings):
+        data, meanings = press(chance, ROWS, True)
+        if any(meaning[0] == 'fit' for meaning in meanings):
             return
         yield data, lambda: [model.take(meaning) for meaning in meanings]
 
@@ -265,9 +337,8 @@ def plays(seed, desk, oberon, folder, tool):
         if count:
             subprocess.run([desk, 'earlier', theirs, str(count), copy], check=True, stdout=subprocess.DEVNULL)
             os.replace(copy, theirs)
-            for _ in range(count):
-                history.take_back()
-                stands.pop()
+            history.take_back(count)
+            stands = stands[:-count]
     played(oberon, ours, stands)
     looks = ['screen', 'list', *(f'show {name}.Text' for name in 'ABC'), 'show System.Tool']
     if played(oberon, theirs, looks) != played(oberon, ours, looks):

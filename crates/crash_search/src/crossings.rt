@@ -6,7 +6,7 @@ use crate::stores::spoiled;
 use crate::trial::Trial;
 use sector_disk::MemoryDisk;
 use std::alloc::{AllocError, Global};
-use store_layout::body;
+use store_layout::{SLOTS, body};
 
 /// A store that has passed a checkpoint.
 #[derive(Drop)]
@@ -52,7 +52,7 @@ pub fn no_crossing(
     passed: &Passed,
     name: &'static str,
 ) -> Result<(), AllocError> {
-    let bad = spoiled(alloc, &passed.disk, body(passed.slot, 0))?;
+    let bad = spoiled(alloc, &passed.disk, body(passed.slot % SLOTS, 0))?;
     let left = after_call(alloc, &bad, &Call::Undo(passed.events))?;
     let call = Call::Undo(passed.events.saturating_add(1));
     let trial = Trial::toward(alloc, name, &bad, call, passed.is_long, left)?;

@@ -37,6 +37,7 @@ fn export<'a>(alloc: Global) -> Result<Command<'a>, AllocError> {
         .arg(listed(alloc, "names"))?
         .arg(Arg::new(alloc, "all").long("all").action(ArgAction::Set))?
         .arg(flag(alloc, "join"))?
+        .arg(flag(alloc, "looks"))?
         .arg(flag(alloc, "replace"))
 }
 

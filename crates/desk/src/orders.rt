@@ -56,6 +56,8 @@ pub struct Export<'a> {
     pub replace: bool,
     /// Whether each line that ends with a blank is to be joined to the next.
     pub join: bool,
+    /// Whether they are to be HTML, with the looks of all characters.
+    pub looks: bool,
 }
 
 /// Documents on their way in.
@@ -160,7 +162,7 @@ fn width_of(word: Option<&str>) -> Option<Option<u8>> {
 /// The order of an export.
 fn exporting<'a>(alloc: Global, given: &ArgMatches<'a>) -> Result<Option<Order<'a>>, AllocError> {
     let all = given.get_str("all");
-    if given.contains_id("names") == all.is_some() {
+    if given.contains_id("names") == all.is_some() || has_looks_in_vain(given) {
         return Ok(None);
     }
     let Some(path) = given.get_str("path") else {
@@ -172,7 +174,15 @@ fn exporting<'a>(alloc: Global, given: &ArgMatches<'a>) -> Result<Option<Order<'
         all,
         replace: given.get_flag("replace"),
         join: given.get_flag("join"),
+        looks: given.get_flag("looks"),
     })))
+}
+
+/// Whether looks are asked for together with what they don't go with: joined lines, or several documents as one page.
+fn has_looks_in_vain(given: &ArgMatches<'_>) -> bool {
+    let is_joined = given.get_flag("join");
+    let are_several = given.get_strs("names").is_some_and(|names| names.len() > 1);
+    given.get_flag("looks") && (is_joined || are_several)
 }
 
 /// The words of an argument that takes a list of them.

@@ -41,7 +41,7 @@ fn decline(rt: &HostRuntime, refusal: Refusal) -> u8 {
         Refusal::Memory => Trouble::Memory.say(rt, ""),
         Refusal::Usage => {
             let _ = eprintln!(rt;
-                "desk: usage: sit [--unproved] ROWS [PATH] | picture PATH | import PATH FILE.. | export PATH NAME.. | list PATH | backup PATH COPY | check PATH | history PATH | earlier PATH K COPY, in UTF-8"
+                "desk: usage: sit [--unproved] ROWS [PATH] | picture PATH | import PATH FILE.. | export PATH NAME.. | export --looks PATH NAME | list PATH | backup PATH COPY | check PATH | history PATH | earlier PATH K COPY, in UTF-8"
             );
             2
         }
@@ -83,17 +83,14 @@ fn follow_over_documents(rt: &HostRuntime, order: &Order<'_>) -> u8 {
 
 /// Puts documents out.
 fn put_out(rt: &HostRuntime, order: &Export<'_>) -> Result<(), Stop> {
+    let putting = Putting {
+        replace: order.replace,
+        is_joined: order.join,
+        looks: order.looks,
+    };
     match order.all {
-        None => export_names(rt, order.path, order.names.as_slice(), order.join),
-        Some(folder) => export_all(
-            rt,
-            order.path,
-            folder,
-            Putting {
-                replace: order.replace,
-                is_joined: order.join,
-            },
-        ),
+        None => export_names(rt, order.path, order.names.as_slice(), putting),
+        Some(folder) => export_all(rt, order.path, folder, putting),
     }
 }
 

@@ -2,6 +2,7 @@
 ghost use Rattle.std.specs.Prelude.{◌≡◌, false};
 
 use crate::endings::{kept, lost};
+use byte_streams::CountedWriter;
 use desk_journal::Store;
 use desk_sitting::{Saying, SittingEnd, serve};
 use desk_stores::{NewFile, Trouble, in_memory, make, new_file, opened_locked};
@@ -66,7 +67,7 @@ fn sit<D: Disk + Drop>(rt: &HostRuntime, rows: u16, store: Store<D>, greeting: S
     serve(
         rt.alloc(),
         &mut keyboard,
-        &mut rt.stdout(),
+        &mut CountedWriter::new(rt.stdout()),
         &mut store,
         rows,
         greeting,

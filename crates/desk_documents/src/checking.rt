@@ -1,6 +1,7 @@
 //! How a store is.
 
 use crate::sentences::Stop;
+use crate::stores::{LockedDisk, LockedStore};
 use desk_journal::{Error, Info};
 use desk_stores::{Trouble, looked_at};
 use desktop_definitions::MOST_WRITTEN;
@@ -18,20 +19,31 @@ const WHOLE: u64 = FILE_SECTORS as u64 * SECTOR_BYTES as u64;
 /// file is locked beside other programs that look, and nothing is written.
 pub fn check(rt: &HostRuntime, path: &str) -> Result<(), Stop> {
     let mut disk = FileDisk::new(looked_at(rt, path)?);
+    let length = look(rt, path, &mut disk)?;
+    match opened(rt, disk) {
+        Ok(store) => tell_store(rt, &store, length),
+        Err(error) => Err(cannot_open(rt, error)),
+    }
+}
+
+/// Tells what stands in the file, and returns its length.
+fn look(rt: &HostRuntime, path: &str, disk: &mut LockedDisk) -> Result<u64, Stop> {
     let Ok(length) = length_of(rt, path) else {
         return Err(faulty());
     };
-    let Ok(found) = examine(&mut disk) else {
+    let Ok(found) = examine(disk) else {
         return Err(faulty());
     };
     printed(tell_file(rt, length, &found))?;
-    if !found.labelled {
-        return Err(Stop::Trouble(Trouble::Store(Error::NotAStore)));
+    if found.labelled {
+        Ok(length)
+    } else {
+        Err(Stop::Trouble(Trouble::Store(Error::NotAStore)))
     }
-    let store = match opened(rt, disk) {
-        Ok(store) => store,
-        Err(error) => return Err(cannot_open(rt, error)),
-    };
+}
+
+/// Tells what an opening finds in a file of this length.
+fn tell_store(rt: &HostRuntime, store: &LockedStore, length: u64) -> Result<(), Stop> {
     let info = store.info()?;
     printed(tell_info(rt, &info))?;
     if length < WHOLE {

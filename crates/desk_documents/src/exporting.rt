@@ -1,43 +1,87 @@
 //! Documents on their way out.
 
+use crate::progress::Progress;
 use crate::sentences::{HOST, REFUSED, Stop, cut_off, refused_folder, word_of};
-use desk_journal::Store;
-use desk_stores::{Trouble, looked_at, opened_locked};
+use crate::stores::{LockedStore, store_at};
+use desk_stores::Trouble;
 use desktop_definitions::Entry;
 use event_bytes::Name;
 use host_files::{
-    LockedFile, is_there, make_file, make_folder, remove, rename_new, rename_over, sync_file,
-    sync_folder,
+    is_there, make_file, make_folder, remove, rename_new, rename_over, sync_file, sync_folder,
 };
-use host_stores::FileDisk;
+use std::alloc::{AllocError, Global};
+use std::fs::File;
 use std::io::IsTerminal;
 use store_documents::{Form, Reader, export};
 
-/// Prints documents of the store in a file one after another, with LF at the end of each line. The file is locked beside
-/// other programs that look. Nothing is printed where there is no document of one of the names.
+/// How documents come out.
+#[derive(Clone, Copy, Debug, PartialEq, Eq)]
+pub struct Putting {
+    /// Files that are there may be replaced.
+    pub replace: bool,
+    /// Each line that ends with a blank is joined to the next.
+    pub is_joined: bool,
+    /// They are HTML, in which each character has its look.
+    pub looks: bool,
+}
+
+impl Putting {
+    /// The form in which a reader gets a document who is no browser.
+    fn form_for(self, reader: Reader) -> Form {
+        Form {
+            reader: if self.looks { Reader::Browser } else { reader },
+            is_joined: self.is_joined,
+        }
+    }
+
+    /// What the name of a file has behind that of its document.
+    fn ending(self) -> &'static str {
+        if self.looks { ".html" } else { "" }
+    }
+}
+
+/// Prints documents of the store in a file one after another, with LF at the end of each line, or as HTML. The file is
+/// locked beside other programs that look. Nothing is printed where there is no document of one of the names.
 pub fn export_names(
     rt: &HostRuntime,
     path: &str,
     words: &[&str],
-    is_joined: bool,
+    putting: Putting,
 ) -> Result<(), Stop> {
-    let mut names = Vec::new(rt.alloc());
+    let names = names_for(rt.alloc(), words)?;
+    let mut store = store_at(rt, path)?;
+    print_all(rt, path, &mut store, names.as_slice(), putting)
+}
+
+/// The names that words are.
+fn names_for(alloc: Global, words: &[&str]) -> Result<Vec<Name>, Stop> {
+    let mut names = Vec::new(alloc);
     for word in words {
         match Name::new(word.as_bytes()) {
             Some(name) => names.push(name)?,
             None => return Err(Stop::Trouble(Trouble::Name)),
         }
     }
-    let mut store = opened_locked(rt, looked_at(rt, path)?)?;
-    for name in &names {
+    Ok(names)
+}
+
+/// Prints the documents of these names, if the store has them all.
+fn print_all(
+    rt: &HostRuntime,
+    path: &str,
+    store: &mut LockedStore,
+    names: &[Name],
+    putting: Putting,
+) -> Result<(), Stop> {
+    for name in names {
         if store.file(rt.alloc(), name)?.is_none() {
             return Err(no_document(rt, path, name));
         }
     }
-    for name in &names {
-        print(rt, path, &mut store, name, is_joined)?;
-    }
-    Ok(())
+    let mut progress = Progress::beside(rt, "documents printed");
+    let done = print_each(rt, path, store, names, putting, &mut progress);
+    progress.end();
+    done
 }
 
 /// Says that there is no document of that name.
@@ -47,13 +91,31 @@ fn no_document(rt: &HostRuntime, path: &str, name: &Name) -> Stop {
     REFUSED
 }
 
+/// Prints documents one after another.
+fn print_each(
+    rt: &HostRuntime,
+    path: &str,
+    store: &mut LockedStore,
+    names: &[Name],
+    putting: Putting,
+    progress: &mut Progress<'_>,
+) -> Result<(), Stop> {
+    let mut count = 0usize;
+    for name in names {
+        print(rt, path, store, name, putting)?;
+        count = count.saturating_add(1);
+        progress.tell(count);
+    }
+    Ok(())
+}
+
 /// Prints a document.
 fn print(
     rt: &HostRuntime,
     path: &str,
-    store: &mut Store<FileDisk<LockedFile>>,
+    store: &mut LockedStore,
     name: &Name,
-    is_joined: bool,
+    putting: Putting,
 ) -> Result<(), Stop> {
     let mut output = rt.stdout();
     let reader = if output.is_terminal() {
@@ -61,54 +123,54 @@ fn print(
     } else {
         Reader::Program
     };
-    let form = Form { reader, is_joined };
-    match export(rt.alloc(), store, name, form, &mut output) {
+    match export(
+        rt.alloc(),
+        store,
+        name,
+        putting.form_for(reader),
+        &mut output,
+    ) {
         Ok(true) => Ok(()),
         Ok(false) => Err(no_document(rt, path, name)),
         Err(fault) => Err(cut_off(fault)),
     }
 }
 
-/// How documents become files.
-#[derive(Clone, Copy, Debug, PartialEq, Eq)]
-pub struct Putting {
-    /// Files that are there may be replaced.
-    pub replace: bool,
-    /// Each line that ends with a blank is joined to the next.
-    pub is_joined: bool,
-}
-
 /// Makes each document of the store in a file a file in a folder, which is made where there is none, and tells each on a
 /// line. A file that is there is replaced only if that is asked for: otherwise it is named, and nothing is done. Each
-/// file is written under another name first, and is durable when it gets its own.
+/// file is written under another name first, and is durable when it gets its own. It has the name of its document, with
+/// `.html` behind it if it is HTML.
 pub fn export_all(
     rt: &HostRuntime,
     path: &str,
     folder: &str,
     putting: Putting,
 ) -> Result<(), Stop> {
-    let mut store = opened_locked(rt, looked_at(rt, path)?)?;
-    let names = names_of(rt, &mut store)?;
-    let folder = folder.trim_end_matches('/');
-    if let Err(fault) = make_folder(rt, folder) {
-        return Err(refused_folder(rt, folder, fault));
-    }
-    if !putting.replace {
-        refuse_files(rt, folder, &names)?;
-    }
-    for name in &names {
-        put_out(rt, &mut store, folder, name, putting)?;
-    }
-    match names.first() {
-        Some(name) => settle(rt, folder, name),
-        None => Ok(()),
-    }
+    let mut store = store_at(rt, path)?;
+    put_all(rt, &mut store, folder.trim_end_matches('/'), putting)
+}
+
+/// The same with a store.
+fn put_all(
+    rt: &HostRuntime,
+    store: &mut LockedStore,
+    folder: &str,
+    putting: Putting,
+) -> Result<(), Stop> {
+    let names = names_of(rt, store)?;
+    put_names(rt, store, folder, names.as_slice(), putting)
 }
 
 /// The names of the documents of a store.
-fn names_of(rt: &HostRuntime, store: &mut Store<FileDisk<LockedFile>>) -> Result<Vec<Name>, Stop> {
-    let mut names = Vec::new(rt.alloc());
-    for entry in &store.list(rt.alloc())? {
+fn names_of(rt: &HostRuntime, store: &mut LockedStore) -> Result<Vec<Name>, Stop> {
+    let entries = store.list(rt.alloc())?;
+    Ok(names_in(rt.alloc(), entries.as_slice())?)
+}
+
+/// The names of the documents of a list.
+fn names_in(alloc: Global, entries: &[Entry]) -> Result<Vec<Name>, AllocError> {
+    let mut names = Vec::new(alloc);
+    for entry in entries {
         if let Entry::File { name, len: _ } = entry {
             names.push(name.clone()?)?;
         }
@@ -116,76 +178,168 @@ fn names_of(rt: &HostRuntime, store: &mut Store<FileDisk<LockedFile>>) -> Result
     Ok(names)
 }
 
+/// Makes documents of these names files in a folder.
+fn put_names(
+    rt: &HostRuntime,
+    store: &mut LockedStore,
+    folder: &str,
+    names: &[Name],
+    putting: Putting,
+) -> Result<(), Stop> {
+    if let Err(fault) = make_folder(rt, folder) {
+        return Err(refused_folder(rt, folder, fault));
+    }
+    if !putting.replace {
+        refuse_files(rt, folder, names, putting)?;
+    }
+    let mut progress = Progress::beside(rt, "documents made files");
+    let done = put_each(rt, store, folder, names, putting, &mut progress);
+    progress.end();
+    done?;
+    match names.first() {
+        Some(name) => settle(rt, folder, name, putting),
+        None => Ok(()),
+    }
+}
+
 /// Says which files of a folder would be replaced by documents of these names.
-fn refuse_files(rt: &HostRuntime, folder: &str, names: &[Name]) -> Result<(), Stop> {
+fn refuse_files(
+    rt: &HostRuntime,
+    folder: &str,
+    names: &[Name],
+    putting: Putting,
+) -> Result<(), Stop> {
     let mut some = false;
     for name in names {
-        let name = word_of(name);
-        let file = format!(in rt.alloc(); "{folder}/{name}")?;
-        if !matches!(is_there(rt, file.as_str()), Ok(false)) {
-            let _ = eprintln!(rt;
-                "desk: there is a file {file:?} already, so nothing was done; --replace replaces it"
-            );
+        if is_in_the_way(rt, folder, name, putting)? {
             some = true;
         }
     }
     if some { Err(REFUSED) } else { Ok(()) }
 }
 
+/// Whether there is something already where a document is to be a file, which is said.
+fn is_in_the_way(
+    rt: &HostRuntime,
+    folder: &str,
+    name: &Name,
+    putting: Putting,
+) -> Result<bool, Stop> {
+    let word = word_of(name);
+    let ending = putting.ending();
+    let file = format!(in rt.alloc(); "{folder}/{word}{ending}")?;
+    let file = file.as_str();
+    if matches!(is_there(rt, file), Ok(false)) {
+        return Ok(false);
+    }
+    let _ = eprintln!(rt;
+        "desk: there is a file {file:?} already, so nothing was done; --replace replaces it"
+    );
+    Ok(true)
+}
+
+/// Makes documents files in a folder, one after another.
+fn put_each(
+    rt: &HostRuntime,
+    store: &mut LockedStore,
+    folder: &str,
+    names: &[Name],
+    putting: Putting,
+    progress: &mut Progress<'_>,
+) -> Result<(), Stop> {
+    let mut count = 0usize;
+    for name in names {
+        put_out(rt, store, folder, name, putting)?;
+        count = count.saturating_add(1);
+        progress.tell(count);
+    }
+    Ok(())
+}
+
 /// Makes a document a file in a folder, and tells it.
 fn put_out(
     rt: &HostRuntime,
-    store: &mut Store<FileDisk<LockedFile>>,
+    store: &mut LockedStore,
     folder: &str,
     name: &Name,
     putting: Putting,
 ) -> Result<(), Stop> {
     let word = word_of(name);
+    let ending = putting.ending();
+    let file = format!(in rt.alloc(); "{folder}/{word}{ending}")?;
     let aside = format!(in rt.alloc(); "{folder}/.{word}.desk")?;
-    let file = format!(in rt.alloc(); "{folder}/{word}")?;
-    let done = write_aside(rt, store, name, aside.as_str(), putting.is_joined);
-    if let Err(stop) = done {
-        return Err(stop);
-    }
-    let named = if putting.replace {
-        rename_over(rt, aside.as_str(), file.as_str())
-    } else {
-        rename_new(rt, aside.as_str(), file.as_str())
-    };
-    if named.is_err() {
-        let _ = remove(rt, aside.as_str());
-        return Err(not_made(rt, file.as_str()));
-    }
+    put_by(rt, store, name, aside.as_str(), file.as_str(), putting)
+}
+
+/// The same by a file under another name.
+fn put_by(
+    rt: &HostRuntime,
+    store: &mut LockedStore,
+    name: &Name,
+    aside: &str,
+    file: &str,
+    putting: Putting,
+) -> Result<(), Stop> {
+    write_aside(rt, store, name, aside, putting)?;
+    give_name(rt, aside, file, putting.replace)?;
     match println!(rt; "{file}") {
         Ok(()) => Ok(()),
         Err(_) => Err(Stop::Trouble(Trouble::Output)),
     }
 }
 
+/// Gives a file its name. Where that fails it is gone.
+fn give_name(rt: &HostRuntime, aside: &str, file: &str, replace: bool) -> Result<(), Stop> {
+    let named = if replace {
+        rename_over(rt, aside, file)
+    } else {
+        rename_new(rt, aside, file)
+    };
+    if named.is_err() {
+        let _ = remove(rt, aside);
+        return Err(not_made(rt, file));
+    }
+    Ok(())
+}
+
 /// Writes a document into a new file, and waits until it is there for good. Where that fails there is no such file.
 fn write_aside(
     rt: &HostRuntime,
-    store: &mut Store<FileDisk<LockedFile>>,
+    store: &mut LockedStore,
     name: &Name,
     aside: &str,
-    is_joined: bool,
+    putting: Putting,
 ) -> Result<(), Stop> {
-    let form = Form {
-        reader: Reader::Program,
-        is_joined,
-    };
     let Ok(mut file) = make_file(rt, aside) else {
         return Err(not_made(rt, aside));
     };
-    let done = match export(rt.alloc(), store, name, form, &mut file) {
-        Ok(_) if sync_file(&file).is_ok() => Ok(()),
-        Ok(_) => Err(not_made(rt, aside)),
-        Err(fault) => Err(cut_off(fault)),
-    };
+    let done = write_into(rt, store, name, &mut file, aside, putting);
     if done.is_err() {
         let _ = remove(rt, aside);
     }
     done
+}
+
+/// Writes a document into a file of this name, and waits until it is there for good.
+fn write_into(
+    rt: &HostRuntime,
+    store: &mut LockedStore,
+    name: &Name,
+    file: &mut File,
+    aside: &str,
+    putting: Putting,
+) -> Result<(), Stop> {
+    match export(
+        rt.alloc(),
+        store,
+        name,
+        putting.form_for(Reader::Program),
+        file,
+    ) {
+        Ok(_) if sync_file(&*file).is_ok() => Ok(()),
+        Ok(_) => Err(not_made(rt, aside)),
+        Err(fault) => Err(cut_off(fault)),
+    }
 }
 
 /// Says that a file could not be made.
@@ -196,15 +350,16 @@ fn not_made(rt: &HostRuntime, file: &str) -> Stop {
     HOST
 }
 
-/// Waits until the folder knows its new files, of which one has this name.
-fn settle(rt: &HostRuntime, folder: &str, name: &Name) -> Result<(), Stop> {
+/// Waits until the folder knows its new files, of which one is that of a document of this name.
+fn settle(rt: &HostRuntime, folder: &str, name: &Name, putting: Putting) -> Result<(), Stop> {
     let word = word_of(name);
-    let file = format!(in rt.alloc(); "{folder}/{word}")?;
-    if sync_folder(rt, file.as_str()).is_err() {
-        let _ = eprintln!(rt;
-            "desk: the folder {folder:?} could not be synced, so a power failure may take files away"
-        );
-        return Err(HOST);
+    let ending = putting.ending();
+    let file = format!(in rt.alloc(); "{folder}/{word}{ending}")?;
+    if sync_folder(rt, file.as_str()).is_ok() {
+        return Ok(());
     }
-    Ok(())
+    let _ = eprintln!(rt;
+        "desk: the folder {folder:?} could not be synced, so a power failure may take files away"
+    );
+    Err(HOST)
 }

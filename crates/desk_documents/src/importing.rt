@@ -1,14 +1,15 @@
 //! Documents on their way in: all that an order names come together, or none.
 
 use crate::collecting::collect;
+use crate::progress::Progress;
 use crate::sentences::{REFUSED, Stop, word_of};
 use crate::sources::{Sources, sources_of};
+use crate::stores::store_alone;
 use bstr::decode_utf8;
 use desk_journal::{Document, Error, Store};
-use desk_stores::{Trouble, looked_at, opened_locked};
+use desk_stores::{Trouble, looked_at};
 use desktop_definitions::codes::TOO_MANY_FILES;
 use desktop_definitions::{MOST_FILES, MOST_HELD, MOST_WRITTEN, Reply};
-use host_files::lock_alone;
 use host_stores::{FileDisk, opened as opened_on};
 use sector_disk::{Disk, FILE_SECTORS, MemoryDisk};
 use std::io;
@@ -38,15 +39,29 @@ pub struct Manner {
 /// Makes documents of files of the host's in the store in a file, which is locked for this program alone, and tells each
 /// of them on a line. All are durable when this has returned, or none has come.
 pub fn import(rt: &HostRuntime, path: &str, words: &[&str], manner: Manner) -> Result<(), Stop> {
-    let sources = sources_of(rt, words, manner.ascii)?;
-    let documents = documents_in(rt, &sources, manner.fill)?;
+    let documents = documents_for(rt, words, manner)?;
     if manner.dry_run {
-        return try_out(rt, path, documents, manner);
+        try_out(rt, path, documents, manner)
+    } else {
+        bring_alone(rt, path, documents, manner)
     }
-    match lock_alone(rt, path) {
-        Ok(file) => bring_into(rt, opened_locked(rt, file)?, path, documents, manner),
-        Err(fault) => Err(Stop::Trouble(Trouble::Host(fault))),
-    }
+}
+
+/// The documents that the words mean.
+fn documents_for(rt: &HostRuntime, words: &[&str], manner: Manner) -> Result<Vec<Document>, Stop> {
+    let sources = sources_of(rt, words, manner.ascii)?;
+    documents_in(rt, &sources, manner.fill)
+}
+
+/// Brings documents into the store in a file.
+fn bring_alone(
+    rt: &HostRuntime,
+    path: &str,
+    documents: Vec<Document>,
+    manner: Manner,
+) -> Result<(), Stop> {
+    let mut store = store_alone(rt, path)?;
+    bring_into(rt, &mut store, path, documents, manner)
 }
 
 /// Tells what would come, by an import into a copy of the store in memory.
@@ -56,41 +71,92 @@ fn try_out(
     documents: Vec<Document>,
     manner: Manner,
 ) -> Result<(), Stop> {
+    let mut store = store_in_memory(rt, path)?;
+    bring_into(rt, &mut store, path, documents, manner)
+}
+
+/// A copy of the store in a file, in memory.
+fn store_in_memory(rt: &HostRuntime, path: &str) -> Result<Store<MemoryDisk>, Stop> {
+    Ok(opened_on(rt, disk_in_memory(rt, path)?)?)
+}
+
+/// A copy of the disk in a file.
+fn disk_in_memory(rt: &HostRuntime, path: &str) -> Result<MemoryDisk, Stop> {
     let mut file = FileDisk::new(looked_at(rt, path)?);
     let mut memory = MemoryDisk::new(rt.alloc(), FILE_SECTORS)?;
-    if copy(&mut file, &mut memory, FILE_SECTORS).is_err() {
-        return Err(Stop::Trouble(Trouble::Store(Error::Fault)));
+    let mut progress = Progress::new(rt, "of 15621 sectors read");
+    let done = copy(&mut file, &mut memory, FILE_SECTORS, &mut progress);
+    progress.end();
+    match done {
+        Ok(()) => Ok(memory),
+        Err(_) => Err(Stop::Trouble(Trouble::Store(Error::Fault))),
     }
-    bring_into(rt, opened_on(rt, memory)?, path, documents, manner)
 }
 
 /// Brings documents into a store and tells them. Where the count of written characters alone is in the way, and the
 /// person asks for it, that is brought down first.
-fn bring_into<D: Disk + Drop>(
+fn bring_into<D: Disk>(
     rt: &HostRuntime,
-    store: Store<D>,
+    store: &mut Store<D>,
     path: &str,
     documents: Vec<Document>,
     manner: Manner,
 ) -> Result<(), Stop> {
-    let mut store = store;
-    match bring_in(rt.alloc(), &mut store, documents, manner.replace)? {
+    match bring_in(rt.alloc(), store, documents, manner.replace)? {
         Imported::Kept(others) => Err(refused_others(rt, path, others.as_slice())),
-        Imported::Told(Reply::Done, coming) => told(tell(rt, &coming)),
-        Imported::Told(Reply::No(TOO_MANY_FILES), _) => Err(refused_number(rt, path)),
-        Imported::Told(Reply::No(_), coming) => {
-            let written = store.info()?.written;
-            if manner.collect && is_worn(written, coming.documents.as_slice()) {
-                collect(rt, &mut store)?;
-                return bring_again(rt, &mut store, path, coming);
-            }
-            Err(refused_length(rt, path, written, coming.documents.as_slice()))
-        }
+        Imported::Told(reply, coming) => answer(rt, store, path, reply, coming, manner),
     }
 }
 
+/// Tells what a store's reply comes to.
+fn answer<D: Disk>(
+    rt: &HostRuntime,
+    store: &mut Store<D>,
+    path: &str,
+    reply: Reply,
+    coming: Coming,
+    manner: Manner,
+) -> Result<(), Stop> {
+    match reply {
+        Reply::Done => tell(rt, &coming, coming.same.as_slice()),
+        Reply::No(TOO_MANY_FILES) => Err(refused_number(rt, path)),
+        Reply::No(_) => bring_behind(rt, store, path, coming, manner),
+    }
+}
+
+/// Where the documents would pass a limit on characters, brings them in behind a System.Collect, if that makes room and
+/// the person asks for it.
+fn bring_behind<D: Disk>(
+    rt: &HostRuntime,
+    store: &mut Store<D>,
+    path: &str,
+    coming: Coming,
+    manner: Manner,
+) -> Result<(), Stop> {
+    let room = make_room(rt, store, path, coming.documents.as_slice(), manner);
+    match room {
+        Ok(()) => bring_again(rt, store, path, coming),
+        Err(stop) => Err(stop),
+    }
+}
+
+/// Has System.Collect done, if that makes the room that documents want and the person asks for it.
+fn make_room<D: Disk>(
+    rt: &HostRuntime,
+    store: &mut Store<D>,
+    path: &str,
+    documents: &[Document],
+    manner: Manner,
+) -> Result<(), Stop> {
+    let written = store.info()?.written;
+    if manner.collect && is_worn(written, documents) {
+        return collect(rt, store);
+    }
+    Err(refused_length(rt, path, written, documents))
+}
+
 /// Brings documents into a store behind a System.Collect.
-fn bring_again<D: Disk + Drop>(
+fn bring_again<D: Disk>(
     rt: &HostRuntime,
     store: &mut Store<D>,
     path: &str,
@@ -102,42 +168,52 @@ fn bring_again<D: Disk + Drop>(
         same,
     } = coming;
     match bring_in(rt.alloc(), store, documents, true)? {
-        Imported::Told(Reply::Done, mut coming) => {
-            coming.same = same;
-            told(tell(rt, &coming))
-        }
-        Imported::Told(Reply::No(_), coming) => Err(refused_length(
-            rt,
-            path,
-            store.info()?.written,
-            coming.documents.as_slice(),
-        )),
         Imported::Kept(others) => Err(refused_others(rt, path, others.as_slice())),
+        Imported::Told(reply, again) => {
+            answer_again(rt, store, path, reply, &again, same.as_slice())
+        }
     }
 }
 
-/// Where the output fails, the documents are there all the same.
-fn told(lines: io::Result<()>) -> Result<(), Stop> {
-    match lines {
+/// Tells what a store's reply comes to behind a System.Collect.
+fn answer_again<D: Disk>(
+    rt: &HostRuntime,
+    store: &mut Store<D>,
+    path: &str,
+    reply: Reply,
+    coming: &Coming,
+    same: &[Document],
+) -> Result<(), Stop> {
+    match reply {
+        Reply::Done => tell(rt, coming, same),
+        Reply::No(_) => {
+            let written = store.info()?.written;
+            Err(refused_length(rt, path, written, coming.documents.as_slice()))
+        }
+    }
+}
+
+/// Tells each document that came on a line, and those that were the same already. Where the output fails, the documents
+/// are there all the same.
+fn tell(rt: &HostRuntime, coming: &Coming, same: &[Document]) -> Result<(), Stop> {
+    match tell_each(rt, coming.documents.as_slice(), coming.fresh, same) {
         Ok(()) => Ok(()),
         Err(_) => Err(Stop::Trouble(Trouble::Output)),
     }
 }
 
-/// Tells each document on a line.
-fn tell(rt: &HostRuntime, coming: &Coming) -> io::Result<()> {
-    for (index, document) in coming.documents.iter().enumerate() {
-        tell_one(
-            rt,
-            document,
-            if index < coming.fresh {
-                "new"
-            } else {
-                "replaced"
-            },
-        )?;
+/// Tells documents on lines: so many that are new, those that replace another one, and those that were there.
+fn tell_each(
+    rt: &HostRuntime,
+    documents: &[Document],
+    fresh: usize,
+    same: &[Document],
+) -> io::Result<()> {
+    for (index, document) in documents.iter().enumerate() {
+        let what = if index < fresh { "new" } else { "replaced" };
+        tell_one(rt, document, what)?;
     }
-    for document in &coming.same {
+    for document in same {
         tell_one(rt, document, "the same already")?;
     }
     Ok(())
@@ -198,20 +274,29 @@ fn documents_in(
     sources: &Sources,
     fill: Option<usize>,
 ) -> Result<Vec<Document>, Stop> {
-    let documents = match documents_of(rt.alloc(), sources.handed.as_slice(), fill) {
-        Ok(documents) => documents,
-        Err(first) => return Err(refused_unfit(rt, sources, first)),
-    };
-    if let Some(index) = named_before(documents.as_slice()) {
-        if let Some(document) = documents.get(index) {
-            let name = word_of(document.name());
-            let _ = eprintln!(rt;
-                "desk: two of the files are to be the document {name}, so nothing was done"
-            );
-        }
-        return Err(REFUSED);
+    match documents_of(rt.alloc(), sources.handed.as_slice(), fill) {
+        Ok(documents) => named_once(rt, documents),
+        Err(first) => Err(refused_unfit(rt, sources, first)),
     }
-    Ok(documents)
+}
+
+/// The documents, if no two of them have one name.
+fn named_once(rt: &HostRuntime, documents: Vec<Document>) -> Result<Vec<Document>, Stop> {
+    match named_before(documents.as_slice()) {
+        None => Ok(documents),
+        Some(index) => Err(refused_twice(rt, documents.get(index))),
+    }
+}
+
+/// Says which document there would be twice.
+fn refused_twice(rt: &HostRuntime, document: Option<&Document>) -> Stop {
+    if let Some(document) = document {
+        let name = word_of(document.name());
+        let _ = eprintln!(rt;
+            "desk: two of the files are to be the document {name}, so nothing was done"
+        );
+    }
+    REFUSED
 }
 
 /// Says which file is no document, and why.

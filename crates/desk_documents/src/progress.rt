@@ -2,52 +2,76 @@
 
 use std::io::IsTerminal;
 use std::time::Instant;
+use store_documents::Watch;
 
-/// For how many seconds nothing is told.
-const QUIET_SECONDS: u64 = 1;
-
-/// How far a call has come. It is told on standard error, if that is a terminal, from the moment when a second has passed.
+/// How far a call has come. It is told on standard error, if that is a terminal, once in each second but the first.
 #[derive(Drop)]
-pub(crate) struct Progress {
+pub(crate) struct Progress<'a> {
+    rt: &'a HostRuntime,
+    /// What is counted.
+    what: &'static str,
     /// When the call began. None where nothing is to be told.
     begin: Option<Instant>,
-    /// Whether something was told.
-    told: bool,
+    /// In which second something was told. 0 where nothing was.
+    told: u64,
 }
 
-impl Progress {
-    /// The beginning of a call.
-    pub(crate) fn new(rt: &HostRuntime) -> Progress {
+impl<'a> Progress<'a> {
+    /// The beginning of a call that prints nothing before its end.
+    pub(crate) fn new(rt: &'a HostRuntime, what: &'static str) -> Progress<'a> {
         let begin = if rt.stderr().is_terminal() {
             Instant::now(rt).ok()
         } else {
             None
         };
-        Progress { begin, told: false }
-    }
-
-    /// So many were done.
-    pub(crate) fn tell(&mut self, rt: &HostRuntime, what: &str, count: usize) {
-        if self.is_late(rt) {
-            self.told = true;
-            let _ = eprint!(rt; "\rdesk: {count} {what}");
+        Progress {
+            rt,
+            what,
+            begin,
+            told: 0,
         }
     }
 
-    /// Whether a second has passed.
-    fn is_late(&self, rt: &HostRuntime) -> bool {
+    /// The beginning of a call that prints what it does. Where that is seen on a terminal nothing else is told.
+    pub(crate) fn beside(rt: &'a HostRuntime, what: &'static str) -> Progress<'a> {
+        let mut progress = Progress::new(rt, what);
+        if rt.stdout().is_terminal() {
+            progress.begin = None;
+        }
+        progress
+    }
+
+    /// So many were done.
+    pub(crate) fn tell(&mut self, count: usize) {
+        let now = self.seconds();
+        if now > self.told {
+            self.told = now;
+            let what = self.what;
+            let _ = eprint!(self.rt; "\rdesk: {count} {what}");
+        }
+    }
+
+    /// How many seconds have passed.
+    fn seconds(&self) -> u64 {
         match self.begin {
-            Some(begin) => begin
-                .elapsed(rt)
-                .is_ok_and(|gone| gone.as_secs() >= QUIET_SECONDS),
-            None => false,
+            Some(begin) => match begin.elapsed(self.rt) {
+                Ok(gone) => gone.as_secs(),
+                Err(_) => 0,
+            },
+            None => 0,
         }
     }
 
     /// The end of the call.
-    pub(crate) fn end(self, rt: &HostRuntime) {
-        if self.told {
-            let _ = eprintln!(rt; "");
+    pub(crate) fn end(self) {
+        if self.told > 0 {
+            let _ = eprintln!(self.rt; "");
         }
+    }
+}
+
+impl Watch for Progress<'_> {
+    fn seen(&mut self, count: u32) {
+        self.tell(count as usize);
     }
 }

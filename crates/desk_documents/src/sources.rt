@@ -1,13 +1,11 @@
 //! The files that a person hands in: the words of the order are read.
 
-use crate::ascii::in_ascii;
 use crate::progress::Progress;
 use crate::sentences::{HOST, REFUSED, Stop, refused_file};
-use desk_stores::Trouble;
 use event_bytes::Name;
 use host_files::{HostFault, files_in, is_folder, is_there, read_input, read_whole};
 use std::path::Path;
-use store_documents::{Handed, MOST_BYTES};
+use store_documents::{Handed, InAscii, MOST_BYTES, in_ascii};
 
 /// The most bytes that are read of a file: more than four for each character of a document.
 const MOST_READ: u64 = 1_048_577;
@@ -25,93 +23,129 @@ pub(crate) struct Sources {
 }
 
 /// The files that the words mean, in the order of the words: FILE, NAME=FILE, a folder, or `-`, standard input, and
-/// NAME FILE where there are just two words and the first is no file. With `ascii`, what isn't ASCII is replaced.
+/// NAME FILE where there are just two words and the first is no file. With `ascii`, what isn't ASCII is replaced. It is
+/// told how many were read where that takes more than a second.
 pub(crate) fn sources_of(rt: &HostRuntime, words: &[&str], ascii: bool) -> Result<Sources, Stop> {
-    let mut reading = Reading {
-        sources: Sources {
-            files: Vec::new(rt.alloc()),
-            handed: Vec::new(rt.alloc()),
-        },
-        ascii,
-        progress: Progress::new(rt),
+    let mut sources = Sources {
+        files: Vec::new(rt.alloc()),
+        handed: Vec::new(rt.alloc()),
     };
-    if words.len() == 2 && !is_given(rt, words[0]) {
-        let name = named(rt, words[0])?;
-        reading.read(rt, name, words[1])?;
-        return Ok(reading.end(rt));
+    let mut reading = Reading {
+        rt,
+        ascii,
+        progress: Progress::new(rt, "files read"),
+    };
+    let done = reading.read_words(&mut sources, words);
+    let Reading {
+        rt: _,
+        ascii: _,
+        progress,
+    } = reading;
+    progress.end();
+    match done {
+        Ok(()) => Ok(sources),
+        Err(stop) => Err(stop),
     }
-    for word in words {
-        reading.read_word(rt, word)?;
-    }
-    Ok(reading.end(rt))
 }
 
-/// Files that are being read.
+/// How files are read.
 #[derive(Drop)]
-struct Reading {
-    sources: Sources,
+struct Reading<'a> {
+    rt: &'a HostRuntime,
     ascii: bool,
-    progress: Progress,
+    progress: Progress<'a>,
 }
 
-impl Reading {
-    /// What was read.
-    fn end(self, rt: &HostRuntime) -> Sources {
-        let Reading {
-            sources,
-            ascii: _,
-            progress,
-        } = self;
-        progress.end(rt);
-        sources
+impl Reading<'_> {
+    /// Reads the files that words mean.
+    fn read_words(&mut self, sources: &mut Sources, words: &[&str]) -> Result<(), Stop> {
+        if words.len() == 2 && !is_given(self.rt, words[0]) {
+            return self.read_as(sources, words[0], words[1]);
+        }
+        for word in words {
+            self.read_word(sources, word)?;
+        }
+        Ok(())
     }
 
     /// Reads the files that a word means.
-    fn read_word(&mut self, rt: &HostRuntime, word: &str) -> Result<(), Stop> {
+    fn read_word(&mut self, sources: &mut Sources, word: &str) -> Result<(), Stop> {
         if let Some((name, file)) = word.split_once('=') {
-            let name = named(rt, name)?;
-            return self.read(rt, name, file);
+            return self.read_as(sources, name, file);
         }
-        if is_folder(rt, word) {
-            return self.read_folder(rt, word);
+        if is_folder(self.rt, word) {
+            return self.read_folder(sources, word);
         }
-        let name = name_of(rt, word)?;
-        self.read(rt, name, word)
+        self.read_file(sources, word)
     }
 
     /// Reads the files of a folder.
-    fn read_folder(&mut self, rt: &HostRuntime, folder: &str) -> Result<(), Stop> {
-        let names = files_of(rt, folder)?;
-        let folder = folder.trim_end_matches('/');
-        for name in &names {
-            let name = name.as_str();
-            let path = format!(in rt.alloc(); "{folder}/{name}")?;
-            let name = name_of(rt, path.as_str())?;
-            self.read(rt, name, path.as_str())?;
+    fn read_folder(&mut self, sources: &mut Sources, folder: &str) -> Result<(), Stop> {
+        let names = files_of(self.rt, folder)?;
+        self.read_files(sources, folder.trim_end_matches('/'), names.as_slice())
+    }
+
+    /// Reads files of these names in a folder.
+    fn read_files(
+        &mut self,
+        sources: &mut Sources,
+        folder: &str,
+        names: &[String],
+    ) -> Result<(), Stop> {
+        for name in names {
+            self.read_in(sources, folder, name.as_str())?;
         }
         Ok(())
     }
 
+    /// Reads a file of a folder.
+    fn read_in(&mut self, sources: &mut Sources, folder: &str, name: &str) -> Result<(), Stop> {
+        let path = format!(in self.rt.alloc(); "{folder}/{name}")?;
+        self.read_file(sources, path.as_str())
+    }
+
+    /// Reads a file after which its document is to be named.
+    fn read_file(&mut self, sources: &mut Sources, file: &str) -> Result<(), Stop> {
+        let name = name_of(self.rt, file)?;
+        self.read(sources, name, file)
+    }
+
+    /// Reads a file whose document is to have this name.
+    fn read_as(&mut self, sources: &mut Sources, name: &str, file: &str) -> Result<(), Stop> {
+        let name = named(self.rt, name)?;
+        self.read(sources, name, file)
+    }
+
     /// Reads a file.
-    fn read(&mut self, rt: &HostRuntime, name: Name, file: &str) -> Result<(), Stop> {
-        let bytes = match bytes_of(rt, file) {
-            Ok(bytes) => bytes,
-            Err(HostFault::NoMemory) => return Err(Stop::Trouble(Trouble::Memory)),
-            Err(fault) => return Err(refused_file(rt, file, fault)),
-        };
-        let bytes = if self.ascii {
-            in_ascii(rt, file, bytes.as_slice())?
-        } else {
-            bytes
-        };
-        self.sources
+    fn read(&mut self, sources: &mut Sources, name: Name, file: &str) -> Result<(), Stop> {
+        let bytes = text_of(self.rt, file, self.ascii)?;
+        sources.handed.push(Handed::new(name, bytes))?;
+        sources
             .files
-            .push(String::from_str(rt.alloc(), file)?)?;
-        self.sources.handed.push(Handed::new(name, bytes))?;
-        self.progress
-            .tell(rt, "files read", self.sources.files.len());
+            .push(String::from_str(self.rt.alloc(), file)?)?;
+        self.progress.tell(sources.files.len());
         Ok(())
     }
+}
+
+/// What a file has, in ASCII if so asked. Why it can't be had is said.
+fn text_of(rt: &HostRuntime, file: &str, ascii: bool) -> Result<Vec<u8>, Stop> {
+    match bytes_of(rt, file) {
+        Ok(bytes) if ascii => ascii_of(rt, file, bytes.as_slice()),
+        Ok(bytes) => Ok(bytes),
+        Err(fault) => Err(refused_file(rt, file, fault)),
+    }
+}
+
+/// Bytes of a file in ASCII. How many characters were replaced is told.
+fn ascii_of(rt: &HostRuntime, file: &str, bytes: &[u8]) -> Result<Vec<u8>, Stop> {
+    let InAscii { text, near, marks } = in_ascii(rt.alloc(), bytes)?;
+    if near > 0 || marks > 0 {
+        let _ = eprintln!(rt;
+            "desk: {file:?}: {near} characters became the nearest of ASCII, and {marks} a question mark"
+        );
+    }
+    Ok(text)
 }
 
 /// Whether a word means a file, or a name with a file.

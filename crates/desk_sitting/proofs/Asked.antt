@@ -15,7 +15,8 @@ use Rattle.terminal_presses.specs.declared.action.Action.TheVariants as action
 use Rattle.desk_sitting.specs.declared.question.Question.{Question}
 use Rattle.desk_sitting.specs.declared.sitting.Sitting.{Sitting}
 use Rattle.desk_sitting.specs.Doing.{seat_of}
-use Rattle.desk_sitting.specs.Listed.{event_meant, is_by_list, is_middle, lacks_tool}
+use Rattle.desk_sitting.specs.Listed.{event_meant, is_by_list, lacks_tool}
+use Rattle.desk_past.specs.Deeds.{is_middle}
 use Rattle.desk_sitting.specs.Questions.{comes_first, questioned, question_of, unasked}
 use Rattle.desk_sitting.specs.Sittings.{Seat, acted, after_post, asks_first, done_by}
 use Rattle.desk_sitting.proofs.Taking.{same_session}

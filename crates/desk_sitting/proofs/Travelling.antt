@@ -1,8 +1,8 @@
 -- What taking back and doing again come to.
-use Rattle.std.proofs.Common.{◌≡◌, ◌≢◌, inl, inr, ◌-◌, ℕ, List, [], length, false, refl, sym, ap, ◌∙◌, arith}
+use Rattle.std.proofs.Common.{◌≡◌, ◌≢◌, inl, inr, ◌-◌, ℕ, List, length, false, refl, sym, ap, ◌∙◌, arith}
 use Rattle.std.proofs.Common.{Option, Some, None, subst}
-use Rattle.std.specs.Prelude.{slice_get, get_or, MatchOption, ◌+◌, ◌<◌, ◌∷◌}
-use Rattle.std.proofs.lemmas.Option.{slice_get-get_or, slice_get_past}
+use Rattle.desk_past.specs.declared.again.NextEvent.{NextEvent}
+use Rattle.desk_past.specs.Past.{back_count}
 use Rattle.std.specs.Prelude.{Result, Ok, Err, OnOk, IfErr}
 use Rattle.std.proofs.lemmas.Bool.{false≢true}
 use Rattle.sector_disk.specs.declared.disk.Disk.{Ghosts}
@@ -20,8 +20,8 @@ use Rattle.desk_journal.proofs.Passing.{at_start, shows_means}
 use Rattle.desk_sitting.specs.declared.saying.Saying.TheVariants.{NothingAgain}
 use Rattle.desk_sitting.specs.declared.sitting.Sitting.{Sitting}
 use Rattle.desk_sitting.specs.declared.sitting.Travel.TheVariants.{Back, Again}
-use Rattle.desk_sitting.specs.Again.{AgainView, next_event, rest_at}
-use Rattle.desk_sitting.specs.declared.again.Place.{Place}
+use Rattle.desk_past.specs.Again.{next_event}
+use Rattle.desk_past.specs.declared.again.Place.{Place}
 use Rattle.desk_sitting.specs.Doing.{IsUndone, OfPresses, ComesToSeat, seat_of}
 use Rattle.desk_sitting.specs.Sittings.{after_post, refused}
 use Rattle.desk_sitting.specs.Travels.{Travelled, Travels, did_again, goes_again, store_place, settled, took_back}
@@ -32,18 +32,6 @@ not_look : (error : Error) → OfLook error → error ≢ NoMemory → error ≢
 not_look error (inl memory) no_memory no_fault no_reopen = no_memory memory
 not_look error (inr (inl fault)) no_memory no_fault no_reopen = no_fault fault
 not_look error (inr (inr reopen)) no_memory no_fault no_reopen = no_reopen reopen
-
--- what is taken off a list is its last element
-pub popped : (n len : ℕ) (P : Type 0) (events : List Event) (found : Option Event) → len ≡ length events
-    → ((e : Event) → 0 < len → found ≡ Some (get_or events (len - 1) e))
-    → MatchOption found P (λ _. n + 1 ≡ len) → found ≡ slice_get events (length events - 1)
-popped n len P [] None same value cases = sym (slice_get_past [] (length {A = Event} [] - 1) (omega arith))
-popped n len P [] (Some e) same value cases = absurd (omega (arith, cases, same))
-popped n len P (event ∷ more) found same value cases =
-    let all = event ∷ more in
-    value event (omega (arith, same))
-    ∙ ap (λ m. Some (get_or all (m - 1) event)) same
-    ∙ sym (slice_get-get_or all (length all - 1) event (omega arith))
 
 module _ {D : Type 0} (d : Ghosts D) where
   -- a crash leaves the desktop before the events were taken back or the one after it
@@ -74,17 +62,21 @@ module _ {D : Type 0} (d : Ghosts D) where
     device = record { as_large = refl; still = λ honest. honest; already = λ honest. honest };
   }
 
-  module _ {s s' : Sitting} {old new : StoreView D} (asked : s.travels ≡ Some Back) (usable : old.must_reopen ≡ false)
-      (moments : LeavesUndone d 1 old new) (device : IsSameDevice d old.disk new.disk) where
-    -- the last event was taken back
-    pub goes_back : {T U : Type 0} (value : T) (x : U) (events : List Event) → IsTakenBack d 1 events old new
+  module _ {s s' : Sitting} {old new : StoreView D} (count : ℕ) (counts : count ≡ back_count s.past)
+      (asked : s.travels ≡ Some Back) (usable : old.must_reopen ≡ false)
+      (moments : LeavesUndone d count old new) (device : IsSameDevice d old.disk new.disk) where
+    -- the events of the last press were taken back
+    pub goes_back : {T U : Type 0} (value : T) (x : U) (events : List Event) (from to : Place)
+        → IsTakenBack d count events old new
         → FailsAs {T = U} Fault OfUndo (Ok x) (d.failures old.disk) (d.failures new.disk)
-        → s' ≡ took_back (slice_get events (length events - 1)) (store_place old) (store_place new) (settled s)
-        → Travels d (Ok value) s s' old new
-    goes_back value x events taken faults is = record {
+        → from ≡ store_place old → to ≡ store_place new
+        → s' ≡ took_back events from to (settled s) → Travels d (Ok value) s s' old new
+    goes_back value x events from to taken faults at come is = record {
       done = λ honest durable. record {
-        what = back events asked taken is;
-        any_moment = undone_either 1 events old new taken moments usable honest durable;
+        what = back events asked (subst (λ n. IsTakenBack d n events old new) counts taken)
+            (is ∙ ap (λ p. took_back events p to (settled s)) at
+            ∙ ap (λ p. took_back events (store_place old) p (settled s)) come);
+        any_moment = undone_either count events old new taken moments usable honest durable;
         durable = taken.durable;
       };
       stuck = tt;
@@ -97,7 +89,7 @@ module _ {D : Type 0} (d : Ghosts D) where
       device = device;
     }
 
-    -- it wasn't
+    -- they weren't
     pub goes_not : {U : Type 0} (error : Error) (result : Result Unit Error)
         → (error ≢ Fault → error ≢ MustReopen → new.must_reopen ≡ false) → (d.honest old.disk → OfLook error)
         → AnswersMustReopen {T = U} (Err error) old new
@@ -120,7 +112,7 @@ module _ {D : Type 0} (d : Ghosts D) where
         }
     goes_not error (Err e) in_use stops reopen faults stays passed = record {
       done = tt;
-      stuck = λ honest durable. back asked moments;
+      stuck = λ honest durable. back asked (subst (λ n. LeavesUndone d n old new) counts moments);
       usable = tt;
       faults = record {
         rose = λ fault. faults.rose (cc (passed.0, fault));
@@ -132,35 +124,35 @@ module _ {D : Type 0} (d : Ghosts D) where
 
   -- nothing can be done again
   pub nothing_again : {T : Type 0} (value : T) {s s' : Sitting} (store : StoreView D) (from : Place)
-      (rest : AgainView) (found : Option Event) → s.travels ≡ Some Again → store.must_reopen ≡ false
-      → from ≡ store_place store → found ≡ next_event from s.again → found ≡ None → rest ≡ rest_at from s.again
-      → s' ≡ refused NothingAgain (record s { travels = None; again = rest }) → Travels d (Ok value) s s' store store
-  nothing_again value {s = s} store from rest found asked usable at next none_left left is =
+      (gone : Sitting) (found : Option NextEvent) → s.travels ≡ Some Again → store.must_reopen ≡ false
+      → from ≡ store_place store → found ≡ next_event from s.again → found ≡ None → gone ≡ goes_again from s
+      → s' ≡ refused NothingAgain gone → Travels d (Ok value) s s' store store
+  nothing_again value {s = s} store from gone found asked usable at found_is none_left left is =
       stays_there value store usable (nothing asked
-      (ap (λ p. next_event p s.again) (sym at) ∙ sym next ∙ none_left)
-      (is ∙ ap (λ a. refused NothingAgain (record s { travels = None; again = a })) (left ∙ ap (λ p. rest_at p s.again) at))
-      refl)
+      (ap (λ p. next_event p s.again) (sym at) ∙ sym found_is ∙ none_left)
+      (is ∙ ap (refused NothingAgain) (left ∙ ap (λ p. goes_again p s) at)) refl)
 
-  module _ (s mid : Sitting) (old new : StoreView D) (asked : s.travels ≡ Some Again) (event : Event) (from : Place)
-      (rest : AgainView) (found : Option Event) (at : from ≡ store_place old) (next : found ≡ next_event from s.again)
-      (is_event : found ≡ Some event) (left : rest ≡ rest_at from s.again) where
+  module _ (s mid : Sitting) (old new : StoreView D) (asked : s.travels ≡ Some Again) (event : NextEvent) (from : Place)
+      (gone : Sitting) (found : Option NextEvent) (at : from ≡ store_place old)
+      (found_is : found ≡ next_event from s.again) (is_event : found ≡ Some event) (left : gone ≡ goes_again from s) where
     there : next_event (store_place old) s.again ≡ Some event
-    there = ap (λ p. next_event p s.again) (sym at) ∙ sym next ∙ is_event
+    there = ap (λ p. next_event p s.again) (sym at) ∙ sym found_is ∙ is_event
 
     -- the sitting before it
-    same : record s { travels = None; again = rest } ≡ goes_again (store_place old) s
-    same = ap (λ a. record s { travels = None; again = a }) (left ∙ ap (λ p. rest_at p s.again) at)
+    same : gone ≡ goes_again (store_place old) s
+    same = left ∙ ap (λ p. goes_again p s) at
 
     -- the event is done again
     pub goes_on : {T U : Type 0} (value : T) (x : U) {s' : Sitting} (to : Place) → to ≡ store_place new
-        → ComesToSeat d {T = U} (after_post event (seat_of (record s { travels = None; again = rest }) old)) (Ok x) mid old new
-        → s' ≡ did_again event from to mid → Travels d (Ok value) s s' old new
+        → ComesToSeat d {T = U} (after_post event.event (seat_of gone old)) (Ok x) mid old new
+        → s' ≡ did_again event.deed from to mid → Travels d (Ok value) s s' old new
     goes_on value x to come takes is = record {
       done = λ honest durable.
           let done = takes.done honest durable in
           record {
-            what = again event mid asked there (done.seat ∙ ap (λ t. after_post event (seat_of t old)) same)
-                (is ∙ ap (λ p. did_again event p to mid) at ∙ ap (λ p. did_again event (store_place old) p mid) come);
+            what = again event mid asked there (done.seat ∙ ap (λ t. after_post event.event (seat_of t old)) same)
+                (is ∙ ap (λ p. did_again event.deed p to mid) at
+                ∙ ap (λ p. did_again event.deed (store_place old) p mid) come);
             any_moment = done.any_moment;
             durable = done.durable;
           };
@@ -176,12 +168,13 @@ module _ {D : Type 0} (d : Ghosts D) where
 
     -- it fails
     pub goes_wrong : {T U : Type 0} (result : Result T Error) (error : Error) → result ≡ Err error
-        → ComesToSeat d {T = U} (after_post event (seat_of (record s { travels = None; again = rest }) old)) (Err error) mid old new
+        → ComesToSeat d {T = U} (after_post event.event (seat_of gone old)) (Err error) mid old new
         → Travels d result s mid old new
     goes_wrong {T = T} result error is takes = subst (λ r. Travels d r s mid old new) (sym is) (record {
       done = tt;
       stuck = λ honest durable. again event asked there
-          (subst (λ t. IsUndone d error (after_post event (seat_of t old)) old new) same (takes.undone honest durable));
+          (subst (λ t. IsUndone d error (after_post event.event (seat_of t old)) old new) same
+          (takes.undone honest durable));
       usable = tt;
       faults = record {
         rose = λ fault. takes.faults.rose (cc fault);

@@ -1,7 +1,8 @@
 -- What a turn comes to, outcome by outcome.
-use Rattle.std.proofs.Common.{◌≡◌, ◌∙◌, ℕ, ◌<◌, List, [], ◌++◌, Option, Ok, Err, ap, sym, subst, inl, inr}
+use Rattle.std.proofs.Common.{◌≡◌, ◌≢◌, ◌∙◌, ℕ, ◌<◌, List, [], ◌++◌, Option, Ok, Err, ap, sym, subst, inl, inr}
 use Rattle.std.proofs.Common.{append-nil, refl, true, false}
 use Rattle.std.specs.Prelude.{Result, OnErr, IfErr}
+use Rattle.byte_streams.specs.Counting.{CountsFault, RisesWhere}
 use Rattle.byte_streams.specs.Sent.{AppendsFront}
 use Rattle.sector_disk.specs.declared.disk.Disk.{Ghosts}
 use Rattle.sector_disk.proofs.Touching.{at_last}
@@ -29,7 +30,7 @@ use Rattle.desk_sitting.specs.Endings.{EndsBy, IsOfNoKeyboard, sitting_end_of, e
 use Rattle.desk_sitting.specs.Scenes.{IsScenePainted, IsSceneShown, IsUnshown, after_scene, behind_it, known_by}
 use Rattle.desk_sitting.specs.Serving.{TurnState, IsFetched, IsLookedAt, HearsAfterScene, IsDeaf, Broke}
 use Rattle.desk_sitting.specs.Serving.{HasTurned, HasStopped, TakesTurn, CountsEnding, IsUsableAt, store_screen, sitting_shown}
-use Rattle.desk_sitting.specs.Serving.{left, closed}
+use Rattle.desk_sitting.specs.Serving.{CountsOutput, left, closed}
 use Rattle.desk_sitting.specs.Serving.{unheard, unseen, faulty, starved, faulty_press, starved_press}
 
 -- ---- a scene
@@ -120,6 +121,65 @@ store_no_keyboard MustReopen = tt
 pub of_keyboard : (ended : KeyboardEnd → Type 0) (why : KeyboardEnd) → ended why → EndsBy ended (end_of_keyboard why)
 of_keyboard ended keyboard.Closed is = is
 of_keyboard ended keyboard.Fault is = is
+
+-- ---- what the writer is the cause of
+
+fault_no_output : Fault ≢ Output
+fault_no_output = λ is. cc
+
+memory_no_output : Memory ≢ Output
+memory_no_output = λ is. cc
+
+pub left_no_output : Left ≢ Output
+left_no_output = λ is. cc
+
+pub too_long_no_output : TooLong ≢ Output
+too_long_no_output = λ is. cc
+
+closed_no_output : Closed ≢ Output
+closed_no_output = λ is. cc
+
+input_no_output : Input ≢ Output
+input_no_output = λ is. cc
+
+pub store_no_output : (error : Error) → sitting_end_of error ≢ Output
+store_no_output NotAStore = fault_no_output
+store_no_output (Damaged sector) = fault_no_output
+store_no_output TooSmall = fault_no_output
+store_no_output Worn = fault_no_output
+store_no_output DiskFault = fault_no_output
+store_no_output NoMemory = memory_no_output
+store_no_output MustReopen = fault_no_output
+
+pub keyboard_no_output : (why : KeyboardEnd) → end_of_keyboard why ≢ Output
+keyboard_no_output keyboard.Closed = closed_no_output
+keyboard_no_output keyboard.Fault = input_no_output
+
+pub output_calm : (end : SittingEnd) (failed failed' : ℕ) → end ≢ Output → failed' ≡ failed
+    → RisesWhere (end ≡ Output) failed failed'
+output_calm end failed failed' other same = record { rose = λ is. absurd (other is); calm = λ _. same }
+
+pub output_rose : (end : SittingEnd) (failed failed' : ℕ) → end ≡ Output → failed < failed'
+    → RisesWhere (end ≡ Output) failed failed'
+output_rose end failed failed' is rose = record { rose = λ _. rose; calm = λ other. absurd (other is) }
+
+-- nothing is sent
+pub output_unsent : {T : Type 0} (result : Result T SittingEnd) (failed : ℕ) → IfErr result (λ end. end ≢ Output)
+    → CountsOutput result failed failed
+output_unsent (Ok value) failed other = refl
+output_unsent (Err end) failed other = output_calm end failed failed other refl
+
+-- it is sent, and fails at its output alone
+pub output_sent : {T : Type 0} (result : Result T SittingEnd) (first failed failed' : ℕ) → failed ≡ first
+    → CountsFault result failed failed' → IfErr result (λ end. end ≡ Output) → CountsOutput result first failed'
+output_sent (Ok value) first failed failed' same counts is = counts ∙ same
+output_sent (Err end) first failed failed' same counts is =
+    output_rose end first failed' is (subst (λ n. n < failed') same counts)
+
+-- a turn goes on, or ends by its own
+pub output_ends : (end : SittingEnd) (first failed failed' : ℕ) → failed ≡ first → RisesWhere (end ≡ Output) failed failed'
+    → RisesWhere (end ≡ Output) first failed'
+output_ends end first failed failed' same rises = subst (λ n. RisesWhere (end ≡ Output) n failed') same rises
 
 -- ---- a turn
 

@@ -1,6 +1,4 @@
-pub mod Again
 pub mod Aims
-pub mod Deeds
 pub mod Doing
 pub mod Endings
 pub mod Files

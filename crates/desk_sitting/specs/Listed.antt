@@ -6,8 +6,7 @@ use Rattle.std.specs.Str.{bytes_eq}
 use Rattle.viewer_tracks.specs.Display.{left_of, track_at}
 use Rattle.event_bytes.specs.declared.event.Event.{Event}
 use Rattle.event_bytes.specs.declared.event.Event.TheVariants.{Mark, Point}
-use Rattle.event_bytes.specs.declared.keys.Keys.{Keys}
-use Rattle.event_bytes.specs.declared.keys.Keys.TheVariants.{Middle}
+use Rattle.desk_past.specs.Deeds.{is_middle}
 use Rattle.desktop_definitions.specs.declared.entry.Entry.{Entry}
 use Rattle.desktop_definitions.specs.declared.entry.Entry.TheVariants.{File, Viewer, Over}
 use Rattle.first_desk.specs.declared.TheConstants.{TOOL_NAME}
@@ -41,10 +40,6 @@ is_tool _ = false
 -- whether a cell is one of the empty display, and there is no text that a click there could open
 unfoldable pub lacks_tool : List Entry → ℕ → ℕ → Bool
 lacks_tool entries x y = not (is_some (rows_at entries x y)) && not (list_any is_tool entries)
-
-abbrev pub is_middle : Keys → Bool
-is_middle Middle = true
-is_middle _ = false
 
 -- whether the list is asked for it
 abbrev pub is_by_list : Event → Bool

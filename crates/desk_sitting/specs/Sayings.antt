@@ -14,9 +14,11 @@ use Rattle.desk_sitting.specs.declared.saying.Saying.TheVariants.{Worn, Unread, 
 use Rattle.desk_sitting.specs.declared.saying.Saying.TheVariants.{NothingBack, NothingAgain, NotBack}
 use Rattle.desk_sitting.specs.declared.question.Question.{Question}
 use Rattle.desk_sitting.specs.declared.question.Question.TheVariants.{Leaving}
-use Rattle.desk_sitting.specs.declared.deed.Deed.{Deed}
-use Rattle.desk_sitting.specs.declared.deed.Deed.TheVariants as deed
-use Rattle.desk_sitting.specs.Deeds.{deed_words}
+use Rattle.desk_past.specs.declared.deed.Deed.{Deed}
+use Rattle.desk_past.specs.declared.deed.Deed.TheVariants as deed
+use Rattle.screen_pictures.specs.declared.cell.Cell.{Cell}
+use Rattle.desk_past.specs.Called.{called_word}
+use Rattle.desk_past.specs.Deeds.{deed_words}
 
 -- why an event is refused, by the code of the refusal from 0 on
 abbrev pub reasons : List (List ℕ)
@@ -68,49 +70,60 @@ click_words (Keys keys) = keys_words keys
 
 -- of what was typed it is said how many characters these were
 abbrev pub typed_count : Deed → List ℕ
-typed_count (deed.Typed count) = decimal count
+typed_count (deed.Typed count) = codes "typed " ++ decimal count
 typed_count _ = []
 
 -- what was taken back, or done again
 unfoldable pub told : List ℕ → Deed → List ℕ
 told before what = before ++ typed_count what ++ deed_words what
 
+-- of a command its word, where that is seen
+unfoldable pub called : List ℕ → Deed → List ℕ
+called [] what = told (codes "took back: ") what
+called (b ∷ word) what = codes "took back: " ++ b ∷ word
+
+-- what was taken back: the screen is as it was before, and so shows the word that was called
+unfoldable pub told_back : List (List Cell) → Deed → List ℕ
+told_back screen (deed.Call x y) = called (called_word screen x y) (deed.Call x y)
+told_back screen what = told (codes "took back: ") what
+
 abbrev pub question_words : Question → List ℕ
 question_words Leaving = codes "This desktop is in memory: Ctrl-Q again leaves, and then it is gone."
 
-unfoldable pub words : Saying → List ℕ
-words Greeting = codes "Middle button, or F2 and then a click, calls the word there; Ctrl-Q leaves"
-words Unproved = codes "Compiled, not proved yet: ./prove does it. F2+click calls a word; Ctrl-Q leaves"
-words InMemory = codes "This desktop is in memory: when you leave (Ctrl-Q) it is gone."
-words ForKeys = codes "F1 marker, F2 calls, F3 selects, Ctrl-Z undo, Ctrl-O file, Ctrl-Q leaves"
-words (Asks question) = question_words question
-words NoKey = codes "That key means nothing here."
-words NoText = codes "There is no text on that side of the caret, or no caret in sight."
-words ToolFiled = codes "System.Tool was gone, and is a document again: the same click opens it."
-words (Refused code) = reason code
-words (CutShort typed code) = cut_short typed code
-words Worn = codes "This store takes no more events: its epochs are used up."
-words Unread = codes "The host's file can't be read, and nothing was typed."
-words Unfinished = codes "The host's file can't be read to its end; what came of it is typed."
-words TooNarrow = codes "This window is too narrow: it has fewer than 80 columns."
-words TooLow = codes "This window is too low: it has fewer than 12 rows."
-words (TookBack what) = told (codes "took back: ") what
-words (DidAgain what) = told (codes "did again: ") what
-words NothingBack = codes "There is nothing to take back."
-words NothingAgain = codes "There is nothing to do again."
-words NotBack = codes "What was before can't be read, and nothing was taken back."
+-- where this is the screen
+unfoldable pub words : List (List Cell) → Saying → List ℕ
+words screen Greeting = codes "Middle button, or F2 and then a click, calls the word there; Ctrl-Q leaves"
+words screen Unproved = codes "Compiled, not proved yet: ./prove does it. F2+click calls a word; Ctrl-Q leaves"
+words screen InMemory = codes "This desktop is in memory: when you leave (Ctrl-Q) it is gone."
+words screen ForKeys = codes "F1 marker, F2 calls, F3 selects, Ctrl-Z undo, Ctrl-O file, Ctrl-Q leaves"
+words screen (Asks question) = question_words question
+words screen NoKey = codes "That key means nothing here."
+words screen NoText = codes "There is no text on that side of the caret, or no caret in sight."
+words screen ToolFiled = codes "System.Tool was gone, and is a document again: the same click opens it."
+words screen (Refused code) = reason code
+words screen (CutShort typed code) = cut_short typed code
+words screen Worn = codes "This store takes no more events: its epochs are used up."
+words screen Unread = codes "The host's file can't be read, and nothing was typed."
+words screen Unfinished = codes "The host's file can't be read to its end; what came of it is typed."
+words screen TooNarrow = codes "This window is too narrow: it has fewer than 80 columns."
+words screen TooLow = codes "This window is too low: it has fewer than 12 rows."
+words screen (TookBack what) = told_back screen what
+words screen (DidAgain what) = told (codes "did again: ") what
+words screen NothingBack = codes "There is nothing to take back."
+words screen NothingAgain = codes "There is nothing to do again."
+words screen NotBack = codes "What was before can't be read, and nothing was taken back."
 
 -- a name of a host file as far as it is typed, of which the end is seen
 abbrev pub question : List ℕ → List ℕ
 question name = codes "Type which file? " ++ drop (length name - 63) name
 
 -- the line between two presses: a name that is asked for, or else what the next click does, or what is said
-abbrev pub line_by_hand : Option (List ℕ) → Option Click → Saying → List ℕ
-line_by_hand (Some name) armed saying = question name
-line_by_hand None (Some click) saying = click_words click
-line_by_hand None None saying = words saying
+abbrev pub line_by_hand : List (List Cell) → Option (List ℕ) → Option Click → Saying → List ℕ
+line_by_hand screen (Some name) armed saying = question name
+line_by_hand screen None (Some click) saying = click_words click
+line_by_hand screen None None saying = words screen saying
 
--- the line below: a question goes before all else
-unfoldable pub line_of : Option (List ℕ) → Option Click → Saying → List ℕ
-line_of asked armed (Asks question) = question_words question
-line_of asked armed saying = line_by_hand asked armed saying
+-- the line below a screen: a question goes before all else
+unfoldable pub line_of : List (List Cell) → Option (List ℕ) → Option Click → Saying → List ℕ
+line_of screen asked armed (Asks question) = question_words question
+line_of screen asked armed saying = line_by_hand screen asked armed saying

@@ -22,7 +22,7 @@ pub record IsSceneOf (s : Sitting) (screen : List (List Cell)) (scene : Scene) :
   pub first : scene.first + s.sight.top + 1 ≡ ROWS
   pub rows : scene.rows ≡ s.sight.rows
   pub has_line : line_height scene.below ≡ 1
-  pub line : text_below scene.below ≡ line_of s.hand.asked s.hand.armed s.saying
+  pub line : text_below scene.below ≡ line_of screen s.hand.asked s.hand.armed s.saying
 
 -- what is known of the terminal before the scene is painted
 abbrev pub known_by : Bool → List (List Face) → List (List Face)

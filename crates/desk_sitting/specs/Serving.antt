@@ -2,6 +2,7 @@
 -- what is known of a disk.
 use Rattle.std.specs.Prelude.{◌≡◌, ◌≢◌, ◌<◌, ◌+◌, ◌-◌, ◌^◌, ℕ, Bool, true, false, List, [], ◌++◌, Option}
 use Rattle.std.specs.Prelude.{Result, MatchResult, OnOk, IfErr}
+use Rattle.byte_streams.specs.Counting.{RisesWhere}
 use Rattle.sector_disk.specs.declared.disk.Disk.{Ghosts}
 use Rattle.event_bytes.specs.declared.event.Event.{Event}
 use Rattle.screen_pictures.specs.declared.cell.Cell.{Cell}
@@ -77,6 +78,11 @@ CountsEnding Memory failed failed' = failed' ≡ failed
 -- and it stays where the sitting goes on
 abbrev pub CountsTurn : {T : Type 0} → Result T SittingEnd → ℕ → ℕ → Type 0
 CountsTurn result failed failed' = MatchResult result (λ _. failed' ≡ failed) (λ end. CountsEnding end failed failed')
+
+-- the number of calls of the writer that failed rose exactly where a turn ends by `Output`
+abbrev pub CountsOutput : {T : Type 0} → Result T SittingEnd → ℕ → ℕ → Type 0
+CountsOutput result failed failed' =
+    MatchResult result (λ _. failed' ≡ failed) (λ end. RisesWhere (end ≡ Output) failed failed')
 
 module _ {D : Type 0} (d : Ghosts D) where
   -- the store was looked at: nothing is posted, and the disk is only read

@@ -1,8 +1,8 @@
 -- What presses come to, one after another: a sitting, and the session of the store before which it is.
-use Rattle.std.specs.Prelude.{◌≡◌, ℕ, ◌+◌, ◌-◌, ◌^◌, Bool, true, false, ◌==◌, ◌&&◌, not, if◌then◌else◌, List, [], ◌∷◌, ◌++◌}
-use Rattle.std.specs.Prelude.{Option, Some, None, is_some, length, min, option_map, unwrap_or}
+use Rattle.std.specs.Prelude.{◌≡◌, ℕ, ◌-◌, Bool, true, false, ◌==◌, ◌&&◌, not, if◌then◌else◌, List, [], ◌∷◌, ◌++◌}
+use Rattle.std.specs.Prelude.{Option, Some, None, is_some, option_map, unwrap_or}
 use Rattle.event_bytes.specs.declared.event.Event.{Event}
-use Rattle.event_bytes.specs.declared.event.Event.TheVariants.{File, Point, Typed}
+use Rattle.event_bytes.specs.declared.event.Event.TheVariants.{File, Point}
 use Rattle.event_bytes.specs.declared.keys.Keys.TheVariants.{Left}
 use Rattle.screen_pictures.specs.declared.cell.Cell.{Cell}
 use Rattle.desktop_definitions.specs.declared.reply.Reply.{Reply}
@@ -21,8 +21,10 @@ use Rattle.desk_sitting.specs.declared.saying.Saying.TheVariants.{NoKey, NoText,
 use Rattle.desk_sitting.specs.declared.saying.Saying.TheVariants.{Unfinished, TooNarrow, TooLow, ToolFiled}
 use Rattle.desk_sitting.specs.declared.sitting.Sitting.{Sitting}
 use Rattle.desk_sitting.specs.declared.sitting.Travel.TheVariants.{Back, Again}
-use Rattle.desk_sitting.specs.Again.{no_again}
+use Rattle.desk_past.specs.Again.{no_again}
+use Rattle.desk_past.specs.Deeds.{typed_more}
 use Rattle.desk_sitting.specs.Listed.{event_meant}
+use Rattle.desk_past.specs.Past.{past_after, no_past, with_refused}
 use Rattle.desk_sitting.specs.Questions.{questioned, comes_first, question_of, resting_of, unasked}
 use Rattle.desk_sitting.specs.Aims.{aimed, caret_cell}
 use Rattle.desk_journal.specs.Session.{Session, is_worn, taken}
@@ -52,20 +54,13 @@ new_sitting height greeting = record {
   typed = None;
   travels = None;
   again = no_again;
+  past = no_past;
+  joins = false;
 }
 
 -- the terminal rings, and the line below says why
 abbrev pub refused : Saying → Sitting → Sitting
 refused saying s = record s { saying = saying; rings = true }
-
--- how many characters an event types
-abbrev pub length_typed : Event → ℕ
-length_typed (Typed bytes) = length bytes
-length_typed event = 0
-
--- of a paste so many more are typed, as far as that is counted
-abbrev pub typed_more : Event → ℕ → ℕ
-typed_more event n = min (n + length_typed event) (2 ^ 32 - 1)
 
 -- why a paste is cut short of which so many characters are typed, and how far it came
 abbrev pub with_count : ℕ → Saying → Saying
@@ -89,14 +84,16 @@ abbrev pub done_saying : Event → Saying → Saying
 done_saying (File name bytes) rest = ToolFiled
 done_saying event rest = rest
 
--- after the reply to an event: what was done is followed by the rows in sight
+-- after the reply to an event: what was done is followed by the rows in sight, and can be taken back
 unfoldable pub replied : Event → Reply → Sitting → Sitting
 replied event Done s = record s {
   saying = done_saying event s.resting;
   follows = true;
   typed = option_map (typed_more event) s.typed;
+  past = past_after s.joins event s.past;
+  joins = true;
 }
-replied event (No code) s = turned_away (Refused code) s
+replied event (No code) s = turned_away (Refused code) (record s { past = with_refused s.past })
 
 -- after the screen was shown: the rows in sight have followed the caret, and what was to be done at once is done
 unfoldable pub looked : List (List Cell) → Sitting → Sitting
@@ -177,11 +174,12 @@ acted a seat =
     else done_by a (record seat { sitting = unasked a seat.sitting })
 
 -- Once the hand has taken a press: where that is amid a text that is pasted, it is counted how many of its characters
--- are typed.
+-- are typed, and its events are those of one press.
 abbrev pub with_hand : Hand → Sitting → Sitting
 with_hand hand s = record s {
   hand = hand;
   typed = if pastes_text s.hand then Some (unwrap_or s.typed 0) else None;
+  joins = pastes_text s.hand && s.joins;
 }
 
 -- nothing is done after the person has left

@@ -17,7 +17,7 @@ module _ {D : Type 0} (d : Ghosts D) where
     pub known : new.known ≡ old.known
     pub held : new.held ≡ old.held
 
-  -- an event was taken back, or done again
+  -- a press was taken back, or an event done again
   pub record IsBetween (old new : TurnState D) : Type 0 where
     pub travelled : IsTravelled d old.sitting new.sitting old.store new.store
     pub device : IsSameDevice d old.store.disk new.store.disk

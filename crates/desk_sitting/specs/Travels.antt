@@ -1,5 +1,5 @@
 -- Taking back and doing again, at the desk. `d` is what is known of a disk.
-use Rattle.std.specs.Prelude.{◌≡◌, ◌-◌, true, false, Bool, length, slice_get, Option, ◌==◌, ◌&&◌, if◌then◌else◌, List, Some, None}
+use Rattle.std.specs.Prelude.{◌≡◌, true, false, Bool, length, Option, ◌==◌, ◌&&◌, if◌then◌else◌, List, Some, None}
 use Rattle.std.specs.Prelude.{Result, OnOk, IfErr}
 use Rattle.sector_disk.specs.declared.disk.Disk.{Ghosts}
 use Rattle.sector_disk.specs.Faults.{FailsAs}
@@ -10,12 +10,15 @@ use Rattle.desk_journal.specs.Device.{IsSameDevice}
 use Rattle.desk_journal.specs.Errors.{Error, Fault}
 use Rattle.desk_journal.specs.Undoing.{IsTakenBack, LeavesUndone}
 use Rattle.desk_journal.specs.View.{StoreView, IsDurable}
-use Rattle.desk_sitting.specs.declared.again.Place.{Place}
+use Rattle.desk_past.specs.declared.again.Place.{Place}
 use Rattle.desk_sitting.specs.declared.saying.Saying.TheVariants.{TookBack, DidAgain, NothingBack, NothingAgain}
 use Rattle.desk_sitting.specs.declared.sitting.Sitting.{Sitting}
 use Rattle.desk_sitting.specs.declared.sitting.Travel.TheVariants.{Back, Again}
-use Rattle.desk_sitting.specs.Again.{kept_at, next_event, rest_at}
-use Rattle.desk_sitting.specs.Deeds.{deed_of}
+use Rattle.desk_past.specs.declared.again.NextEvent.{NextEvent}
+use Rattle.desk_past.specs.declared.deed.Deed.{Deed}
+use Rattle.desk_sitting.specs.declared.sitting.Travel.{Travel}
+use Rattle.desk_past.specs.Again.{kept_at, next_event, rest_at, taken_press}
+use Rattle.desk_past.specs.Past.{back_count, back_deed, left_past}
 use Rattle.desk_sitting.specs.Doing.{IsUndone, OfPresses, seat_of}
 use Rattle.desk_sitting.specs.Sittings.{after_post, refused}
 
@@ -30,24 +33,33 @@ is_same_place from to = (from.epoch == to.epoch) && (from.events == to.events)
 abbrev pub settled : Sitting → Sitting
 settled s = record s { travels = None }
 
--- the sitting after this event was taken back, or none, which led from one place to another
-abbrev pub took_back : Option Event → Place → Place → Sitting → Sitting
-took_back None from to s = refused NothingBack s
-took_back (Some event) from to s = record s {
-  saying = TookBack (deed_of event);
+-- the sitting after these events were taken back, which led from one place to another
+abbrev pub took_back : List Event → Place → Place → Sitting → Sitting
+took_back events from to s = if length events == 0 then refused NothingBack s else record s {
+  saying = TookBack (back_deed events s.past);
   follows = true;
-  again = kept_at event from to s.again;
+  past = left_past (length events) s.past;
+  again = kept_at (taken_press events (back_deed events s.past)) from to s.again;
 }
+
+-- what is asked for once the next event is done again: the other events of its press, if any are left
+abbrev pub on_to : Option NextEvent → Option Travel
+on_to None = None
+on_to (Some event) = if event.is_last then None else Some Again
 
 -- the sitting from which the next event is done again
 abbrev pub goes_again : Place → Sitting → Sitting
-goes_again place s = record s { travels = None; again = rest_at place s.again }
+goes_again place s = record s {
+  travels = on_to (next_event place s.again);
+  again = rest_at place s.again;
+}
 
--- The sitting after an event was done again. Where the store took it, that is said.
-abbrev pub did_again : Event → Place → Place → Sitting → Sitting
-did_again event from to s =
+-- The sitting after an event was done again, of a press that did this. Where the store took it, that is said.
+abbrev pub did_again : Deed → Place → Place → Sitting → Sitting
+did_again deed from to s =
     if is_same_place from to then s else record s {
-      saying = DidAgain (deed_of event);
+      saying = DidAgain deed;
+      rings = false;
       again = record s.again { place = to };
     }
 
@@ -56,16 +68,20 @@ module _ {D : Type 0} (d : Ghosts D) where
   pub data Travelled (s s' : Sitting) (old new : StoreView D) : Type 0 where
     -- nothing was asked for
     none : s.travels ≡ None → s' ≡ s → new ≡ old → Travelled s s' old new
-    -- the last event was taken back, if there was one
-    back : (events : List Event) → s.travels ≡ Some Back → IsTakenBack d 1 events old new
-        → s' ≡ took_back (slice_get events (length events - 1)) (store_place old) (store_place new) (settled s) → Travelled s s' old new
+    -- the events of the last press were taken back, as far as there were any
+    back : (events : List Event) → s.travels ≡ Some Back
+        → IsTakenBack d (back_count s.past) events old new
+        → s' ≡ took_back events (store_place old) (store_place new) (settled s)
+        → Travelled s s' old new
     -- there was nothing to do again
     nothing : s.travels ≡ Some Again → next_event (store_place old) s.again ≡ None
         → s' ≡ refused NothingAgain (goes_again (store_place old) s) → new ≡ old → Travelled s s' old new
-    -- the event that was taken back last was done again
-    again : (event : Event) (mid : Sitting) → s.travels ≡ Some Again → next_event (store_place old) s.again ≡ Some event
-        → seat_of mid new ≡ after_post event (seat_of (goes_again (store_place old) s) old)
-        → s' ≡ did_again event (store_place old) (store_place new) mid → Travelled s s' old new
+    -- the next event of the press that was taken back last was done again
+    again : (event : NextEvent) (mid : Sitting) → s.travels ≡ Some Again
+        → next_event (store_place old) s.again ≡ Some event
+        → seat_of mid new ≡ after_post event.event (seat_of (goes_again (store_place old) s) old)
+        → s' ≡ did_again event.deed (store_place old) (store_place new) mid
+        → Travelled s s' old new
 
   -- At every moment between a crash leaves the desktop before it or the one after it, and from then on the one after it.
   pub record IsTravelled (s s' : Sitting) (old new : StoreView D) : Type 0 where
@@ -76,9 +92,12 @@ module _ {D : Type 0} (d : Ghosts D) where
 
   -- It fails. A crash leaves what was shown, or what was asked for.
   pub data IsStuck (error : Error) (s : Sitting) (old new : StoreView D) : Type 0 where
-    back : s.travels ≡ Some Back → LeavesUndone d 1 old new → IsStuck error s old new
-    again : (event : Event) → s.travels ≡ Some Again → next_event (store_place old) s.again ≡ Some event
-        → IsUndone d error (after_post event (seat_of (goes_again (store_place old) s) old)) old new
+    back : s.travels ≡ Some Back → LeavesUndone d (back_count s.past) old new
+        → IsStuck error s old new
+    again : (event : NextEvent) → s.travels ≡ Some Again
+        → next_event (store_place old) s.again ≡ Some event
+        → IsUndone d error (after_post event.event (seat_of (goes_again (store_place old) s) old))
+        old new
         → IsStuck error s old new
 
   -- All that a call promises that is to do what was asked for.

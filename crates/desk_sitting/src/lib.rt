@@ -3,7 +3,7 @@
 //! What is heard becomes presses (the crate `terminal_presses`), and each press an event that is posted, or something
 //! that the sitting does alone (`specs/Sittings.antt`). `do_presses` does presses one after another over a store
 //! (`specs/Doing.antt`). The rows in sight follow the caret (`window`), an arrow is a click beside it (`aim`), and the
-//! line below says what was refused (`saying`).
+//! line below says what was refused (`saying`). What was done and taken back is known in `desk_past`.
 //!
 //! `serve` goes on turn by turn (`specs/Serving.antt`): a scene is shown (`specs/Scenes.antt`), something is heard, and
 //! what is pressed by it is done, each event acknowledged before the next scene. A whole sitting is `Sits` of
@@ -11,9 +11,7 @@
 //! `sittings_survive` is the theorem: what was shown is never lost.
 #![tactic(auto)]
 
-mod again;
 mod aim;
-mod deed;
 mod doing;
 mod ending;
 mod laws;
@@ -26,8 +24,6 @@ mod sitting;
 mod travels;
 mod window;
 
-pub use again::{Again, MOST_AGAIN, Place};
-pub use deed::Deed;
 pub use doing::do_presses;
 pub use ending::SittingEnd;
 pub use laws::{presses_are_steps, questions_post_nothing};

@@ -3,12 +3,13 @@ ghost use Rattle.std.specs.Prelude.{◌≡◌, ◌≤◌, length, option_map};
 ghost use Rattle.desk_sitting.specs.Sayings.{click_words, cut_short, keys_words, line_by_hand, line_of, question};
 ghost use Rattle.desk_sitting.specs.Sayings.{question_words, reason};
 ghost use Rattle.desk_sitting.specs.Questions.{is_in_memory as memory_said, resting_of as rest_after};
-ghost use Rattle.desk_sitting.specs.Sayings.{short_reason, told, words};
+ghost use Rattle.desk_sitting.specs.Sayings.{called, short_reason, told, told_back, words};
 
-use crate::deed::Deed;
 use crate::question::Question;
 use arrayvec::ArrayVec;
+use desk_past::{Deed, called_word};
 use event_bytes::Keys;
+use screen_cells::Screen;
 use terminal_presses::Click;
 
 /// What the line below the screen says, where it neither asks for a name nor says what the next click is.
@@ -178,10 +179,10 @@ pub(crate) fn resting_of(greeting: Saying) -> Saying
 }
 
 impl Saying {
-    /// Its text.
+    /// Its text, where this is the screen.
     #[tactic(auto, unfolding(crate::specs::Sayings::words))]
-    fn words(self) -> SayingLine
-        ensures { result.items ≡ words self }
+    fn words(self, screen: &Screen) -> SayingLine
+        ensures { result.items ≡ words screen.now self }
     {
         match self {
             Saying::Greeting => line(
@@ -213,7 +214,7 @@ impl Saying {
             ),
             Saying::TooNarrow => line(b"This window is too narrow: it has fewer than 80 columns."),
             Saying::TooLow => line(b"This window is too low: it has fewer than 12 rows."),
-            Saying::TookBack(deed) => told(b"took back: ", deed),
+            Saying::TookBack(deed) => told_back(screen, deed),
             Saying::DidAgain(deed) => told(b"did again: ", deed),
             Saying::NothingBack => line(b"There is nothing to take back."),
             Saying::NothingAgain => line(b"There is nothing to do again."),
@@ -227,25 +228,35 @@ pub type SayingLine = ArrayVec<u8, 80>;
 
 /// The text of the line below: a question goes before all else.
 #[tactic(auto, unfolding(crate::specs::Sayings::line_of))]
-pub(crate) fn line_of(asked: Option<&[u8]>, armed: Option<Click>, saying: Saying) -> SayingLine
-    ensures { result.items ≡ line_of (option_map (λ name. name.now) asked.entry) armed saying }
+pub(crate) fn line_of(
+    screen: &Screen,
+    asked: Option<&[u8]>,
+    armed: Option<Click>,
+    saying: Saying,
+) -> SayingLine
+    ensures { result.items ≡ line_of screen.now (option_map (λ name. name.now) asked.entry) armed saying }
 {
     match saying {
         Saying::Asks(question) => line(question_words(question)),
-        other => line_by_hand(asked, armed, other),
+        other => line_by_hand(screen, asked, armed, other),
     }
 }
 
 /// The same where no question is asked: a name that is asked for, or else what the next click does.
-fn line_by_hand(asked: Option<&[u8]>, armed: Option<Click>, saying: Saying) -> SayingLine
-    ensures { result.items ≡ line_by_hand (option_map (λ name. name.now) asked.entry) armed saying }
+fn line_by_hand(
+    screen: &Screen,
+    asked: Option<&[u8]>,
+    armed: Option<Click>,
+    saying: Saying,
+) -> SayingLine
+    ensures { result.items ≡ line_by_hand screen.now (option_map (λ name. name.now) asked.entry) armed saying }
 {
     if let Some(name) = asked {
         return question(name);
     }
     match armed {
         Some(click) => line(click_words(click)),
-        None => saying.words(),
+        None => saying.words(screen),
     }
 }
 
@@ -269,6 +280,34 @@ fn line(words: &[u8]) -> SayingLine
     text
 }
 
+/// What was taken back. The screen is as it was before, and so shows the word that was called.
+#[tactic(auto, unfolding(crate::specs::Sayings::told_back))]
+fn told_back(screen: &Screen, deed: Deed) -> SayingLine
+    ensures { result.items ≡ told_back screen.now deed }
+{
+    match deed {
+        Deed::Call { x, y } => {
+            let word = called_word(screen, x, y);
+            called(word.as_slice(), deed)
+        }
+        other => told(b"took back: ", other),
+    }
+}
+
+/// The word that was called is taken back; where none is seen, that it was one.
+#[tactic(auto, unfolding(crate::specs::Sayings::called))]
+fn called(word: &[u8], deed: Deed) -> SayingLine
+    requires { length word.now ≤ 48 }
+    ensures { result.items ≡ called word.now deed }
+{
+    if word.is_empty() {
+        return told(b"took back: ", deed);
+    }
+    let mut text = line(b"took back: ");
+    text.try_extend_from_slice(word).unwrap();
+    text
+}
+
 /// What was taken back, or done again.
 #[tactic(auto, unfolding(crate::specs::Sayings::told))]
 fn told(before: &[u8], deed: Deed) -> SayingLine
@@ -278,6 +317,7 @@ fn told(before: &[u8], deed: Deed) -> SayingLine
     let mut text = line(before);
     if let Deed::Typed(count) = deed {
         let mut digits = itoa::Buffer::new();
+        text.try_extend_from_slice(b"typed ").unwrap();
         text.try_extend_from_slice(digits.format(count).as_bytes())
             .unwrap();
     }

@@ -1,8 +1,9 @@
 //! A sitting over a store, turn by turn.
-ghost use Rattle.std.specs.Prelude.{◌≡◌, ℕ, Bool, false, OnOk, OnErr, IfErr, IfSome, List, Option};
+ghost use Rattle.std.specs.Prelude.{◌≡◌, ◌≢◌, ℕ, Bool, false, OnOk, OnErr, IfErr, IfSome, List, Option};
 ghost use Rattle.terminal_presses.specs.declared.parser.Parser.{Parser as AParser};
 ghost use Rattle.terminal_presses.specs.declared.press.Heard.{Heard};
 ghost use Rattle.terminal_painting.specs.declared.face.Face.{Face};
+ghost use Rattle.byte_streams.specs.Counting.{CountsFault, RisesWhere};
 ghost use Rattle.byte_streams.specs.Sent.{Sends};
 ghost use Rattle.desk_journal.specs.Device.{IsSameDevice};
 ghost use Rattle.desk_journal.specs.View.{IsDurable};
@@ -13,7 +14,7 @@ ghost use Rattle.terminal_painting.specs.Scene.{IsInSight};
 ghost use Rattle.desk_sitting.specs.Scenes.{IsSceneOf, IsHalfPainted, IsScenePainted, IsSceneShown, IsUnshown};
 ghost use Rattle.desk_sitting.specs.Endings.{EndsBy, IsOfNoKeyboard};
 ghost use Rattle.desk_sitting.specs.Scenes.{after_scene, bell_bytes, known_by, request, size_request};
-ghost use Rattle.desk_sitting.specs.Serving.{CountsEnding, CountsTurn, IsFetched, IsLookedAt, IsUsableAt};
+ghost use Rattle.desk_sitting.specs.Serving.{CountsEnding, CountsOutput, CountsTurn, IsFetched, IsLookedAt, IsUsableAt};
 ghost use Rattle.desk_sitting.specs.Serving.{TakesTurn, first_place, turn_state_of, store_screen};
 ghost use Rattle.desk_sitting.specs.Sitting.{Sits, TakesEitherTurn};
 ghost use Rattle.desk_sitting.specs.Travelling.{TakesBetween};
@@ -21,14 +22,13 @@ ghost use Rattle.desk_sitting.specs.Travelling.{TakesBetween};
 use crate::ending::SittingEnd;
 use crate::serving_laws::sittings_survive;
 use crate::{Saying, Sitting, do_presses, travel};
-use byte_streams::{OutputFault, flush, send};
+use byte_streams::{AnswerWriter, OutputFault};
 use desk_journal::Store;
 use screen_cells::Screen;
 use sector_disk::Disk;
 use std::alloc::Global;
-use std::io::Write;
 use terminal_keyboard::Keyboard;
-use terminal_painting::{Painter, Scene, ring};
+use terminal_painting::{Painter, Scene, ring, send_bytes};
 use terminal_presses::Parser;
 use viewer_tracks::ROWS;
 
@@ -43,8 +43,9 @@ const SIZE_REQUEST: [u8; 5] = [27, 91, 49, 56, 116];
 ///
 /// Each event is acknowledged before the next scene is sent, so that no crash takes away what was shown. The store must
 /// be one that needn't be opened again. It can be used on after the sitting, but after `Fault` and `Memory` it must be
-/// opened again where an event was posted. `Closed` and `Input` come only where the keyboard has ended so.
-pub fn serve<K: Keyboard, W: Write, D: Disk>(
+/// opened again where an event was posted. `Closed` and `Input` come only where the keyboard has ended so, and `Output`
+/// where, and only where, a call of the writer has failed.
+pub fn serve<K: Keyboard, W: AnswerWriter, D: Disk>(
     alloc: Global,
     keyboard: &mut K,
     writer: &mut W,
@@ -60,6 +61,8 @@ pub fn serve<K: Keyboard, W: Write, D: Disk>(
     ensures usable { IsUsableAt result store.new }
     ensures faults { CountsEnding result (D.failures store.old.disk) (D.failures store.new.disk) }
     ensures ended { EndsBy (K.ended keyboard.new) result }
+    ensures output { RisesWhere (result ≡ TakesNoMore)
+        (W.failures writer.old) (W.failures writer.new) }
 {
     // What a crash leaves of it.
     sittings_survive::<D>();
@@ -87,7 +90,7 @@ pub fn serve<K: Keyboard, W: Write, D: Disk>(
 /// One turn, of either kind: what was asked for beside the presses is done at once, before anything is shown.
 ///
 /// Errors: those of `turn` and `go`.
-fn step<K: Keyboard, W: Write, D: Disk>(
+fn step<K: Keyboard, W: AnswerWriter, D: Disk>(
     alloc: Global,
     sitting: &mut Sitting,
     parser: &mut Parser,
@@ -101,6 +104,7 @@ fn step<K: Keyboard, W: Write, D: Disk>(
         (turn_state_of parser.old sitting.old store.old (K.heard keyboard.old) painter.old (W.contents writer.old))
         (turn_state_of parser.new sitting.new store.new (K.heard keyboard.new) painter.new (W.contents writer.new)) }
     ensures ended { IfErr result (EndsBy (K.ended keyboard.new)) }
+    ensures output { CountsOutput result (W.failures writer.old) (W.failures writer.new) }
 {
     if sitting.travels.is_none() {
         turn(alloc, sitting, parser, painter, keyboard, writer, store)
@@ -109,7 +113,7 @@ fn step<K: Keyboard, W: Write, D: Disk>(
     }
 }
 
-/// An event is taken back, or done again. Nothing is shown and heard.
+/// A press is taken back, or an event done again. Nothing is shown and heard.
 ///
 /// Errors: `Fault` and `Memory`.
 fn go<D: Disk>(alloc: Global, sitting: &mut Sitting, store: &mut Store<D>) -> Result<(), SittingEnd>
@@ -118,6 +122,7 @@ fn go<D: Disk>(alloc: Global, sitting: &mut Sitting, store: &mut Store<D>) -> Re
         → TakesBetween D.Disk result (turn_state_of parser sitting.old store.old heard known held)
         (turn_state_of parser sitting.new store.new heard known held) }
     ensures cause { IfErr result IsOfNoKeyboard }
+    ensures unsent { IfErr result (λ end. end ≢ TakesNoMore) }
 {
     Ok(travel(alloc, sitting, store)?)
 }
@@ -126,7 +131,7 @@ fn go<D: Disk>(alloc: Global, sitting: &mut Sitting, store: &mut Store<D>) -> Re
 ///
 /// Errors: `Output`, and `Fault` and `Memory` where the screen can't be worked out, before anything is heard; `Closed`
 /// and `Input` where nothing is heard; `Fault` and `Memory` where a press fails; `Left` where the person leaves.
-fn turn<K: Keyboard, W: Write, D: Disk>(
+fn turn<K: Keyboard, W: AnswerWriter, D: Disk>(
     alloc: Global,
     sitting: &mut Sitting,
     parser: &mut Parser,
@@ -140,6 +145,7 @@ fn turn<K: Keyboard, W: Write, D: Disk>(
         (turn_state_of parser.old sitting.old store.old (K.heard keyboard.old) painter.old (W.contents writer.old))
         (turn_state_of parser.new sitting.new store.new (K.heard keyboard.new) painter.new (W.contents writer.new)) }
     ensures ended { IfErr result (EndsBy (K.ended keyboard.new)) }
+    ensures output { CountsOutput result (W.failures writer.old) (W.failures writer.new) }
 {
     show(alloc, store, sitting, painter, writer)?;
     let hearing = keyboard.hear()?;
@@ -169,7 +175,7 @@ fn bring<K: Keyboard>(sitting: &mut Sitting, keyboard: &mut K)
 /// Shows the desktop, all events of which are acknowledged.
 ///
 /// Errors: `Fault` and `Memory`, and nothing was sent; `Output`, and a front may have been sent.
-fn show<W: Write, D: Disk>(
+fn show<W: AnswerWriter, D: Disk>(
     alloc: Global,
     store: &mut Store<D>,
     sitting: &mut Sitting,
@@ -184,6 +190,7 @@ fn show<W: Write, D: Disk>(
     ensures unshown { IfErr result (λ end. D.honest store.old.disk → IsUnshown end sitting.old (store_screen store.old)
         painter.old (W.contents writer.old) (W.contents writer.new)) }
     ensures cause { IfErr result IsOfNoKeyboard }
+    ensures output { CountsOutput result (W.failures writer.old) (W.failures writer.new) }
     ensures usable { store.new.must_reopen ≡ false }
     ensures counts { CountsTurn result (D.failures store.old.disk) (D.failures store.new.disk) }
     ensures device { IsSameDevice D.Disk store.old.disk store.new.disk }
@@ -199,7 +206,7 @@ fn show<W: Write, D: Disk>(
 /// Paints the scene. Where it forgets, nothing is known of the terminal.
 ///
 /// Error: `Output`, and a front may have been sent.
-fn paint<W: Write>(
+fn paint<W: AnswerWriter>(
     sitting: &Sitting,
     forgets: bool,
     painter: &mut Painter,
@@ -211,18 +218,19 @@ fn paint<W: Write>(
     ensures front { OnErr result (IsHalfPainted sitting.now screen.now (known_by forgets painter.old)
         (W.contents writer.old) (W.contents writer.new)) }
     ensures end { IfErr result (λ end. end ≡ TakesNoMore) }
+    ensures cause { CountsFault result (W.failures writer.old) (W.failures writer.new) }
 {
     if forgets {
         painter.forget();
     }
-    let line = sitting.line();
+    let line = sitting.line(screen);
     let scene = scene_of(sitting, screen, line.as_slice());
     Ok(painter.paint(writer, &scene)?)
 }
 
 /// The rows of the screen that are in sight, and the sitting's line below them.
 fn scene_of<'a>(sitting: &Sitting, screen: &'a Screen, line: &'a [u8]) -> Scene<'a>
-    requires { line.now ≡ line_of sitting.now.hand.asked sitting.now.hand.armed sitting.now.saying }
+    requires { line.now ≡ line_of screen.now sitting.now.hand.asked sitting.now.hand.armed sitting.now.saying }
     ensures scene { IsSceneOf sitting.now screen.now result }
     ensures in_sight { IsInSight result }
 {
@@ -237,32 +245,36 @@ fn scene_of<'a>(sitting: &Sitting, screen: &'a Screen, line: &'a [u8]) -> Scene<
 /// Sends what comes after the scene.
 ///
 /// Error: `Output`, and a front may have been sent.
-fn follow<W: Write>(writer: &mut W, rings: bool, asks: bool) -> Result<(), SittingEnd>
+fn follow<W: AnswerWriter>(writer: &mut W, rings: bool, asks: bool) -> Result<(), SittingEnd>
     ensures sent { Sends result (W.contents writer.old) (W.contents writer.new) (after_scene rings asks) }
     ensures end { IfErr result (λ end. end ≡ TakesNoMore) }
+    ensures cause { CountsFault result (W.failures writer.old) (W.failures writer.new) }
 {
     ring_if(writer, rings)?;
     Ok(ask_if(writer, asks)?)
 }
 
 /// Rings the bell where that is to be.
-fn ring_if<W: Write>(writer: &mut W, rings: bool) -> Result<(), OutputFault>
-    ensures { Sends result (W.contents writer.old) (W.contents writer.new) (bell_bytes rings) }
+fn ring_if<W: AnswerWriter>(writer: &mut W, rings: bool) -> Result<(), OutputFault>
+    ensures sent { Sends result (W.contents writer.old) (W.contents writer.new) (bell_bytes rings) }
+    ensures cause { CountsFault result (W.failures writer.old) (W.failures writer.new) }
 {
     if rings { ring(writer) } else { Ok(()) }
 }
 
 /// Asks the terminal for its size where that is to be.
-fn ask_if<W: Write>(writer: &mut W, asks: bool) -> Result<(), OutputFault>
-    ensures { Sends result (W.contents writer.old) (W.contents writer.new) (request asks) }
+fn ask_if<W: AnswerWriter>(writer: &mut W, asks: bool) -> Result<(), OutputFault>
+    ensures sent { Sends result (W.contents writer.old) (W.contents writer.new) (request asks) }
+    ensures cause { CountsFault result (W.failures writer.old) (W.failures writer.new) }
 {
     if asks { ask(writer) } else { Ok(()) }
 }
 
 /// Asks the terminal for its size.
-fn ask<W: Write>(writer: &mut W) -> Result<(), OutputFault>
-    ensures { Sends result (W.contents writer.old) (W.contents writer.new) size_request }
+fn ask<W: AnswerWriter>(writer: &mut W) -> Result<(), OutputFault>
+    ensures sent { Sends result (W.contents writer.old) (W.contents writer.new) size_request }
+    ensures cause { CountsFault result (W.failures writer.old) (W.failures writer.new) }
 {
-    send(writer, &SIZE_REQUEST)?;
-    flush(writer)
+    send_bytes(writer, &SIZE_REQUEST)?;
+    writer.flush()
 }

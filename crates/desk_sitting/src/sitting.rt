@@ -7,15 +7,15 @@ ghost use Rattle.desk_sitting.specs.Questions.{is_nothing, is_of_terminal, quest
 ghost use Rattle.desk_sitting.specs.Sittings.{acted, acted_alone, after_press, after_fetch, after_click, looked, new_sitting};
 ghost use Rattle.desk_sitting.specs.Sittings.{done_by, done_saying, ring_reason};
 ghost use Rattle.desk_sitting.specs.Sittings.{came_to, fitted_saying, after_post, refused, replied, turned_away};
-ghost use Rattle.desk_sitting.specs.Sittings.{typed_more, with_hand};
+ghost use Rattle.desk_sitting.specs.Sittings.{with_hand};
 
-use crate::again::Again;
 use crate::aim::{aimed, caret_of};
 use crate::listed::{event_meant, is_by_list};
 use crate::question::{Question, comes_first};
 use crate::saying::{Saying, SayingLine, is_in_memory, line_of, resting_of};
 use crate::window::{fitted, followed, height_told, is_low, is_narrow, moved};
 use desk_journal::{Error, Store};
+use desk_past::{Again, Past, typed_more};
 use desktop_definitions::Reply;
 use event_bytes::{Event, Keys};
 use screen_cells::Screen;
@@ -23,7 +23,7 @@ use sector_disk::Disk;
 use std::alloc::Global;
 use terminal_presses::{Action, Arrow, Hand, HostName, Press, Sight};
 
-/// What is asked for beside a press: to take the last event back, or to do again what was taken back last.
+/// What is asked for beside a press: to take the last one back, or to do again what was taken back last.
 #[derive(Clone, Copy, Debug, PartialEq, Eq)]
 pub enum Travel {
     Back,
@@ -61,10 +61,14 @@ pub struct Sitting {
     pub asks: bool,
     /// How many characters are typed of the text that was pasted when something was pressed last. None where none was.
     pub typed: Option<u32>,
-    /// An event is to be taken back, or done again.
+    /// A press is to be taken back, or an event to be done again.
     pub travels: Option<Travel>,
     /// What was taken back, as far as it can be done again.
     pub again: Again,
+    /// What was done, as far as it can be taken back.
+    pub past: Past,
+    /// The next event that is done is one of the press that was done last, as amid a paste.
+    pub joins: bool,
 }
 
 impl Sitting {
@@ -87,14 +91,16 @@ impl Sitting {
             typed: None,
             travels: None,
             again: Again::none(),
+            past: Past::none(),
+            joins: false,
         }
     }
 
-    /// The line below the screen, of 80 characters at most.
-    pub fn line(&self) -> SayingLine
-        ensures { result.items ≡ line_of self.now.hand.asked self.now.hand.armed self.now.saying }
+    /// The line below this screen, of 80 characters at most.
+    pub fn line(&self, screen: &Screen) -> SayingLine
+        ensures { result.items ≡ line_of screen.now self.now.hand.asked self.now.hand.armed self.now.saying }
     {
-        line_of(self.hand.asked(), self.hand.armed(), self.saying)
+        line_of(screen, self.hand.asked(), self.hand.armed(), self.saying)
     }
 
     /// An event is refused, or can't be made: the terminal rings, and the line below says why.
@@ -157,11 +163,16 @@ impl Sitting {
             Reply::Done => {
                 self.saying = done_saying(event, self.resting);
                 self.follows = true;
+                self.past.add(event, self.joins);
+                self.joins = true;
                 if let Some(typed) = self.typed {
                     self.typed = Some(typed_more(event, typed));
                 }
             }
-            Reply::No(code) => self.turn_away(Saying::Refused(code)),
+            Reply::No(code) => {
+                self.past.add_refused();
+                self.turn_away(Saying::Refused(code));
+            }
         }
     }
 
@@ -185,16 +196,19 @@ impl Sitting {
         self.act(alloc, action, store)
     }
 
-    /// The hand takes a press. Amid a text that is pasted it is counted how many of its characters are typed.
+    /// The hand takes a press. Amid a text that is pasted it is counted how many of its characters are typed, and its
+    /// events are those of one press.
     fn take(&mut self, press: Press) -> Action
         ensures state { self.new ≡ with_hand (handled self.old.sight press self.old.hand).0 self.old }
         ensures answer { result ≡ (handled self.old.sight press self.old.hand).1 }
     {
-        self.typed = if self.hand.pastes_text() {
+        let pastes = self.hand.pastes_text();
+        self.typed = if pastes {
             Some(self.typed.unwrap_or(0))
         } else {
             None
         };
+        self.joins = pastes && self.joins;
         self.hand.take(self.sight, press)
     }
 
@@ -392,16 +406,6 @@ impl Sitting {
             }
             other => Err(other),
         }
-    }
-}
-
-/// Of a paste so many more characters are typed.
-fn typed_more(event: &Event, typed: u32) -> u32
-    ensures { result ≡ typed_more event.now typed }
-{
-    match event {
-        Event::Typed(bytes) => typed.saturating_add(bytes.as_bytes().len() as u32),
-        _ => typed,
     }
 }
 

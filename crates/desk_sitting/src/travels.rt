@@ -2,21 +2,20 @@
 ghost use Rattle.std.specs.Prelude.{◌≡◌, ◌≢◌, false, Some, None, OnOk, IfErr, IfOk};
 ghost use Rattle.desk_sitting.specs.declared.sitting.Travel.TheVariants.{Back, Again as Forth};
 ghost use Rattle.desk_sitting.specs.declared.saying.Saying.TheVariants.{NotBack};
-ghost use Rattle.desk_sitting.specs.Again.{next_event};
+ghost use Rattle.desk_past.specs.Again.{next_event};
 ghost use Rattle.desk_sitting.specs.Doing.{OfPresses, ComesToSeat, seat_of};
 ghost use Rattle.desk_sitting.specs.Sittings.{after_post, refused};
-ghost use Rattle.desk_sitting.specs.Travels.{Travels, did_again, goes_again, store_place, settled, took_back};
+ghost use Rattle.desk_sitting.specs.Travels.{Travels, did_again, goes_again, on_to, store_place, settled, took_back};
 
-use crate::again::Place;
-use crate::deed::Deed;
 use crate::saying::Saying;
 use crate::sitting::{Doing, Sitting, Travel};
 use desk_journal::{Error, Store};
+use desk_past::{Deed, NextEvent, Place, TakenPress};
 use event_bytes::Event;
 use sector_disk::Disk;
 use std::alloc::Global;
 
-/// Takes the last event back, or does again what was taken back last, where that was asked for.
+/// Takes the last press back, or does the next event again of what was taken back last, where that was asked for.
 ///
 /// Errors: `NoMemory`, where memory runs out; `Fault`, where the disk fails.
 pub fn travel<D: Disk>(alloc: Global, sitting: &mut Sitting, store: &mut Store<D>) -> Doing
@@ -44,58 +43,67 @@ fn place<D: Disk>(store: &Store<D>) -> Place
     }
 }
 
-/// Takes the last event back.
+/// Takes the events of the last press back.
 fn take_back<D: Disk>(alloc: Global, sitting: &mut Sitting, store: &mut Store<D>) -> Doing
     requires usable { store.old.must_reopen ≡ false }
     requires asked { sitting.old.travels ≡ Some Back }
     ensures { Travels D.Disk result sitting.old sitting.new store.old store.new }
 {
     let from = place(store);
-    match store.undo(alloc, 1) {
+    let count = sitting.past.count();
+    match store.undo(alloc, count) {
         Ok(events) => {
-            let mut events = events;
-            sitting.took_back(events.pop(), from, place(store));
+            sitting.took_back(events, from, place(store));
             Ok(())
         }
         Err(error) => sitting.stay(error),
     }
 }
 
-/// Does again what was taken back last.
+/// Does the next event again of what was taken back last.
 fn do_again<D: Disk>(alloc: Global, sitting: &mut Sitting, store: &mut Store<D>) -> Doing
     requires usable { store.old.must_reopen ≡ false }
     requires asked { sitting.old.travels ≡ Some Forth }
     ensures { Travels D.Disk result sitting.old sitting.new store.old store.new }
 {
     let from = place(store);
-    sitting.travels = None;
-    match sitting.again.next(from) {
+    match sitting.next_again(from) {
         None => {
             sitting.refuse(Saying::NothingAgain);
             Ok(())
         }
         Some(event) => {
-            sitting.post(alloc, &event, store)?;
-            sitting.did_again(&event, from, place(store));
+            sitting.post(alloc, &event.event, store)?;
+            sitting.did_again(event.deed, from, place(store));
             Ok(())
         }
     }
 }
 
 impl Sitting {
-    /// This event was taken back, or none.
-    fn took_back(&mut self, event: Option<Event>, from: Place, to: Place)
-        ensures { self.new ≡ took_back event from to (settled self.old) }
+    /// The next event that is to be done again, at this place. While others of its press are left, they are asked for.
+    fn next_again(&mut self, place: Place) -> Option<NextEvent>
+        ensures event { result ≡ next_event place self.old.again }
+        ensures sitting { self.new ≡ goes_again place self.old }
+    {
+        let found = self.again.next(place);
+        self.travels = on_to(&found);
+        found
+    }
+
+    /// These events were taken back.
+    fn took_back(&mut self, events: Vec<Event>, from: Place, to: Place)
+        ensures { self.new ≡ took_back events.items from to (settled self.old) }
     {
         self.travels = None;
-        match event {
-            None => self.refuse(Saying::NothingBack),
-            Some(event) => {
-                self.saying = Saying::TookBack(Deed::of(&event));
-                self.follows = true;
-                self.again.keep(event, from, to);
-            }
+        if events.as_slice().is_empty() {
+            self.refuse(Saying::NothingBack);
+            return;
         }
+        let deed = self.past.take_back(events.as_slice());
+        self.saying = Saying::TookBack(deed);
+        self.follows = true;
+        self.again.keep(TakenPress::of(events, deed), from, to);
     }
 
     /// Nothing was taken back, for this reason. Out of memory and a failure of the disk are passed on.
@@ -113,14 +121,30 @@ impl Sitting {
         }
     }
 
-    /// An event was done again, which led from one place to another.
-    fn did_again(&mut self, event: &Event, from: Place, to: Place)
-        ensures { self.new ≡ did_again event.now from to self.old }
+    /// An event was done again, of a press that did this, which led from one place to another. Where the store took it,
+    /// that is said, and it doesn't ring for an event that is refused again.
+    fn did_again(&mut self, deed: Deed, from: Place, to: Place)
+        ensures { self.new ≡ did_again deed from to self.old }
     {
         if from.epoch == to.epoch && from.events == to.events {
             return;
         }
-        self.saying = Saying::DidAgain(Deed::of(event));
+        self.saying = Saying::DidAgain(deed);
+        self.rings = false;
         self.again.come_to(to);
+    }
+}
+
+/// What is asked for once the next event is done again.
+fn on_to(found: &Option<NextEvent>) -> Option<Travel>
+    ensures { result ≡ on_to found.now }
+{
+    match found {
+        None => None,
+        Some(event) => if event.is_last {
+            None
+        } else {
+            Some(Travel::Again)
+        },
     }
 }

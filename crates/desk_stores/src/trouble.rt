@@ -1,4 +1,6 @@
 //! What goes wrong, in sentences.
+ghost use Rattle.std.specs.Prelude.{◌≡◌};
+ghost use Rattle.desk_stores.specs.Statuses.{host_status, trouble_status};
 
 use desk_journal::Error;
 use host_files::HostFault;
@@ -42,14 +44,18 @@ impl Trouble {
     /// Says what went wrong, in one sentence on standard error, and returns the status of the program: 1 where a
     /// document is refused, 3 where the file holds no store or a damaged one, 4 where there is no file, the host
     /// refuses it, or the disk or the output failed, and 5 for want of memory. The path is that of the store.
-    pub fn say(self, rt: &HostRuntime, path: &str) -> u8 {
+    pub fn say(self, rt: &HostRuntime, path: &str) -> u8
+        ensures { result ≡ trouble_status self }
+    {
         // Where standard error can't be written there is the status alone.
         let _ = self.sentence(rt, path);
         self.status()
     }
 
     /// The status of the program.
-    fn status(self) -> u8 {
+    fn status(self) -> u8
+        ensures { result ≡ trouble_status self }
+    {
         match self {
             Trouble::Name => 1,
             Trouble::Store(Error::NotAStore | Error::Damaged(_)) => 3,
@@ -81,7 +87,9 @@ impl Trouble {
 }
 
 /// The status where the host refuses a file.
-fn status_of(fault: HostFault) -> u8 {
+fn status_of(fault: HostFault) -> u8
+    ensures { result ≡ host_status fault }
+{
     match fault {
         HostFault::NoMemory => 5,
         _ => 4,

@@ -2,7 +2,10 @@
 //! and that the folder of a new file is durable; and for a file of the person's that it reads.
 #![tactic(auto)]
 
-ghost use Rattle.std.specs.Prelude.{◌≡◌, ◌≤◌, Ok, IfOk, length};
+ghost use Rattle.std.specs.Prelude.{◌≡◌, ◌≤◌, Ok, IfOk, IfErr, IsErrOf, IsOk, OnOk, length};
+ghost use Rattle.std.specs.Fs.{IsFile, file_type, metadata_len};
+ghost use Rattle.std_io.specs.IoError.{error_kind};
+ghost use Rattle.host_files.specs.Faults.{fault_of_kind, fault_of_lock};
 
 mod locked_file;
 mod streams;
@@ -158,7 +161,10 @@ pub fn open_regular(rt: &HostRuntime, path: &str, most: u64) -> Result<File, Hos
 }
 
 /// Refuses what is no regular file, or has more bytes.
-fn is_regular(file: &Metadata, most: u64) -> Result<(), HostFault> {
+fn is_regular(file: &Metadata, most: u64) -> Result<(), HostFault>
+    ensures regular { OnOk result (IsFile (file_type file.now)) }
+    ensures within { OnOk result (metadata_len file.now ≤ most) }
+{
     if file.is_file() && file.len() <= most {
         Ok(())
     } else {
@@ -177,7 +183,9 @@ fn synced_folder(rt: &HostRuntime, path: &str) -> io::Result<()> {
 
 /// What the host was asked for, or why it refused.
 fn asked<T: Drop>(answer: io::Result<T>) -> Result<T, HostFault>
-    ensures { IfOk result (λ value. answer ≡ Ok value) }
+    ensures value { IfOk result (λ value. answer ≡ Ok value) }
+    ensures done { OnOk answer (IsOk result) }
+    ensures refused { IfErr answer (λ error. IsErrOf result (fault_of_kind (error_kind error))) }
 {
     match answer {
         Ok(value) => Ok(value),
@@ -186,7 +194,9 @@ fn asked<T: Drop>(answer: io::Result<T>) -> Result<T, HostFault>
 }
 
 /// The fault that an error of this kind is.
-fn fault_of(kind: ErrorKind) -> HostFault {
+fn fault_of(kind: ErrorKind) -> HostFault
+    ensures { result ≡ fault_of_kind kind }
+{
     match kind {
         ErrorKind::NotFound => HostFault::Missing,
         ErrorKind::AlreadyExists => HostFault::Taken,
@@ -196,7 +206,10 @@ fn fault_of(kind: ErrorKind) -> HostFault {
 }
 
 /// A lock that wasn't taken is a fault.
-fn locked(lock: Result<(), TryLockError>) -> Result<(), HostFault> {
+fn locked(lock: Result<(), TryLockError>) -> Result<(), HostFault>
+    ensures taken { OnOk lock (IsOk result) }
+    ensures refused { IfErr lock (λ error. IsErrOf result (fault_of_lock error)) }
+{
     match lock {
         Ok(()) => Ok(()),
         Err(TryLockError::WouldBlock) => Err(HostFault::InUse),

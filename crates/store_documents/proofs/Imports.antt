@@ -77,11 +77,15 @@ module _ {D : Type 0} (d : Ghosts D) where
   pub brought_behind : {old mid new : StoreView D} (documents : Documents) (reply : Reply) → HasOnlyLooked d old mid
       → AreBrought d documents reply mid new → AreBrought d documents reply old new
   brought_behind {old = old} {mid = mid} {new = new} documents reply looked bring = record {
-    brought = λ honest. bring.brought (looked.disk.device.still honest)
-        ∙ ap (λ (x : Desktop). brought_in x documents) (looked.desktop honest);
+    brought = record {
+      done = λ honest. bring.brought.done (looked.disk.device.still honest)
+          ∙ ap (λ (x : Desktop). brought_in x documents) (looked.desktop honest);
+      unread = subst (λ (k : KeptDesktop). BringsUnread k new.kept documents reply) looked.kept bring.brought.unread;
+      known = bring.brought.known;
+      refusal = λ code is. bring.brought.refusal code is ∙ looked.kept;
+    };
     durable = bring.durable;
     usable = bring.usable;
-    known = bring.known;
     done = λ is. let next = bring.done is in record {
       layout = next.layout;
       epoch = next.epoch ∙ ap (λ (n : ℕ). n + 1) looked.epoch;
@@ -95,7 +99,6 @@ module _ {D : Type 0} (d : Ghosts D) where
       events = left.events ∙ looked.events;
       unwritten = read_twice d looked.disk left.unwritten;
     };
-    unread = subst (λ (k : KeptDesktop). BringsUnread k new.kept documents reply) looked.kept bring.unread;
   }
 
   pub same_moments : (old new : StoreView D) (came documents : Documents) → (d.honest old.disk → came ≡ documents)

@@ -5,3 +5,5 @@ mod Imports
 mod PartLaws
 mod Takings
 mod FillingLaws
+mod LookLaws
+mod Pieces

@@ -4,10 +4,11 @@ use Rattle.std.specs.Io.KnownBytes.{Appends, Keeps}
 use Rattle.piece_ring.specs.Text.{Text}
 use Rattle.store_documents.specs.HostText.{exported, printable}
 use Rattle.store_documents.specs.Filling.{joined_text}
+use Rattle.store_documents.specs.Markup.{html_of}
 use Rattle.byte_streams.specs.Sent.{AppendsFront}
 use Rattle.store_documents.specs.Standings.{bytes_of}
 use Rattle.store_documents.specs.declared.exporting.Reader.{Reader}
-use Rattle.store_documents.specs.declared.exporting.Reader.TheVariants.{Program, Terminal}
+use Rattle.store_documents.specs.declared.exporting.Reader.TheVariants.{Program, Terminal, Browser}
 use Rattle.store_documents.specs.declared.exporting.Form.{Form}
 use Rattle.store_documents.specs.declared.exporting.ExportFault.{ExportFault}
 use Rattle.store_documents.specs.declared.exporting.ExportFault.TheVariants.{Store, Output}
@@ -16,14 +17,15 @@ use Rattle.store_documents.specs.declared.exporting.ExportFault.TheVariants.{Sto
 abbrev pub with_lines : Bool → List ℕ → List ℕ
 with_lines is_joined text = if is_joined then joined_text text else text
 
--- bytes as a reader gets them
-abbrev pub bytes_for_reader : Reader → List ℕ → List ℕ
-bytes_for_reader Program bytes = exported bytes
-bytes_for_reader Terminal bytes = printable bytes
+-- a text as a reader gets it. A browser gets its lines as they are.
+abbrev pub text_for_reader : Reader → Bool → Text ℕ → List ℕ
+text_for_reader Program is_joined text = exported (with_lines is_joined (bytes_of text))
+text_for_reader Terminal is_joined text = printable (with_lines is_joined (bytes_of text))
+text_for_reader Browser is_joined text = html_of text
 
 -- the bytes of a text as they come out
 abbrev pub text_in_form : Form → Text ℕ → List ℕ
-text_in_form form text = bytes_for_reader form.reader (with_lines form.is_joined (bytes_of text))
+text_in_form form text = text_for_reader form.reader form.is_joined text
 
 -- the document whole; or nothing, where there is none
 abbrev pub IsExported : Form → Option (Text ℕ) → Bool → Option (List ℕ) → Option (List ℕ) → Type 0

@@ -5,4 +5,5 @@ pub mod Filling
 pub mod Handing
 pub mod HostText
 pub mod Importing
+pub mod Markup
 pub mod Standings

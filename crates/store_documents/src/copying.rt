@@ -6,9 +6,22 @@ ghost use Rattle.store_documents.specs.Copying.{HaveSame};
 
 use sector_disk::{Disk, Fault, SECTOR_BYTES};
 
-/// Writes the first sectors of a disk into another one, so many of them, and waits until they are there for good.
+/// Whoever is told how far a copy has come.
+pub trait Watch {
+    /// So many sectors were copied.
+    fn seen(&mut self, count: u32);
+}
+
+/// Writes the first sectors of a disk into another one, so many of them, and waits until they are there for good. The
+/// watcher is told of each.
+///
 /// `Fault` where either disk fails.
-pub fn copy<D: Disk, E: Disk>(from: &mut D, to: &mut E, count: u32) -> Result<(), Fault>
+pub fn copy<D: Disk, E: Disk, W: Watch>(
+    from: &mut D,
+    to: &mut E,
+    count: u32,
+    watcher: &mut W,
+) -> Result<(), Fault>
     requires from { count ≤ D.size from.old }
     requires to { count ≤ E.size to.old }
     ensures same { OnOk result (D.honest from.old → E.honest to.old → HaveSame count (now (D.trail from.old)).reads
@@ -21,6 +34,7 @@ pub fn copy<D: Disk, E: Disk>(from: &mut D, to: &mut E, count: u32) -> Result<()
     for n in 0..count {
         from.read(n, &mut sector)?;
         to.write(n, &sector)?;
+        watcher.seen(n + 1);
     }
     to.sync()
 }

@@ -1,12 +1,13 @@
 //! A document on its way out.
 ghost use Rattle.std.specs.Prelude.{◌≡◌, Some, IfOk, IfErr};
 ghost use Rattle.desktop_definitions.specs.Desktop.{file_of};
+ghost use Rattle.store_documents.specs.HostText.{exported, printable};
 ghost use Rattle.store_documents.specs.Exporting.{IsExported, IsExportCutOff, text_in_form, with_lines};
 ghost use Rattle.store_documents.specs.Standings.{bytes_of};
 ghost use Rattle.store_documents.specs.Standings.{HasOnlyLooked};
 
 use crate::sorting::text_of;
-use crate::{host_bytes, joined, printable_bytes};
+use crate::{host_bytes, html, joined, printable_bytes};
 use byte_streams::{flush, send};
 use desk_journal::{Error, Store};
 use event_bytes::Name;
@@ -22,6 +23,8 @@ pub enum Reader {
     Program,
     /// A terminal: it gets a question mark in the place of each byte that it might take for an order.
     Terminal,
+    /// A browser: it gets HTML, in which each character has its look.
+    Browser,
 }
 
 /// How a document comes out.
@@ -29,7 +32,7 @@ pub enum Reader {
 pub struct Form {
     /// Who reads it.
     pub reader: Reader,
-    /// Whether each line that ends with a blank is joined to the next.
+    /// Whether each line that ends with a blank is joined to the next, but for a browser.
     pub is_joined: bool,
 }
 
@@ -103,11 +106,35 @@ fn write_text<W: Write>(
 fn text_for(alloc: Global, characters: &[(u8, Look)], form: Form) -> Result<Vec<u8>, AllocError>
     ensures { IfOk result (λ text. text.items ≡ text_in_form form characters.now) }
 {
-    let text = lines_of(alloc, characters, form.is_joined)?;
     match form.reader {
-        Reader::Program => host_bytes(alloc, &text),
-        Reader::Terminal => printable_bytes(alloc, &text),
+        Reader::Program => program_text(alloc, characters, form.is_joined),
+        Reader::Terminal => terminal_text(alloc, characters, form.is_joined),
+        Reader::Browser => html(alloc, characters),
     }
+}
+
+/// The bytes of characters for a file or a program.
+fn program_text(
+    alloc: Global,
+    characters: &[(u8, Look)],
+    is_joined: bool,
+) -> Result<Vec<u8>, AllocError>
+    ensures { IfOk result (λ text. text.items ≡ exported (with_lines is_joined (bytes_of characters.now))) }
+{
+    let text = lines_of(alloc, characters, is_joined)?;
+    host_bytes(alloc, &text)
+}
+
+/// The bytes of characters for a terminal.
+fn terminal_text(
+    alloc: Global,
+    characters: &[(u8, Look)],
+    is_joined: bool,
+) -> Result<Vec<u8>, AllocError>
+    ensures { IfOk result (λ text. text.items ≡ printable (with_lines is_joined (bytes_of characters.now))) }
+{
+    let text = lines_of(alloc, characters, is_joined)?;
+    printable_bytes(alloc, &text)
 }
 
 /// Characters without their looks, and with their lines joined if they are to be.

@@ -53,7 +53,7 @@ pub fn printable_bytes(alloc: Global, text: &[u8]) -> Result<Vec<u8>, AllocError
 }
 
 /// What a document's byte is to the host.
-fn fed(byte: u8) -> u8
+pub(crate) fn fed(byte: u8) -> u8
     ensures { result ≡ fed_byte byte }
 {
     if byte == CARRIAGE_RETURN {
@@ -64,7 +64,7 @@ fn fed(byte: u8) -> u8
 }
 
 /// What a byte is to a terminal.
-fn printed(byte: u8) -> u8
+pub(crate) fn printed(byte: u8) -> u8
     ensures { result ≡ printed_byte byte }
 {
     if is_strange(byte) {

@@ -2,6 +2,9 @@
 ghost use Rattle.std.specs.Prelude.{◌≡◌, ◌==◌, ℕ, List, IsTrue, not, map, filter};
 ghost use Rattle.std.specs.List.{list_all};
 ghost use Rattle.event_bytes.specs.Bytes.{is_text_byte, carriage_return};
+ghost use Rattle.piece_ring.specs.declared.piece.Look.{Look};
+ghost use Rattle.piece_ring.specs.Text.{Text};
+ghost use Rattle.store_documents.specs.Markup.{text_told, turned_text};
 ghost use Rattle.store_documents.specs.HostText.{exported, document_of, printable, is_strange};
 ghost use Rattle.store_documents.specs.Filling.{joined_text, filled_text, has_narrow_lines, has_short_units};
 
@@ -28,4 +31,10 @@ pub fn lines_come_back()
         → IsTrue (has_narrow_lines width 0 (filled_text width text)) }
     ensures plain { (width : ℕ) (text : List ℕ) → IsTrue (list_all is_text_byte text)
         → IsTrue (list_all is_text_byte (filled_text width text)) }
+{}
+
+/// What is told of looks tells all: the characters that HTML has one after another, each in the last look before it, are
+/// the text.
+pub fn looks_come_back()
+    ensures { (before : Look) (text : Text ℕ) → text_told before (turned_text before text) ≡ text }
 {}

@@ -3,7 +3,10 @@
 //! of the host's are the matter of the crate `desk_documents`.
 #![tactic(auto)]
 
+mod ascii;
 mod copying;
+mod counts;
+mod event_lines;
 mod examining;
 mod exporting;
 mod file_bytes;
@@ -12,10 +15,15 @@ mod filling;
 mod handing;
 mod importing;
 mod laws;
+mod markup;
 mod places;
 mod sorting;
+mod words;
 
-pub use copying::{are_same, copy};
+pub use ascii::{InAscii, in_ascii};
+pub use copying::{Watch, are_same, copy};
+pub use counts::Counts;
+pub use event_lines::event_line;
 pub use examining::{Examined, Part, SlotState, examine, part_of, parts_are_of_layout};
 pub use exporting::{ExportFault, Form, Reader, export};
 pub use file_bytes::{MOST_BYTES, Unfit, document};
@@ -23,6 +31,8 @@ pub use file_text::{host_bytes, host_text, printable_bytes, printable_text};
 pub use filling::{document_within, filled, joined};
 pub use handing::{FirstUnfit, Handed, documents_of, named_before};
 pub use importing::{Coming, Imported, import};
-pub use laws::{lines_come_back, texts_come_back};
+pub use laws::{lines_come_back, looks_come_back, texts_come_back};
+pub use markup::html;
 pub use places::Place;
 pub use sorting::{Sorted, Standing, sort, standing_in};
+pub use words::place_of_word;

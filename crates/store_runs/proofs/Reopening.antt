@@ -11,7 +11,7 @@ use Rattle.event_bytes.specs.declared.event.Event.{Event}
 use Rattle.desktop_definitions.specs.declared.reply.Reply.{Reply}
 use Rattle.desktop_definitions.specs.Desktop.{Desktop}
 use Rattle.desktop_definitions.specs.Step.{step, steps, Outcome}
-use Rattle.store_layout.specs.declared.layout.TheConstants.{LAYOUT}
+use Rattle.store_layout.specs.declared.layout.TheConstants.{LAST_EPOCH, LAYOUT}
 use Rattle.store_layout.proofs.Bits.{clash}
 use Rattle.store_layout.specs.Finding.{FindingLaw, FindsOneThing}
 use Rattle.store_layout.specs.Meaning.{Means}
@@ -19,6 +19,7 @@ use Rattle.store_runs.specs.declared.call.StoreCall.{StoreCall}
 use Rattle.store_runs.specs.declared.call.StoreCall.TheVariants.{Post as Posting, Checkpoint}
 use Rattle.desk_journal.specs.Device.{WritesNothing, IsSameDevice, result_of}
 use Rattle.desk_journal.specs.Errors.{Error, OfOpen}
+use Rattle.desk_journal.specs.Errors.{Worn}
 use Rattle.desk_journal.specs.Opening.{IsNoStore}
 use Rattle.desk_journal.specs.Posting.{IsAcknowledged}
 use Rattle.desk_journal.proofs.Stepped.{stepped_newest}
@@ -175,6 +176,24 @@ call_stops d Checkpoint e old new usable p = elim p.0.behaves.faults.errors [
   | inr (inl closed) ↦ absurd (clash (p.0.behaves.reopen.only (ap Err closed)) usable)
   | inr (inr worn) ↦ inr (inr worn)
 ]
+
+-- and it is worn only in the last epoch
+pub call_worn : {D : Type 0} (d : Ghosts D) (call : StoreCall) (e : Error) (old new : StoreView D)
+    → ServesCall d call (Err e) old new → e ≡ Worn → old.epoch ≡ LAST_EPOCH
+call_worn d (Posting event) e old new p is = (p.worn.only (ap Err is)).0.1
+call_worn d Checkpoint e old new p is = (p.0.worn.only (ap Err is)).1
+
+-- opening is never refused so
+opening_not_worn : (e : Error) → OfOpen e → e ≡ Worn → ⊥
+opening_not_worn e (inl (inl none)) is = cc (none, is)
+opening_not_worn e (inl (inr (inl failed))) is = cc (failed, is)
+opening_not_worn e (inl (inr (inr foreign))) is = cc (foreign, is)
+opening_not_worn e (inr (n, damaged)) is = cc (damaged, is)
+
+pub result_not_worn : {A D : Type 0} (X : Type 0) (r : Result A (Error × D)) → IfErr (result_of r) OfOpen
+    → IfErr r (λ e. e.0 ≡ Worn → X)
+result_not_worn X (Ok opened) named = tt
+result_not_worn X (Err e) named = λ is. absurd (opening_not_worn e.0 named is)
 
 -- what was closed is found again: opening it stops for want of memory or by a fault
 module _ {D : Type 0} (d : Ghosts D) (closed : StoreView D) (law : FindingLaw) (honest : d.honest closed.disk)

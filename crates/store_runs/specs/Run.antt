@@ -9,7 +9,7 @@ use Rattle.desktop_definitions.specs.declared.reply.Reply.{Reply}
 use Rattle.desktop_definitions.specs.declared.reply.Reply.TheVariants.{Done}
 use Rattle.desktop_definitions.specs.Desktop.{Desktop}
 use Rattle.desktop_definitions.specs.Step.{steps}
-use Rattle.store_layout.specs.declared.layout.TheConstants.{JOURNAL_EVENTS, LAYOUT}
+use Rattle.store_layout.specs.declared.layout.TheConstants.{JOURNAL_EVENTS, LAST_EPOCH, LAYOUT}
 use Rattle.store_layout.specs.Meaning.{Means}
 use Rattle.store_runs.specs.declared.call.StoreCall.{StoreCall}
 use Rattle.store_runs.specs.declared.call.StoreCall.TheVariants.{Post as Posting, Checkpoint}
@@ -173,6 +173,12 @@ pub record MeansSome (size : ℕ) (desktop : Desktop) (events : List Event) (c :
 -- why calls and an opening stop over an honest disk: what they leave is a store, and opening finds it
 abbrev pub StopsAReopening : Error → Type 0
 StopsAReopening = OneOf (NoMemory ∷ Fault ∷ Worn ∷ [])
+
+-- some of the calls, the first of them, lead to the last epoch
+pub record LeadsToLastEpoch {D : Type 0} (calls : List StoreCall) (closed : StoreView D) : Type 0 where
+  pub count : ℕ
+  pub within : count ≤ length calls
+  pub last : (all_counted (take count calls) (counts_of closed)).epoch ≡ LAST_EPOCH
 
 -- the store that was opened after all the calls: nothing is lost
 pub record IsReopened {D : Type 0} (d : Ghosts D) (calls : List StoreCall) (closed reopened : StoreView D) : Type 0

@@ -5,7 +5,7 @@ ghost use Rattle.sector_disk.specs.Faults.{FailsAs};
 ghost use Rattle.desk_journal.specs.Device.{IsSameDevice, disk_after, result_of};
 ghost use Rattle.desk_journal.specs.Errors.{OfReopen};
 ghost use Rattle.store_runs.specs.Run.{IsCallRun, SurvivesRun, ServesCall, MeansSome, IsReopened, served_of, events_in};
-ghost use Rattle.store_runs.specs.Run.{StopsAReopening};
+ghost use Rattle.store_runs.specs.Run.{LeadsToLastEpoch, StopsAReopening};
 ghost use Rattle.store_runs.specs.Undone.{PromisesUndo, told_of};
 
 use crate::call::{StoreAnswer, StoreCall};
@@ -88,6 +88,8 @@ pub fn serve_and_reopen<D: Disk>(
         → LeavesOnly (D.trail store.disk) (D.trail (disk_after (λ reopened. reopened.disk) result))
         (MeansSome (D.size store.disk) store.desktop (events_in calls.now)) }
     ensures stops { D.honest store.disk → IfErr result (λ e. StopsAReopening e.0) }
+    // It is worn only after calls that led to the last epoch.
+    ensures worn { IfErr result (λ e. e.0 ≡ Error.Worn → LeadsToLastEpoch calls.now store) }
     ensures device { IsSameDevice D.Disk store.disk (disk_after (λ reopened. reopened.disk) result) }
     ensures faults { FailsAs Error.Fault OfReopen (result_of result) (D.failures store.disk) (D.failures (disk_after
         (λ reopened. reopened.disk) result)) }

@@ -1,6 +1,7 @@
 //! What is said of refusals, and the statuses.
 
 use oberon_main::{CountedWriter, Error, PlayEnd, refuse, status};
+use std::alloc::AllocError;
 use std::test::Fail;
 
 #[test]
@@ -28,6 +29,25 @@ fn statuses(rt: HostRuntime) -> Result<(), Fail> {
     ];
     for (end, wanted) in rows {
         assert!(rt; status(&end) == wanted);
+    }
+    Ok(())
+}
+
+/// The error as a text, for programs that print it.
+#[test]
+fn texts(rt: HostRuntime) -> Result<(), AllocError> {
+    let rows: [(Error, &str); 7] = [
+        (Error::NotAStore, "not a store"),
+        (Error::Damaged(7), "damaged 7"),
+        (Error::NoMemory, "memory"),
+        (Error::Fault, "fault"),
+        (Error::MustReopen, "the store must be opened again"),
+        (Error::TooSmall, "too small"),
+        (Error::Worn, "worn"),
+    ];
+    for (error, wanted) in rows {
+        let text = format!(in rt.alloc(); "{error}")?;
+        assert!(rt; text.as_str() == wanted);
     }
     Ok(())
 }

@@ -3,7 +3,8 @@
 //! `head_fields` show.
 
 use crate::disks::{Row, Step, expect};
-use oberon_main::Version;
+use oberon_main::{Error, Store, Version};
+use sector_disk::MemoryDisk;
 use std::alloc::AllocError;
 
 /// The scripts of the first events of three, from none on.
@@ -54,6 +55,16 @@ fn hello(rt: HostRuntime) -> Result<(), AllocError> {
         ),
     ];
     expect(&rt, rt.alloc(), &rows)
+}
+
+/// A disk of 100 sectors takes no store, and has none.
+#[test]
+fn too_few_sectors(rt: HostRuntime) -> Result<(), AllocError> {
+    let made = Store::format(MemoryDisk::new(rt.alloc(), 100)?);
+    assert!(rt; matches!(&made, Err((Error::TooSmall, _))));
+    let opened = Store::open(rt.alloc(), MemoryDisk::new(rt.alloc(), 100)?);
+    assert!(rt; matches!(&opened, Err((Error::NotAStore, _))));
+    Ok(())
 }
 
 /// The label, a slot's gate and head, its image, the gate of its first event and the event.

@@ -26,3 +26,4 @@ pub use operation::Operation;
 pub use painter::{Painter, ring};
 pub use pen::{BLACK, Pen, Rule, WHITE, Weight};
 pub use scene::{Row, Scene, row_of_cells};
+pub use sending::send_bytes;

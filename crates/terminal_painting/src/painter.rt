@@ -1,6 +1,7 @@
 //! What is sent to a terminal so that it shows a scene.
 ghost use Rattle.std.specs.Prelude.{◌≡◌, ◌<◌, ◌≤◌, ◌==◌, [], length, replicate, slice_index_or};
 ghost use Rattle.std.specs.Prelude.{OnOk, OnErr, IfOk, IfSome};
+ghost use Rattle.byte_streams.specs.Counting.{CountsFault};
 ghost use Rattle.byte_streams.specs.Sent.{AppendsFront, Sends};
 ghost use Rattle.viewer_tracks.specs.declared.display.TheConstants.{COLUMNS as columns, ROWS as rows};
 ghost use Rattle.terminal_painting.specs.Scene.{scene_row, scene_rows, height_of, IsInSight};
@@ -16,8 +17,7 @@ use crate::pen::{Pen, WHITE};
 use crate::scene::{Row, Scene};
 use crate::sending::send;
 use arrayvec::ArrayVec;
-use byte_streams::{OutputFault, flush};
-use std::io::Write;
+use byte_streams::{AnswerWriter, OutputFault};
 use std::marker::Model;
 use std::mem;
 
@@ -63,7 +63,11 @@ impl Painter {
     /// Only what changed since the last scene is sent, and all of it where none is known. It returns `OutputFault`
     /// where a write or the flush fails: then a front of the painting may have been taken, and nothing is known of the
     /// terminal.
-    pub fn paint<W: Write>(&mut self, writer: &mut W, scene: &Scene<'_>) -> Result<(), OutputFault>
+    pub fn paint<W: AnswerWriter>(
+        &mut self,
+        writer: &mut W,
+        scene: &Scene<'_>,
+    ) -> Result<(), OutputFault>
         requires { IsInSight scene.now }
         ensures shown { OnOk result (Paints (W.contents writer.old)
             (W.contents writer.new) self.old scene.now) }
@@ -71,6 +75,7 @@ impl Painter {
         ensures front { OnErr result (PaintsFront (W.contents writer.old)
             (W.contents writer.new) self.old scene.now) }
         ensures unknown { OnErr result (self.new ≡ []) }
+        ensures cause { CountsFault result (W.failures writer.old) (W.failures writer.new) }
     {
         let caret = scene.caret();
         let known = mem::replace(&mut self.known, Rows::new());
@@ -83,16 +88,17 @@ impl Painter {
 }
 
 /// Rings the terminal's bell.
-pub fn ring<W: Write>(writer: &mut W) -> Result<(), OutputFault>
-    ensures { Sends result (W.contents writer.old) (W.contents writer.new)
+pub fn ring<W: AnswerWriter>(writer: &mut W) -> Result<(), OutputFault>
+    ensures sent { Sends result (W.contents writer.old) (W.contents writer.new)
         (operation_bytes Operation.Ring) }
+    ensures cause { CountsFault result (W.failures writer.old) (W.failures writer.new) }
 {
     send_last(writer, &[Operation::Ring])
 }
 
 /// Begins a painting of so many rows: where the known ones are as many, they stay, and else all cells become blank. It
 /// returns the rows that are shown then.
-fn begin<W: Write>(writer: &mut W, known: Rows, height: u8) -> Result<Rows, OutputFault>
+fn begin<W: AnswerWriter>(writer: &mut W, known: Rows, height: u8) -> Result<Rows, OutputFault>
     requires { height ≤ MOST_ROWS }
     ensures led { OnOk result (Leads (beginning (length known.items
         == height)) (W.contents writer.old)
@@ -102,6 +108,7 @@ fn begin<W: Write>(writer: &mut W, known: Rows, height: u8) -> Result<Rows, Outp
     ensures front { OnErr result (AppendsFront (W.contents writer.old) (W.contents writer.new)
         (spelled_all (beginning (length known.items == height)))) }
     ensures long { IfOk result (λ olds. length olds.items ≡ height) }
+    ensures cause { CountsFault result (W.failures writer.old) (W.failures writer.new) }
 {
     if known.len() == usize::from(height) {
         send(writer, &[Operation::Hold, Operation::Hide])?;
@@ -132,7 +139,7 @@ fn blank_rows(height: u8) -> Rows
 }
 
 /// Paints the rows of a scene where these are shown, and returns them.
-fn paint_rows<W: Write>(
+fn paint_rows<W: AnswerWriter>(
     writer: &mut W,
     olds: &[Row],
     scene: &Scene<'_>,
@@ -149,6 +156,7 @@ fn paint_rows<W: Write>(
         (spelled_all
         (rows_changes (height_of scene.now) (λ y. slice_index_or olds.now y [])
         (scene_row scene.now)))) }
+    ensures cause { CountsFault result (W.failures writer.old) (W.failures writer.new) }
 {
     let mut rows = Rows::new();
     for y in 0..scene.height() {
@@ -161,10 +169,11 @@ fn paint_rows<W: Write>(
 }
 
 /// Ends a painting: the cursor goes to the caret, or is hidden.
-fn finish<W: Write>(writer: &mut W, caret: Option<(u8, u8)>) -> Result<(), OutputFault>
+fn finish<W: AnswerWriter>(writer: &mut W, caret: Option<(u8, u8)>) -> Result<(), OutputFault>
     requires { IfSome caret (λ place. (place.0 < columns) × (place.1 < rows)) }
-    ensures { Sends result (W.contents writer.old) (W.contents writer.new)
+    ensures sent { Sends result (W.contents writer.old) (W.contents writer.new)
         (spelled_all (ending caret)) }
+    ensures cause { CountsFault result (W.failures writer.old) (W.failures writer.new) }
 {
     let Some((x, y)) = caret else {
         return send_last(writer, &[Operation::Hide, Operation::Release]);
@@ -177,11 +186,12 @@ fn finish<W: Write>(writer: &mut W, caret: Option<(u8, u8)>) -> Result<(), Outpu
 }
 
 /// Writes the bytes of the operations and flushes the writer.
-fn send_last<W: Write>(writer: &mut W, operations: &[Operation]) -> Result<(), OutputFault>
+fn send_last<W: AnswerWriter>(writer: &mut W, operations: &[Operation]) -> Result<(), OutputFault>
     requires { length operations.now ≤ MOST }
-    ensures { Sends result (W.contents writer.old) (W.contents writer.new)
+    ensures sent { Sends result (W.contents writer.old) (W.contents writer.new)
         (spelled_all operations.now) }
+    ensures cause { CountsFault result (W.failures writer.old) (W.failures writer.new) }
 {
     send(writer, operations)?;
-    flush(writer)
+    writer.flush()
 }

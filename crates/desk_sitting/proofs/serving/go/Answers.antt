@@ -2,7 +2,7 @@ use Rattle.std.proofs.Common.{◌∙◌, Err, ap, refl}
 use Rattle.std.proofs.lemmas.Result.{err_from_is_err_and}
 use Rattle.desk_sitting.specs.Serving.{turn_state_of}
 use Rattle.desk_sitting.proofs.Between.{between, broken_off}
-use Rattle.desk_sitting.proofs.Turning.{store_no_keyboard}
+use Rattle.desk_sitting.proofs.Turning.{store_no_keyboard, store_no_output}
 use Rattle.desk_sitting.proofs.serving.go.Goals as goal
 
 pub returns-clause-between : goal.returns-clause-between
@@ -24,3 +24,8 @@ pub returns-in_err-travel-clause-cause : goal.returns-in_err-travel-clause-cause
 returns-in_err-travel-clause-cause g c =
     let p = err_from_is_err_and c.from_residual.result c.from_residual.ensures.1 in
     rw (p.1, p.2) (store_no_keyboard c.in_err-travel.field-0.0)
+
+pub returns-in_err-travel-clause-unsent : goal.returns-in_err-travel-clause-unsent
+returns-in_err-travel-clause-unsent g c =
+    let p = err_from_is_err_and c.from_residual.result c.from_residual.ensures.1 in
+    rw (p.1, p.2) (store_no_output c.in_err-travel.field-0.0)

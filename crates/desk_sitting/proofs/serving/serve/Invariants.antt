@@ -1,9 +1,14 @@
+use Rattle.std.proofs.Common.{◌≡◌}
 use Rattle.desk_sitting.specs.Serving.{first_place, turn_state_of}
 use Rattle.desk_sitting.proofs.Whole.{HasCome}
 use Rattle.desk_sitting.proofs.serving.serve.Given as goal
 
 abbrev pub invariant-loop-count : goal.invariant-loop-count
-invariant-loop-count g l = HasCome g.D.Disk
-    (first_place l.fn.height l.fn.greeting l.fn.store (g.K.Keyboard.heard l.fn.keyboard)
-    (g.W.Write.contents l.fn.writer)) l._count
-    (turn_state_of l.parser l.sitting l.store (g.K.Keyboard.heard l.keyboard) l.painter (g.W.Write.contents l.writer))
+invariant-loop-count g l = record {
+  come : HasCome g.D.Disk
+      (first_place l.fn.height l.fn.greeting l.fn.store (g.K.Keyboard.heard l.fn.keyboard)
+      (g.W.AnswerWriter.contents l.fn.writer)) l._count
+      (turn_state_of l.parser l.sitting l.store (g.K.Keyboard.heard l.keyboard) l.painter
+      (g.W.AnswerWriter.contents l.writer));
+  calm : g.W.AnswerWriter.failures l.writer ≡ g.W.AnswerWriter.failures l.fn.writer;
+}

@@ -2,6 +2,7 @@ use Rattle.std.proofs.Common.{◌∙◌, Err, ap, refl}
 use Rattle.std.proofs.lemmas.Result.{err_from_is_err_and}
 use Rattle.desk_sitting.proofs.Turning.{unshown_ends, deaf_ends, turned, broken_ends, left_stops, same_device}
 use Rattle.desk_sitting.proofs.Turning.{calm_presses, heard_so, not_of_keyboard, of_keyboard, store_no_keyboard}
+use Rattle.desk_sitting.proofs.Turning.{keyboard_no_output, left_no_output, output_calm, store_no_output}
 use Rattle.desk_sitting.proofs.serving.turn.Goals as goal
 
 pub returns-in_err-show-clause-turns : goal.returns-in_err-show-clause-turns
@@ -81,3 +82,21 @@ returns-in_err-do_presses-clause-ended g c =
     let p = err_from_is_err_and c.from_residual-in_err-do_presses.result c.from_residual-in_err-do_presses.ensures.1 in
     let ended = g.K.Keyboard.ended c.hear.new.self in
     rw (p.1, p.2) (not_of_keyboard ended _ (store_no_keyboard c.in_err-do_presses.field-0.0))
+
+pub returns-in_err-show-clause-output : goal.returns-in_err-show-clause-output
+returns-in_err-show-clause-output g c =
+    let p = err_from_is_err_and c.from_residual.result c.from_residual.ensures.1 in
+    rw (p.1, p.2) c.in_err-show.ensures.output
+
+pub returns-in_err-hearing-clause-output : goal.returns-in_err-hearing-clause-output
+returns-in_err-hearing-clause-output g c =
+    let p = err_from_is_err_and c.from_residual-in_err-hearing.result c.from_residual-in_err-hearing.ensures.1 in
+    rw (p.1, p.2) (output_calm _ _ _ (keyboard_no_output c.in_err-hearing.field-0.0) c.in_ok-show.ensures.output)
+
+pub returns-in_err-do_presses-clause-output : goal.returns-in_err-do_presses-clause-output
+returns-in_err-do_presses-clause-output g c =
+    let p = err_from_is_err_and c.from_residual-in_err-do_presses.result c.from_residual-in_err-do_presses.ensures.1 in
+    rw (p.1, p.2) (output_calm _ _ _ (store_no_output c.in_err-do_presses.field-0.0) c.in_ok-show.ensures.output)
+
+pub returns-then-sitting-clause-output : goal.returns-then-sitting-clause-output
+returns-then-sitting-clause-output g c = output_calm _ _ _ left_no_output c.in_ok-show.ensures.output

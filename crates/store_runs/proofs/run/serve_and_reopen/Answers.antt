@@ -6,9 +6,9 @@ use Rattle.desktop_definitions.specs.Step.{steps}
 use Rattle.desk_journal.specs.Device.{IsOnlyRead, disk_after}
 use Rattle.desk_journal.proofs.Passing.{at_start, shows_means}
 use Rattle.desk_journal.specs.Opening.{IsOpened}
-use Rattle.store_runs.specs.Run.{MeansSome, all_counted, counts_of, events_in}
+use Rattle.store_runs.specs.Run.{MeansSome, StoreCounts, all_counted, counts_of, events_in}
 use Rattle.store_runs.proofs.Reopening.{same_device, went_on, counts_next, desktop_next}
-use Rattle.store_runs.proofs.Reopening.{after_some, call_more, then_read, call_stops, result_stops}
+use Rattle.store_runs.proofs.Reopening.{after_some, call_more, then_read, call_stops, call_worn, result_stops, result_not_worn}
 use Rattle.store_runs.proofs.run.serve_and_reopen.Goals as goal
 
 pub loop-call-init : goal.loop-call-init
@@ -73,6 +73,17 @@ returns-in-Err-clause-stops g c = λ h.
     call_stops g.D.Disk c.call-item.result c.in-Err.error c.loop-call.store c.serve.new.store
     c.loop-call.invariant.usable c.in-Err.ensures
 
+pub returns-in-Err-clause-worn : goal.returns-in-Err-clause-worn
+returns-in-Err-clause-worn g c = λ is.
+    let i = c.loop-call.invariant in
+    record {
+      count = c.loop-call.call-index;
+      within = i.within;
+      last = sym (ap (λ (n : StoreCounts). n.epoch) i.counts)
+          ∙ call_worn g.D.Disk c.call-item.result c.in-Err.error c.loop-call.store c.serve.new.store
+          c.in-Err.ensures is;
+    }
+
 pub returns-clause-ok : goal.returns-clause-ok
 returns-clause-ok g c = IfOk-weaker c.open.result _ _ (λ reopened found.
     let i = c.loop-call.invariant in
@@ -111,3 +122,6 @@ returns-clause-stops g c = λ h.
     let i = c.loop-call.invariant in
     result_stops g.D.Disk c.loop-call.store c.finding_law.ensures (i.device.still h) i.durable c.close-2.result
     c.close-2.ensures c.open.result c.open.ensures.no_store c.open.ensures.faults.errors
+
+pub returns-clause-worn : goal.returns-clause-worn
+returns-clause-worn g c = result_not_worn _ c.open.result c.open.ensures.faults.errors

@@ -1,4 +1,4 @@
-use Rattle.std.proofs.Common.{arith, ap, sym, ◌∙◌, ◌++◌, [], ◌∷◌, length, ◌≡◌, ℕ, get_or}
+use Rattle.std.proofs.Common.{arith, ap, refl, sym, ◌∙◌, ◌++◌, [], ◌∷◌, length, ◌≡◌, ℕ, get_or}
 use Rattle.screen_pictures.specs.Screen.{values}
 use Rattle.terminal_painting.specs.Scene.{scene_row, scene_rows, height_of}
 use Rattle.terminal_painting.proofs.Leading.{row_front, row_led, rows_led_all, rows_led_none, values_more, no_values}
@@ -11,6 +11,7 @@ pub loop-y-init : goal.loop-y-init
 loop-y-init g c = record {
   rows = c.new-rows.ensures ∙ sym (no_values (scene_row c.args.scene.now));
   led = rows_led_none _ (height_of c.args.scene.now) (scene_row c.args.scene.now) c.args.olds.now c.requires.known;
+  calm = refl;
 }
 
 pub push-requires : goal.push-requires
@@ -29,7 +30,8 @@ loop-y-preserved g c = record {
       (ap (λ (k : ℕ). get_or c.args.olds.now k []) c.from.ensures) c.row_changes-changes.ensures.olds
       c.row_changes-changes.ensures.news
       (row_printable c.args.scene.now c.loop-y.y) (c.as_slice.ensures.value ∙ c.row_changes-changes.ensures.value)
-      c.in_ok-send.ensures.sent c.loop-y.invariant.led;
+      c.in_ok-send.ensures.sent.sent c.loop-y.invariant.led;
+  calm = c.in_ok-send.ensures.cause ∙ c.loop-y.invariant.calm;
 }
 
 pub returns-in_err-send-clause-front : goal.returns-in_err-send-clause-front
@@ -37,7 +39,7 @@ returns-in_err-send-clause-front g c = on_err c.from_residual.result
     (row_front _ _ _ (height_of c.args.scene.now) c.loop-y.y (scene_row c.args.scene.now) _ _ _ _ (omega arith)
     c.row-row.ensures.value (ap (λ (k : ℕ). get_or c.args.olds.now k []) c.from.ensures)
     (c.as_slice.ensures.value ∙ c.row_changes-changes.ensures.value) c.loop-y.invariant.led.sent
-    c.in_err-send.ensures.front)
+    c.in_err-send.ensures.sent.front)
 
 pub returns-clause-rows : goal.returns-clause-rows
 unfolding scene_rows

@@ -18,9 +18,9 @@ pub returns-in_err-finish-clause-front : goal.returns-in_err-finish-clause-front
 returns-in_err-finish-clause-front g c = on_err c.from_residual-in_err-finish.result
     (end_front _ _ c.args.scene.now _ c.args.self.now c.caret-caret.result c.height.ensures.value (cc)
     c.caret-caret.ensures.stands _ _ _ c.as_slice.ensures.value c.in_ok-olds.ensures.rows c.in_ok-olds.ensures.led _
-    c.in_ok-rows.ensures.led _ c.in_err-finish.ensures.front)
+    c.in_ok-rows.ensures.led _ c.in_err-finish.ensures.sent.front)
 
 pub returns-clause-shown : goal.returns-clause-shown
 returns-clause-shown g c = painted _ _ c.args.scene.now _ c.args.self.now c.caret-caret.result
     c.height.ensures.value (cc) c.caret-caret.ensures.stands _ _ _ c.as_slice.ensures.value c.in_ok-olds.ensures.rows
-    c.in_ok-olds.ensures.led _ c.in_ok-rows.ensures.led _ (omega arith) c.in_ok-finish.ensures.sent
+    c.in_ok-olds.ensures.led _ c.in_ok-rows.ensures.led _ (omega arith) c.in_ok-finish.ensures.sent.sent

@@ -1,0 +1,4 @@
+pub mod Again
+pub mod Called
+pub mod Deeds
+pub mod Past

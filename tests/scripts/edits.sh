@@ -1,0 +1,2 @@
+# Each edit of a wrong body finds the lines that it is to change: where code was moved or renamed none is lost in silence.
+"$TESTS/wrong_bodies" --read

@@ -1,0 +1,21 @@
+# `desk history` lists the events since the last checkpoint, the last one first, and `desk earlier` makes a store as it was.
+desk() { "$DESK_PROGRAM" "$@"; echo "= $?"; }
+"$PROGRAM" format my.disk
+desk history my.disk
+"$PROGRAM" play my.disk << 'END'
+file System.Tool Edit.Open A.Text%0d100%25
+point m 60 31 60 31
+point m 52 30 52 30
+mark 3 4
+type one
+key back
+END
+desk history my.disk
+cp my.disk before.disk
+desk earlier my.disk 2 earlier.disk
+cmp my.disk before.disk && echo 'the store itself stays'
+desk history earlier.disk
+desk list earlier.disk
+desk earlier my.disk 7 none.disk
+desk earlier my.disk 1 earlier.disk
+ls
