@@ -2,3 +2,8 @@ pub mod BarLemmas
 pub mod Front
 pub mod Kept
 pub mod StillLemmas
+pub mod LineLaws
+pub mod BarLaws
+pub mod ScrollLaws
+pub mod WalkLemmas
+pub mod PressLemmas

@@ -1,2 +1,4 @@
 pub mod Reads
 pub mod Stale
+pub mod Lines
+pub mod Scrolling

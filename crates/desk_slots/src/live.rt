@@ -14,15 +14,16 @@ ghost use Rattle.desk_slots.specs.Live.{live_characters, seen_live, IsLive, IsNa
 ghost use Rattle.desk_slots.specs.Live.{IsLiveOn, IsLiveStep, IsLiveBringing, StaysLive, ReadsThrough};
 ghost use Rattle.piece_ring.specs.Text.{Text as AText};
 ghost use Rattle.screen_cells.specs.Lines.{AreLinesOf};
+ghost use Rattle.desk_input.specs.Scrolling.{Scrolls};
 ghost use Rattle.desk_slots.specs.Words.{Nowhere, now, IsConfined, FailsAs, entries_of, shown_screen};
 ghost use Rattle.desk_slots.specs.Words.{Content, ListsUnread};
 
 use crate::Error;
-use crate::over::{bring_over, list_over, read_over, screen_over, step_over};
+use crate::over::{bring_over, list_over, read_over, screen_over, scroll_over, step_over};
 use char_pages::Pages;
 use desk_image::ByteSink;
 use event_bytes::{Event, Name};
-use event_loop::{Desktop, Document, Entry, Reply, Version};
+use event_loop::{Desktop, Document, Entry, Reply, Version, Wish};
 use piece_ring::Look;
 use screen_cells::{KeptLines, Screen};
 use sector_disk::{Disk, Fault, SECTOR_BYTES};
@@ -230,6 +231,29 @@ impl LiveDesktop {
             &mut self.pages,
         )?;
         Ok(())
+    }
+
+    /// The presses after which the viewer at a cell, or the one with the caret where no cell is meant, shows the line
+    /// first that is wished. None where it can't.
+    pub fn scroll<D: Disk>(
+        &mut self,
+        alloc: Global,
+        at: Option<(u8, u8)>,
+        wish: Wish,
+        disk: &mut D,
+    ) -> Result<Option<Vec<Event>>, Error>
+        requires live { IsLive self.old }
+        requires room { STORE_SECTORS ≤ D.size disk.old }
+        requires told { HasTrueCache D.Disk disk.old self.old }
+        ensures scrolls { IfOk result (λ presses. D.honest disk.old
+            → Scrolls (seen_live (now (D.trail disk.old)).reads self.old) at wish
+            (option_map (λ events. events.items) presses)) }
+        ensures same { StaysLive D.Disk disk.old disk.new self.old self.new }
+        ensures disk { IsConfined D.size D.honest D.trail Nowhere disk.old disk.new }
+        ensures faults { FailsAs Error.Fault OfDesktop result (D.failures disk.old)
+            (D.failures disk.new) }
+    {
+        Ok(scroll_over(alloc, &mut self.desktop, at, wish, disk, &mut self.pages)?)
     }
 
     /// Gives up the characters in memory that fill whole sectors of that area by now, in which all that are on the disk

@@ -1,5 +1,5 @@
 //! Calls of a desktop over pages and a disk.
-ghost use Rattle.std.specs.Prelude.{◌≡◌, IfOk, OnOk, length};
+ghost use Rattle.std.specs.Prelude.{◌≡◌, IfOk, OnOk, length, option_map};
 ghost use Rattle.char_pages.specs.Pages.{paged_characters};
 ghost use Rattle.command_table.specs.Versions.{version_number};
 ghost use Rattle.desktop_definitions.specs.Sound.{IsOver};
@@ -7,6 +7,7 @@ ghost use Rattle.desktop_definitions.specs.Viewers.{text_of};
 ghost use Rattle.desktop_definitions.specs.Stepped.{IsStep};
 ghost use Rattle.desk_bringing.specs.Bringing.{IsBringing};
 ghost use Rattle.screen_cells.specs.Lines.{AreLinesOf};
+ghost use Rattle.desk_input.specs.Scrolling.{Scrolls};
 ghost use Rattle.desk_slots.specs.Live.{CanReadThrough, CanStepThrough, ReadsThrough, LooksThrough, seen_through};
 ghost use Rattle.desk_slots.specs.Words.{Content, now, FailsAs, IsStop, entries_of, shown_screen};
 ghost use Rattle.desk_slots.specs.Words.{ListsUnread, AreWithin, contents, flat};
@@ -14,7 +15,7 @@ ghost use Rattle.desk_slots.specs.Words.{ListsUnread, AreWithin, contents, flat}
 use crate::reading::read_all;
 use char_pages::{Paged, Pages};
 use event_bytes::Event;
-use event_loop::{Desktop, Document, Entry, Reply, Stop, Version};
+use event_loop::{Desktop, Document, Entry, Reply, Stop, Version, Wish};
 use piece_ring::Look;
 use screen_cells::{KeptLines, Screen};
 use sector_disk::Disk;
@@ -124,4 +125,25 @@ pub(crate) fn screen_over<D: Disk>(
 {
     let mut source = Paged::over(disk, pages);
     desktop.screen(alloc, lines, &mut source, screen)
+}
+
+/// The presses that lead to the line that is wished.
+pub(crate) fn scroll_over<D: Disk>(
+    alloc: Global,
+    desktop: &mut Desktop,
+    at: Option<(u8, u8)>,
+    wish: Wish,
+    disk: &mut D,
+    pages: &mut Pages,
+) -> Result<Option<Vec<Event>>, Stop>
+    requires { CanStepThrough D.Disk disk.old pages.old desktop.old }
+    ensures scrolls { IfOk result (λ presses. D.honest disk.old
+        → Scrolls (seen_through D.Disk disk.old pages.old desktop.old) at wish
+        (option_map (λ events. events.items) presses)) }
+    ensures unchanged { desktop.new ≡ desktop.old }
+    ensures looks { LooksThrough D.Disk disk.old disk.new pages.old pages.new }
+    ensures faults { FailsAs Stop.Fault IsStop result (D.failures disk.old) (D.failures disk.new) }
+{
+    let mut source = Paged::over(disk, pages);
+    desktop.scroll(alloc, at, wish, &mut source)
 }

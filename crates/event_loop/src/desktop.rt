@@ -15,6 +15,7 @@ ghost use Rattle.desk_image.specs.Streams.{Puts, IsImageFault};
 ghost use Rattle.desk_image.specs.Image.{Spells, image_of, image_bytes, IsSpellable};
 ghost use Rattle.desk_image.specs.Passing.{OnlyGets};
 ghost use Rattle.desktop_definitions.specs.Viewers.{text_of};
+ghost use Rattle.desk_input.specs.Scrolling.{Scrolls};
 ghost use Rattle.screen_cells.specs.Lines.{AreLinesOf};
 ghost use Rattle.desk_core.specs.Words.{FailsAs, OnlyReads, flat, AreWithin, seen, IsKeptWhole, IsOver, IsStop};
 
@@ -29,6 +30,7 @@ use desk_core::stop::{NoMemory, Stop};
 use desk_image::{ByteSink, ByteSource, ImageFault, desktops_fit, images_are_read, read_picture};
 use desk_imaging::images::assemble;
 use desk_imaging::imaging::put_image;
+use desk_input::{Wish, presses_to};
 use desk_views::{list_column, paint};
 use desktop_definitions::{Entry, Reply};
 use event_bytes::{Event, Name};
@@ -229,6 +231,33 @@ impl Desktop {
     {
         self.desk.alloc = alloc;
         paint(&self.desk, lines, source, screen)
+    }
+
+    /// The presses after which the viewer at a cell, or the one with the caret where no cell is meant, shows the line
+    /// first that is wished, and nothing else is changed. A line that stands first needs none. None where there is no such
+    /// viewer, where it shows fewer than two rows of its text, or where it is too far.
+    ///
+    /// NoMemory where an allocation is refused; Fault where a character could not be read. The desktop stays, whatever
+    /// is returned.
+    pub fn scroll<S: CharSource>(
+        &mut self,
+        alloc: Global,
+        at: Option<(u8, u8)>,
+        wish: Wish,
+        source: &mut S,
+    ) -> Result<Option<Vec<Event>>, Stop>
+        requires { IsOver (S.characters source.old) self.old }
+        ensures scrolls { IfOk result (λ presses. S.honest source.old
+            → Scrolls (seen (S.characters source.old) self.old) at wish
+            (option_map (λ events. events.items) presses)) }
+        ensures unchanged { self.new ≡ self.old }
+        ensures reads { OnlyReads S.characters S.failures S.honest S.same_ground source.old
+            source.new }
+        ensures faults { FailsAs Stop.Fault IsStop result (S.failures source.old)
+            (S.failures source.new) }
+    {
+        self.desk.alloc = alloc;
+        presses_to(&self.desk, at, wish, source)
     }
 
     /// Puts the image of the desktop in the newest version, the bytes that say how it is kept, and returns how many

@@ -16,5 +16,6 @@ pub use command_table::{NEWEST, Version};
 pub use desk_bringing::Document;
 pub use desk_core::stop::{NoMemory, Stop};
 pub use desk_image::{ByteSink, ByteSource, ImageFault};
+pub use desk_input::{MOST_PRESSES, Wish};
 pub use desktop::Desktop;
 pub use desktop_definitions::{Entry, Reply, codes};
