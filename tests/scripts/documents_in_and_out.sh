@@ -63,6 +63,7 @@ for file in papers/*; do cmp $file out/${file#papers/}; done
 ls -A out
 
 echo '--- lists, copies and checks'
+desk list my.disk
 desk list my.disk --json
 desk check my.disk
 desk backup my.disk copy.disk
@@ -72,6 +73,7 @@ head -c 100000 my.disk > cut.disk
 desk check cut.disk
 head -c 7000000 my.disk > shorter.disk
 desk check shorter.disk
+desk backup shorter.disk zeros.disk
 desk check short.txt
 desk check nowhere.disk
 printf 'x' | dd of=copy.disk bs=1024 seek=2 conv=notrunc 2> dd.said

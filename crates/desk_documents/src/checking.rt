@@ -13,7 +13,7 @@ use store_documents::{Examined, Part, SlotState, examine, part_of};
 use store_layout::{JOURNAL_EVENTS, LAST_EPOCH};
 
 /// How many bytes the file of a store has.
-const WHOLE: u64 = FILE_SECTORS as u64 * SECTOR_BYTES as u64;
+pub(crate) const WHOLE: u64 = FILE_SECTORS as u64 * SECTOR_BYTES as u64;
 
 /// Tells how the store in a file is: how long its file is, what its label and both slots say, and whether it opens. The
 /// file is locked beside other programs that look, and nothing is written.
@@ -48,7 +48,7 @@ fn tell_store(rt: &HostRuntime, store: &LockedStore, length: u64) -> Result<(), 
     printed(tell_info(rt, &info))?;
     if length < WHOLE {
         printed(println!(rt;
-            "the store opens, but characters of its documents may be among what is missing: go on with an earlier backup, or look at what desk export gives"
+            "but characters of its documents may be among what is missing: go on with an earlier backup, or look at what desk export gives"
         ))?;
     }
     Ok(())

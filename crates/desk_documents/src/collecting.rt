@@ -1,6 +1,6 @@
 //! System.Collect, for a person who isn't at the desk.
 
-use crate::sentences::{REFUSED, Stop};
+use crate::sentences::Stop;
 use desk_journal::{Error, Store};
 use desktop_definitions::Reply;
 use event_bytes::{Event, Keys};
@@ -17,7 +17,7 @@ pub(crate) fn collect<D: Disk>(rt: &HostRuntime, store: &mut Store<D>) -> Result
         let _ = eprintln!(rt;
             "desk: no viewer shows the word System.Collect, on which to click, so nothing was done; sit down and call it"
         );
-        return Err(REFUSED);
+        return Err(Stop::Refused);
     };
     let click = Event::Point {
         keys: Keys::Middle,
@@ -30,7 +30,7 @@ pub(crate) fn collect<D: Disk>(rt: &HostRuntime, store: &mut Store<D>) -> Result
         Reply::Done => Ok(()),
         Reply::No(_) => {
             let _ = eprintln!(rt; "desk: System.Collect was refused, so nothing was done");
-            Err(REFUSED)
+            Err(Stop::Refused)
         }
     }
 }

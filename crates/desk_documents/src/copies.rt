@@ -1,11 +1,14 @@
 //! A copy of a store.
 
+use crate::checking::WHOLE;
 use crate::progress::Progress;
-use crate::sentences::{HOST, Stop};
+use crate::sentences::Stop;
 use crate::stores::{LockedDisk, store_at};
-use desk_journal::{Error, Info};
+use desk_journal::Error;
 use desk_stores::Trouble;
-use host_files::{HostFault, LockedFile, is_there, lock_new, remove, rename_new, sync_folder};
+use host_files::{
+    HostFault, LockedFile, is_there, length_of, lock_new, remove, rename_new, sync_folder,
+};
 use host_stores::{FileDisk, opened as opened_on};
 use sector_disk::FILE_SECTORS;
 use store_documents::{are_same, copy};
@@ -19,12 +22,8 @@ const _: () = prove!(FILE_SECTORS == 15_621);
 /// second.
 pub fn backup(rt: &HostRuntime, path: &str, to: &str) -> Result<(), Stop> {
     refuse_taken(rt, to)?;
-    let info = backed_up(rt, path, to)?;
-    let epoch = info.epoch;
-    let events = info.events;
-    match println!(rt;
-        "{to}: the whole store (epoch {epoch}, {events} events since its checkpoint), compared and synced"
-    ) {
+    back_up(rt, path, to)?;
+    match println!(rt; "{to}: a copy of the whole store, compared and synced") {
         Ok(()) => Ok(()),
         Err(_) => Err(Stop::Trouble(Trouble::Output)),
     }
@@ -36,16 +35,26 @@ fn refuse_taken(rt: &HostRuntime, to: &str) -> Result<(), Stop> {
         return Ok(());
     }
     let _ = eprintln!(rt; "desk: there is something called {to:?} already, so nothing was done");
-    Err(HOST)
+    Err(Stop::Host)
 }
 
-/// Copies the store, and says what it told of itself.
-fn backed_up(rt: &HostRuntime, path: &str, to: &str) -> Result<Info, Stop> {
-    let store = store_at(rt, path)?;
-    let info = store.info()?;
-    let mut disk = store.close();
-    copy_to(rt, path, &mut disk, to)?;
-    Ok(info)
+/// Copies the store. Where its file was cut short that is told, since the copy has zeros for what is missing.
+fn back_up(rt: &HostRuntime, path: &str, to: &str) -> Result<(), Stop> {
+    let mut disk = store_at(rt, path)?.close();
+    if !is_whole(rt, path) {
+        let _ = eprintln!(rt;
+            "desk: the file {path:?} was cut short, and the copy has zeros for what is missing: look at what desk export gives, or keep an earlier backup"
+        );
+    }
+    copy_to(rt, path, &mut disk, to)
+}
+
+/// Whether the file of a store has all of its bytes, as far as the host tells.
+fn is_whole(rt: &HostRuntime, path: &str) -> bool {
+    match length_of(rt, path) {
+        Ok(length) => length >= WHOLE,
+        Err(_) => true,
+    }
 }
 
 /// Copies a store into a new file.
@@ -84,7 +93,7 @@ fn new_copy(rt: &HostRuntime, aside: &str, to: &str) -> Result<LockedFile, Stop>
             let _ = eprintln!(rt;
                 "desk: {to:?} could not be made: there is no right to, or there is {aside:?} already"
             );
-            Err(HOST)
+            Err(Stop::Host)
         }
     }
 }
@@ -114,7 +123,7 @@ fn fill_copy(
     progress.end();
     if done.is_err() {
         let _ = eprintln!(rt; "desk: copying {path:?} failed; a copy needs 16 MB");
-        return Err(HOST);
+        return Err(Stop::Host);
     }
     match are_same(disk, other, FILE_SECTORS) {
         Ok(true) => Ok(()),
@@ -122,7 +131,7 @@ fn fill_copy(
             let _ = eprintln!(rt;
                 "desk: the copy of {path:?} reads as something else, so it was taken away"
             );
-            Err(HOST)
+            Err(Stop::Host)
         }
         Err(_) => Err(Stop::Trouble(Trouble::Store(Error::Fault))),
     }
@@ -134,13 +143,13 @@ fn name_copy(rt: &HostRuntime, aside: &str, to: &str) -> Result<(), Stop> {
         let _ = eprintln!(rt;
             "desk: there is something called {to:?} by now, so the copy was taken away"
         );
-        return Err(HOST);
+        return Err(Stop::Host);
     }
     if sync_folder(rt, to).is_err() {
         let _ = eprintln!(rt;
             "desk: {to:?} was made, but its folder could not be synced, so a power failure may take it away"
         );
-        return Err(HOST);
+        return Err(Stop::Host);
     }
     Ok(())
 }

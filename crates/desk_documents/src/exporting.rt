@@ -1,7 +1,7 @@
 //! Documents on their way out.
 
 use crate::progress::Progress;
-use crate::sentences::{HOST, REFUSED, Stop, cut_off, refused_folder, word_of};
+use crate::sentences::{Stop, cut_off, refused_folder, word_of};
 use crate::stores::{LockedStore, store_at};
 use desk_stores::Trouble;
 use desktop_definitions::Entry;
@@ -88,7 +88,7 @@ fn print_all(
 fn no_document(rt: &HostRuntime, path: &str, name: &Name) -> Stop {
     let name = word_of(name);
     let _ = eprintln!(rt; "desk: there is no document {name} in {path:?}");
-    REFUSED
+    Stop::Refused
 }
 
 /// Prints documents one after another.
@@ -215,7 +215,7 @@ fn refuse_files(
             some = true;
         }
     }
-    if some { Err(REFUSED) } else { Ok(()) }
+    if some { Err(Stop::Refused) } else { Ok(()) }
 }
 
 /// Whether there is something already where a document is to be a file, which is said.
@@ -347,7 +347,7 @@ fn not_made(rt: &HostRuntime, file: &str) -> Stop {
     let _ = eprintln!(rt;
         "desk: the file {file:?} could not be made; those that are told on lines before are there"
     );
-    HOST
+    Stop::Host
 }
 
 /// Waits until the folder knows its new files, of which one is that of a document of this name.
@@ -361,5 +361,5 @@ fn settle(rt: &HostRuntime, folder: &str, name: &Name, putting: Putting) -> Resu
     let _ = eprintln!(rt;
         "desk: the folder {folder:?} could not be synced, so a power failure may take files away"
     );
-    Err(HOST)
+    Err(Stop::Host)
 }

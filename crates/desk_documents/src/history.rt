@@ -1,7 +1,7 @@
 //! What can be taken back in a store, and a store as it was.
 
 use crate::copies::backup;
-use crate::sentences::{REFUSED, Stop};
+use crate::sentences::Stop;
 use crate::stores::{store_alone, store_at};
 use desk_stores::Trouble;
 use event_bytes::Event;
@@ -48,7 +48,7 @@ pub fn earlier(rt: &HostRuntime, path: &str, count: u32, copy: &str) -> Result<(
     let there = events_of(rt, path)?;
     if there < count {
         let _ = eprintln!(rt; "desk: only {there} events can be taken back, so nothing was done");
-        return Err(REFUSED);
+        return Err(Stop::Refused);
     }
     backup(rt, path, copy)?;
     take_back(rt, copy, count)

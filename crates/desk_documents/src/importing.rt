@@ -2,7 +2,7 @@
 
 use crate::collecting::collect;
 use crate::progress::Progress;
-use crate::sentences::{REFUSED, Stop, word_of};
+use crate::sentences::{Stop, word_of};
 use crate::sources::{Sources, sources_of};
 use crate::stores::store_alone;
 use bstr::decode_utf8;
@@ -234,7 +234,7 @@ fn refused_others(rt: &HostRuntime, path: &str, others: &[Document]) -> Stop {
             "desk: {path:?} has another document {name} already, so nothing was done; --replace replaces it"
         );
     }
-    REFUSED
+    Stop::Refused
 }
 
 /// Says that there would be too many documents.
@@ -242,7 +242,7 @@ fn refused_number(rt: &HostRuntime, path: &str) -> Stop {
     let _ = eprintln!(rt;
         "desk: {path:?} would have more than {MOST_FILES} documents, so nothing was done"
     );
-    REFUSED
+    Stop::Refused
 }
 
 /// Whether the documents would pass the limit on written characters, where so many were written.
@@ -265,7 +265,7 @@ fn refused_length(rt: &HostRuntime, path: &str, written: u32, documents: &[Docum
             "desk: {path:?} would hold more than {MOST_HELD} characters, so nothing was done; delete documents or close viewers"
         )
     };
-    REFUSED
+    Stop::Refused
 }
 
 /// The documents of files.
@@ -296,7 +296,7 @@ fn refused_twice(rt: &HostRuntime, document: Option<&Document>) -> Stop {
             "desk: two of the files are to be the document {name}, so nothing was done"
         );
     }
-    REFUSED
+    Stop::Refused
 }
 
 /// Says which file is no document, and why.
@@ -310,7 +310,7 @@ fn refused_unfit(rt: &HostRuntime, sources: &Sources, first: FirstUnfit) -> Stop
     ) {
         let _ = say_unfit(rt, file.as_str(), handed.as_bytes(), first.why);
     }
-    REFUSED
+    Stop::Refused
 }
 
 /// Says why a file is no document.

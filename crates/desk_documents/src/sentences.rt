@@ -1,4 +1,6 @@
 //! What is refused, in sentences.
+ghost use Rattle.std.specs.Prelude.{◌≡◌};
+ghost use Rattle.desk_documents.specs.Stops.{export_stop, host_stop, stop_status};
 
 use desk_journal::Error;
 use desk_stores::Trouble;
@@ -8,11 +10,15 @@ use std::alloc::{AllocError, AllocFailed};
 use std::str::from_utf8;
 use store_documents::ExportFault;
 
-/// Why an order was not done: what is still to be said, or that it has been said, with the status of the program.
+/// Why an order was not done.
 #[derive(Clone, Copy, Debug, PartialEq, Eq)]
 pub enum Stop {
+    /// What is still to be said.
     Trouble(Trouble),
-    Said(u8),
+    /// A document, or what was asked for, is refused, and why has been said.
+    Refused,
+    /// The host refused a file or a folder, and that has been said.
+    Host,
 }
 
 impl From<Trouble> for Stop {
@@ -41,22 +47,21 @@ impl<T: Drop> From<AllocFailed<T>> for Stop {
 
 impl Stop {
     /// Says what is still to be said of the store at this path, and returns the status of the program.
-    pub fn say(self, rt: &HostRuntime, path: &str) -> u8 {
+    pub fn say(self, rt: &HostRuntime, path: &str) -> u8
+        ensures { result ≡ stop_status self }
+    {
         match self {
             Stop::Trouble(trouble) => trouble.say(rt, path),
-            Stop::Said(status) => status,
+            Stop::Refused => 1,
+            Stop::Host => 4,
         }
     }
 }
 
-/// The status where a document is refused.
-pub(crate) const REFUSED: Stop = Stop::Said(1);
-
-/// The status where the host refuses a file.
-pub(crate) const HOST: Stop = Stop::Said(4);
-
 /// Says why the host didn't do with a file what it was asked.
-pub(crate) fn refused_file(rt: &HostRuntime, file: &str, fault: HostFault) -> Stop {
+pub(crate) fn refused_file(rt: &HostRuntime, file: &str, fault: HostFault) -> Stop
+    ensures { result ≡ host_stop fault }
+{
     if matches!(fault, HostFault::NoMemory) {
         return Stop::Trouble(Trouble::Memory);
     }
@@ -64,20 +69,24 @@ pub(crate) fn refused_file(rt: &HostRuntime, file: &str, fault: HostFault) -> St
         HostFault::Missing => eprintln!(rt; "desk: there is no file {file:?}, so nothing was done"),
         _ => eprintln!(rt; "desk: the file {file:?} could not be read, so nothing was done"),
     };
-    HOST
+    Stop::Host
 }
 
 /// Says why the host made no folder.
-pub(crate) fn refused_folder(rt: &HostRuntime, folder: &str, fault: HostFault) -> Stop {
+pub(crate) fn refused_folder(rt: &HostRuntime, folder: &str, fault: HostFault) -> Stop
+    ensures { result ≡ host_stop fault }
+{
     if matches!(fault, HostFault::NoMemory) {
         return Stop::Trouble(Trouble::Memory);
     }
     let _ = eprintln!(rt; "desk: the folder {folder:?} could not be made, so nothing was done");
-    HOST
+    Stop::Host
 }
 
 /// Why a document did not come out.
-pub(crate) fn cut_off(fault: ExportFault) -> Stop {
+pub(crate) fn cut_off(fault: ExportFault) -> Stop
+    ensures { result ≡ export_stop fault }
+{
     match fault {
         ExportFault::Store(error) => Stop::Trouble(Trouble::Store(error)),
         ExportFault::Output => Stop::Trouble(Trouble::Output),

@@ -1,7 +1,7 @@
 //! The files that a person hands in: the words of the order are read.
 
 use crate::progress::Progress;
-use crate::sentences::{HOST, REFUSED, Stop, refused_file};
+use crate::sentences::{Stop, refused_file};
 use event_bytes::Name;
 use host_files::{HostFault, files_in, is_folder, is_there, read_input, read_whole};
 use std::path::Path;
@@ -161,7 +161,7 @@ fn files_of(rt: &HostRuntime, folder: &str) -> Result<Vec<String>, Stop> {
     };
     if names.is_empty() {
         let _ = eprintln!(rt; "desk: the folder {folder:?} has no file, so nothing was done");
-        return Err(HOST);
+        return Err(Stop::Host);
     }
     Ok(names)
 }
@@ -174,7 +174,7 @@ fn named(rt: &HostRuntime, word: &str) -> Result<Name, Stop> {
             let _ = eprintln!(rt;
                 "desk: {word:?} is no name of a document, which has 1 to 31 letters, digits and periods, a letter first"
             );
-            Err(REFUSED)
+            Err(Stop::Refused)
         }
     }
 }
@@ -183,16 +183,16 @@ fn named(rt: &HostRuntime, word: &str) -> Result<Name, Stop> {
 fn name_of(rt: &HostRuntime, file: &str) -> Result<Name, Stop> {
     if file == "-" {
         let _ = eprintln!(rt; "desk: what comes on standard input needs a name: NAME=-");
-        return Err(REFUSED);
+        return Err(Stop::Refused);
     }
     let last = Path::new(file).file_name().unwrap_or(file);
     match Name::new(last.as_bytes()) {
         Some(name) => Ok(name),
         None => {
             let _ = eprintln!(rt;
-                "desk: a document of the file {file:?} needs another name, 1 to 31 letters, digits and periods, a letter first: NAME={file}"
+                "desk: no document can be named after the file {file:?}, so nothing was done: a name has 1 to 31 letters, digits and periods, a letter first; NAME={file:?} gives it one"
             );
-            Err(REFUSED)
+            Err(Stop::Refused)
         }
     }
 }
