@@ -1,5 +1,5 @@
 -- The table of gestures, region by region.
-use Rattle.std.specs.Prelude.{◌≡◌, ◌<◌, ◌&&◌, ◌||◌, not, ℕ, Bool, true, List, [], Option, Some, None, is_none}
+use Rattle.std.specs.Prelude.{◌≡◌, ◌<◌, ◌&&◌, ◌||◌, not, ℕ, Bool, true, false, List, [], Option, Some, None, is_none}
 use Rattle.std.specs.Prelude.{Result, Ok, IfOk}
 use Rattle.std.proofs.lemmas.Result.{IfOk-weaker}
 use Rattle.std.proofs.Common.{refl, sym, ap, subst, ◌∙◌}
@@ -7,7 +7,7 @@ use Rattle.char_file.specs.declared.source.CharSource.{Ghosts}
 use Rattle.event_bytes.specs.declared.event.Event.TheVariants.{Point}
 use Rattle.event_bytes.specs.declared.keys.Keys.{Keys}
 use Rattle.event_bytes.specs.declared.keys.Keys.TheVariants.{Left, LeftMiddle, LeftRight, Middle, Right, RightLeft}
-use Rattle.event_bytes.specs.declared.keys.Keys.TheVariants.{RightMiddle}
+use Rattle.event_bytes.specs.declared.keys.Keys.TheVariants.{RightMiddle, MiddleLeft, MiddleRight}
 use Rattle.desktop_definitions.specs.declared.reply.Reply.{Reply}
 use Rattle.desktop_definitions.specs.declared.region.Region.{Region}
 use Rattle.desktop_definitions.specs.declared.region.Region.TheVariants.{Filler, Menu, Bar, Body}
@@ -15,12 +15,12 @@ use Rattle.desktop_definitions.specs.declared.viewer.Selection.{Selection}
 use Rattle.desktop_definitions.specs.Limits.{outside}
 use Rattle.desktop_definitions.specs.Needs.{unless}
 use Rattle.desktop_definitions.specs.Unread.{gesture_needs_no_byte, gesture_brings, characters_after, needs_no_byte, characters_brought}
-use Rattle.desk_core.specs.Doing.{Settles, SettlesUnread, SettlesBringing, Uses, DoesUnread}
+use Rattle.desk_core.specs.Doing.{Settles, SettlesUnread, SettlesBringing, Uses, Does, DoesUnread}
 use Rattle.desktop_definitions.specs.Desktop.{Desktop, KeptDesktop}
 use Rattle.desktop_definitions.specs.Seen.{seen}
 use Rattle.desktop_definitions.specs.Step.{outcome_after, raw, outcome_of}
 use Rattle.desktop_definitions.specs.Outcome.{IsAnswered}
-use Rattle.desktop_definitions.specs.Gesture.{is_on_display, region_at, pointed}
+use Rattle.desktop_definitions.specs.Gesture.{is_on_display, region_at, text_position, pointed}
 use Rattle.viewer_tracks.specs.declared.display.TheConstants.{COLUMNS, ROWS}
 use Rattle.desktop_definitions.specs.Gesture.{done_in_filler, done_in_menu, done_in_bar, done_at, done_with}
 use Rattle.desktop_definitions.specs.Viewers.{newest}
@@ -29,6 +29,7 @@ use Rattle.desk_core.specs.declared.stop.Stop.{Stop}
 use Rattle.desk_core.proofs.MarkLemmas.{both_inside}
 use Rattle.desk_core.proofs.PositionLemmas.{region_seen}
 use Rattle.desk_core.proofs.UnreadLemmas.{brings_none}
+use Rattle.desk_commands.proofs.ReadFirst.{Reads, does_there as does_read}
 use Rattle.event_loop.specs.Doing.{DoesEvent}
 use Rattle.event_loop.proofs.UnreadEvents.{bringing_event}
 
@@ -61,15 +62,6 @@ bar_rest d Middle v row one two three = absurd (two refl)
 bar_rest d Right v row one two three = absurd (three refl)
 bar_rest d keys v row one two three = refl
 
-pub at_rest : (version : ℕ) (d : Desktop) (keys : Keys) (v p : ℕ) → ¬ (keys ≡ Left) → ¬ (keys ≡ LeftMiddle)
-    → ¬ (keys ≡ LeftRight) → ¬ (keys ≡ Middle) → done_at version d keys v p ≡ Ok d
-unfolding done_at
-at_rest version d Left v p one two three four = absurd (one refl)
-at_rest version d LeftMiddle v p one two three four = absurd (two refl)
-at_rest version d LeftRight v p one two three four = absurd (three refl)
-at_rest version d Middle v p one two three four = absurd (four refl)
-at_rest version d keys v p one two three four = refl
-
 pub with_rest : (d : Desktop) (keys : Keys) (s : Selection) → ¬ (keys ≡ Right) → ¬ (keys ≡ RightLeft)
     → ¬ (keys ≡ RightMiddle) → done_with d keys s ≡ Ok d
 unfolding done_with
@@ -97,19 +89,28 @@ pointed_there version H old new d after keys x0 y0 x1 y1 result inside here is a
 
 -- ---- a text
 
-pub pointed_rest : (version : ℕ) (d : Desktop) (keys : Keys) (v x0 y0 x1 y1 : ℕ) → ¬ (keys ≡ Left)
-    → ¬ (keys ≡ LeftMiddle)
-    → ¬ (keys ≡ LeftRight) → ¬ (keys ≡ Right) → ¬ (keys ≡ RightLeft) → ¬ (keys ≡ RightMiddle) → ¬ (keys ≡ Middle)
-    → pointed version d (Body v) keys x0 y0 x1 y1 ≡ Ok d
-unfolding pointed done_at
-pointed_rest version d Left v x0 y0 x1 y1 a b c e f h i = absurd (a refl)
-pointed_rest version d LeftMiddle v x0 y0 x1 y1 a b c e f h i = absurd (b refl)
-pointed_rest version d LeftRight v x0 y0 x1 y1 a b c e f h i = absurd (c refl)
-pointed_rest version d Right v x0 y0 x1 y1 a b c e f h i = absurd (e refl)
-pointed_rest version d RightLeft v x0 y0 x1 y1 a b c e f h i = absurd (f refl)
-pointed_rest version d RightMiddle v x0 y0 x1 y1 a b c e f h i = absurd (h refl)
-pointed_rest version d Middle v x0 y0 x1 y1 a b c e f h i = absurd (i refl)
-pointed_rest version d keys v x0 y0 x1 y1 a b c e f h i = refl
+-- without the right button the keys mean the position that is nearest to the cell where they went up
+pub pointed_at : (version : ℕ) (d : Desktop) (keys : Keys) (v x0 y0 x1 y1 : ℕ) → ¬ (keys ≡ Right) → ¬ (keys ≡ RightLeft)
+    → ¬ (keys ≡ RightMiddle)
+    → done_at version d keys v (text_position d v x1 y1) ≡ pointed version d (Body v) keys x0 y0 x1 y1
+unfolding pointed
+pointed_at version d Right v x0 y0 x1 y1 one two three = absurd (one refl)
+pointed_at version d RightLeft v x0 y0 x1 y1 one two three = absurd (two refl)
+pointed_at version d RightMiddle v x0 y0 x1 y1 one two three = absurd (three refl)
+pointed_at version d keys v x0 y0 x1 y1 one two three = refl
+
+-- the keys that are none of the others
+pub last_keys : (keys : Keys) → ¬ (keys ≡ Right) → ¬ (keys ≡ RightLeft) → ¬ (keys ≡ RightMiddle) → ¬ (keys ≡ MiddleLeft)
+    → ¬ (keys ≡ MiddleRight) → ¬ (keys ≡ Left) → ¬ (keys ≡ LeftMiddle) → ¬ (keys ≡ LeftRight) → keys ≡ Middle
+last_keys Right a b c e f h i j = absurd (a refl)
+last_keys RightLeft a b c e f h i j = absurd (b refl)
+last_keys RightMiddle a b c e f h i j = absurd (c refl)
+last_keys MiddleLeft a b c e f h i j = absurd (e refl)
+last_keys MiddleRight a b c e f h i j = absurd (f refl)
+last_keys Left a b c e f h i j = absurd (h refl)
+last_keys LeftMiddle a b c e f h i j = absurd (i refl)
+last_keys LeftRight a b c e f h i j = absurd (j refl)
+last_keys Middle a b c e f h i j = refl
 
 -- ---- where no character is read
 
@@ -163,15 +164,40 @@ done_anywhere version all d LeftRight v p q h =
 done_anywhere version all d Middle v p q h = absurd (cc h)
 done_anywhere version all d keys v p q h = refl
 
--- at the position that is nearest to a cell
-pub unread_anywhere : (version : ℕ) (d after : KeptDesktop) (keys : Keys) (v p : ℕ)
-    (place : Desktop → ℕ) (result : Result Reply Stop)
-    → gesture_needs_no_byte d (Body v) keys ≡ true
-    → IfOk result (SettlesUnread (λ x. done_at version x keys v p) d after)
-    → IfOk result (SettlesUnread (λ x. done_at version x keys v (place x)) d after)
-unread_anywhere version d after keys v p place result none settles =
-    IfOk-weaker result (SettlesUnread (λ x. done_at version x keys v p) d after) _ (λ reply is all long.
-    is all long ∙ ap (outcome_after (seen all d)) (done_anywhere version all d keys v p (place (seen all d)) none)) settles
+-- keys that need a character
+pub reading : {S : Type 0} (s : Ghosts S) {none : Bool} {effect : Desktop → Result Desktop ℕ} {old new : S}
+    {d after : KeptDesktop} {result : Result Reply Stop} → none ≡ false → Does s effect result old new d after
+    → DoesUnread s (none ≡ true) effect result old new d after
+reading s some does = record { answered = does.answered; unread = λ h. absurd (cc (some, h)); uses = does.uses }
+
+-- what is done at the position that was read owes what is said of the keys there
+module _ {S : Type 0} (s : Ghosts S)
+    (ground_through : (a b c : S) → s.same_ground a b → s.same_ground b c → s.same_ground a c) (version : ℕ)
+    {keys one : Keys} (is : keys ≡ one) (v x0 y0 x1 y1 p : ℕ) (old mid new : S) (d after : KeptDesktop)
+    (result : Result Reply Stop) (reads : Reads s old mid) (calm : s.failures mid ≡ s.failures old)
+    (exact : s.honest old → p ≡ text_position (seen (s.characters old) d) v x1 y1)
+    (there : (x : Desktop)
+    → done_at version x keys v (text_position x v x1 y1) ≡ pointed version x (Body v) keys x0 y0 x1 y1) where
+  pub does_at : DoesUnread s (gesture_needs_no_byte d (Body v) one ≡ true) (λ x. done_at version x one v p) result mid new d
+      after
+      → DoesUnread s (gesture_needs_no_byte d (Body v) keys ≡ true)
+      (λ x. pointed version x (Body v) keys x0 y0 x1 y1) result old new d after
+  does_at rest =
+      let all_of_it = subst (λ (k : Keys). DoesUnread s (gesture_needs_no_byte d (Body v) k ≡ true)
+      (λ x. done_at version x k v p) result mid new d after) (sym is) rest in
+      let does = does_read s ground_through (λ (x : Desktop) (q : ℕ). done_at version x keys v q)
+      (λ x. text_position x v x1 y1) p (λ x. pointed version x (Body v) keys x0 y0 x1 y1) old mid new d after result reads
+      calm exact (λ e. ap (λ (q : ℕ). done_at version (seen (s.characters old) d) keys v q) e ∙ there (seen (s.characters old) d))
+      (record { answered = all_of_it.answered; uses = all_of_it.uses }) in
+      record {
+        answered = does.answered;
+        unread = λ h. IfOk-weaker result (SettlesUnread (λ x. done_at version x keys v p) d after)
+            (SettlesUnread (λ x. pointed version x (Body v) keys x0 y0 x1 y1) d after) (λ reply settles all long.
+            settles all long ∙ ap (outcome_after (seen all d))
+            (done_anywhere version all d keys v p (text_position (seen all d) v x1 y1) h ∙ there (seen all d)))
+            (all_of_it.unread h);
+        uses = does.uses;
+      }
 
 -- ---- events
 

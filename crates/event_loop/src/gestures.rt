@@ -151,7 +151,8 @@ fn point_bar<S: CharSource>(
     }
 }
 
-/// In the main text of a viewer.
+/// In the main text of a viewer: with the stretch that was drawn between both cells, or at the position that it shows
+/// nearest to the cell where the keys went up.
 #[tactic(auto, unfolding(desktop_definitions::specs::Unread::gesture_needs_no_byte))]
 fn point_text<S: CharSource>(
     desk: &mut Desk,
@@ -168,60 +169,18 @@ fn point_text<S: CharSource>(
         result source.old source.new (kept_desktop desk.old) (kept_desktop desk.new) }
 {
     match gesture.keys {
-        Keys::Left | Keys::LeftMiddle | Keys::LeftRight | Keys::Middle => point_cell(
-            desk,
-            version,
-            gesture.keys,
-            id,
-            gesture.to,
-            source,
-        ),
         Keys::Right | Keys::RightLeft | Keys::RightMiddle => draw(desk, id, gesture, source),
-        _ => Ok(Reply::Done),
-    }
-}
-
-/// At the position that a viewer shows nearest to a cell.
-fn point_cell<S: CharSource>(
-    desk: &mut Desk,
-    version: Version,
-    keys: Keys,
-    id: u16,
-    cell: (u8, u8),
-    source: &mut S,
-) -> StepResult
-    requires at { IsMainRow (S.characters source.old) (kept_desktop desk.old) id 0 }
-    ensures { DoesUnread S.CharSource (gesture_needs_no_byte (kept_desktop desk.old) (Body id) keys
-        ≡ true)
-        (λ d. done_at (version_number version) d keys id (text_position d id cell.0 cell.1)) result
-        source.old source.new (kept_desktop desk.old) (kept_desktop desk.new) }
-{
-    let pos = text_position(desk, id, cell.0, cell.1, source)?;
-    point_position(desk, version, keys, id, pos, source)
-}
-
-/// At a position of a viewer's main text.
-#[tactic(auto, unfolding(desktop_definitions::specs::Gesture::done_at, desktop_definitions::specs::Unread::gesture_needs_no_byte))]
-fn point_position<S: CharSource>(
-    desk: &mut Desk,
-    version: Version,
-    keys: Keys,
-    id: u16,
-    pos: u32,
-    source: &mut S,
-) -> StepResult
-    requires { IsMainPlace (S.characters source.old) (kept_desktop desk.old) id pos }
-    ensures { DoesUnread S.CharSource (gesture_needs_no_byte (kept_desktop desk.old) (Body id) keys
-        ≡ true)
-        (λ d. done_at (version_number version) d keys id pos) result
-        source.old source.new (kept_desktop desk.old) (kept_desktop desk.new) }
-{
-    match keys {
-        Keys::Left => desk.set_caret(id, pos, source),
-        Keys::LeftMiddle => copy_to(desk, id, pos, source),
-        Keys::LeftRight => take_looks(desk, id, pos, source),
-        Keys::Middle => call(desk, version, id, false, pos, source),
-        _ => Ok(Reply::Done),
+        Keys::MiddleLeft => Ok(Reply::Done),
+        Keys::MiddleRight => Ok(Reply::Done),
+        keys => {
+            let pos = text_position(desk, id, gesture.to.0, gesture.to.1, source)?;
+            match keys {
+                Keys::Left => desk.set_caret(id, pos, source),
+                Keys::LeftMiddle => copy_to(desk, id, pos, source),
+                Keys::LeftRight => take_looks(desk, id, pos, source),
+                _ => call(desk, version, id, false, pos, source),
+            }
+        }
     }
 }
 
