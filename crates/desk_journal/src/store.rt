@@ -185,9 +185,8 @@ impl<D: Disk> Store<D> {
         ensures any_moment { LeavesEither D.Disk event.now self.old self.new }
         ensures ok { IfOk result (λ reply. IsAcknowledged D.Disk event.now reply self.old self.new) }
         ensures memory { IsErrOf result Error.NoMemory → IsStarved D.Disk self.old self.new }
-        ensures fault { IsErrOf result Error.Fault → IsBroken self.new }
-        ensures recorded { IsErrOf result Error.Fault
-            → RecordsDone D.Disk event.now self.old self.new }
+        ensures fault { IsErrOf result Error.Fault → IsBroken self.new
+            × RecordsDone D.Disk event.now self.old self.new }
         ensures worn { AnswersWorn result self.old self.new }
         ensures behaves { Behaves D.Disk OfPost result self.old self.new }
         ensures first { self.old.must_reopen ≡ false → IsDueBefore self.old
@@ -214,9 +213,8 @@ impl<D: Disk> Store<D> {
         ensures any_moment { LeavesEither D.Disk event.now self.old self.new }
         ensures ok { IfOk result (λ reply. IsAcknowledged D.Disk event.now reply self.old self.new) }
         ensures memory { IsErrOf result Error.NoMemory → IsStarved D.Disk self.old self.new }
-        ensures fault { IsErrOf result Error.Fault → IsBroken self.new }
-        ensures recorded { IsErrOf result Error.Fault
-            → RecordsDone D.Disk event.now self.old self.new }
+        ensures fault { IsErrOf result Error.Fault → IsBroken self.new
+            × RecordsDone D.Disk event.now self.old self.new }
         ensures behaves { Behaves D.Disk OfLook result self.old self.new }
         ensures added { OnOk result (IsAdded D.Disk event.now self.old self.new) }
     {

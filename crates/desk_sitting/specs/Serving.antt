@@ -91,6 +91,11 @@ module _ {D : Type 0} (d : Ghosts D) where
     pub disk : IsOnlyRead d old.disk new.disk
     pub durable : IsDurable d new
 
+  -- it can be used, over the same device
+  pub record StaysInUse (old new : StoreView D) : Type 0 where
+    pub usable : new.must_reopen ≡ false
+    pub device : IsSameDevice d old.disk new.disk
+
   -- ---- a turn
 
   -- The terminal shows the desktop, and then this is heard.

@@ -15,7 +15,7 @@ ghost use Rattle.desk_sitting.specs.Scenes.{IsSceneOf, IsHalfPainted, IsScenePai
 ghost use Rattle.desk_sitting.specs.Endings.{EndsBy, IsOfNoKeyboard};
 ghost use Rattle.desk_sitting.specs.Scenes.{after_scene, bell_bytes, known_by, request, size_request};
 ghost use Rattle.desk_sitting.specs.Serving.{CountsEnding, CountsOutput, CountsTurn, IsFetched, IsLookedAt, IsUsableAt};
-ghost use Rattle.desk_sitting.specs.Serving.{TakesTurn, first_place, turn_state_of, store_screen};
+ghost use Rattle.desk_sitting.specs.Serving.{StaysInUse, TakesTurn, first_place, turn_state_of, store_screen};
 ghost use Rattle.desk_sitting.specs.Sitting.{Sits, TakesEitherTurn};
 ghost use Rattle.desk_sitting.specs.Travelling.{TakesBetween};
 
@@ -184,16 +184,16 @@ fn show<W: AnswerWriter, D: Disk>(
 ) -> Result<(), SittingEnd>
     requires { store.old.must_reopen ≡ false }
     ensures looks { D.honest store.old.disk → IsDurable D.Disk store.old → IsLookedAt D.Disk store.old store.new }
-    ensures sitting { OnOk result (D.honest store.old.disk → sitting.new ≡ looked (store_screen store.old) sitting.old) }
-    ensures shown { OnOk result (D.honest store.old.disk → IsSceneShown sitting.old (store_screen store.old)
+    ensures shown { OnOk result (D.honest store.old.disk
+        → (sitting.new ≡ looked (store_screen store.old) sitting.old)
+        × IsSceneShown sitting.old (store_screen store.old)
         painter.old painter.new (W.contents writer.old) (W.contents writer.new)) }
     ensures unshown { IfErr result (λ end. D.honest store.old.disk → IsUnshown end sitting.old (store_screen store.old)
         painter.old (W.contents writer.old) (W.contents writer.new)) }
     ensures cause { IfErr result IsOfNoKeyboard }
     ensures output { CountsOutput result (W.failures writer.old) (W.failures writer.new) }
-    ensures usable { store.new.must_reopen ≡ false }
     ensures counts { CountsTurn result (D.failures store.old.disk) (D.failures store.new.disk) }
-    ensures device { IsSameDevice D.Disk store.old.disk store.new.disk }
+    ensures store { StaysInUse D.Disk store.old store.new }
 {
     let mut screen = Screen::new();
     store.screen(alloc, &mut screen)?;

@@ -1,12 +1,14 @@
 -- The desktop that a store has in memory, and what it is over the disk on which the first of its characters stand.
-use Rattle.std.specs.Prelude.{◌≡◌, ◌+◌, ◌<◌, ◌≤◌, ℕ, List, length, false}
+use Rattle.std.specs.Prelude.{◌≡◌, ◌+◌, ◌*◌, ◌<◌, ◌≤◌, ℕ, List, [], length, false}
 use Rattle.sector_disk.specs.declared.disk.Disk.{Ghosts}
+use Rattle.sector_disk.specs.declared.disk.TheConstants.{SECTOR_BYTES}
 use Rattle.sector_disk.specs.Confined.{IsConfined}
 use Rattle.sector_disk.specs.Trail.{Content, Nowhere, now}
 use Rattle.char_pages.specs.Cached.{AreTrue}
 use Rattle.char_pages.specs.Pages.{base_of, saved_of, saved_sectors, cached_of, renewed_of, paged_characters}
 use Rattle.char_pages.specs.declared.pages.Pages.{Pages}
 use Rattle.event_bytes.specs.declared.event.Event.{Event}
+use Rattle.piece_ring.specs.Text.{Text}
 use Rattle.desktop_definitions.specs.declared.reply.Reply.{Reply}
 use Rattle.desktop_definitions.specs.Desktop.{Desktop, KeptDesktop}
 use Rattle.desktop_definitions.specs.Seen.{seen}
@@ -16,6 +18,7 @@ use Rattle.desk_bringing.specs.Bringing.{IsBringing}
 use Rattle.desk_bringing.specs.Bringing.{Documents}
 use Rattle.screen_cells.specs.Lines.{AreLinesOf}
 use Rattle.desktop_definitions.specs.Sound.{IsOver}
+use Rattle.store_layout.specs.declared.head.Head.{Head}
 use Rattle.store_layout.specs.declared.layout.TheConstants.{AREAS}
 use Rattle.store_layout.specs.Layout.{area_start, head}
 use Rattle.store_layout.specs.Meaning.{full_sectors}
@@ -58,6 +61,16 @@ pub record IsLiveOn {D : Type 0} (d : Ghosts D) (disk : D) (desktop : LiveDeskto
   pub live : IsLive desktop
   pub told : HasTrueCache d disk desktop
 
+-- Its characters stand as this head says: in its area, on so many sectors.
+pub record StandsUnder (h : Head) (live : LiveDesktop) : Type 0 where
+  pub area : live.area ≡ h.area
+  pub saved : saved_sectors live.pages ≡ full_sectors h.written
+
+-- It has nothing in memory of the disk, and keeps no line.
+pub record HasEmptyCache (live : LiveDesktop) : Type 0 where
+  pub cached : cached_of live.pages ≡ []
+  pub lines : (texts : ℕ → Text ℕ) → AreLinesOf texts live.lines
+
 -- The event was stepped with this reply, between a desktop over one disk and what became of both.
 abbrev pub IsLiveStep : {D : Type 0} → Ghosts D → ℕ → Event → D → D → LiveDesktop → LiveDesktop
     → Reply → Type 0
@@ -80,6 +93,26 @@ pub record IsNamed (c : Content) (slot : ℕ) (live : LiveDesktop) : Type 0 wher
   pub area_is : (head c slot).area ≡ live.area
   pub named : renewed_of live.pages ≡ false → full_sectors (head c slot).written
       ≡ saved_sectors live.pages
+
+-- The desktop that events leave which are read from a journal: live on the disk, and its characters stand where they
+-- stood: in the same area, and, unless all were exchanged, as many.
+pub record StaysInArea {D : Type 0} (d : Ghosts D) (disk : D) (old new : LiveDesktop) : Type 0 where
+  pub live : IsLive new
+  pub told : HasTrueCache d disk new
+  pub area : new.area ≡ old.area
+  pub counted : renewed_of new.pages ≡ false → saved_of new.pages ≡ saved_of old.pages
+
+-- All of its characters that fill sectors stand in this area, and are in memory no more.
+pub record IsSavedIn (place : ℕ) (old new : LiveDesktop) : Type 0 where
+  pub area : new.area ≡ place
+  pub renewed : renewed_of new.pages ≡ false
+  pub counted : saved_of new.pages ≡ SECTOR_BYTES * full_sectors old.desktop.written
+
+-- The desktop is the same, and so is what it has in memory of the disk, and the lines that it keeps.
+pub record KeepsDesktop (old new : LiveDesktop) : Type 0 where
+  pub desktop : new.desktop ≡ old.desktop
+  pub cached : cached_of new.pages ≡ cached_of old.pages
+  pub lines : new.lines ≡ old.lines
 
 -- The desktop that a call leaves to the slot in use: live on the disk, and if the head of the slot named what stands in
 -- its area, it does still.

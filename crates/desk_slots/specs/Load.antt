@@ -14,7 +14,7 @@ use Rattle.desk_image.specs.declared.fault.ImageFault.TheVariants.{NoMemory as R
 use Rattle.desk_image.specs.Image.{Spells}
 use Rattle.store_layout.specs.declared.head.Head.{Head}
 use Rattle.store_layout.specs.declared.layout.TheConstants.{JOURNAL_EVENTS, LABEL, SLOTS, STORE_SECTORS}
-use Rattle.store_layout.specs.Layout.{is_label, is_open, gate, body, image_at, head}
+use Rattle.store_layout.specs.Layout.{is_label, is_open, gate, body, image_at, head, IsGoodHead}
 use Rattle.desk_slots.specs.Live.{HasTrueCache, IsLive, IsNamed, seen_live}
 use Rattle.desk_slots.specs.declared.live.LiveDesktop.{LiveDesktop}
 use Rattle.desk_slots.specs.declared.loaded.Loaded.{Loaded}
@@ -23,6 +23,11 @@ use Rattle.desk_slots.specs.declared.error.Error.TheVariants.{NoMemory, Fault, D
 use Rattle.store_layout.specs.Meaning.{IsJournal, Standing, Stands, desktop_of, cut_to, left_over}
 use Rattle.store_layout.specs.Finding.{AreHeadsGood}
 use Rattle.store_layout.specs.Footprint.{IsLedTo, IsInUse}
+
+-- it is a good head, of this version
+pub record IsHeadOf (number : ℕ) (h : Head) : Type 0 where
+  pub good : IsGoodHead h
+  pub version : number ≡ h.version
 
 -- the first k events of a journal stand under open gates, and by this version they lead from the one desktop to the
 -- other

@@ -5,20 +5,26 @@ use Rattle.sector_disk.specs.Trail.{Moment, Trail, now, LeavesOnly}
 use Rattle.char_pages.specs.Pages.{saved_sectors, renewed_of}
 use Rattle.event_bytes.specs.declared.event.Event.{Event}
 use Rattle.event_bytes.specs.Spelling.{BeginsWithEvent}
+use Rattle.desktop_definitions.specs.declared.reply.Reply.{Reply}
 use Rattle.desktop_definitions.specs.Desktop.{Desktop}
 use Rattle.store_layout.specs.declared.layout.TheConstants.{JOURNAL_EVENTS, LAYOUT, SLOTS, STORE_SECTORS}
 use Rattle.store_layout.specs.Layout.{is_open, slot_gate, gate, body, head}
-use Rattle.store_layout.specs.Meaning.{MeansEither, Standing, full_sectors}
+use Rattle.store_layout.specs.Meaning.{MeansEither, Standing, and_then, full_sectors}
 use Rattle.store_layout.specs.Kept.{NextRecord, InCheckpoint, IsNewSlot, ShowsSettled, IsFront, IsSettled, SparesArea, chosen_area}
 use Rattle.desk_slots.specs.declared.live.LiveDesktop.{LiveDesktop}
 use Rattle.desk_slots.specs.declared.place.SlotPlace.{SlotPlace}
-use Rattle.desk_slots.specs.Live.{IsLive, seen_live}
+use Rattle.desk_slots.specs.Live.{IsLive, IsLiveIn, IsLiveStep, seen_live}
 
 -- nothing is pending, and event k of the journal stands before a closed gate, where there is one
 pub record HasRecord (m : Moment) (slot k : ℕ) (event : Event) : Type 0 where
   pub quiet : (n : ℕ) → m.pending n ≡ false
   pub begins : BeginsWithEvent (m.reads (body slot k)) event
   pub closed : k + 1 < JOURNAL_EVENTS → is_open (m.reads (gate slot (k + 1))) ≡ false
+
+-- there is such a slot in a store
+pub record HasSlot (size slot : ℕ) : Type 0 where
+  pub room : STORE_SECTORS ≤ size
+  pub two : slot < SLOTS
 
 -- there is such a gate in the journal of a slot of a store
 pub record IsInJournal (size slot k : ℕ) : Type 0 where
@@ -101,3 +107,18 @@ pub record IsUpTo (size : ℕ) (disk : Trail) (slot k : ℕ) (s : Standing) : Ty
   pub settled : IsSettled size disk s
   pub slot_is : s.slot ≡ slot
   pub count : length s.events ≡ k
+
+-- The event was stepped with this reply, and stands in the journal of this slot behind its first k events: the disk shows
+-- the desktop that is live now.
+pub record IsRecorded {D : Type 0} (d : Ghosts D) (slot k : ℕ) (event : Event) (disk disk' : D)
+    (old new : LiveDesktop) (reply : Reply)
+    : Type 0 where
+  pub stepped : IsLiveStep d LAYOUT event disk disk' old new reply
+  pub left : IsLiveIn d slot disk disk' old new
+  pub added : d.honest disk → (number : ℕ)
+      → ShowsSettled (d.size disk) (d.trail disk) slot LAYOUT number k
+      (seen_live (now (d.trail disk)).reads old)
+      → ShowsSettled (d.size disk) (d.trail disk') slot LAYOUT number (k + 1)
+      (seen_live (now (d.trail disk')).reads new)
+  pub behind : d.honest disk → (s : Standing) → IsUpTo (d.size disk) (d.trail disk) slot k s
+      → IsSettled (d.size disk) (d.trail disk') (and_then s event)

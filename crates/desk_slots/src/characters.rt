@@ -1,10 +1,9 @@
 //! Loading what a slot starts from: its desktop, and the characters that its image has. Those of the area stay on the
 //! disk. Nothing is written.
-ghost use Rattle.std.specs.Prelude.{◌≡◌, ◌+◌, ◌*◌, ◌<◌, ◌≤◌, ◌++◌, ◌∷◌, [], ℕ, OnOk, IfOk, IsErrOf, length, take, drop};
+ghost use Rattle.std.specs.Prelude.{◌≡◌, ◌+◌, ◌*◌, ◌<◌, ◌≤◌, ◌++◌, ◌∷◌, ℕ, OnOk, IfOk, IsErrOf, length, take, drop};
 ghost use Rattle.sector_disk.specs.Trail.{Content};
 ghost use Rattle.sector_disk.specs.Stored.{stored};
 ghost use Rattle.store_layout.specs.Draining.{IsSectorLoaded, IsOnDisk, bytes_left};
-ghost use Rattle.char_pages.specs.Pages.{saved_sectors, cached_of};
 ghost use Rattle.command_table.specs.Versions.{version_number};
 ghost use Rattle.desktop_definitions.specs.Desktop.{Desktop as ADesktop};
 ghost use Rattle.desktop_definitions.specs.Sound.{IsKeptWhole};
@@ -12,12 +11,11 @@ ghost use Rattle.desk_image.specs.Passing.{OnlyGets};
 ghost use Rattle.desk_image.specs.Streams.{IsImageFault};
 ghost use Rattle.store_layout.specs.Layout.{head as head_at, image_at, IsGoodHead};
 ghost use Rattle.store_layout.specs.Meaning.{HasImage, area_bytes, full_sectors, left_over};
-ghost use Rattle.piece_ring.specs.Text.{Text as AText};
-ghost use Rattle.screen_cells.specs.Lines.{AreLinesOf};
 ghost use Rattle.desk_slots.specs.Errors.{OfReplay};
-ghost use Rattle.desk_slots.specs.Live.{live_characters, seen_live, IsLive, HasTrueCache};
-ghost use Rattle.desk_slots.specs.Load.{image_error, IsStart, HasNoStart};
+ghost use Rattle.desk_slots.specs.Live.{live_characters, seen_live, HasEmptyCache, IsLive, IsLiveOn, StandsUnder};
+ghost use Rattle.desk_slots.specs.Load.{image_error, IsHeadOf, IsStart, HasNoStart};
 ghost use Rattle.desk_slots.specs.Words.{Nowhere, now, IsConfined, FailsAs};
+ghost use Rattle.desk_slots.specs.Written.{HasSlot};
 
 use crate::Error;
 use crate::live::LiveDesktop;
@@ -126,8 +124,7 @@ fn load_start<D: Disk>(
     head: &Head,
     tail: &mut Sector,
 ) -> Result<Desktop, ImageFault>
-    requires room { STORE_SECTORS ≤ D.size disk.old }
-    requires two { slot < SLOTS }
+    requires at { HasSlot (D.size disk.old) slot }
     requires good { IsGoodHead head.now }
     ensures kept { IsConfined D.size D.honest D.trail Nowhere disk.old disk.new }
     ensures faults { FailsAs ImageFault.Fault IsImageFault result (D.failures disk.old)
@@ -161,10 +158,8 @@ fn with_pages(
     ensures characters { IfOk result (λ live. (c : Content) → live_characters c live
         ≡ area_bytes c head.now.area (full_sectors head.now.written)
         ++ take (left_over head.now.written) tail.now) }
-    ensures saved { IfOk result (λ live. saved_sectors live.pages ≡ full_sectors head.now.written) }
-    ensures area { IfOk result (λ live. live.area ≡ head.now.area) }
-    ensures cached { IfOk result (λ live. cached_of live.pages ≡ []) }
-    ensures lines { IfOk result (λ live. (texts : ℕ → AText ℕ) → AreLinesOf texts live.lines) }
+    ensures under { IfOk result (StandsUnder head.now) }
+    ensures empty { IfOk result HasEmptyCache }
 {
     let left = head.written % SECTOR_BYTES;
     let full = head.written - left;
@@ -181,17 +176,13 @@ pub fn load_slot<D: Disk>(
     version: Version,
     head: &Head,
 ) -> Result<LiveDesktop, Error>
-    requires room { STORE_SECTORS ≤ D.size disk.old }
-    requires two { slot < SLOTS }
-    requires good { IsGoodHead head.now }
-    requires version { version_number version ≡ head.now.version }
+    requires at { HasSlot (D.size disk.old) slot }
+    requires head { IsHeadOf (version_number version) head.now }
     ensures kept { IsConfined D.size D.honest D.trail Nowhere disk.old disk.new }
     ensures faults { FailsAs Error.Fault OfReplay result (D.failures disk.old)
         (D.failures disk.new) }
-    ensures live { IfOk result (λ live. IsLive live) }
-    ensures told { IfOk result (λ live. HasTrueCache D.Disk disk.new live) }
-    ensures saved { IfOk result (λ live. saved_sectors live.pages ≡ full_sectors head.now.written) }
-    ensures area { IfOk result (λ live. live.area ≡ head.now.area) }
+    ensures left { IfOk result (IsLiveOn D.Disk disk.new) }
+    ensures under { IfOk result (StandsUnder head.now) }
     ensures image { IfOk result
         (λ live. D.honest disk.old → head_at (now (D.trail disk.old)).reads slot ≡ head.now
         → HasImage (now (D.trail disk.old)).reads slot

@@ -16,7 +16,7 @@ ghost use Rattle.store_layout.specs.Meaning.{full_sectors, left_over};
 ghost use Rattle.store_layout.specs.Kept.{OpenGate, InArea, InCheckpoint, HasFront, IsFront};
 ghost use Rattle.desk_slots.specs.Device.{IsSameDevice, StaysWithin};
 ghost use Rattle.desk_slots.specs.Live.{live_characters, seen_live, IsLive, IsLiveAnew};
-ghost use Rattle.desk_slots.specs.Written.{ContinuesArea, CanRenew, HasGate, IsFilled, InRenewal, KeepsShown, ShowsAnew};
+ghost use Rattle.desk_slots.specs.Written.{CanRenew, HasGate, HasSlot, IsFilled, InRenewal, KeepsShown, ShowsAnew};
 ghost use Rattle.desk_slots.specs.Words.{Only, CountsFault, now, IsConfined};
 
 use crate::live::LiveDesktop;
@@ -31,8 +31,7 @@ use store_layout::{
 /// Closes the gate of a slot, if it is open. A closed gate isn't written: while such a write is pending a crash could
 /// leave the gate open.
 pub fn close_slot<D: Disk>(disk: &mut D, slot: u32) -> Result<(), Fault>
-    requires room { STORE_SECTORS ≤ D.size disk.old }
-    requires two { slot < SLOTS }
+    requires { HasSlot (D.size disk.old) slot }
     ensures kept { IsConfined D.size D.honest D.trail (OpenGate (now (D.trail disk.old)).reads slot)
         disk.old disk.new }
     ensures cause { CountsFault result (D.failures disk.old) (D.failures disk.new) }
@@ -122,8 +121,7 @@ fn stream<D: Disk>(
     desktop: &LiveDesktop,
     slot: u32,
 ) -> Result<u32, Fault>
-    requires room { STORE_SECTORS ≤ D.size disk.old }
-    requires two { slot < SLOTS }
+    requires at { HasSlot (D.size disk.old) slot }
     requires tail { length tail.now ≡ left_over desktop.now.desktop.written }
     requires live { IsLive desktop.now }
     ensures kept { IsConfined D.size D.honest D.trail (InRange (image_at slot) IMAGE_SECTORS)
@@ -197,8 +195,7 @@ fn write_slot<D: Disk>(disk: &mut D, desktop: &LiveDesktop, place: SlotPlace) ->
 
 /// Opens the gate of a slot: from here on it is in use.
 pub fn open_slot<D: Disk>(disk: &mut D, slot: u32) -> Result<(), Fault>
-    requires room { STORE_SECTORS ≤ D.size disk.old }
-    requires two { slot < SLOTS }
+    requires { HasSlot (D.size disk.old) slot }
     ensures kept { IsConfined D.size D.honest D.trail (Only (slot_gate slot)) disk.old disk.new }
     ensures cause { CountsFault result (D.failures disk.old) (D.failures disk.new) }
     ensures opened { OnOk result (D.honest disk.old → HasGate (now (D.trail disk.new)) slot true) }
@@ -234,9 +231,7 @@ pub fn renew<D: Disk>(
     desktop: &mut LiveDesktop,
     place: SlotPlace,
 ) -> Result<(), Fault>
-    requires room { STORE_SECTORS ≤ D.size disk.old }
-    requires live { IsLive desktop.old }
-    requires goes { ContinuesArea place desktop.old }
+    requires { CanRenew (D.size disk.old) place desktop.old }
     ensures device { IsSameDevice D.Disk disk.old disk.new }
     ensures within { StaysWithin D.Disk disk.old disk.new }
     ensures cause { CountsFault result (D.failures disk.old) (D.failures disk.new) }

@@ -12,6 +12,7 @@ ghost use Rattle.store_layout.specs.Kept.{HasFront};
 ghost use Rattle.desk_slots.specs.Comparing.{HasAgreed};
 ghost use Rattle.desk_slots.specs.Live.{seen_live, IsLive};
 ghost use Rattle.desk_slots.specs.Words.{Content, Nowhere, CountsFault, now, IsConfined};
+ghost use Rattle.desk_slots.specs.Written.{HasSlot};
 
 use crate::live::LiveDesktop;
 use desk_image::{ByteSink, ByteSource, IMAGE_BYTES, images_have_room};
@@ -181,8 +182,7 @@ fn has_image<D: Disk>(
     slot: u32,
     extent: u32,
 ) -> Result<bool, Fault>
-    requires room { STORE_SECTORS ≤ D.size disk.old }
-    requires two { slot < SLOTS }
+    requires at { HasSlot (D.size disk.old) slot }
     requires fits { extent ≤ IMAGE_BYTES }
     requires tail { length tail.now ≡ left_over desktop.now.desktop.written }
     requires live { IsLive desktop.now }
@@ -261,8 +261,7 @@ pub fn starts_from<D: Disk>(
     head: &Head,
     desktop: &LiveDesktop,
 ) -> Result<bool, Fault>
-    requires room { STORE_SECTORS ≤ D.size disk.old }
-    requires two { slot < SLOTS }
+    requires at { HasSlot (D.size disk.old) slot }
     requires good { IsGoodHead head.now }
     requires live { IsLive desktop.now }
     ensures kept { IsConfined D.size D.honest D.trail Nowhere disk.old disk.new }

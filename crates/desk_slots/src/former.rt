@@ -9,7 +9,7 @@ ghost use Rattle.desk_slots.specs.Beside.{HasEvents, HasFormer, HasMoreThan, IsC
 ghost use Rattle.desk_slots.specs.Errors.{OfDesktop, OfOpen, OfReplay};
 ghost use Rattle.desk_slots.specs.Live.{IsLiveOn};
 ghost use Rattle.desk_slots.specs.Words.{Nowhere, now, IsConfined, FailsAs};
-ghost use Rattle.desk_slots.specs.Written.{HasJournalTo, IsUpTo};
+ghost use Rattle.desk_slots.specs.Written.{HasJournalTo, HasSlot, IsUpTo};
 
 use crate::Error;
 use crate::characters::load_slot;
@@ -62,8 +62,7 @@ fn load_of<D: Disk>(
 
 /// The head of the slot beside this one, where that is open under the epoch before and in the newest version.
 fn head_before<D: Disk>(disk: &mut D, slot: u32, epoch: u32) -> Result<Option<Head>, Error>
-    requires room { STORE_SECTORS ≤ D.size disk.old }
-    requires two { slot < SLOTS }
+    requires { HasSlot (D.size disk.old) slot }
     ensures kept { IsConfined D.size D.honest D.trail Nowhere disk.old disk.new }
     ensures faults { FailsAs Error.Fault OfReplay result (D.failures disk.old)
         (D.failures disk.new) }
@@ -101,8 +100,7 @@ fn find<D: Disk>(
     slot: u32,
     epoch: u32,
 ) -> Result<Option<Former>, Error>
-    requires room { STORE_SECTORS ≤ D.size disk.old }
-    requires two { slot < SLOTS }
+    requires { HasSlot (D.size disk.old) slot }
     ensures kept { IsConfined D.size D.honest D.trail Nowhere disk.old disk.new }
     ensures faults { FailsAs Error.Fault OfReplay result (D.failures disk.old)
         (D.failures disk.new) }
@@ -138,8 +136,7 @@ fn find_former<D: Disk>(
     epoch: u32,
     wanted: bool,
 ) -> Result<Option<Former>, Error>
-    requires room { STORE_SECTORS ≤ D.size disk.old }
-    requires two { slot < SLOTS }
+    requires { HasSlot (D.size disk.old) slot }
     ensures kept { IsConfined D.size D.honest D.trail Nowhere disk.old disk.new }
     ensures faults { FailsAs Error.Fault OfDesktop result (D.failures disk.old)
         (D.failures disk.new) }

@@ -7,6 +7,7 @@ ghost use Rattle.store_layout.specs.Kept.{IsSettled, OpenGate};
 ghost use Rattle.desk_slots.specs.Beside.{GoesBackTo, InUndo, StandsOver, StandsOneOf};
 ghost use Rattle.desk_slots.specs.Device.{IsSameDevice, StaysWithin};
 ghost use Rattle.desk_slots.specs.Words.{CountsFault, LeavesOnly, now, IsConfined};
+ghost use Rattle.desk_slots.specs.Written.{HasSlot, IsInJournal};
 
 use crate::checkpoint::close_slot;
 use crate::records::{shut, take_back};
@@ -16,8 +17,7 @@ use store_layout::{JOURNAL_EVENTS, SLOTS, STORE_SECTORS};
 /// Closes the gate of the slot in use: then the other one is in use, if it is open. Until the sync the gate may hold
 /// anything: open, the disk shows what it showed; closed, what the other slot shows.
 fn leave_slot<D: Disk>(disk: &mut D, slot: u32) -> Result<(), Fault>
-    requires room { STORE_SECTORS ≤ D.size disk.old }
-    requires two { slot < SLOTS }
+    requires { HasSlot (D.size disk.old) slot }
     ensures kept { IsConfined D.size D.honest D.trail (OpenGate (now (D.trail disk.old)).reads slot)
         disk.old disk.new }
     ensures device { IsSameDevice D.Disk disk.old disk.new }
@@ -38,9 +38,7 @@ fn leave_slot<D: Disk>(disk: &mut D, slot: u32) -> Result<(), Fault>
 /// Until the gate of the slot in use is closed nobody reads the other journal: so a crash leaves what the disk showed, or
 /// what the other slot shows by its first k events.
 fn go_back<D: Disk>(disk: &mut D, slot: u32, k: u32) -> Result<(), Fault>
-    requires room { STORE_SECTORS ≤ D.size disk.old }
-    requires two { slot < SLOTS }
-    requires index { k < JOURNAL_EVENTS }
+    requires { IsInJournal (D.size disk.old) slot k }
     ensures kept { IsConfined D.size D.honest D.trail (InUndo slot (1 - slot) k) disk.old disk.new }
     ensures cause { CountsFault result (D.failures disk.old) (D.failures disk.new) }
     ensures any_moment { D.honest disk.old → (s t : Standing)

@@ -1,7 +1,6 @@
 //! The desktop that a store has in memory, with its characters.
 ghost use Rattle.std.specs.Prelude.{◌≡◌, ◌<◌, ◌≤◌, ◌*◌, ◌++◌, ℕ, IfOk, OnOk, IsErrOf, None, option_map, length};
-ghost use Rattle.std.specs.Prelude.{false};
-ghost use Rattle.char_pages.specs.Pages.{base_of, saved_of, saved_sectors, rest_of, cached_of, renewed_of};
+ghost use Rattle.char_pages.specs.Pages.{base_of, saved_of, saved_sectors, rest_of, renewed_of};
 ghost use Rattle.command_table.specs.Versions.{version_number, newest_version};
 ghost use Rattle.desktop_definitions.specs.Desktop.{file_of};
 ghost use Rattle.desk_image.specs.Image.{image_of, image_bytes, IsSpellable};
@@ -10,8 +9,8 @@ ghost use Rattle.store_layout.specs.Layout.{area_start};
 ghost use Rattle.store_layout.specs.Kept.{HasFront, chosen_area};
 ghost use Rattle.store_layout.specs.Meaning.{full_sectors};
 ghost use Rattle.desk_slots.specs.Errors.{OfDesktop};
-ghost use Rattle.desk_slots.specs.Live.{live_characters, seen_live, IsLive, IsNamed, IsOverPages, HasTrueCache};
-ghost use Rattle.desk_slots.specs.Live.{IsLiveOn, IsLiveStep, IsLiveBringing, StaysLive, ReadsThrough};
+ghost use Rattle.desk_slots.specs.Live.{live_characters, seen_live, IsLive, IsNamed, IsOverPages};
+ghost use Rattle.desk_slots.specs.Live.{IsLiveOn, IsLiveStep, IsLiveBringing, IsSavedIn, KeepsDesktop, StaysLive, ReadsThrough};
 ghost use Rattle.piece_ring.specs.Text.{Text as AText};
 ghost use Rattle.screen_cells.specs.Lines.{AreLinesOf};
 ghost use Rattle.desk_input.specs.Scrolling.{Scrolls};
@@ -33,10 +32,10 @@ use store_layout::{AREAS, STORE_SECTORS, area_start};
 /// A desktop and the characters that its texts name: those that fill whole sectors of an area of the disk stand there,
 /// the others in memory.
 ///
-/// A clause sees it as its characters read over what the disk reads (`seen_live`), and asks that it stands over them
-/// (`IsLive`) and that what it has in memory of the disk is so (`HasTrueCache`). Its calls are handed the disk, from which
-/// they only read, and what they say of characters stands under its premise. After an error of `step` it isn't used
-/// again.
+/// A clause sees it as its characters read over what the disk reads (`seen_live`), and asks that it is live on the disk
+/// (`IsLiveOn`): it stands over its characters (`IsLive`), and what it has in memory of the disk is so (`HasTrueCache`).
+/// Its calls are handed the disk, from which they only read, and what they say of characters stands under its premise.
+/// After an error of `step` it isn't used again.
 #[derive(Drop)]
 pub struct LiveDesktop {
     desktop: Desktop,
@@ -117,9 +116,8 @@ impl LiveDesktop {
         event: &Event,
         disk: &mut D,
     ) -> Result<Reply, Error>
-        requires live { IsLive self.old }
+        requires on { IsLiveOn D.Disk disk.old self.old }
         requires room { STORE_SECTORS ≤ D.size disk.old }
-        requires told { HasTrueCache D.Disk disk.old self.old }
         ensures stepped { IfOk result (IsLiveStep D.Disk (version_number version) event.now
             disk.old disk.new self.old self.new) }
         ensures left { OnOk result (IsLiveOn D.Disk disk.new self.new) }
@@ -147,9 +145,8 @@ impl LiveDesktop {
         documents: &[Document],
         disk: &mut D,
     ) -> Result<Reply, Error>
-        requires live { IsLive self.old }
+        requires on { IsLiveOn D.Disk disk.old self.old }
         requires room { STORE_SECTORS ≤ D.size disk.old }
-        requires told { HasTrueCache D.Disk disk.old self.old }
         ensures brought { IfOk result (IsLiveBringing D.Disk documents.now disk.old disk.new
             self.old self.new) }
         ensures left { OnOk result (IsLiveOn D.Disk disk.new self.new) }
@@ -170,9 +167,8 @@ impl LiveDesktop {
         name: &Name,
         disk: &mut D,
     ) -> Result<Option<Vec<(u8, Look)>>, Error>
-        requires live { IsLive self.old }
+        requires on { IsLiveOn D.Disk disk.old self.old }
         requires room { STORE_SECTORS ≤ D.size disk.old }
-        requires told { HasTrueCache D.Disk disk.old self.old }
         ensures found { IfOk result
             (λ file. D.honest disk.old → option_map (λ characters. characters.items) file
             ≡ file_of (seen_live (now (D.trail disk.old)).reads self.old) name.now) }
@@ -191,9 +187,8 @@ impl LiveDesktop {
 
     /// What the desktop has.
     pub fn list<D: Disk>(&mut self, alloc: Global, disk: &mut D) -> Result<Vec<Entry>, Error>
-        requires live { IsLive self.old }
+        requires on { IsLiveOn D.Disk disk.old self.old }
         requires room { STORE_SECTORS ≤ D.size disk.old }
-        requires told { HasTrueCache D.Disk disk.old self.old }
         ensures entries { IfOk result (λ entries. D.honest disk.old
             → entries.items ≡ entries_of (seen_live (now (D.trail disk.old)).reads self.old)) }
         ensures unread { IfOk result (λ entries. ListsUnread self.old.desktop entries.items) }
@@ -212,9 +207,8 @@ impl LiveDesktop {
         screen: &mut Screen,
         disk: &mut D,
     ) -> Result<(), Error>
-        requires live { IsLive self.old }
+        requires on { IsLiveOn D.Disk disk.old self.old }
         requires room { STORE_SECTORS ≤ D.size disk.old }
-        requires told { HasTrueCache D.Disk disk.old self.old }
         ensures shown { OnOk result (D.honest disk.old
             → screen.new ≡ shown_screen (seen_live (now (D.trail disk.old)).reads self.old)) }
         ensures same { StaysLive D.Disk disk.old disk.new self.old self.new }
@@ -242,9 +236,8 @@ impl LiveDesktop {
         wish: Wish,
         disk: &mut D,
     ) -> Result<Option<Vec<Event>>, Error>
-        requires live { IsLive self.old }
+        requires on { IsLiveOn D.Disk disk.old self.old }
         requires room { STORE_SECTORS ≤ D.size disk.old }
-        requires told { HasTrueCache D.Disk disk.old self.old }
         ensures scrolls { IfOk result (λ presses. D.honest disk.old
             → Scrolls (seen_live (now (D.trail disk.old)).reads self.old) at wish
             (option_map (λ events. events.items) presses)) }
@@ -263,13 +256,8 @@ impl LiveDesktop {
         requires low { area < AREAS }
         requires place { 0 < saved_of self.old.pages → area ≡ self.old.area }
         ensures live { IsLive self.new }
-        ensures desktop { self.new.desktop ≡ self.old.desktop }
-        ensures area { self.new.area ≡ area }
-        ensures renewed { renewed_of self.new.pages ≡ false }
-        ensures counted { saved_of self.new.pages
-            ≡ SECTOR_BYTES * full_sectors self.old.desktop.written }
-        ensures cached { cached_of self.new.pages ≡ cached_of self.old.pages }
-        ensures lines { self.new.lines ≡ self.old.lines }
+        ensures saved { IsSavedIn area self.old self.new }
+        ensures stays { KeepsDesktop self.old self.new }
         ensures same { (c : Content)
             → HasFront c area (full_sectors self.old.desktop.written) (live_characters c self.old)
             → live_characters c self.new ≡ live_characters c self.old }

@@ -3,7 +3,6 @@ ghost use Rattle.std.specs.Prelude.{◌≡◌, ◌-◌, ◌<◌, ◌≤◌, ◌�
 ghost use Rattle.std.specs.Prelude.{length, drop};
 ghost use Rattle.event_bytes.specs.declared.event.Event.{Event};
 ghost use Rattle.event_bytes.specs.Spelling.{BeginsWithEvent};
-ghost use Rattle.char_pages.specs.Pages.{saved_of, renewed_of};
 ghost use Rattle.command_table.specs.Versions.{version_number};
 ghost use Rattle.store_layout.specs.Layout.{is_open, gate, body, IsGoodHead};
 ghost use Rattle.desk_slots.specs.Beside.{HasEvents};
@@ -11,10 +10,10 @@ ghost use Rattle.store_layout.specs.Finding.{IsForeign, IsDamagedAt, IsNoEvent};
 ghost use Rattle.store_layout.specs.Meaning.{Shows};
 ghost use Rattle.store_layout.specs.Kept.{ShowsSettled};
 ghost use Rattle.desk_slots.specs.Errors.{OfOpen, OfReplay};
-ghost use Rattle.desk_slots.specs.Live.{seen_live, IsLive, IsLiveOn, IsNamed, HasTrueCache};
+ghost use Rattle.desk_slots.specs.Live.{seen_live, IsLiveOn, IsNamed, StaysInArea};
 ghost use Rattle.desk_slots.specs.Load.{HasSlotInUse, IsCutTo, IsLoaded, IsReadUpTo, IsReadWhole};
 ghost use Rattle.desk_slots.specs.Words.{Nowhere, now, IsConfined, FailsAs, OneOf};
-ghost use Rattle.desk_slots.specs.Written.{HasJournalTo};
+ghost use Rattle.desk_slots.specs.Written.{HasJournalTo, HasSlot, IsInJournal};
 
 use crate::Error;
 use crate::characters::load_slot;
@@ -45,9 +44,7 @@ pub struct Loaded {
 
 /// The event under gate k, or none where the gate is closed.
 fn read_event<D: Disk>(disk: &mut D, slot: u32, k: u32) -> Result<Option<Event>, Error>
-    requires room { STORE_SECTORS ≤ D.size disk.old }
-    requires two { slot < SLOTS }
-    requires index { k < JOURNAL_EVENTS }
+    requires { IsInJournal (D.size disk.old) slot k }
     ensures kept { IsConfined D.size D.honest D.trail Nowhere disk.old disk.new }
     ensures faults { FailsAs Error.Fault (OneOf (Error.Fault ∷ Error.Damaged (body slot k) ∷ []))
         result
@@ -97,11 +94,8 @@ pub fn replay_to<D: Disk>(
     desktop: &mut LiveDesktop,
     most: u32,
 ) -> Result<u32, Error>
-    requires room { STORE_SECTORS ≤ D.size disk.old }
-    requires two { slot < SLOTS }
-    requires live { IsLive desktop.old }
-    requires told { HasTrueCache D.Disk disk.old desktop.old }
-    requires limit { most ≤ JOURNAL_EVENTS }
+    requires at { HasJournalTo (D.size disk.old) slot most }
+    requires on { IsLiveOn D.Disk disk.old desktop.old }
     ensures kept { IsConfined D.size D.honest D.trail Nowhere disk.old disk.new }
     ensures faults { FailsAs Error.Fault OfReplay result (D.failures disk.old)
         (D.failures disk.new) }
@@ -110,10 +104,7 @@ pub fn replay_to<D: Disk>(
         (λ count. D.honest disk.old → IsReadUpTo (now (D.trail disk.old)).reads slot
         (version_number version) most count (seen_live (now (D.trail disk.old)).reads desktop.old)
         (seen_live (now (D.trail disk.new)).reads desktop.new)) }
-    ensures left { OnOk result (IsLiveOn D.Disk disk.new desktop.new) }
-    ensures area { OnOk result (desktop.new.area ≡ desktop.old.area) }
-    ensures counted { OnOk result (renewed_of desktop.new.pages ≡ false
-        → saved_of desktop.new.pages ≡ saved_of desktop.old.pages) }
+    ensures left { OnOk result (StaysInArea D.Disk disk.new desktop.old desktop.new) }
     ensures damaged { (n : ℕ) → IsErrOf result (Error.Damaged n) → D.honest disk.old
         → (k : ℕ) × (n ≡ body slot k) × IsNoEvent (now (D.trail disk.old)).reads slot k }
 {
@@ -136,10 +127,8 @@ fn replay<D: Disk>(
     version: Version,
     desktop: &mut LiveDesktop,
 ) -> Result<u32, Error>
-    requires room { STORE_SECTORS ≤ D.size disk.old }
-    requires two { slot < SLOTS }
-    requires live { IsLive desktop.old }
-    requires told { HasTrueCache D.Disk disk.old desktop.old }
+    requires at { HasSlot (D.size disk.old) slot }
+    requires on { IsLiveOn D.Disk disk.old desktop.old }
     ensures kept { IsConfined D.size D.honest D.trail Nowhere disk.old disk.new }
     ensures faults { FailsAs Error.Fault OfReplay result (D.failures disk.old)
         (D.failures disk.new) }
@@ -148,10 +137,7 @@ fn replay<D: Disk>(
         (λ count. D.honest disk.old → IsReadWhole (now (D.trail disk.old)).reads slot
         (version_number version) count (seen_live (now (D.trail disk.old)).reads desktop.old)
         (seen_live (now (D.trail disk.new)).reads desktop.new)) }
-    ensures left { OnOk result (IsLiveOn D.Disk disk.new desktop.new) }
-    ensures area { OnOk result (desktop.new.area ≡ desktop.old.area) }
-    ensures counted { OnOk result (renewed_of desktop.new.pages ≡ false
-        → saved_of desktop.new.pages ≡ saved_of desktop.old.pages) }
+    ensures left { OnOk result (StaysInArea D.Disk disk.new desktop.old desktop.new) }
     ensures damaged { (n : ℕ) → IsErrOf result (Error.Damaged n) → D.honest disk.old
         → (k : ℕ) × (n ≡ body slot k) × IsNoEvent (now (D.trail disk.old)).reads slot k }
 {
@@ -198,8 +184,7 @@ pub fn load_front<D: Disk>(alloc: Global, disk: &mut D, most: u32) -> Result<Liv
     requires { most ≤ JOURNAL_EVENTS }
     ensures kept { IsConfined D.size D.honest D.trail Nowhere disk.old disk.new }
     ensures faults { FailsAs Error.Fault OfOpen result (D.failures disk.old) (D.failures disk.new) }
-    ensures live { IfOk result IsLive }
-    ensures told { IfOk result (HasTrueCache D.Disk disk.new) }
+    ensures left { IfOk result (IsLiveOn D.Disk disk.new) }
     ensures shown { IfOk result
         (λ x. D.honest disk.old → IsCutTo (D.size disk.old) (now (D.trail disk.old)).reads most
         (now (D.trail disk.new)).reads x) }

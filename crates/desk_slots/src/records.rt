@@ -6,9 +6,9 @@ ghost use Rattle.store_layout.specs.Meaning.{Means, MeansEither, Standing, Stand
 ghost use Rattle.store_layout.specs.Kept.{NextRecord, ShowsSettled, IsSettled};
 ghost use Rattle.desk_slots.specs.Device.{IsSameDevice, StaysWithin, UsesDisk};
 ghost use Rattle.desk_slots.specs.Errors.{OfDesktop};
-ghost use Rattle.desk_slots.specs.Live.{seen_live, IsLive, IsLiveIn, IsLiveStep, HasTrueCache};
+ghost use Rattle.desk_slots.specs.Live.{seen_live, IsLiveOn};
 ghost use Rattle.desk_slots.specs.Words.{LeavesOnly, Only, CountsFault, now, IsConfined, step, step_in};
-ghost use Rattle.desk_slots.specs.Written.{HasRecord, InRecord, IsInJournal, HasEventAt, IsUpTo};
+ghost use Rattle.desk_slots.specs.Written.{HasRecord, InRecord, IsInJournal, IsRecorded, HasEventAt, IsUpTo};
 
 use crate::Error;
 use crate::live::LiveDesktop;
@@ -97,8 +97,7 @@ pub fn record<D: Disk>(
     event: &Event,
 ) -> Result<Reply, Error>
     requires at { IsInJournal (D.size disk.old) slot k }
-    requires live { IsLive desktop.old }
-    requires told { HasTrueCache D.Disk disk.old desktop.old }
+    requires on { IsLiveOn D.Disk disk.old desktop.old }
     ensures any_moment { D.honest disk.old → (number : ℕ)
         → ShowsSettled (D.size disk.old) (D.trail disk.old) slot LAYOUT number k
         (seen_live (now (D.trail disk.old)).reads desktop.old)
@@ -118,17 +117,8 @@ pub fn record<D: Disk>(
         (Means (D.size disk.old) (seen_live (now (D.trail disk.old)).reads desktop.old))
         ⊎ (seen_live (now (D.trail disk.new)).reads desktop.new
         ≡ (step (seen_live (now (D.trail disk.old)).reads desktop.old) event.now).desktop) }
-    ensures added { OnOk result (D.honest disk.old → (number : ℕ)
-        → ShowsSettled (D.size disk.old) (D.trail disk.old) slot LAYOUT number k
-        (seen_live (now (D.trail disk.old)).reads desktop.old)
-        → ShowsSettled (D.size disk.old) (D.trail disk.new) slot LAYOUT number (k + 1)
-        (seen_live (now (D.trail disk.new)).reads desktop.new)) }
-    ensures behind { OnOk result (D.honest disk.old → (s : Standing)
-        → IsUpTo (D.size disk.old) (D.trail disk.old) slot k s
-        → IsSettled (D.size disk.old) (D.trail disk.new) (and_then s event.now)) }
-    ensures stepped { IfOk result (IsLiveStep D.Disk LAYOUT event.now disk.old disk.new
+    ensures recorded { IfOk result (IsRecorded D.Disk slot k event.now disk.old disk.new
         desktop.old desktop.new) }
-    ensures left { OnOk result (IsLiveIn D.Disk slot disk.old disk.new desktop.old desktop.new) }
     ensures uses { UsesDisk D.Disk OfDesktop result disk.old disk.new }
 {
     let reply = desktop.step(alloc, NEWEST, event, disk)?;

@@ -5,6 +5,7 @@ ghost use Rattle.store_layout.specs.Finding.{AreHeadsGood, AreShut, HasBadHead, 
 ghost use Rattle.store_layout.specs.Footprint.{IsInUse};
 ghost use Rattle.desk_slots.specs.Load.{IsChosen, IsLocated};
 ghost use Rattle.desk_slots.specs.Words.{Nowhere, now, IsConfined, FailsAs, OneOf};
+ghost use Rattle.desk_slots.specs.Written.{HasSlot};
 
 use crate::Error;
 use sector_disk::{Disk, SECTOR_BYTES};
@@ -33,8 +34,7 @@ fn check_label<D: Disk>(disk: &mut D) -> Result<(), Error>
 
 /// The head of a slot that is open; None where it is closed.
 pub fn read_slot<D: Disk>(disk: &mut D, slot: u32) -> Result<Option<Head>, Error>
-    requires room { STORE_SECTORS ≤ D.size disk.old }
-    requires two { slot < SLOTS }
+    requires { HasSlot (D.size disk.old) slot }
     ensures kept { IsConfined D.size D.honest D.trail Nowhere disk.old disk.new }
     ensures faults { FailsAs Error.Fault (OneOf (Error.Fault ∷ Error.Damaged (slot_head slot) ∷ []))
         result

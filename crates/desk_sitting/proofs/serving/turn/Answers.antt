@@ -10,25 +10,25 @@ returns-in_err-show-clause-turns g c =
     let p = err_from_is_err_and c.from_residual.result c.from_residual.ensures.1 in
     let scene = c.in_err-show.ensures in
     unshown_ends g.D.Disk c.from_residual.result c.in_err-show.field-0.0 (p.1 ∙ ap (λ e. Err e) p.2) scene.looks
-    scene.unshown refl scene.usable scene.counts scene.device
+    scene.unshown refl scene.store.usable scene.counts scene.store.device
 
 pub returns-in_err-hearing-clause-turns : goal.returns-in_err-hearing-clause-turns
 returns-in_err-hearing-clause-turns g c =
     let p = err_from_is_err_and c.from_residual-in_err-hearing.result c.from_residual-in_err-hearing.ensures.1 in
     let scene = c.in_ok-show.ensures in
     deaf_ends g.D.Disk c.from_residual-in_err-hearing.result c.in_err-hearing.field-0.0 (p.1 ∙ ap (λ e. Err e) p.2)
-    scene.looks scene.shown c.in_err-hearing.ensures.silent scene.usable scene.counts scene.device
+    scene.looks (λ h. (scene.shown h).1) c.in_err-hearing.ensures.silent scene.store.usable scene.counts scene.store.device
 
 pub returns-in_err-do_presses-clause-turns : goal.returns-in_err-do_presses-clause-turns
 returns-in_err-do_presses-clause-turns g c =
     let p = err_from_is_err_and c.from_residual-in_err-do_presses.result c.from_residual-in_err-do_presses.ensures.1 in
     let scene = c.in_ok-show.ensures in
     let fails = c.in_err-do_presses.ensures in
-    broken_ends g.D.Disk c.show.new.store c.show.new.sitting c.as_slice.result.now scene.looks scene.sitting
-    scene.shown
+    broken_ends g.D.Disk c.show.new.store c.show.new.sitting c.as_slice.result.now scene.looks
+    (λ h. (scene.shown h).0) (λ h. (scene.shown h).1)
     (heard_so (g.K.Keyboard.heard c.args.keyboard.now) c.in_ok-hearing.ensures.told c.as_slice.ensures.heard)
     c.from_residual-in_err-do_presses.result c.in_err-do_presses.field-0.0 (p.1 ∙ ap (λ e. Err e) p.2) fails.broke
-    scene.counts fails.faults (same_device g.D.Disk _ _ _ scene.device c.do_presses.ensures.device)
+    scene.counts fails.faults (same_device g.D.Disk _ _ _ scene.store.device c.do_presses.ensures.device)
 
 pub returns-then-sitting-clause-turns : goal.returns-then-sitting-clause-turns
 returns-then-sitting-clause-turns g c =
@@ -38,14 +38,14 @@ returns-then-sitting-clause-turns g c =
       goes_on = tt;
       stays = tt;
       stops = λ honest durable. left_stops g.D.Disk
-          (turned g.D.Disk c.show.new.store c.show.new.sitting c.as_slice.result.now scene.looks scene.sitting
-          scene.shown (c.bring.ensures.silent
+          (turned g.D.Disk c.show.new.store c.show.new.sitting c.as_slice.result.now scene.looks
+          (λ h. (scene.shown h).0) (λ h. (scene.shown h).1) (c.bring.ensures.silent
           ∙ heard_so (g.K.Keyboard.heard c.args.keyboard.now) c.in_ok-hearing.ensures.told c.as_slice.ensures.heard)
           c.do_presses.new.sitting done.parser done.done c.bring.ensures.brought honest durable) c.if-sitting.true;
       usable = tt;
       still_usable = λ _ _. done.usable;
       counts = calm_presses tt _ _ _ scene.counts done.faults;
-      device = same_device g.D.Disk _ _ _ scene.device c.do_presses.ensures.device;
+      device = same_device g.D.Disk _ _ _ scene.store.device c.do_presses.ensures.device;
     }
 
 pub returns-else-sitting-clause-turns : goal.returns-else-sitting-clause-turns
@@ -53,8 +53,8 @@ returns-else-sitting-clause-turns g c =
     let scene = c.in_ok-show.ensures in
     let done = c.in_ok-do_presses.ensures in
     record {
-      goes_on = turned g.D.Disk c.show.new.store c.show.new.sitting c.as_slice.result.now scene.looks scene.sitting
-          scene.shown (c.bring.ensures.silent
+      goes_on = turned g.D.Disk c.show.new.store c.show.new.sitting c.as_slice.result.now scene.looks
+          (λ h. (scene.shown h).0) (λ h. (scene.shown h).1) (c.bring.ensures.silent
           ∙ heard_so (g.K.Keyboard.heard c.args.keyboard.now) c.in_ok-hearing.ensures.told c.as_slice.ensures.heard)
           c.do_presses.new.sitting done.parser done.done c.bring.ensures.brought;
       stays = c.if-sitting.false;
@@ -62,7 +62,7 @@ returns-else-sitting-clause-turns g c =
       usable = done.usable;
       still_usable = tt;
       counts = calm_presses tt _ _ _ scene.counts done.faults;
-      device = same_device g.D.Disk _ _ _ scene.device c.do_presses.ensures.device;
+      device = same_device g.D.Disk _ _ _ scene.store.device c.do_presses.ensures.device;
     }
 
 pub returns-in_err-show-clause-ended : goal.returns-in_err-show-clause-ended

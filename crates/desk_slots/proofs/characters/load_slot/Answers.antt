@@ -10,13 +10,17 @@ use Rattle.sector_disk.proofs.Touching.{still_all}
 use Rattle.desk_slots.proofs.Starting.{shown_by}
 use Rattle.desk_slots.proofs.characters.load_slot.Goals as goal
 
-pub returns-in_ok-with_pages-in-Ok-clause-told : goal.returns-in_ok-with_pages-in-Ok-clause-told
-returns-in_ok-with_pages-in-Ok-clause-told g c = record {
-  pages = λ honest.
-      subst (AreTrue (now (g.D.Disk.trail c.load_start.new.disk)).reads) (sym c.in_ok-with_pages-in-Ok.ensures.cached)
-      (none_true _);
-  lines = λ honest. c.in_ok-with_pages-in-Ok.ensures.lines _;
-}
+pub returns-in_ok-with_pages-in-Ok-clause-left : goal.returns-in_ok-with_pages-in-Ok-clause-left
+returns-in_ok-with_pages-in-Ok-clause-left g c =
+    let p = c.in_ok-with_pages-in-Ok.ensures in
+    record {
+      live = p.live;
+      told = record {
+        pages = λ honest.
+            subst (AreTrue (now (g.D.Disk.trail c.load_start.new.disk)).reads) (sym p.empty.cached) (none_true _);
+        lines = λ honest. p.empty.lines _;
+      };
+    }
 
 pub returns-in_ok-with_pages-in-Ok-clause-image : goal.returns-in_ok-with_pages-in-Ok-clause-image
 returns-in_ok-with_pages-in-Ok-clause-image g c = λ honest is.
@@ -29,4 +33,4 @@ returns-in_ok-with_pages-in-Ok-clause-image g c = λ honest is.
     c.in_ok-with_pages-in-Ok.field-0 p.desktop (p.characters content)
     (s.front honest) (s.enough honest)
     (subst (λ n. Spells n h.written (drop (left_over h.written) (stored content (image_at c.args.slot) h.extent))
-    c.in-Ok.desktop) c.requires.version (s.spelled honest))
+    c.in-Ok.desktop) c.requires.head.version (s.spelled honest))

@@ -19,7 +19,7 @@ returns-clause-renewed g c = λ honest live version number count before was.
     let after = c.change_slot.new.disk in
     subst (λ x. ShowsSettled (d.size c.args.disk.now) (d.trail after) c.args.place.slot LAYOUT c.args.place.epoch 0 x)
     (sym (shown_settled _ _ c.args.place c.args.desktop.now c.settle.new.self c.requires.live c.requires.goes
-    (c.change_slot.ensures.kept.moments honest) (c.in_ok-change_slot.ensures.front honest) c.settle.ensures.desktop
+    (c.change_slot.ensures.kept.moments honest) (c.in_ok-change_slot.ensures.front honest) c.settle.ensures.stays.desktop
     c.settle.ensures.same)) (c.in_ok-change_slot.ensures.renewed honest live version number count before was)
 
 pub returns-clause-left : goal.returns-clause-left
@@ -27,19 +27,19 @@ returns-clause-left g c =
     let shown = λ (honest : g.D.Disk.honest c.args.disk.now).
     shown_settled _ _ c.args.place c.args.desktop.now c.settle.new.self c.requires.live c.requires.goes
     (c.change_slot.ensures.kept.moments honest) (c.in_ok-change_slot.ensures.front honest)
-    c.settle.ensures.desktop c.settle.ensures.same in
+    c.settle.ensures.stays.desktop c.settle.ensures.same in
     record {
       live = c.settle.ensures.live;
       told = λ told.
           lines_stay g.D.Disk c.args.desktop.now c.settle.new.self c.change_slot.ensures.kept shown
-          c.settle.ensures.lines told
+          c.settle.ensures.stays.lines told
           (λ honest. subst (λ l. AreTrue (now (g.D.Disk.trail c.change_slot.new.disk)).reads l)
-          (sym c.settle.ensures.cached)
+          (sym c.settle.ensures.stays.cached)
           (told_stays g.D.Disk c.args.desktop.now.pages c.change_slot.ensures.kept
           (apart_renewal c.args.desktop.now c.args.place c.requires.live c.requires.goes) told.pages honest));
       named = λ honest.
           named_settled _ _ c.args.place c.args.desktop.now c.settle.new.self c.requires.live c.requires.goes
           (c.change_slot.ensures.kept.moments honest) (c.in_ok-change_slot.ensures.front honest)
-          c.settle.ensures.desktop c.settle.ensures.same c.settle.ensures.area c.settle.ensures.counted;
+          c.settle.ensures.stays.desktop c.settle.ensures.same c.settle.ensures.saved.area c.settle.ensures.saved.counted;
       shown = shown;
     }

@@ -43,7 +43,7 @@ returns-clause-starts g c = IfOk-weaker c.has_image.result _ _ (λ same has true
     let area_is : h.area ≡ area = omega (arith, c.if-head-area.false) in
     let kept = still_all _ _ (c.has_characters.ensures.kept.moments honest) in
     let front = filled content live.pages rest rest_is content content area c.saved.result slot
-    (based_there live area c.requires.live c.next_area-area.ensures.area) c.saved.ensures c.requires.two
+    (based_there live area c.requires.live c.next_area-area.ensures.area) c.saved.ensures c.requires.at.two
     (c.in_ok-has_characters.ensures.front c.if-not-branch.false honest) (λ n outside. refl) in
     let there = has.1 true_is (c.has_characters.ensures.kept.still honest) in
     starts_here content slot h live.desktop characters is version

@@ -13,8 +13,8 @@ returns-clause-shown g c = λ honest is.
     let second = c.load_slot.ensures.kept.still honest in
     let r = c.in_ok-events.ensures in
     loaded_up_to c.replay_to.new.desktop is (c.load_slot.ensures.kept.moments honest) (c.replay_to.ensures.kept.moments second)
-    (e.image honest is) (r.read second) r.few (r.area ∙ e.area)
-    (λ not. ap (λ n. n / SECTOR_BYTES) (r.counted not) ∙ e.saved) (sym c.version_of-version.ensures)
+    (e.image honest is) (r.read second) r.few (r.left.area ∙ e.under.area)
+    (λ not. ap (λ n. n / SECTOR_BYTES) (r.left.counted not) ∙ e.under.saved) (sym c.version_of-version.ensures)
 
 pub returns-in_err-desktop-clause-damaged : goal.returns-in_err-desktop-clause-damaged
 returns-in_err-desktop-clause-damaged g c =

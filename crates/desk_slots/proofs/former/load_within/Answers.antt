@@ -34,7 +34,7 @@ returns-in_err-events-clause-stops g c = λ honest s at.
 
 pub returns-clause-left : goal.returns-clause-left
 returns-clause-left g c = record {
-  live = c.in_ok-desktop.ensures.live;
+  live = c.in_ok-desktop.ensures.left.live;
   told = live_stays g.D.Disk c.in_ok-desktop.desktop c.read_events.ensures.kept
-      (apart_nowhere c.in_ok-desktop.desktop.pages) c.in_ok-desktop.ensures.told;
+      (apart_nowhere c.in_ok-desktop.desktop.pages) c.in_ok-desktop.ensures.left.told;
 }

@@ -40,8 +40,8 @@ returns-clause-shown g c = λ honest.
       loaded found first (e.image second) loads (sym c.version_of-version.ensures) (c.in_ok-events.ensures.whole third) replays
           (c.in_ok-slot.ensures.quiet honest),
       named_after _ c.replay.new.desktop found.is first loads replays
-          (c.in_ok-events.ensures.area ∙ e.area)
-          (λ not. ap (λ n. n / SECTOR_BYTES) (c.in_ok-events.ensures.counted not) ∙ e.saved),
+          (c.in_ok-events.ensures.left.area ∙ e.under.area)
+          (λ not. ap (λ n. n / SECTOR_BYTES) (c.in_ok-events.ensures.left.counted not) ∙ e.under.saved),
     )
 
 pub returns-clause-kept : goal.returns-clause-kept

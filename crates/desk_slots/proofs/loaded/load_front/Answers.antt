@@ -38,8 +38,8 @@ returns-clause-shown g c = λ honest s stands enough.
       subst (λ n. IsNamed (now (g.D.Disk.trail c.replay_to.new.disk)).reads n c.replay_to.new.desktop)
           (slot_here found first (e.image second) loads (sym c.version_of-version.ensures) (r.read third) r.few
           c.standing_law.ensures s stands enough)
-          (named_after _ c.replay_to.new.desktop found.is first loads replays (r.area ∙ e.area)
-          (λ not. ap (λ n. n / SECTOR_BYTES) (r.counted not) ∙ e.saved)),
+          (named_after _ c.replay_to.new.desktop found.is first loads replays (r.left.area ∙ e.under.area)
+          (λ not. ap (λ n. n / SECTOR_BYTES) (r.left.counted not) ∙ e.under.saved)),
     )
 
 pub returns-clause-kept : goal.returns-clause-kept

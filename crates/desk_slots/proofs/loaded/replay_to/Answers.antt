@@ -51,12 +51,16 @@ returns-in-None-clause-left g c = record {
   live = c.loop-k.invariant.live;
   told = live_stays g.D.Disk c.loop-k.desktop c.read_event.ensures.kept (apart_nowhere c.loop-k.desktop.pages)
       c.loop-k.invariant.told;
+  area = c.loop-k.invariant.area;
+  counted = c.loop-k.invariant.counted;
 }
 
-pub step-requires-clause-told : goal.step-requires-clause-told
-step-requires-clause-told g c =
-    live_stays g.D.Disk c.loop-k.desktop c.read_event.ensures.kept (apart_nowhere c.loop-k.desktop.pages)
-    c.loop-k.invariant.told
+pub step-requires-clause-on : goal.step-requires-clause-on
+step-requires-clause-on g c = record {
+  live = c.loop-k.invariant.live;
+  told = live_stays g.D.Disk c.loop-k.desktop c.read_event.ensures.kept (apart_nowhere c.loop-k.desktop.pages)
+      c.loop-k.invariant.told;
+}
 
 pub loop-k-preserved : goal.loop-k-preserved
 loop-k-preserved g c =

@@ -30,57 +30,44 @@ returns-clause-any_moment g c = λ honest number kept.
     read_then g.D.Disk s honest kept c.args.event.now
     (c.add_record.ensures.any_moment (s.still honest) _ number _ (kept_then g.D.Disk s honest kept))
 
-pub returns-clause-added : goal.returns-clause-added
-returns-clause-added g c = λ honest number kept.
-    let s = c.step.ensures.reads.confined in
-    let live = c.in_ok-reply.ensures.left.live in
-    kept_after g.D.Disk s honest kept c.args.event.now
-    (shown_stays _ _ c.step.new.self (c.add_record.ensures.kept.moments (s.still honest))
-    (apart_record c.step.new.self.pages c.step.new.self.area c.args.slot c.args.k live.based c.requires.at.two
-    c.requires.at.index)
-    ∙ ap (λ (o : Outcome). o.desktop) (c.in_ok-reply.ensures.stepped.done honest)
-    ∙ ap (λ (o : Outcome). o.desktop) (in_newest _ c.args.event.now))
-    (c.in_ok-add_record.ensures.added (s.still honest) _ number _ (kept_then g.D.Disk s honest kept))
-
-pub returns-clause-stepped : goal.returns-clause-stepped
-returns-clause-stepped g c =
+pub returns-clause-recorded : goal.returns-clause-recorded
+returns-clause-recorded g c =
     let s = c.step.ensures.reads.confined in
     let r = c.in_ok-reply.ensures in
+    let apart = apart_record c.step.new.self.pages c.step.new.self.area c.args.slot c.args.k r.left.live.based
+    c.requires.at.two c.requires.at.index in
+    let shown = λ (honest : g.D.Disk.honest c.args.disk.now).
+    shown_stays _ _ c.step.new.self (c.add_record.ensures.kept.moments (s.still honest)) apart in
     record {
-      done = λ honest. answer_stays (shown_stays _ _ c.step.new.self (c.add_record.ensures.kept.moments (s.still honest))
-          (apart_record c.step.new.self.pages c.step.new.self.area c.args.slot c.args.k r.left.live.based
-          c.requires.at.two c.requires.at.index)) (r.stepped.done honest);
-      unread = r.stepped.unread;
-      known = r.stepped.known;
-      refusal = r.stepped.refusal;
+      stepped = record {
+        done = λ honest. answer_stays (shown honest) (r.stepped.done honest);
+        unread = r.stepped.unread;
+        known = r.stepped.known;
+        refusal = r.stepped.refusal;
+      };
+      left = record {
+        live = r.left.live;
+        told = live_stays g.D.Disk c.step.new.self c.add_record.ensures.kept apart r.left.told;
+        named = λ honest named.
+            let head_now = head_stays _ _ c.args.slot c.args.k c.requires.at.two c.requires.at.index
+            (c.add_record.ensures.kept.moments (s.still honest))
+            ∙ ap (λ (r : Content). r (slot_head c.args.slot)) (still_all _ _ (s.moments honest)) in
+            record {
+              area_is = ap (λ b. (head_of b).area) head_now ∙ named.area_is ∙ sym c.step.ensures.area;
+              named = λ not. ap (λ b. full_sectors (head_of b).written) head_now
+                  ∙ named.named (c.step.ensures.reads.before not)
+                  ∙ ap (λ n. n / SECTOR_BYTES) (sym (c.step.ensures.reads.counted not));
+            };
+      };
+      added = λ honest number kept.
+          kept_after g.D.Disk s honest kept c.args.event.now
+          (shown honest ∙ ap (λ (o : Outcome). o.desktop) (r.stepped.done honest)
+          ∙ ap (λ (o : Outcome). o.desktop) (in_newest _ c.args.event.now))
+          (c.in_ok-add_record.ensures.added (s.still honest) _ number _ (kept_then g.D.Disk s honest kept));
+      behind = λ honest x at.
+          subst (λ n. IsSettled n (g.D.Disk.trail c.add_record.new.disk) (and_then x c.args.event.now)) s.as_large
+          (c.in_ok-add_record.ensures.behind (s.still honest) x (still_up g.D.Disk at s honest));
     }
-
-pub returns-clause-left : goal.returns-clause-left
-returns-clause-left g c =
-    let s = c.step.ensures.reads.confined in
-    let r = c.in_ok-reply.ensures in
-    record {
-      live = r.left.live;
-      told = live_stays g.D.Disk c.step.new.self c.add_record.ensures.kept
-          (apart_record c.step.new.self.pages c.step.new.self.area c.args.slot c.args.k r.left.live.based
-          c.requires.at.two c.requires.at.index) r.left.told;
-      named = λ honest named.
-          let head_now = head_stays _ _ c.args.slot c.args.k c.requires.at.two c.requires.at.index
-          (c.add_record.ensures.kept.moments (s.still honest))
-          ∙ ap (λ (r : Content). r (slot_head c.args.slot)) (still_all _ _ (s.moments honest)) in
-          record {
-            area_is = ap (λ b. (head_of b).area) head_now ∙ named.area_is ∙ sym c.step.ensures.area;
-            named = λ not. ap (λ b. full_sectors (head_of b).written) head_now
-                ∙ named.named (c.step.ensures.reads.before not)
-                ∙ ap (λ n. n / SECTOR_BYTES) (sym (c.step.ensures.reads.counted not));
-          };
-    }
-
-pub returns-clause-behind : goal.returns-clause-behind
-returns-clause-behind g c = λ honest s at.
-    let reads = c.step.ensures.reads.confined in
-    subst (λ n. IsSettled n (g.D.Disk.trail c.add_record.new.disk) (and_then s c.args.event.now)) reads.as_large
-    (c.in_ok-add_record.ensures.behind (reads.still honest) s (still_up g.D.Disk at reads honest))
 
 pub returns-in_err-reply-clause-broken : goal.returns-in_err-reply-clause-broken
 returns-in_err-reply-clause-broken g c = λ fault honest number kept.

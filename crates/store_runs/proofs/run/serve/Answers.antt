@@ -15,7 +15,7 @@ returns-in-Post g c =
       any_moment = c.post.ensures.any_moment;
       ok = c.post.ensures.ok;
       memory = c.post.ensures.memory;
-      fault = c.post.ensures.fault;
+      fault = λ is. (c.post.ensures.fault is).0;
       worn = c.post.ensures.worn;
       behaves = c.post.ensures.behaves;
     })

@@ -41,7 +41,7 @@ returns-clause-first g c = λ usable due. elim c.if-needs.branch [
       first.behaves)
       (subst (λ mid. HasJournalRoom mid → IsPosted g.D.Disk c.args.event.now c.put.result mid c.put.new.self) w.self-is
       (λ room. put_posts g.D.Disk c.args.event.now c.put.result _ c.put.new.self room c.put.ensures.any_moment
-      c.put.ensures.ok c.put.ensures.memory c.put.ensures.fault c.put.ensures.behaves))
+      c.put.ensures.ok c.put.ensures.memory (λ is. (c.put.ensures.fault is).0) c.put.ensures.behaves))
   | else-needs w ↦ absurd (no_need c.args.self.now (c.needs.ensures.room w.if-needs.false) due)
 ]
 
@@ -65,17 +65,24 @@ returns-clause-added g c = IfOk-weaker c.put.result _ _ (λ reply added. elim c.
       subst (λ mid. IsAdded g.D.Disk c.args.event.now mid c.put.new.self) w.self-is added
 ]) c.put.ensures.added
 
-pub returns-clause-recorded : goal.returns-clause-recorded
-returns-clause-recorded g c = λ fault. elim c.if-needs.branch [
-  | then-needs+in_ok-checkpoint w ↦
-      let first = w.checkpoint.ensures in
-      renewed_recorded g.D.Disk c.args.event.now c.args.self.now w.checkpoint.new.self c.put.new.self
-      first.any_moment w.in_ok-checkpoint.ensures.ok first.behaves.device
-      (subst (λ mid. RecordsDone g.D.Disk c.args.event.now mid c.put.new.self) w.self-is (c.put.ensures.recorded fault))
-  | else-needs w ↦
-      subst (λ mid. RecordsDone g.D.Disk c.args.event.now mid c.put.new.self) w.self-is (c.put.ensures.recorded fault)
-]
+pub returns-clause-fault : goal.returns-clause-fault
+returns-clause-fault g c = λ is. (
+  (c.put.ensures.fault is).0,
+  elim c.if-needs.branch [
+    | then-needs+in_ok-checkpoint w ↦
+        let first = w.checkpoint.ensures in
+        renewed_recorded g.D.Disk c.args.event.now c.args.self.now w.checkpoint.new.self c.put.new.self
+        first.any_moment w.in_ok-checkpoint.ensures.ok first.behaves.device
+        (subst (λ mid. RecordsDone g.D.Disk c.args.event.now mid c.put.new.self) w.self-is (c.put.ensures.fault is).1)
+    | else-needs w ↦
+        subst (λ mid. RecordsDone g.D.Disk c.args.event.now mid c.put.new.self) w.self-is (c.put.ensures.fault is).1
+  ],
+)
 
-pub returns-in_err-checkpoint-clause-recorded : goal.returns-in_err-checkpoint-clause-recorded
-returns-in_err-checkpoint-clause-recorded g c = λ fault usable honest.
-    inl (c.checkpoint.ensures.any_moment usable honest)
+pub returns-in_err-checkpoint-clause-fault : goal.returns-in_err-checkpoint-clause-fault
+returns-in_err-checkpoint-clause-fault g c =
+    let p = err_from_is_err_and c.from_residual.result c.from_residual.ensures.1 in
+    λ is. (
+      c.checkpoint.ensures.fault (cc (p.1, p.2, is, c.in_err-checkpoint.was)),
+      λ usable honest. inl (c.checkpoint.ensures.any_moment usable honest),
+    )

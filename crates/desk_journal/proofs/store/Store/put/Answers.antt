@@ -30,7 +30,7 @@ returns-clause-ok g c =
       must_reopen = false;
     } in
     subst (λ old. IsAcknowledged g.D.Disk c.args.event.now c.in_ok-reply.reply old store) c.self.view_is (record {
-      stepped = r.stepped;
+      stepped = r.recorded.stepped;
       durable = λ honest.
           let before = r.uses.device.already honest in
           kept_shows (g.D.Disk.size after.disk) (g.D.Disk.trail after.disk) s.slot (version_number s.version) s.epoch
@@ -39,7 +39,7 @@ returns-clause-ok g c =
           live)
           (sym r.uses.device.as_large)
           (subst (λ v. ShowsSettled (g.D.Disk.size s.disk) (g.D.Disk.trail after.disk) s.slot v s.epoch (s.events + 1) live)
-          (sym room.1) (r.added before s.epoch
+          (sym room.1) (r.recorded.added before s.epoch
           (subst (λ v. ShowsSettled (g.D.Disk.size s.disk) (g.D.Disk.trail s.disk) s.slot v s.epoch s.events
           (seen_live (now (g.D.Disk.trail s.disk)).reads s.desktop)) room.1
           ((c.self.invariant c.if-self.false).5 before).0))));
@@ -72,12 +72,12 @@ returns-clause-added g c =
         standing g.D.Disk was honest,
         (subst (λ n. IsSettled n (g.D.Disk.trail after.disk) (and_then (standing g.D.Disk was honest) c.args.event.now))
             (sym r.uses.device.as_large)
-            (r.behind honest (standing g.D.Disk was honest) (up_to g.D.Disk was honest))).stands,
+            (r.recorded.behind honest (standing g.D.Disk was honest) (up_to g.D.Disk was honest))).stands,
         (was.5 honest).0.is,
       );
       more = λ honest room x at.
           (subst (λ n. IsSettled n (g.D.Disk.trail after.disk) (and_then x c.args.event.now)) (sym r.uses.device.as_large)
-          (r.behind honest x (up_to_any g.D.Disk was honest c.standing_law.ensures x at))).stands;
+          (r.recorded.behind honest x (up_to_any g.D.Disk was honest c.standing_law.ensures x at))).stands;
     })
 
 pub returns-clause-any_moment : goal.returns-clause-any_moment

@@ -14,8 +14,8 @@ returns-clause-left g c = record {
   live = record {
     over = over_all c.bring_over.new.pages c.bring_over.new.desktop (now (g.D.Disk.trail c.bring_over.new.disk)).reads
         c.in_ok-bring_over.ensures.over;
-    low = c.requires.live.low;
-    based = c.bring_over.ensures.reads.base ∙ c.requires.live.based;
+    low = c.requires.on.live.low;
+    based = c.bring_over.ensures.reads.base ∙ c.requires.on.live.based;
   };
   told = record {
     pages = c.bring_over.ensures.reads.told;
@@ -23,8 +23,8 @@ returns-clause-left g c = record {
         let before = c.bring_over.ensures.reads.confined.already honest in
         let content = (now (g.D.Disk.trail c.args.disk.now)).reads in
         lines_left (seen_live content c.args.self.now) _ c.args.documents.now _ c.args.self.now.lines
-        ((c.requires.live.over content).whole.sound (live_characters content c.args.self.now))
-        (c.in_ok-bring_over.ensures.brought.done before) (c.requires.told.lines before);
+        ((c.requires.on.live.over content).whole.sound (live_characters content c.args.self.now))
+        (c.in_ok-bring_over.ensures.brought.done before) (c.requires.on.told.lines before);
   };
 }
 

@@ -5,9 +5,9 @@ use Rattle.desk_slots.proofs.live.LiveDesktop.screen.Goals as goal
 pub returns-in_err-screen_over-clause-same : goal.returns-in_err-screen_over-clause-same
 returns-in_err-screen_over-clause-same g c =
     let r = c.screen_over.ensures in
-    looks_stay g.D.Disk c.args.self.now _ r.looks r.unchanged refl r.lines c.requires.live c.requires.told
+    looks_stay g.D.Disk c.args.self.now _ r.looks r.unchanged refl r.lines c.requires.on.live c.requires.on.told
 
 pub returns-clause-same : goal.returns-clause-same
 returns-clause-same g c =
     let r = c.screen_over.ensures in
-    looks_stay g.D.Disk c.args.self.now _ r.looks r.unchanged refl r.lines c.requires.live c.requires.told
+    looks_stay g.D.Disk c.args.self.now _ r.looks r.unchanged refl r.lines c.requires.on.live c.requires.on.told

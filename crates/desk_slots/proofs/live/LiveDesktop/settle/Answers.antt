@@ -1,4 +1,4 @@
-use Rattle.std.proofs.Common.{◌≡◌, ◌-◌, ◌*◌, ◌/◌, length, drop, ap, sym, ◌∙◌, arith}
+use Rattle.std.proofs.Common.{rules, ◌≡◌, ◌-◌, ◌*◌, ◌/◌, length, drop, ap, sym, ◌∙◌, arith}
 use Rattle.std.proofs.lemmas.List.{length-drop}
 use Rattle.sector_disk.specs.declared.disk.TheConstants.{SECTOR_BYTES}
 use Rattle.store_layout.specs.Layout.{area_start}
@@ -32,11 +32,15 @@ returns-clause-live c =
       based = c.settle.ensures.base ∙ c.area_start.ensures;
     }
 
-pub returns-clause-counted : goal.returns-clause-counted
-returns-clause-counted c =
+pub returns-clause-saved : goal.returns-clause-saved
+returns-clause-saved c =
     let n : IsCounted c.args.self.now.pages c.args.self.now.desktop c.written.result =
     counted c.args.self.now.pages c.args.self.now.desktop c.written.result c.requires.live.over c.written.ensures in
-    omega (arith, n.written, c.settle.ensures.saved)
+    record {
+      area = search rules;
+      renewed = search rules;
+      counted = omega (arith, n.written, c.settle.ensures.saved);
+    }
 
 pub returns-clause-same : goal.returns-clause-same
 returns-clause-same c = λ content front.

@@ -14,8 +14,8 @@ returns-clause-left g c = record {
   live = record {
     over = over_all c.step_over.new.pages c.step_over.new.desktop (now (g.D.Disk.trail c.step_over.new.disk)).reads
         c.in_ok-step_over.ensures.over;
-    low = c.requires.live.low;
-    based = c.step_over.ensures.reads.base ∙ c.requires.live.based;
+    low = c.requires.on.live.low;
+    based = c.step_over.ensures.reads.base ∙ c.requires.on.live.based;
   };
   told = record {
     pages = c.step_over.ensures.reads.told;
@@ -25,6 +25,6 @@ returns-clause-left g c = record {
         subst (λ (d : Desktop). AreLinesOf (text_of d) c.forget_stale.new.lines)
         (sym (ap (λ (o : Outcome). o.desktop) (c.in_ok-step_over.ensures.stepped.done before)))
         (c.forget_stale.ensures (version_number c.args.version) (live_characters content c.args.self.now)
-        (c.requires.live.over content) (c.requires.told.lines before));
+        (c.requires.on.live.over content) (c.requires.on.told.lines before));
   };
 }
