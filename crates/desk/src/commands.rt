@@ -1,70 +1,153 @@
-//! The program as the command line has it.
+//! The commands of the program, and what belongs to each.
 
-use clap::{Arg, ArgAction, Command};
-use std::alloc::{AllocError, Global};
+use program_arguments::{Argument, CommandShape, Kind};
 
-/// The program, with its commands.
-pub(crate) fn command<'a>(alloc: Global) -> Result<Command<'a>, AllocError> {
-    let sit = Command::new(alloc, "sit")
-        .arg(flag(alloc, "unproved"))?
-        .arg(wanted(alloc, "rows"))?
-        .arg(Arg::new(alloc, "path").action(ArgAction::Set))?;
-    let list = of_store(alloc, "list")?.arg(flag(alloc, "json"))?;
-    let backup = of_store(alloc, "backup")?.arg(wanted(alloc, "copy"))?;
-    let earlier = of_store(alloc, "earlier")?
-        .arg(wanted(alloc, "count"))?
-        .arg(wanted(alloc, "copy"))?;
-    Command::new(alloc, "desk")
-        .subcommand(sit)?
-        .subcommand(of_store(alloc, "picture")?)?
-        .subcommand(of_store(alloc, "check")?)?
-        .subcommand(list)?
-        .subcommand(backup)?
-        .subcommand(of_store(alloc, "history")?)?
-        .subcommand(earlier)?
-        .subcommand(export(alloc)?)?
-        .subcommand(import(alloc)?)
-}
+/// The path of a store.
+const PATH: Argument<'static> = Argument {
+    name: "path",
+    kind: Kind::Wanted,
+};
 
-/// A command that takes the path of a store.
-fn of_store<'a>(alloc: Global, name: &'a str) -> Result<Command<'a>, AllocError> {
-    Command::new(alloc, name).arg(wanted(alloc, "path"))
-}
+/// Those of a command that takes the path of a store alone.
+const STORE: &[Argument<'static>] = &[PATH];
 
-/// The way out.
-fn export<'a>(alloc: Global) -> Result<Command<'a>, AllocError> {
-    of_store(alloc, "export")?
-        .arg(listed(alloc, "names"))?
-        .arg(Arg::new(alloc, "all").long("all").action(ArgAction::Set))?
-        .arg(flag(alloc, "join"))?
-        .arg(flag(alloc, "looks"))?
-        .arg(flag(alloc, "replace"))
-}
+/// Those of `sit`.
+const SIT: &[Argument<'static>] = &[
+    Argument {
+        name: "unproved",
+        kind: Kind::Choice,
+    },
+    Argument {
+        name: "rows",
+        kind: Kind::Wanted,
+    },
+    Argument {
+        name: "path",
+        kind: Kind::Optional,
+    },
+];
 
-/// The way in.
-fn import<'a>(alloc: Global) -> Result<Command<'a>, AllocError> {
-    of_store(alloc, "import")?
-        .arg(listed(alloc, "files").required(true))?
-        .arg(flag(alloc, "replace"))?
-        .arg(flag(alloc, "dry-run"))?
-        .arg(flag(alloc, "ascii"))?
-        .arg(flag(alloc, "collect"))?
-        .arg(Arg::new(alloc, "fill").long("fill").action(ArgAction::Set))
-}
+/// Those of `list`.
+const LIST: &[Argument<'static>] = &[
+    PATH,
+    Argument {
+        name: "json",
+        kind: Kind::Choice,
+    },
+];
 
-/// An argument that a command must have.
-fn wanted<'a>(alloc: Global, name: &'a str) -> Arg<'a> {
-    Arg::new(alloc, name).required(true).action(ArgAction::Set)
-}
+/// Those of `backup`.
+const BACKUP: &[Argument<'static>] = &[
+    PATH,
+    Argument {
+        name: "copy",
+        kind: Kind::Wanted,
+    },
+];
 
-/// An argument of any number of words.
-fn listed<'a>(alloc: Global, name: &'a str) -> Arg<'a> {
-    Arg::new(alloc, name)
-        .action(ArgAction::Append)
-        .num_args(1..)
-}
+/// Those of `earlier`.
+const EARLIER: &[Argument<'static>] = &[
+    PATH,
+    Argument {
+        name: "count",
+        kind: Kind::Wanted,
+    },
+    Argument {
+        name: "copy",
+        kind: Kind::Wanted,
+    },
+];
 
-/// A choice: it is made where the word stands there, after two dashes.
-fn flag<'a>(alloc: Global, name: &'a str) -> Arg<'a> {
-    Arg::new(alloc, name).long(name).action(ArgAction::SetTrue)
-}
+/// Those of `export`, the way out.
+const EXPORT: &[Argument<'static>] = &[
+    PATH,
+    Argument {
+        name: "names",
+        kind: Kind::Several,
+    },
+    Argument {
+        name: "all",
+        kind: Kind::Named,
+    },
+    Argument {
+        name: "join",
+        kind: Kind::Choice,
+    },
+    Argument {
+        name: "looks",
+        kind: Kind::Choice,
+    },
+    Argument {
+        name: "replace",
+        kind: Kind::Choice,
+    },
+];
+
+/// Those of `import`, the way in.
+const IMPORT: &[Argument<'static>] = &[
+    PATH,
+    Argument {
+        name: "files",
+        kind: Kind::SeveralWanted,
+    },
+    Argument {
+        name: "replace",
+        kind: Kind::Choice,
+    },
+    Argument {
+        name: "dry-run",
+        kind: Kind::Choice,
+    },
+    Argument {
+        name: "ascii",
+        kind: Kind::Choice,
+    },
+    Argument {
+        name: "collect",
+        kind: Kind::Choice,
+    },
+    Argument {
+        name: "fill",
+        kind: Kind::Named,
+    },
+];
+
+/// The commands.
+pub(crate) const COMMANDS: &[CommandShape<'static>] = &[
+    CommandShape {
+        name: "sit",
+        arguments: SIT,
+    },
+    CommandShape {
+        name: "picture",
+        arguments: STORE,
+    },
+    CommandShape {
+        name: "check",
+        arguments: STORE,
+    },
+    CommandShape {
+        name: "list",
+        arguments: LIST,
+    },
+    CommandShape {
+        name: "backup",
+        arguments: BACKUP,
+    },
+    CommandShape {
+        name: "history",
+        arguments: STORE,
+    },
+    CommandShape {
+        name: "earlier",
+        arguments: EARLIER,
+    },
+    CommandShape {
+        name: "export",
+        arguments: EXPORT,
+    },
+    CommandShape {
+        name: "import",
+        arguments: IMPORT,
+    },
+];

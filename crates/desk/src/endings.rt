@@ -1,10 +1,14 @@
 //! How sittings end, in sentences.
+ghost use Rattle.std.specs.Prelude.{◌≡◌};
+ghost use Rattle.desk.specs.Statuses.{kept_status, lost_status};
 
 use desk_sitting::SittingEnd;
 use std::io;
 
 /// Says how a sitting over a store in a file ended, where the person didn't leave, and returns the status.
-pub(crate) fn kept(rt: &HostRuntime, path: &str, ending: SittingEnd) -> u8 {
+pub(crate) fn kept(rt: &HostRuntime, path: &str, ending: SittingEnd) -> u8
+    ensures { result ≡ kept_status ending }
+{
     let _ = say_kept(rt, path, ending);
     match ending {
         SittingEnd::Left | SittingEnd::Closed => 0,
@@ -28,7 +32,9 @@ fn say_kept(rt: &HostRuntime, path: &str, ending: SittingEnd) -> io::Result<()> 
 
 /// Says how a sitting over a store in memory ended, where the person didn't leave, and returns the status. A disk in
 /// memory fails for want of memory alone.
-pub(crate) fn lost(rt: &HostRuntime, ending: SittingEnd) -> u8 {
+pub(crate) fn lost(rt: &HostRuntime, ending: SittingEnd) -> u8
+    ensures { result ≡ lost_status ending }
+{
     let _ = say_lost(rt, ending);
     match ending {
         SittingEnd::Left | SittingEnd::Closed => 0,

@@ -1,8 +1,7 @@
 //! What the program is asked to do.
 
-use crate::commands::command;
-use clap::ArgMatches;
-use program_arguments::{Refusal, matches_of};
+use crate::commands::COMMANDS;
+use program_arguments::{Asked, Refusal, asked_by};
 use std::alloc::{AllocError, Global};
 
 /// What the program is asked to do.
@@ -81,70 +80,65 @@ pub struct Import<'a> {
 
 /// What the words ask for: one of the commands with what belongs to it, after the program's name.
 pub fn order_of<'a>(alloc: Global, words: &'a [String]) -> Result<Order<'a>, Refusal> {
-    let matches = matches_of(command(alloc)?, words)?;
-    match matches.subcommand() {
+    match asked_by(alloc, "desk", COMMANDS, words)? {
         None => Err(Refusal::Usage),
-        Some((name, given)) => order_named(alloc, name, given)?.ok_or(Refusal::Usage),
+        Some(asked) => order_named(alloc, &asked)?.ok_or(Refusal::Usage),
     }
 }
 
 /// The order of a command and what is given with it.
-fn order_named<'a>(
-    alloc: Global,
-    name: &str,
-    given: &ArgMatches<'a>,
-) -> Result<Option<Order<'a>>, AllocError> {
-    match name {
-        "import" => importing(alloc, given),
-        "export" => exporting(alloc, given),
-        _ => Ok(short_order(name, given)),
+fn order_named<'a>(alloc: Global, asked: &Asked<'a>) -> Result<Option<Order<'a>>, AllocError> {
+    match asked.command {
+        "import" => importing(alloc, asked),
+        "export" => exporting(alloc, asked),
+        _ => Ok(short_order(asked)),
     }
 }
 
 /// The same for a command that takes no list of words.
-fn short_order<'a>(name: &str, given: &ArgMatches<'a>) -> Option<Order<'a>> {
-    match name {
+fn short_order<'a>(asked: &Asked<'a>) -> Option<Order<'a>> {
+    match asked.command {
         "sit" => Some(Order::Sit {
-            rows: given.get_str("rows")?.parse::<u16>().ok()?,
-            unproved: given.get_flag("unproved"),
-            path: given.get_str("path"),
+            rows: asked.word("rows")?.parse::<u16>().ok()?,
+            unproved: asked.chooses("unproved"),
+            path: asked.word("path"),
         }),
-        "picture" => Some(Order::Picture(given.get_str("path")?)),
+        "picture" => Some(Order::Picture(asked.word("path")?)),
         "list" => Some(Order::List {
-            path: given.get_str("path")?,
-            json: given.get_flag("json"),
+            path: asked.word("path")?,
+            json: asked.chooses("json"),
         }),
         "backup" => Some(Order::Backup {
-            path: given.get_str("path")?,
-            copy: given.get_str("copy")?,
+            path: asked.word("path")?,
+            copy: asked.word("copy")?,
         }),
-        "check" => Some(Order::Check(given.get_str("path")?)),
-        "history" => Some(Order::History(given.get_str("path")?)),
+        "check" => Some(Order::Check(asked.word("path")?)),
+        "history" => Some(Order::History(asked.word("path")?)),
         "earlier" => Some(Order::Earlier {
-            path: given.get_str("path")?,
-            count: given.get_str("count")?.parse::<u32>().ok()?,
-            copy: given.get_str("copy")?,
+            path: asked.word("path")?,
+            count: asked.word("count")?.parse::<u32>().ok()?,
+            copy: asked.word("copy")?,
         }),
         _ => None,
     }
 }
 
 /// The order of an import.
-fn importing<'a>(alloc: Global, given: &ArgMatches<'a>) -> Result<Option<Order<'a>>, AllocError> {
-    let Some(path) = given.get_str("path") else {
+fn importing<'a>(alloc: Global, asked: &Asked<'a>) -> Result<Option<Order<'a>>, AllocError> {
+    let Some(path) = asked.word("path") else {
         return Ok(None);
     };
-    let Some(fill) = width_of(given.get_str("fill")) else {
+    let Some(fill) = width_of(asked.word("fill")) else {
         return Ok(None);
     };
     Ok(Some(Order::Import(Import {
         path,
-        words: words_of(alloc, given, "files")?,
-        replace: given.get_flag("replace"),
-        dry_run: given.get_flag("dry-run"),
-        ascii: given.get_flag("ascii"),
+        words: words_of(alloc, asked, "files")?,
+        replace: asked.chooses("replace"),
+        dry_run: asked.chooses("dry-run"),
+        ascii: asked.chooses("ascii"),
         fill,
-        collect: given.get_flag("collect"),
+        collect: asked.chooses("collect"),
     })))
 }
 
@@ -160,38 +154,33 @@ fn width_of(word: Option<&str>) -> Option<Option<u8>> {
 }
 
 /// The order of an export.
-fn exporting<'a>(alloc: Global, given: &ArgMatches<'a>) -> Result<Option<Order<'a>>, AllocError> {
-    let all = given.get_str("all");
-    if given.contains_id("names") == all.is_some() || has_looks_in_vain(given) {
+fn exporting<'a>(alloc: Global, asked: &Asked<'a>) -> Result<Option<Order<'a>>, AllocError> {
+    let all = asked.word("all");
+    let names = words_of(alloc, asked, "names")?;
+    if names.is_empty() != all.is_some() || has_looks_in_vain(asked, names.len()) {
         return Ok(None);
     }
-    let Some(path) = given.get_str("path") else {
+    let Some(path) = asked.word("path") else {
         return Ok(None);
     };
     Ok(Some(Order::Export(Export {
         path,
-        names: words_of(alloc, given, "names")?,
+        names,
         all,
-        replace: given.get_flag("replace"),
-        join: given.get_flag("join"),
-        looks: given.get_flag("looks"),
+        replace: asked.chooses("replace"),
+        join: asked.chooses("join"),
+        looks: asked.chooses("looks"),
     })))
 }
 
 /// Whether looks are asked for together with what they don't go with: joined lines, or several documents as one page.
-fn has_looks_in_vain(given: &ArgMatches<'_>) -> bool {
-    let is_joined = given.get_flag("join");
-    let are_several = given.get_strs("names").is_some_and(|names| names.len() > 1);
-    given.get_flag("looks") && (is_joined || are_several)
+fn has_looks_in_vain(asked: &Asked<'_>, names: usize) -> bool {
+    asked.chooses("looks") && (asked.chooses("join") || names > 1)
 }
 
 /// The words of an argument that takes a list of them.
-fn words_of<'a>(
-    alloc: Global,
-    given: &ArgMatches<'a>,
-    id: &str,
-) -> Result<Vec<&'a str>, AllocError> {
-    match given.get_strs(id) {
+fn words_of<'a>(alloc: Global, asked: &Asked<'a>, name: &str) -> Result<Vec<&'a str>, AllocError> {
+    match asked.words(name) {
         Some(words) => Vec::from_slice(alloc, words),
         None => Ok(Vec::new(alloc)),
     }

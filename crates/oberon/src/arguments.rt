@@ -1,9 +1,8 @@
 //! The arguments of the program `oberon`: what they ask for, or why they ask for nothing.
 
-use clap::{Arg, ArgAction, Command};
-use program_arguments::matches_of;
+use program_arguments::{Argument, CommandShape, Kind, asked_by};
 pub use program_arguments::{Refusal, words};
-use std::alloc::{AllocError, Global};
+use std::alloc::Global;
 
 /// What the program is asked to do, with the path of the store where there is one.
 #[derive(Drop)]
@@ -20,12 +19,37 @@ pub enum Order<'a> {
     Check(&'a str),
 }
 
+/// The path of a store.
+const PATH: &[Argument<'static>] = &[Argument {
+    name: "path",
+    kind: Kind::Wanted,
+}];
+
+/// The commands.
+const COMMANDS: &[CommandShape<'static>] = &[
+    CommandShape {
+        name: "format",
+        arguments: PATH,
+    },
+    CommandShape {
+        name: "play",
+        arguments: PATH,
+    },
+    CommandShape {
+        name: "screen",
+        arguments: PATH,
+    },
+    CommandShape {
+        name: "check",
+        arguments: PATH,
+    },
+];
+
 /// What the words ask for: nothing after the program's name, or one of the commands and a path.
 pub fn order_of<'a>(alloc: Global, words: &'a [String]) -> Result<Order<'a>, Refusal> {
-    let matches = matches_of(command(alloc)?, words)?;
-    match matches.subcommand() {
+    match asked_by(alloc, "oberon", COMMANDS, words)? {
         None => Ok(Order::PlayInMemory),
-        Some((name, given)) => order_named(name, given.get_str("path")),
+        Some(asked) => order_named(asked.command, asked.word("path")),
     }
 }
 
@@ -38,26 +62,4 @@ fn order_named<'a>(name: &str, path: Option<&'a str>) -> Result<Order<'a>, Refus
         ("check", Some(path)) => Ok(Order::Check(path)),
         _ => Err(Refusal::Usage),
     }
-}
-
-/// The program as the command line has it: four commands.
-fn command<'a>(alloc: Global) -> Result<Command<'a>, AllocError> {
-    let program = Command::new(alloc, "oberon");
-    let program = with_command(alloc, program, "format")?;
-    let program = with_command(alloc, program, "play")?;
-    let program = with_command(alloc, program, "screen")?;
-    with_command(alloc, program, "check")
-}
-
-/// The same with a command more, over one path.
-fn with_command<'a>(
-    alloc: Global,
-    program: Command<'a>,
-    name: &'a str,
-) -> Result<Command<'a>, AllocError> {
-    let path = Arg::new(alloc, "path")
-        .required(true)
-        .action(ArgAction::Set);
-    let command = Command::new(alloc, name).arg(path)?;
-    program.subcommand(command)
 }

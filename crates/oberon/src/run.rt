@@ -2,6 +2,7 @@
 //! locked (the crate `host_files`), and it is done over a store.
 
 ghost use Rattle.std.specs.Prelude.{◌≡◌, false};
+ghost use Rattle.oberon.specs.Statuses.{declined_status, error_of_host};
 
 use crate::arguments::{Order, Refusal, order_of, words};
 use host_files::{
@@ -49,7 +50,9 @@ fn follow(rt: &HostRuntime) -> u8 {
 }
 
 /// Says on standard error why the arguments weren't taken, and returns the status.
-fn decline(rt: &HostRuntime, refusal: Refusal) -> u8 {
+fn decline(rt: &HostRuntime, refusal: Refusal) -> u8
+    ensures { result ≡ declined_status refusal }
+{
     match refusal {
         Refusal::Memory => refuse(&mut CountedWriter::new(rt.stderr()), &Error::NoMemory),
         Refusal::Usage => {
@@ -81,7 +84,9 @@ fn make_store(rt: &HostRuntime, file: LockedFile, path: &str) -> Result<u8, Erro
 }
 
 /// What the host refuses as the store's refusals have it.
-fn store_error(fault: HostFault) -> Error {
+fn store_error(fault: HostFault) -> Error
+    ensures { result ≡ error_of_host fault }
+{
     match fault {
         HostFault::NoMemory => Error::NoMemory,
         _ => Error::Fault,
