@@ -407,6 +407,19 @@ def given_up(trial):
         trial.check(kept == b'Axyz', f'{kept!r} is kept after {keys!r}')
 
 
+def along_a_row(trial):
+    """Home and End lead to the ends of the row, and Ctrl with an arrow a word further."""
+    home, end, right, left = b'\x1b[H', b'\x1b[F', b'\x1b[1;5C', b'\x1b[1;5D'
+    typed_by(trial, b'ab cd  ef' + home + b'X' + end + b'Y', b'Xab cd  efY')
+    typed_by(trial, b'ab cd  ef' + left + b'X' + 2 * left + b'Y' + 9 * left + b'Z', b'Zab Ycd  Xef')
+    typed_by(trial, b'ab cd  ef' + home + right + b'X' + right + b'Y' + 2 * right + b'Z', b'ab Xcd  YefZ')
+
+
+def alt_z(trial):
+    """Alt-Z is Ctrl-Y, and what is typed behind it comes behind it."""
+    typed_by(trial, b'a\x1a\x1bzb', b'ab')
+
+
 def outside(trial):
     """A click that begins outside the display, or on the line below, does nothing, and what a function key has said
     stays in force."""
@@ -715,6 +728,8 @@ TRIALS = {
     'names and sizes of files': names_and_sizes,
     'a paste with a hole': hole,
     'Alt with O and [': given_up,
+    'keys along a row': along_a_row,
+    'Alt-Z': alt_z,
     'clicks outside': outside,
     'a ring': ringing,
     'the marker on the caret': under_the_marker,

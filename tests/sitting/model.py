@@ -182,9 +182,27 @@ class Model:
         if not start:
             return
         x, y = start
-        x, y = {'up': (x, y + 1), 'down': (x, y - 1), 'right': (x + 1, y), 'left': (x - 1, y)}[word]
+        if word in ('home', 'end', 'word right', 'word left'):
+            x = self.along(screen, x, y, word)
+        else:
+            x, y = {'up': (x, y + 1), 'down': (x, y - 1), 'right': (x + 1, y), 'left': (x - 1, y)}[word]
         if 0 <= x < COLUMNS and 0 <= y < ROWS and self.is_text(screen, x, y):
             self.post(f'point l {x} {y} {x} {y}')
+
+    def along(self, screen, x, y, word):
+        """The column to which a key leads that goes to an end of a row's text or to one of its words."""
+        def is_shown(at):
+            return 0 <= at < COLUMNS and (screen.mark(at, y) == 'c' or self.is_text(screen, at, y))
+
+        row = screen.rows[ROWS - 1 - y].ljust(COLUMNS)
+        first, last = x, x
+        while is_shown(first - 1):
+            first -= 1
+        while is_shown(last + 1):
+            last += 1
+        begins = [at for at in range(first, last + 1) if row[at] != ' ' and (at == first or row[at - 1] == ' ')]
+        return {'home': first, 'end': last, 'word left': max([at for at in begins if at < x], default=first),
+                'word right': min([at for at in begins if at > x], default=last)}[word]
 
     def is_text(self, screen, x, y):
         if screen.mark(x, y) != '.':

@@ -7,7 +7,9 @@ from 1 at the upper left."""
 PRINTED = [chr(code) for code in range(32, 127)]
 GESTURES = ['l', 'm', 'r', 'lm', 'lr', 'ml', 'mr', 'rl', 'rm']
 NUMBERS = {'l': 0, 'm': 1, 'r': 2}
-ARROWS = {'up': b'A', 'down': b'B', 'right': b'C', 'left': b'D'}
+ARROWS = {'up': [b'[A', b'OA'], 'down': [b'[B', b'OB'], 'right': [b'[C', b'OC'], 'left': [b'[D', b'OD'],
+          'home': [b'[H', b'OH', b'[1~', b'[7~'], 'end': [b'[F', b'OF', b'[4~', b'[8~'],
+          'word right': [b'[1;5C'], 'word left': [b'[1;5D']}
 # What a byte below the space is, where it is a key.
 CONTROLS = {3: ('key', 'copy'), 7: ('key', 'escape'), 10: ('type', '\r'), 22: ('key', 'paste'), 24: ('key', 'cut')}
 # The clicks that a function key says, by its spellings.
@@ -15,10 +17,10 @@ FUNCTIONS = {'m': [b'\x1bOQ', b'\x1b[Q', b'\x1b[12~', b'\x1b[[B', b'\x1b2'], 'r'
              'lm': [b'\x1bOS', b'\x1b[14~', b'\x1b[[D'], 'lr': [b'\x1b[15~', b'\x1b[[E'], 'rl': [b'\x1b[17~', b'\x1b6'],
              'rm': [b'\x1b[18~']}
 MARK = [b'\x1bOP', b'\x1b[P', b'\x1b[11~', b'\x1b[[A', b'\x1b1']
-# What means nothing: a wheel, a motion, a button that goes up alone, keys and answers that are not told apart, a byte
+# What means nothing: a wheel that goes up or to the side, a motion, keys and answers that are not told apart, a byte
 # amid a letter of another script, a mouse report of the older form, a function key that is called off, and Alt with a
 # letter.
-NOTHING = [b'\x1b[<64;3;4M', b'\x1b[<35;3;4M', b'\x1b[<0;7;7m', b'\x1b[1;5H', b'\x1b[?1;2c', b'\x1b[I', b'\x1b[2~',
+NOTHING = [b'\x1b[<64;3;4m', b'\x1b[<66;3;4M', b'\x1b[<35;3;4M', b'\x1b[1;5E', b'\x1b[?1;2c', b'\x1b[I', b'\x1b[2~',
            b'\x1b[27u', b'\x80', b'\x1b[M !!', b'\x1bOz', b'\x1b[1;2;3;4;5;6;7z',
            b'\x1bOQ\x07', b'\x1b1\x07', b'\x1bx', b'\x1b.']
 # What rings: keys that mean nothing here, and letters of other scripts.
@@ -115,11 +117,11 @@ def press(random, rows, is_whole):
         return random.choice([(random.choice(NOTHING), []), (random.choice(RINGING), [('ring',)])])
     if kind == 11:
         word = random.choice(list(ARROWS))
-        return random.choice([b'\x1b[', b'\x1bO']) + ARROWS[word], [('arrow', word)]
+        return b'\x1b' + random.choice(ARROWS[word]), [('arrow', word)]
     if kind == 12 or kind == 13 and not is_whole:
-        return random.choice([(b'\x1b[5~', [('page', 'up')]), (b'\x1b[6~', [('page', 'down')])])
+        return random.choice([(b'\x1b[5;3~', [('page', 'up')]), (b'\x1b[6;3~', [('page', 'down')])])
     if kind == 14:
-        letter = random.choice('abxyz. ')
+        letter = random.choice('abxyZ. ')
         return b'\x1b' + letter.encode(), []
     if kind == 15:
         return random.choice([called_off, brought])(random)

@@ -8,4 +8,5 @@ pub mod Turning
 pub mod Whole
 mod Asked
 mod Questions
+mod Stretches
 mod Travelling

@@ -1,14 +1,16 @@
--- The cell of the caret, and the one beside it.
+-- The cell of the caret, and those to which keys lead from it.
 use Rattle.std.specs.Prelude.{ℕ, ◌+◌, ◌-◌, Bool, true, false, ◌==◌, nat_lt, if◌then◌else◌, List}
 use Rattle.std.specs.Prelude.{Option, Some, None, position}
 use Rattle.std.specs.List.{list_any}
 use Rattle.viewer_tracks.specs.declared.display.TheConstants.{COLUMNS, ROWS}
 use Rattle.screen_pictures.specs.declared.cell.Cell.{Cell}
 use Rattle.screen_pictures.specs.declared.cell.Mark.{Mark}
-use Rattle.screen_pictures.specs.declared.cell.Mark.TheVariants.{Marker, Caret, Selected, Text}
+use Rattle.screen_pictures.specs.declared.cell.Mark.TheVariants.{Marker, Caret}
 use Rattle.screen_pictures.specs.Screen.{cell_at, row_at}
 use Rattle.terminal_presses.specs.declared.press.Arrow.{Arrow as ArrowKey}
-use Rattle.terminal_presses.specs.declared.press.Arrow.TheVariants.{Up, Down, Right, Left}
+use Rattle.terminal_presses.specs.declared.press.Arrow.TheVariants.{Up, Down, Right, Left, Home, End, WordRight, WordLeft}
+use Rattle.desk_sitting.specs.declared.along.Kind.TheVariants.{Text}
+use Rattle.desk_sitting.specs.Along.{begin_of, is_text, last_of, next_word, word_before}
 pub use Rattle.event_bytes.specs.Parts.{◌>>=◌}
 
 -- whether a cell has the mark that is looked for, a caret or the marker
@@ -16,13 +18,6 @@ abbrev pub is_mark : Mark → Mark → Bool
 is_mark Caret Caret = true
 is_mark Marker Marker = true
 is_mark _ _ = false
-
--- where a text is shown that has no caret there
-abbrev pub is_text : Mark → Bool
-is_text Marker = true
-is_text Selected = true
-is_text Text = true
-is_text _ = false
 
 abbrev pub has_mark : Mark → List Cell → Bool
 has_mark mark row = list_any (λ cell. is_mark mark cell.mark) row
@@ -45,20 +40,25 @@ or_else (Some a) other = Some a
 unfoldable pub start_of : List (List Cell) → Option (ℕ × ℕ)
 start_of screen = or_else (caret_cell screen) (cell_marked Marker screen)
 
--- the place beside one, within the display
-unfoldable pub beside : ArrowKey → ℕ × ℕ → Option (ℕ × ℕ)
-beside Up place = if nat_lt (place.1 + 1) ROWS then Some (place.0, place.1 + 1) else None
-beside Down place = if place.1 == 0 then None else Some (place.0, place.1 - 1)
-beside Right place = if nat_lt (place.0 + 1) COLUMNS then Some (place.0 + 1, place.1) else None
-beside Left place = if place.0 == 0 then None else Some (place.0 - 1, place.1)
+-- the place to which a key leads from one in this row, within the display: beside it, an end of the text there, or a
+-- word
+unfoldable pub led : ArrowKey → List Cell → ℕ × ℕ → Option (ℕ × ℕ)
+led Up row place = if nat_lt (place.1 + 1) ROWS then Some (place.0, place.1 + 1) else None
+led Down row place = if place.1 == 0 then None else Some (place.0, place.1 - 1)
+led Right row place = if nat_lt (place.0 + 1) COLUMNS then Some (place.0 + 1, place.1) else None
+led Left row place = if place.0 == 0 then None else Some (place.0 - 1, place.1)
+led Home row place = Some (begin_of Text row place.0, place.1)
+led End row place = Some (last_of row place.0, place.1)
+led WordRight row place = Some (next_word row place.0, place.1)
+led WordLeft row place = Some (word_before row place.0, place.1)
 
 -- a place where a text is shown
 unfoldable pub where_text : List (List Cell) → ℕ × ℕ → Option (ℕ × ℕ)
 where_text screen place = if is_text (cell_at screen place.0 place.1).mark then Some place else None
 
--- the place beside the caret, where a text is shown there
+-- the place to which a key leads from the caret, where a text is shown there
 unfoldable pub aimed : ArrowKey → List (List Cell) → Option (ℕ × ℕ)
 aimed arrow screen = do
   start ← start_of screen
-  place ← beside arrow start
+  place ← led arrow (row_at screen start.1) start
   where_text screen place

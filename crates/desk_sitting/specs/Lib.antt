@@ -1,4 +1,5 @@
 pub mod Aims
+pub mod Along
 pub mod Doing
 pub mod Endings
 pub mod Files

@@ -1,24 +1,22 @@
-//! The cell of the caret, and the one beside it.
+//! The cell of the caret, and those to which keys lead from it.
 ghost use Rattle.std.specs.Prelude.{◌≡◌, ◌<◌, length, position, IfSome};
 ghost use Rattle.screen_pictures.specs.declared.cell.Mark.TheVariants.{Caret};
-ghost use Rattle.desk_sitting.specs.Aims.{aimed, beside, has_mark, is_mark, is_text, cell_marked, start_of, where_text};
+ghost use Rattle.desk_sitting.specs.Aims.{aimed, led, has_mark, is_mark, cell_marked, start_of, where_text};
 ghost use Rattle.desk_sitting.specs.Aims.{caret_cell as place_of_caret};
 
+use crate::along::{Kind, Row, begin_of, is_text, last_of, next_word, word_before};
 use screen_cells::Screen;
-use screen_pictures::{Cell, Mark};
+use screen_pictures::Mark;
 use terminal_presses::Arrow;
 use viewer_tracks::{COLUMNS, ROWS};
 
-/// A row of the screen, from the left.
-type Row = [Cell; COLUMNS as usize];
-
-/// The place beside the caret, a column and a row of the display, where a text is shown there.
+/// The place to which a key leads from the caret, a column and a row of the display, where a text is shown there.
 #[tactic(auto, unfolding(crate::specs::Aims::aimed))]
 pub(crate) fn aimed(arrow: Arrow, screen: &Screen) -> Option<(u8, u8)>
     ensures { result ≡ aimed arrow screen.now }
 {
     let start = start_of(screen)?;
-    let place = beside(arrow, start)?;
+    let place = led(arrow, &screen.rows()[start.1 as usize], start)?;
     where_text(screen, place)
 }
 
@@ -92,19 +90,12 @@ fn is_mark(wanted: Mark, mark: Mark) -> bool
     )
 }
 
-/// Whether a text is shown there, and no caret.
-fn is_text(mark: Mark) -> bool
-    ensures { result ≡ is_text mark }
-{
-    matches!(mark, Mark::Text | Mark::Selected | Mark::Marker)
-}
-
-/// The place beside one, within the display.
-#[tactic(auto, unfolding(crate::specs::Aims::beside))]
-fn beside(arrow: Arrow, place: (u8, u8)) -> Option<(u8, u8)>
+/// The place to which a key leads from one in this row, within the display.
+#[tactic(auto, unfolding(crate::specs::Aims::led))]
+fn led(arrow: Arrow, row: &Row, place: (u8, u8)) -> Option<(u8, u8)>
     requires column { place.0 < COLUMNS }
     requires row { place.1 < ROWS }
-    ensures value { result ≡ beside arrow place }
+    ensures value { result ≡ led arrow row.now place }
     ensures column { IfSome result (λ at. at.0 < COLUMNS) }
     ensures row { IfSome result (λ at. at.1 < ROWS) }
 {
@@ -118,6 +109,10 @@ fn beside(arrow: Arrow, place: (u8, u8)) -> Option<(u8, u8)>
             None
         },
         Arrow::Left => if x == 0 { None } else { Some((x - 1, y)) },
+        Arrow::Home => Some((begin_of(Kind::Text, row, x as usize) as u8, y)),
+        Arrow::End => Some((last_of(row, x as usize) as u8, y)),
+        Arrow::WordRight => Some((next_word(row, x as usize) as u8, y)),
+        Arrow::WordLeft => Some((word_before(row, x as usize) as u8, y)),
     }
 }
 

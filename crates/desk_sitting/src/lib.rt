@@ -12,6 +12,7 @@
 #![tactic(auto)]
 
 mod aim;
+mod along;
 mod doing;
 mod ending;
 mod laws;

@@ -9,7 +9,7 @@ use terminal_keyboard::{
 };
 use terminal_presses::{
     Action, Arrow, Button, FunctionKey, Hand, Heard, MouseReport, Page, Parser, Press, Presses,
-    Sight,
+    Scroll, Sight, Spot, WheelReport,
 };
 
 /// What stands for a quiet while in the tables. No terminal sends this byte.
@@ -70,9 +70,13 @@ fn mouse(button: Button, is_down: bool, column: u16, row: u16) -> Press {
     })
 }
 
+fn wheel(is_up: bool, column: u16, row: u16) -> Press {
+    Press::Wheel(WheelReport { is_up, column, row })
+}
+
 #[test]
 fn bytes_press(rt: HostRuntime) -> Result<(), Fail> {
-    let table: [(&[u8], &[Press]); 15] = [
+    let table: [(&[u8], &[Press]); 20] = [
         (
             b"aZ ~",
             &[
@@ -121,7 +125,42 @@ fn bytes_press(rt: HostRuntime) -> Result<(), Fail> {
         ),
         (
             b"\x1b[5~\x1b[6\xff~",
+            &[
+                Press::Scroll(Scroll::PageUp),
+                Press::Scroll(Scroll::PageDown),
+            ],
+        ),
+        (
+            b"\x1b[5;3~\x1b[6;3~",
             &[Press::Page(Page::Up), Press::Page(Page::Down)],
+        ),
+        (
+            b"\x1b[1;5H\x1b[1;5F\x1bz",
+            &[
+                Press::Scroll(Scroll::First),
+                Press::Scroll(Scroll::Last),
+                Press::Control(25),
+            ],
+        ),
+        (
+            b"\x1b[H\x1bOH\x1b[1~\x1b[F\x1bOF\x1b[4~",
+            &[
+                Press::Arrow(Arrow::Home),
+                Press::Arrow(Arrow::Home),
+                Press::Arrow(Arrow::Home),
+                Press::Arrow(Arrow::End),
+                Press::Arrow(Arrow::End),
+                Press::Arrow(Arrow::End),
+            ],
+        ),
+        (
+            b"\x1b[1;5C\x1b[1;5D\x1b[1;5A\x1b[1;2C",
+            &[
+                Press::Arrow(Arrow::WordRight),
+                Press::Arrow(Arrow::WordLeft),
+                Press::Arrow(Arrow::Up),
+                Press::Arrow(Arrow::Right),
+            ],
         ),
         // Alt with O and with [, and then a letter.
         (
@@ -140,7 +179,20 @@ fn bytes_press(rt: HostRuntime) -> Result<(), Fail> {
                 mouse(Button::Right, false, 223, 300),
             ],
         ),
-        (b"\x1b[<64;5;5M\x1b[M !!", &[Press::Unknown, Press::Unknown]),
+        (
+            b"\x1b[<64;5;6M\x1b[<69;7;8M\x1b[<89;1;1M",
+            &[wheel(true, 5, 6), wheel(false, 7, 8), wheel(false, 1, 1)],
+        ),
+        // A wheel that goes up, one that is turned to the side, and a report of the older form.
+        (
+            b"\x1b[<64;5;5m\x1b[<66;5;5M\x1b[<96;5;5M\x1b[M !!",
+            &[
+                Press::Unknown,
+                Press::Unknown,
+                Press::Unknown,
+                Press::Unknown,
+            ],
+        ),
         (b"\x1b[8;24;80t", &[Press::Size(24, 80)]),
         (
             b"\x1b[200~a\x1b[201~",
@@ -165,6 +217,7 @@ fn bytes_press(rt: HostRuntime) -> Result<(), Fail> {
 fn letter(action: &Action) -> Option<u8> {
     match action {
         Action::Nothing | Action::Post(_) | Action::TypeFile(_) => None,
+        Action::Scroll(_, scroll) => Some(scroll_letter(*scroll)),
         Action::Ring => Some(b'R'),
         Action::LookAnew => Some(b'N'),
         Action::Leave => Some(b'L'),
@@ -178,7 +231,19 @@ fn letter(action: &Action) -> Option<u8> {
     }
 }
 
-/// Adds what an action is: the spelling of its event, T and the name of its file, or else its letter.
+fn scroll_letter(scroll: Scroll) -> u8 {
+    match scroll {
+        Scroll::WheelUp => b'u',
+        Scroll::WheelDown => b'd',
+        Scroll::PageUp => b'p',
+        Scroll::PageDown => b'q',
+        Scroll::First => b'f',
+        Scroll::Last => b'l',
+    }
+}
+
+/// Adds what an action is: the spelling of its event, T and the name of its file, or else its letter, behind the cell of
+/// the viewer that is meant, if it names one.
 fn add_action(found: &mut Vec<u8>, action: &Action) -> Result<(), AllocError> {
     if let Action::Post(event) = action {
         found.extend_from_slice(event.encode().as_slice())?;
@@ -186,6 +251,9 @@ fn add_action(found: &mut Vec<u8>, action: &Action) -> Result<(), AllocError> {
     if let Action::TypeFile(name) = action {
         found.push(b'T')?;
         found.extend_from_slice(name.as_bytes())?;
+    }
+    if let Action::Scroll(Some(Spot { x, y }), _) = action {
+        found.extend_from_slice(&[*x, *y])?;
     }
     if let Some(letter) = letter(action) {
         found.push(letter)?;
@@ -216,7 +284,7 @@ fn acted(alloc: Global, bytes: &[u8], sight: Sight) -> Result<Vec<u8>, AllocErro
 
 #[test]
 fn presses_make_events(rt: HostRuntime) -> Result<(), Fail> {
-    let table: [(&[u8], &[u8]); 25] = [
+    let table: [(&[u8], &[u8]); 31] = [
         (b"a", b"\x01\x00\x01a"),
         (b"\n", b"\x01\x00\x01\x0d"),
         (b"\x08\x03\x18\x16", b"\x02\x00\x02\x01\x02\x03\x02\x02"),
@@ -224,7 +292,24 @@ fn presses_make_events(rt: HostRuntime) -> Result<(), Fail> {
         // Escape after F2 calls that off, and does no more.
         (b"\x1bOQ\x1b\xff\x1b\xff", b"\x02\x04"),
         (b"\x0c\x11\x01", b"NLR"),
-        (b"\x1b[5~\x1b[6~\x1b[A\x1b[8;24;80t", b"UDSZ"),
+        (b"\x1b[5;3~\x1b[6;3~\x1b[A\x1b[8;24;80t", b"UDSZ"),
+        (b"\x1bz\x1b[H\x1b[1;5D", b"YSS"),
+        // The wheel over a cell, outside the display, and while a button is down.
+        (
+            b"\x1b[<64;3;2M\x1b[<69;80;32M\x1b[<65;3;2m",
+            b"\x02\x1eu\x4f\x00d",
+        ),
+        (b"\x1b[<64;81;1M\x1b[<65;1;33M\x1b[<64;0;1M", b""),
+        (
+            b"\x1b[<0;2;2M\x1b[<64;2;2M\x1b[<0;2;2m",
+            b"\x04\x00\x01\x1e\x01\x1e",
+        ),
+        // A page of the caret's viewer, of that under the pointer, and of the caret's where the pointer is outside.
+        (
+            b"\x1b[5~\x1b[<0;3;2m\x1b[6~\x1b[1;5H\x1b[<64;81;2M\x1b[6~\x1b[1;5F",
+            b"p\x02\x1eqfql",
+        ),
+        (b"\x0f\x1b[5~\x1b[<64;1;1M\x1b[5;3~\x07\x1b[5~", b"RUp"),
         // A click, and a drag from a corner to beyond the opposite one.
         (b"\x1b[<0;2;2M\x1b[<0;2;2m", b"\x04\x00\x01\x1e\x01\x1e"),
         (b"\x1b[<2;1;1M\x1b[<2;200;99m", b"\x04\x06\x00\x1f\x4f\x00"),

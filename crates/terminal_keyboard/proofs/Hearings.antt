@@ -1,16 +1,13 @@
 -- What is heard of bytes.
-use Rattle.std.proofs.Common.{◌≡◌, ℕ, zero, suc, ◌+◌, ◌<◌, ◌≤◌, Bool, true, false, cond, not, List, [], ◌∷◌, ◌++◌, length}
-use Rattle.std.proofs.Common.{get_or, take, refl, sym, ap, ◌∙◌, arith, append_assoc, unwrap_or, Option, Some, None}
-use Rattle.std.specs.List.{position, position_or_len}
+use Rattle.std.proofs.Common.{◌≡◌, ℕ, zero, suc, ◌+◌, ◌<◌, ◌≤◌, Bool, true, false, cond, List, [], ◌∷◌, ◌++◌, length}
+use Rattle.std.proofs.Common.{get_or, take, drop, refl, sym, ap, ◌∙◌, arith, append_assoc, min, Option, Some, None}
 use Rattle.std.specs.Io.KnownBytes.{Consumes, prepend_known}
 use Rattle.std.proofs.lemmas.List.{take_more, take_more_set, length-take}
-use Rattle.std.proofs.lemmas.List.Sums.{prefix_len-le-length}
-use Rattle.std.proofs.lemmas.Bool.Decides.{nat_tests}
 use Rattle.std.proofs.Math.ListN.{set}
 use Rattle.terminal_presses.specs.declared.press.Heard.{Heard}
 use Rattle.terminal_presses.specs.declared.press.Heard.TheVariants.{Byte, Quiet}
 use Rattle.terminal_presses.specs.Spelling.{bytes_heard}
-use Rattle.terminal_keyboard.specs.Hearings.{heard_bytes, is_quiet}
+use Rattle.terminal_keyboard.specs.Hearings.{heard_bytes, is_quiet, is_line_end, is_escape, line_from}
 
 bytes_more : (xs : List ℕ) (b : ℕ) → bytes_heard (xs ++ b ∷ []) ≡ bytes_heard xs ++ Byte b ∷ []
 bytes_more [] b = refl
@@ -38,26 +35,83 @@ bytes_not_quiet (x ∷ xs) = refl
 
 -- ---- lines
 
--- a place that passes, or the length where there is none
-pub end_is : {X : Type 0} (p : X → Bool) (xs : List X) → unwrap_or (position p xs) (length xs) ≡ position_or_len p xs
-end_is p xs =
-    let within : position_or_len p xs ≤ length xs = prefix_len-le-length _ xs in
-    grind (arith, nat_tests)
+line_heard : (behind : Bool) (one : Heard) (more : List Heard)
+    → line_from behind (one ∷ more) ≡ suc (cond (is_line_end behind one) 0 (line_from (is_escape one) more))
+unfolding line_from
+line_heard behind one more = refl
 
-one_more : (b : Bool) (n long here there : ℕ) → (n ≤ there + 1 → long ≤ here + 1) → long ≤ n
-    → suc n ≤ cond (not b) (1 + there) 0 + 1 → suc long ≤ cond (not b) (1 + here) 0 + 1
-one_more true n long here there rest most less = omega arith
-one_more false n long here there rest most less = let some = rest (omega arith) in omega arith
+nothing_heard : (behind : Bool) → line_from behind [] ≡ 0
+unfolding line_from
+nothing_heard behind = refl
 
--- a front that goes no further than the first that passes has none before its end
-pub front_within : {X : Type 0} (p : X → Bool) (n : ℕ) (xs : List X) → n ≤ position_or_len p xs + 1
-    → length (take n xs) ≤ position_or_len p (take n xs) + 1
-front_within p zero xs less = omega arith
-front_within p (suc n) [] less = omega arith
-front_within p (suc n) (x ∷ xs) less =
-    let most = length-take n xs in
-    one_more (p x) n (length (take n xs)) (position_or_len p (take n xs)) (position_or_len p xs) (front_within p n xs)
-    (omega (arith, most)) less
+-- a line is at most as long as what is heard
+pub line_within : (behind : Bool) (xs : List Heard) → line_from behind xs ≤ length xs
+line_within behind [] = omega (arith, nothing_heard behind)
+line_within behind (x ∷ xs) =
+    by_end (is_line_end behind x) (line_from (is_escape x) xs) (line_heard behind x xs) (line_within (is_escape x) xs) where
+      by_end : (b : Bool) (n : ℕ) → line_from behind (x ∷ xs) ≡ suc (cond b 0 n) → n ≤ length xs
+          → line_from behind (x ∷ xs) ≤ suc (length xs)
+      by_end true n is less = omega (arith, is)
+      by_end false n is less = omega (arith, is, less)
+
+pub line_some : (behind : Bool) (xs : List Heard) → 1 ≤ length xs → 1 ≤ line_from behind xs
+line_some behind [] some = absurd (omega (arith, some))
+line_some behind (x ∷ xs) some = omega (arith, line_heard behind x xs)
+
+-- a front that goes no further than the first line has no end before its own
+pub front_within : (behind : Bool) (n : ℕ) (xs : List Heard) → n ≤ line_from behind xs
+    → line_from behind (take n xs) ≡ length (take n xs)
+front_within behind zero xs less = nothing_heard behind
+front_within behind (suc n) [] less = nothing_heard behind
+front_within behind (suc n) (x ∷ xs) less =
+    by_end (is_line_end behind x) (line_from (is_escape x) xs) (line_from (is_escape x) (take n xs)) (length (take n xs))
+    (line_heard behind x xs) (line_heard behind x (take n xs)) (length-take n xs) (front_within (is_escape x) n xs) where
+      by_end : (b : Bool) (all front long : ℕ) → line_from behind (x ∷ xs) ≡ suc (cond b 0 all)
+          → line_from behind (x ∷ take n xs) ≡ suc (cond b 0 front) → long ≡ min n (length xs) → (n ≤ all → front ≡ long)
+          → line_from behind (x ∷ take n xs) ≡ suc long
+      by_end true all front long is goal short rest = omega (arith, is, goal, short, less)
+      by_end false all front long is goal short rest =
+          let e : front ≡ long = rest (omega (arith, is, less)) in omega (arith, goal, e)
+
+-- ---- a loop that goes on to the end of the first line
+
+pub line_ended : (behind : Bool) (one : Heard) (more : List Heard) → is_line_end behind one ≡ true
+    → line_from behind (one ∷ more) ≡ 1
+line_ended behind one more is = line_heard behind one more ∙ (rw is refl)
+
+pub line_goes_on : (behind : Bool) (one : Heard) (more : List Heard) → is_line_end behind one ≡ false
+    → line_from behind (one ∷ more) ≡ suc (line_from (is_escape one) more)
+line_goes_on behind one more is = line_heard behind one more ∙ (rw is refl)
+
+-- where a line ends at a place
+pub line_at : (behind : Bool) (d : Heard) (xs : List Heard) (i : ℕ) → i < length xs
+    → is_line_end behind (get_or xs i d) ≡ true → line_from behind (drop i xs) ≡ 1
+line_at behind d [] zero within is = absurd (omega (arith, within))
+line_at behind d [] (suc i) within is = absurd (omega (arith, within))
+line_at behind d (x ∷ xs) zero within is = line_ended behind x xs is
+line_at behind d (x ∷ xs) (suc i) within is = line_at behind d xs i (omega (arith, within)) is
+
+goes_on_at : (behind : Bool) (d : Heard) (xs : List Heard) (i : ℕ) → i < length xs
+    → is_line_end behind (get_or xs i d) ≡ false
+    → line_from behind (drop i xs) ≡ suc (line_from (is_escape (get_or xs i d)) (drop (suc i) xs))
+goes_on_at behind d [] zero within is = absurd (omega (arith, within))
+goes_on_at behind d [] (suc i) within is = absurd (omega (arith, within))
+goes_on_at behind d (x ∷ xs) zero within is = line_goes_on behind x xs is
+goes_on_at behind d (x ∷ xs) (suc i) within is = goes_on_at behind d xs i (omega (arith, within)) is
+
+-- where it doesn't
+pub line_on : (behind after : Bool) (d : Heard) (xs : List Heard) (i next : ℕ) → i < length xs
+    → is_line_end behind (get_or xs i d) ≡ false → after ≡ is_escape (get_or xs i d) → next ≡ suc i
+    → line_from behind (drop i xs) ≡ suc (line_from after (drop next xs))
+line_on behind after d xs i next within is escape more =
+    goes_on_at behind d xs i within is ∙ ap (λ b. suc (line_from b (drop (suc i) xs))) (sym escape)
+    ∙ ap (λ k. suc (line_from after (drop k xs))) (sym more)
+
+pub none_left : (behind : Bool) (xs : List Heard) (i : ℕ) → length xs ≤ i → line_from behind (drop i xs) ≡ 0
+none_left behind [] zero all = nothing_heard behind
+none_left behind [] (suc i) all = nothing_heard behind
+none_left behind (x ∷ xs) zero all = absurd (omega (arith, all))
+none_left behind (x ∷ xs) (suc i) all = none_left behind xs i (omega (arith, all))
 
 pub bytes_of_both : (xs ys : List Heard) → heard_bytes (xs ++ ys) ≡ heard_bytes xs ++ heard_bytes ys
 bytes_of_both [] ys = refl

@@ -1,7 +1,6 @@
 -- What is heard at one time.
-use Rattle.std.specs.Prelude.{◌≤◌, ◌<◌, ◌+◌, ◌-◌, ◌^◌, ◌⊎◌, ℕ, Bool, true, false, ◌==◌, ◌||◌, List, [], ◌∷◌, length, min}
+use Rattle.std.specs.Prelude.{◌≡◌, ◌≤◌, ◌<◌, ◌-◌, ◌^◌, ◌⊎◌, ℕ, suc, Bool, true, false, ◌==◌, ◌||◌, ◌&&◌, if◌then◌else◌, List, [], ◌∷◌, length}
 use Rattle.std.specs.Prelude.{Option, Some, None}
-use Rattle.std.specs.List.{position_or_len}
 use Rattle.std.specs.Io.KnownBytes.{IsAtEnd}
 use Rattle.terminal_presses.specs.declared.press.Heard.{Heard}
 use Rattle.terminal_presses.specs.declared.press.Heard.TheVariants.{Byte, Quiet}
@@ -21,18 +20,28 @@ is_quiet (Byte b ∷ more) = false
 is_quiet (Quiet ∷ more) = true
 
 -- a carriage return or a line feed, with which a line ends, and the name of a host file that is typed; and the bytes of
--- Ctrl-Y and Ctrl-Z
-abbrev pub is_line_end : Heard → Bool
-is_line_end (Byte b) = (b == 13) || (b == 10) || (b == 25) || (b == 26)
-is_line_end Quiet = false
+-- Ctrl-Y and Ctrl-Z, and behind an escape byte that of Alt-Z
+abbrev pub is_line_end : Bool → Heard → Bool
+is_line_end after_escape (Byte b) =
+    (b == 13) || (b == 10) || (b == 25) || (b == 26) || (after_escape && (b == 122))
+is_line_end after_escape Quiet = false
+
+abbrev pub is_escape : Heard → Bool
+is_escape (Byte b) = b == 27
+is_escape Quiet = false
 
 -- how much is heard to the end of the first line, and with it
+unfoldable pub line_from : Bool → List Heard → ℕ
+line_from after_escape [] = 0
+line_from after_escape (heard ∷ more) =
+    suc (if is_line_end after_escape heard then 0 else line_from (is_escape heard) more)
+
 abbrev pub line_length : List Heard → ℕ
-line_length heard = min (position_or_len is_line_end heard + 1) (length heard)
+line_length heard = line_from false heard
 
 -- no line ends in it but at its end
 abbrev pub IsWithinLine : List Heard → Type 0
-IsWithinLine heard = length heard ≤ position_or_len is_line_end heard + 1
+IsWithinLine heard = line_length heard ≡ length heard
 
 -- what is kept for later, if anything is
 abbrev pub kept_for_later : Option (List Heard) → List Heard

@@ -1,8 +1,8 @@
 //! What is heard at one time.
-ghost use Rattle.std.specs.Prelude.{◌≡◌, ◌≤◌, ◌<◌, [], ◌∷◌, ◌++◌, length, take, position, IfSome};
+ghost use Rattle.std.specs.Prelude.{◌≡◌, ◌≤◌, [], ◌∷◌, ◌++◌, length, take};
 ghost use Rattle.terminal_presses.specs.declared.press.Heard.TheVariants.{Quiet};
 ghost use Rattle.terminal_presses.specs.Spelling.{bytes_heard};
-ghost use Rattle.terminal_keyboard.specs.Hearings.{IsWithinLine, is_line_end as ends_line, kept_for_later};
+ghost use Rattle.terminal_keyboard.specs.Hearings.{IsWithinLine, is_line_end as line_ends, is_escape as escape_byte, kept_for_later};
 ghost use Rattle.terminal_keyboard.specs.Hearings.{line_length as first_line};
 
 use std::marker::Model;
@@ -12,6 +12,8 @@ use terminal_presses::Heard;
 const CONTROL_Y: u8 = 25;
 /// The byte of Ctrl-Z.
 const CONTROL_Z: u8 = 26;
+/// The byte that stands before the byte of a key with Alt.
+const ESCAPE: u8 = 27;
 
 /// How much is heard at one time at most.
 pub const MOST_HEARD: usize = 64;
@@ -104,31 +106,43 @@ pub(crate) fn line_length(heard: &[Heard]) -> usize
     ensures some { 1 ≤ length heard.now → 1 ≤ result }
     ensures line { IsWithinLine (take result heard.now) }
 {
-    let end = line_end(heard).unwrap_or(heard.len());
-    if end < heard.len() {
-        end + 1
-    } else {
-        heard.len()
-    }
+    first_end(heard)
 }
 
-/// Where the first line ends.
-fn line_end(heard: &[Heard]) -> Option<usize>
-    ensures first { result ≡ position ends_line heard.now }
-    ensures within { IfSome result (λ at. at < length heard.now) }
+/// The same, in one pass.
+fn first_end(heard: &[Heard]) -> usize
+    ensures { result ≡ first_line heard.now }
 {
-    heard.iter().position(|heard| is_line_end(*heard))
+    let mut after_escape = false;
+    for (i, one) in heard.iter().enumerate() {
+        if ends_line(after_escape, *one) {
+            return i + 1;
+        }
+        after_escape = is_escape(*one);
+    }
+    heard.len()
 }
 
-/// Whether a line ends there.
-fn is_line_end(heard: Heard) -> bool
-    ensures { result ≡ ends_line heard }
+/// Whether a line ends there, behind an escape byte or not.
+fn ends_line(after_escape: bool, heard: Heard) -> bool
+    ensures { result ≡ line_ends after_escape heard }
 {
     match heard {
         Heard::Byte(byte) => byte == b'\r'
             || byte == b'\n'
             || byte == CONTROL_Y
-            || byte == CONTROL_Z,
+            || byte == CONTROL_Z
+            || (after_escape && byte == b'z'),
+        Heard::Quiet => false,
+    }
+}
+
+/// Whether an escape byte is heard.
+fn is_escape(heard: Heard) -> bool
+    ensures { result ≡ escape_byte heard }
+{
+    match heard {
+        Heard::Byte(byte) => byte == ESCAPE,
         Heard::Quiet => false,
     }
 }

@@ -16,10 +16,11 @@ use Rattle.terminal_presses.specs.declared.action.Action.{Action}
 use Rattle.terminal_presses.specs.declared.action.Action.TheVariants.{Nothing}
 use Rattle.terminal_presses.specs.declared.hand.Hand.{Hand}
 use Rattle.terminal_presses.specs.Gestures.{no_buttons, with_button, keys_with_button, click_called, pressed_more, released, released_at}
-use Rattle.terminal_presses.specs.Hands.{new_hand, idle, by_function, click_meant, begun, gone_down, rested, gone_up, hand_after_report}
+use Rattle.terminal_presses.specs.Hands.{resting, pointed_at, idle, by_function, click_meant, begun, gone_down, rested, gone_up, hand_after_button}
 use Rattle.terminal_presses.specs.Hands.{fresh, by_question, handled}
 use Rattle.terminal_presses.specs.Runs.{events_of_action, hand_after, posted_events, MakesEvents, Corner, is_seen, down_with, down, up, button_alone, together}
-use Rattle.terminal_presses.specs.Runs.{click_event, says, spot_at, AreThree}
+use Rattle.terminal_presses.specs.Runs.{seen_spot, click_event, says, spot_at, AreThree}
+use Rattle.terminal_presses.specs.declared.spot.Spot.{Spot}
 use Rattle.terminal_presses.proofs.Pieces.{posted_of_both}
 use Rattle.terminal_presses.proofs.Found.{is_not}
 use Rattle.terminal_presses.proofs.Typing.{by_test}
@@ -36,19 +37,20 @@ held click sight button start = record {
   gesture = Some (record { click = click; start = spot_at sight start; down = with_button button true no_buttons });
   paste = None;
   asked = None;
+  pointer = seen_spot sight start;
 }
 
-seen_down : (sight : Sight) (button : Button) (start : Corner) → is_seen sight start ≡ true
-    → handled sight (down button start) new_hand ≡ (held (Some (Keys (button_alone button))) sight button start, Nothing)
-unfolding handled by_question fresh hand_after_report gone_down begun click_meant
-seen_down sight Left start seen = rw seen refl
-seen_down sight Middle start seen = rw seen refl
-seen_down sight Right start seen = rw seen refl
+seen_down : (sight : Sight) (pointer : Option Spot) (button : Button) (start : Corner) → is_seen sight start ≡ true
+    → handled sight (down button start) (resting pointer) ≡ (held (Some (Keys (button_alone button))) sight button start, Nothing)
+unfolding handled by_question fresh hand_after_button gone_down begun click_meant
+seen_down sight pointer Left start seen = rw seen refl
+seen_down sight pointer Middle start seen = rw seen refl
+seen_down sight pointer Right start seen = rw seen refl
 
-unseen_down : (sight : Sight) (button : Button) (start : Corner) → is_seen sight start ≡ false
-    → handled sight (down button start) new_hand ≡ (held None sight button start, Nothing)
-unfolding handled by_question fresh hand_after_report gone_down begun click_meant
-unseen_down sight button start unseen = rw unseen refl
+unseen_down : (sight : Sight) (pointer : Option Spot) (button : Button) (start : Corner) → is_seen sight start ≡ false
+    → handled sight (down button start) (resting pointer) ≡ (held None sight button start, Nothing)
+unfolding handled by_question fresh hand_after_button gone_down begun click_meant
+unseen_down sight pointer button start unseen = rw unseen refl
 
 -- a press that makes no event, and then others
 after_one : {sight : Sight} {press : Press} {presses : List Press} {hand next last : Hand} {events : List Event}
@@ -60,17 +62,18 @@ after_one {sight} {press} {presses} is more = record {
 }
 
 one_up : (sight : Sight) (button : Button) (start end : Corner)
-    → MakesEvents sight (held (Some (Keys (button_alone button))) sight button start) (up button end ∷ []) new_hand
-    (click_event (Keys (button_alone button)) sight start end ∷ [])
-unfolding handled by_question fresh hand_after_report gone_up rested released released_at
+    → MakesEvents sight (held (Some (Keys (button_alone button))) sight button start) (up button end ∷ [])
+    (resting (seen_spot sight end)) (click_event (Keys (button_alone button)) sight start end ∷ [])
+unfolding handled by_question fresh hand_after_button gone_up rested released released_at
 one_up sight Left start end = made
 one_up sight Middle start end = made
 one_up sight Right start end = made
 
-pub one_button : (sight : Sight) (button : Button) (start end : Corner) → is_seen sight start ≡ true
-    → MakesEvents sight new_hand (down button start ∷ up button end ∷ []) new_hand
+pub one_button : (sight : Sight) (pointer : Option Spot) (button : Button) (start end : Corner) → is_seen sight start ≡ true
+    → MakesEvents sight (resting pointer) (down button start ∷ up button end ∷ []) (resting (seen_spot sight end))
     (click_event (Keys (button_alone button)) sight start end ∷ [])
-one_button sight button start end seen = after_one (seen_down sight button start seen) (one_up sight button start end)
+one_button sight pointer button start end seen =
+    after_one (seen_down sight pointer button start seen) (one_up sight button start end)
 
 -- the same of a hand that has begun outside the display
 abbrev held_outside : Sight → Button → Corner → Hand → Hand
@@ -78,30 +81,37 @@ held_outside sight button start hand = record hand {
   gesture = Some (record { click = None; start = spot_at sight start; down = with_button button true no_buttons });
   paste = None;
   asked = None;
+  pointer = seen_spot sight start;
 }
+
+-- the hand afterwards
+abbrev let_go : Sight → Corner → Hand → Hand
+let_go sight end hand = record (pointed_at sight end.column end.row (idle hand)) { gesture = None }
 
 outside_down : (sight : Sight) (button : Button) (hand : Hand) (start : Corner) → hand.gesture ≡ None
     → is_seen sight start ≡ false
     → handled sight (down button start) (idle hand) ≡ (held_outside sight button start hand, Nothing)
-unfolding handled by_question fresh hand_after_report gone_down begun
+unfolding handled by_question fresh hand_after_button gone_down begun
 outside_down sight button hand start none unseen = rw (none, unseen) refl
 
 outside_up : (sight : Sight) (button : Button) (hand : Hand) (start end : Corner)
-    → MakesEvents sight (held_outside sight button start hand) (up button end ∷ []) (record (idle hand) { gesture = None }) []
-unfolding handled by_question fresh hand_after_report gone_up rested released released_at
+    → MakesEvents sight (held_outside sight button start hand) (up button end ∷ []) (let_go sight end hand) []
+unfolding handled by_question fresh hand_after_button gone_up rested released released_at
 outside_up sight Left hand start end = made
 outside_up sight Middle hand start end = made
 outside_up sight Right hand start end = made
 
-still_idle : (hand : Hand) → hand.gesture ≡ None → record (idle hand) { gesture = None } ≡ idle hand
-still_idle hand none = rw none refl
+still_idle : (sight : Sight) (end : Corner) (hand : Hand) → hand.gesture ≡ None
+    → let_go sight end hand ≡ pointed_at sight end.column end.row (idle hand)
+still_idle sight end hand none = rw none refl
 
 pub none_outside : (sight : Sight) (button : Button) (hand : Hand) (start end : Corner) → hand.gesture ≡ None
     → not (is_seen sight start) ≡ true
-    → MakesEvents sight (idle hand) (down button start ∷ up button end ∷ []) (idle hand) []
+    → MakesEvents sight (idle hand) (down button start ∷ up button end ∷ [])
+    (pointed_at sight end.column end.row (idle hand)) []
 none_outside sight button hand start end none outside =
     let unseen = is_not (is_seen sight start) outside in
-    subst (λ h. MakesEvents sight (idle hand) (down button start ∷ up button end ∷ []) h []) (still_idle hand none)
+    subst (λ h. MakesEvents sight (idle hand) (down button start ∷ up button end ∷ []) h []) (still_idle sight end hand none)
     (after_one (outside_down sight button hand start none unseen) (outside_up sight button hand start end))
 
 -- what two buttons that differ have, each pair of them has
@@ -118,24 +128,24 @@ by_pairs P s t u v w x Right Middle other = x
 by_pairs P s t u v w x Right Right other = absurd (other refl)
 
 -- what two buttons come to, whichever goes up first
-pub record Both (sight : Sight) (first second : Button) (start p q end : Corner) : Type 0 where
-  pub in_turn : MakesEvents sight new_hand (down first start ∷ down second p ∷ up first q ∷ up second end ∷ []) new_hand
-      (click_event (Keys (together first second)) sight start end ∷ [])
-  pub turned : MakesEvents sight new_hand (down first start ∷ down second p ∷ up second q ∷ up first end ∷ []) new_hand
-      (click_event (Keys (together first second)) sight start end ∷ [])
+pub record Both (sight : Sight) (pointer : Option Spot) (first second : Button) (start p q end : Corner) : Type 0 where
+  pub in_turn : MakesEvents sight (resting pointer) (down first start ∷ down second p ∷ up first q ∷ up second end ∷ [])
+      (resting (seen_spot sight end)) (click_event (Keys (together first second)) sight start end ∷ [])
+  pub turned : MakesEvents sight (resting pointer) (down first start ∷ down second p ∷ up second q ∷ up first end ∷ [])
+      (resting (seen_spot sight end)) (click_event (Keys (together first second)) sight start end ∷ [])
 
 -- what comes after the first of them is down
 record Rest (sight : Sight) (first second : Button) (start p q end : Corner) : Type 0 where
   in_turn : MakesEvents sight (held (Some (Keys (button_alone first))) sight first start)
-      (down second p ∷ up first q ∷ up second end ∷ []) new_hand
+      (down second p ∷ up first q ∷ up second end ∷ []) (resting (seen_spot sight end))
       (click_event (Keys (together first second)) sight start end ∷ [])
   turned : MakesEvents sight (held (Some (Keys (button_alone first))) sight first start)
-      (down second p ∷ up second q ∷ up first end ∷ []) new_hand
+      (down second p ∷ up second q ∷ up first end ∷ []) (resting (seen_spot sight end))
       (click_event (Keys (together first second)) sight start end ∷ [])
 
 rest_of_two : (sight : Sight) (first second : Button) (start p q end : Corner) → (first ≡ second → ⊥)
     → Rest sight first second start p q end
-unfolding handled by_question fresh hand_after_report gone_down click_meant gone_up rested released released_at pressed_more click_called
+unfolding handled by_question fresh hand_after_button gone_down click_meant gone_up rested released released_at pressed_more click_called
     keys_with_button
 rest_of_two sight first second start p q end other =
     by_pairs (λ a b. Rest sight a b start p q end) (record { in_turn = made; turned = made })
@@ -143,10 +153,10 @@ rest_of_two sight first second start p q end other =
     (record { in_turn = made; turned = made }) (record { in_turn = made; turned = made })
     (record { in_turn = made; turned = made }) first second other
 
-pub two_buttons : (sight : Sight) (first second : Button) (start p q end : Corner) → (first ≡ second → ⊥)
-    → is_seen sight start ≡ true → Both sight first second start p q end
-two_buttons sight first second start p q end other seen =
-    let one = seen_down sight first start seen in
+pub two_buttons : (sight : Sight) (pointer : Option Spot) (first second : Button) (start p q end : Corner)
+    → (first ≡ second → ⊥) → is_seen sight start ≡ true → Both sight pointer first second start p q end
+two_buttons sight pointer first second start p q end other seen =
+    let one = seen_down sight pointer first start seen in
     let rest = rest_of_two sight first second start p q end other in
     record { in_turn = after_one one rest.in_turn; turned = after_one one rest.turned }
 
@@ -172,8 +182,8 @@ by_orders P s t u v w x Right Left Middle are = w
 by_orders P s t u v w x Right Middle Left are = x
 
 -- the hand whose gesture is called off, with all buttons down
-abbrev off : Sight → Corner → Hand
-off sight start = record {
+abbrev off : Sight → Corner → Corner → Hand
+off sight start last = record {
   armed = None;
   gesture = Some (record {
     click = None;
@@ -182,119 +192,124 @@ off sight start = record {
   });
   paste = None;
   asked = None;
+  pointer = seen_spot sight last;
 }
 
 abbrev Falls : (Button → Option Click) → Sight → Corner → Corner → Corner → Button → Button → Button → Type 0
 Falls click sight start p q a b c =
-    MakesEvents sight (held (click a) sight a start) (down b p ∷ down c q ∷ []) (off sight start) []
+    MakesEvents sight (held (click a) sight a start) (down b p ∷ down c q ∷ []) (off sight start q) []
 
 fallen_seen : (sight : Sight) (start p q : Corner) (a b c : Button) → AreThree a b c
     → Falls (λ button. Some (Keys (button_alone button))) sight start p q a b c
-unfolding handled by_question fresh hand_after_report gone_down click_meant pressed_more click_called keys_with_button
+unfolding handled by_question fresh hand_after_button gone_down click_meant pressed_more click_called keys_with_button
 fallen_seen sight start p q a b c are =
     by_orders (Falls (λ button. Some (Keys (button_alone button))) sight start p q) made made made made made made a b c are
 
 fallen_unseen : (sight : Sight) (start p q : Corner) (a b c : Button) → AreThree a b c
     → Falls (λ button. None) sight start p q a b c
-unfolding handled by_question fresh hand_after_report gone_down click_meant pressed_more click_called keys_with_button
+unfolding handled by_question fresh hand_after_button gone_down click_meant pressed_more click_called keys_with_button
 fallen_unseen sight start p q a b c are =
     by_orders (Falls (λ button. None) sight start p q) made made made made made made a b c are
 
-fallen : (sight : Sight) (start p q : Corner) (a b c : Button) → AreThree a b c
-    → MakesEvents sight new_hand (down a start ∷ down b p ∷ down c q ∷ []) (off sight start) []
-fallen sight start p q a b c are =
+fallen : (sight : Sight) (pointer : Option Spot) (start p q : Corner) (a b c : Button) → AreThree a b c
+    → MakesEvents sight (resting pointer) (down a start ∷ down b p ∷ down c q ∷ []) (off sight start q) []
+fallen sight pointer start p q a b c are =
     by_test (is_seen sight start)
-    (λ seen. after_one (seen_down sight a start seen) (fallen_seen sight start p q a b c are))
-    (λ unseen. after_one (unseen_down sight a start unseen) (fallen_unseen sight start p q a b c are))
+    (λ seen. after_one (seen_down sight pointer a start seen) (fallen_seen sight start p q a b c are))
+    (λ unseen. after_one (unseen_down sight pointer a start unseen) (fallen_unseen sight start p q a b c are))
 
-abbrev Rises : Sight → Corner → Corner → Corner → Corner → Button → Button → Button → Type 0
-Rises sight start p q r x y z = MakesEvents sight (off sight start) (up x p ∷ up y q ∷ up z r ∷ []) new_hand []
+abbrev Rises : Sight → Corner → Corner → Corner → Corner → Corner → Button → Button → Button → Type 0
+Rises sight start last p q r x y z =
+    MakesEvents sight (off sight start last) (up x p ∷ up y q ∷ up z r ∷ []) (resting (seen_spot sight r)) []
 
-risen : (sight : Sight) (start p q r : Corner) (x y z : Button) → AreThree x y z → Rises sight start p q r x y z
-unfolding handled by_question fresh hand_after_report gone_up rested released released_at
-risen sight start p q r x y z are =
-    by_orders (Rises sight start p q r) made made made made made made x y z are
+risen : (sight : Sight) (start last p q r : Corner) (x y z : Button) → AreThree x y z
+    → Rises sight start last p q r x y z
+unfolding handled by_question fresh hand_after_button gone_up rested released released_at
+risen sight start last p q r x y z are =
+    by_orders (Rises sight start last p q r) made made made made made made x y z are
 
-pub three_buttons : (sight : Sight) (a b c x y z : Button) (start p q r s end : Corner)
+pub three_buttons : (sight : Sight) (pointer : Option Spot) (a b c x y z : Button) (start p q r s end : Corner)
     → AreThree a b c → AreThree x y z
-    → MakesEvents sight new_hand (down a start ∷ down b p ∷ down c q ∷ up x r ∷ up y s ∷ up z end ∷ []) new_hand []
-three_buttons sight a b c x y z start p q r s end falls rises =
-    let f = fallen sight start p q a b c falls in
-    let g = risen sight start r s end x y z rises in
+    → MakesEvents sight (resting pointer) (down a start ∷ down b p ∷ down c q ∷ up x r ∷ up y s ∷ up z end ∷ [])
+    (resting (seen_spot sight end)) []
+three_buttons sight pointer a b c x y z start p q r s end falls rises =
+    let f = fallen sight pointer start p q a b c falls in
+    let g = risen sight start q r s end x y z rises in
     let downs = down a start ∷ down b p ∷ down c q ∷ [] in
     let ups = up x r ∷ up y s ∷ up z end ∷ [] in
     record {
       hand_is = ap (λ h. hand_after sight h ups) f.hand_is ∙ g.hand_is;
-      events_are = posted_of_both sight new_hand downs ups
-          ∙ ap (λ l. l ++ posted_events sight (hand_after sight new_hand downs) ups) f.events_are
+      events_are = posted_of_both sight (resting pointer) downs ups
+          ∙ ap (λ l. l ++ posted_events sight (hand_after sight (resting pointer) downs) ups) f.events_are
           ∙ ap (λ h. posted_events sight h ups) f.hand_is ∙ g.events_are;
     }
 
 -- ---- one button and a key
 
 -- the hand after a function key
-abbrev armed : Click → Hand
-armed click = record { armed = Some click; gesture = None; paste = None; asked = None }
+abbrev armed : Option Spot → Click → Hand
+armed pointer click = record { armed = Some click; gesture = None; paste = None; asked = None; pointer = pointer }
 
 -- what a key comes to and a click after it
-abbrev Says : Sight → FunctionKey → Corner → Corner → Option Click → Type 0
-Says sight key start end None = Unit {0}
-Says sight key start end (Some click) = handled sight (Function key) new_hand ≡ (armed click, Nothing)
+abbrev Says : Sight → Option Spot → FunctionKey → Option Click → Type 0
+Says sight pointer key None = Unit {0}
+Says sight pointer key (Some click) = handled sight (Function key) (resting pointer) ≡ (armed pointer click, Nothing)
 
-each_says : (sight : Sight) (key : FunctionKey) (start end : Corner) → Says sight key start end (says key)
+each_says : (sight : Sight) (pointer : Option Spot) (key : FunctionKey) → Says sight pointer key (says key)
 unfolding handled by_question fresh by_function
-each_says sight F1 start end = refl
-each_says sight F2 start end = refl
-each_says sight F3 start end = refl
-each_says sight F4 start end = refl
-each_says sight F5 start end = refl
-each_says sight F6 start end = refl
-each_says sight F7 start end = refl
-each_says sight F8 start end = tt
-each_says sight F9 start end = tt
-each_says sight F10 start end = tt
+each_says sight pointer F1 = refl
+each_says sight pointer F2 = refl
+each_says sight pointer F3 = refl
+each_says sight pointer F4 = refl
+each_says sight pointer F5 = refl
+each_says sight pointer F6 = refl
+each_says sight pointer F7 = refl
+each_says sight pointer F8 = tt
+each_says sight pointer F9 = tt
+each_says sight pointer F10 = tt
 
-armed_down : (sight : Sight) (click : Click) (start : Corner) → is_seen sight start ≡ true
-    → handled sight (down Left start) (armed click) ≡ (held (Some click) sight Left start, Nothing)
-unfolding handled by_question fresh hand_after_report gone_down begun click_meant
-armed_down sight click start seen = rw seen refl
+armed_down : (sight : Sight) (pointer : Option Spot) (click : Click) (start : Corner) → is_seen sight start ≡ true
+    → handled sight (down Left start) (armed pointer click) ≡ (held (Some click) sight Left start, Nothing)
+unfolding handled by_question fresh hand_after_button gone_down begun click_meant
+armed_down sight pointer click start seen = rw seen refl
 
 left_up : (sight : Sight) (click : Click) (start end : Corner)
-    → MakesEvents sight (held (Some click) sight Left start) (up Left end ∷ []) new_hand (click_event click sight start end ∷ [])
-unfolding handled by_question fresh hand_after_report gone_up rested released released_at
+    → MakesEvents sight (held (Some click) sight Left start) (up Left end ∷ []) (resting (seen_spot sight end))
+    (click_event click sight start end ∷ [])
+unfolding handled by_question fresh hand_after_button gone_up rested released released_at
 left_up sight Mark start end = made
 left_up sight (Keys keys) start end = made
 
-pub said_click : (sight : Sight) (key : FunctionKey) (click : Click) (start end : Corner) → says key ≡ Some click
-    → is_seen sight start ≡ true
-    → MakesEvents sight new_hand (Function key ∷ down Left start ∷ up Left end ∷ []) new_hand
+pub said_click : (sight : Sight) (pointer : Option Spot) (key : FunctionKey) (click : Click) (start end : Corner)
+    → says key ≡ Some click → is_seen sight start ≡ true
+    → MakesEvents sight (resting pointer) (Function key ∷ down Left start ∷ up Left end ∷ []) (resting (seen_spot sight end))
     (click_event click sight start end ∷ [])
-said_click sight key click start end is seen =
-    let first = subst (λ (o : Option Click). Says sight key start end o) is (each_says sight key start end) in
-    after_one first (after_one (armed_down sight click start seen) (left_up sight click start end))
+said_click sight pointer key click start end is seen =
+    let first = subst (λ (o : Option Click). Says sight pointer key o) is (each_says sight pointer key) in
+    after_one first (after_one (armed_down sight pointer click start seen) (left_up sight click start end))
 
-alt_down : (sight : Sight) (control : Bool) (start : Corner) → is_seen sight start ≡ true
-    → handled sight (down_with true control Left start) new_hand
+alt_down : (sight : Sight) (pointer : Option Spot) (control : Bool) (start : Corner) → is_seen sight start ≡ true
+    → handled sight (down_with true control Left start) (resting pointer)
     ≡ (held (Some (Keys keys.Middle)) sight Left start, Nothing)
-unfolding handled by_question fresh hand_after_report gone_down begun click_meant
-alt_down sight control start seen = rw seen refl
+unfolding handled by_question fresh hand_after_button gone_down begun click_meant
+alt_down sight pointer control start seen = rw seen refl
 
-pub held_click : (sight : Sight) (control : Bool) (start end : Corner) → is_seen sight start ≡ true
-    → MakesEvents sight new_hand (down_with true control Left start ∷ up Left end ∷ []) new_hand
-    (click_event (Keys keys.Middle) sight start end ∷ [])
-held_click sight control start end seen =
-    after_one (alt_down sight control start seen) (left_up sight (Keys keys.Middle) start end)
+pub held_click : (sight : Sight) (pointer : Option Spot) (control : Bool) (start end : Corner) → is_seen sight start ≡ true
+    → MakesEvents sight (resting pointer) (down_with true control Left start ∷ up Left end ∷ [])
+    (resting (seen_spot sight end)) (click_event (Keys keys.Middle) sight start end ∷ [])
+held_click sight pointer control start end seen =
+    after_one (alt_down sight pointer control start seen) (left_up sight (Keys keys.Middle) start end)
 
-control_down : (sight : Sight) (start : Corner) → is_seen sight start ≡ true
-    → handled sight (down_with false true Left start) new_hand
+control_down : (sight : Sight) (pointer : Option Spot) (start : Corner) → is_seen sight start ≡ true
+    → handled sight (down_with false true Left start) (resting pointer)
     ≡ (held (Some (Keys keys.Right)) sight Left start, Nothing)
-unfolding handled by_question fresh hand_after_report gone_down begun click_meant
-control_down sight start seen = rw seen refl
+unfolding handled by_question fresh hand_after_button gone_down begun click_meant
+control_down sight pointer start seen = rw seen refl
 
-pub control_click : (sight : Sight) (start end : Corner) → is_seen sight start ≡ true
-    → MakesEvents sight new_hand (down_with false true Left start ∷ up Left end ∷ []) new_hand
-    (click_event (Keys keys.Right) sight start end ∷ [])
-control_click sight start end seen =
-    after_one (control_down sight start seen) (left_up sight (Keys keys.Right) start end)
+pub control_click : (sight : Sight) (pointer : Option Spot) (start end : Corner) → is_seen sight start ≡ true
+    → MakesEvents sight (resting pointer) (down_with false true Left start ∷ up Left end ∷ [])
+    (resting (seen_spot sight end)) (click_event (Keys keys.Right) sight start end ∷ [])
+control_click sight pointer start end seen =
+    after_one (control_down sight pointer start seen) (left_up sight (Keys keys.Right) start end)
 
 pub ruleset clicks_of_one = (held_click, control_click)

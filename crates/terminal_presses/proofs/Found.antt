@@ -15,11 +15,14 @@ use Rattle.terminal_presses.specs.declared.press.Page.{Page as PageKey}
 use Rattle.terminal_presses.specs.declared.press.Page.TheVariants as page
 use Rattle.terminal_presses.specs.declared.press.FunctionKey.{FunctionKey}
 use Rattle.terminal_presses.specs.declared.press.FunctionKey.TheVariants.{F1, F2, F3, F4, F5, F6, F7, F8, F9, F10}
+use Rattle.terminal_presses.specs.declared.press.Scroll.{Scroll as ScrollKey}
+use Rattle.terminal_presses.specs.declared.press.Scroll.TheVariants.{WheelUp, WheelDown, PageUp, PageDown, First, Last}
 use Rattle.terminal_presses.specs.declared.press.MouseReport.{MouseReport}
+use Rattle.terminal_presses.specs.declared.press.WheelReport.{WheelReport}
 use Rattle.terminal_presses.specs.declared.press.Press.{Press}
 use Rattle.terminal_presses.specs.declared.press.Press.TheVariants.{Character, Foreign, Control, Back, Escape, Arrow}
 use Rattle.terminal_presses.specs.declared.press.Press.TheVariants.{Page, Function, Mouse, PasteBegins, PasteEnds, Size}
-use Rattle.terminal_presses.specs.declared.press.Press.TheVariants.{FileFails, Unknown}
+use Rattle.terminal_presses.specs.declared.press.Press.TheVariants.{Scroll, Wheel, FileFails, Unknown}
 use Rattle.terminal_presses.specs.declared.press.Presses.{Presses}
 use Rattle.terminal_presses.specs.declared.press.Presses.TheVariants.{Nothing}
 use Rattle.terminal_presses.specs.declared.place.Mark.{Mark}
@@ -32,10 +35,12 @@ use Rattle.terminal_presses.specs.Presses.{single, grounded, preceded, press_alo
 use Rattle.terminal_presses.specs.Presses.{longer, with_digit, with_number, mouse_mark, reported_press, moused, sized, unmarked_press}
 use Rattle.terminal_presses.specs.Presses.{sequence_end, after_ground, after_escape, after_shift, after_console}
 use Rattle.terminal_presses.specs.Presses.{after_sequence, after_byte, after_quiet, sequence_after, at_rest, heard_by, in_order}
-use Rattle.terminal_presses.specs.Presses.{parser_after, presses_heard}
-use Rattle.terminal_presses.specs.Spelling.{value_from, IsNumeral, report_number, report_end, IsReport, IsSize}
+use Rattle.terminal_presses.specs.Presses.{parser_after, presses_heard, held_with, with_alt, scroll_with_alt, with_control, arrow_with_control}
+use Rattle.terminal_presses.specs.Presses.{wheel_press}
+use Rattle.terminal_presses.specs.Spelling.{value_from, IsNumeral, report_number, report_end, IsMouseText, IsReport, IsWheel, IsSize}
+use Rattle.terminal_presses.specs.Spelling.{IsControlSpelled, byte_with_alt, number_held, wheel_number}
 use Rattle.terminal_presses.specs.Spelling.{IsLongCharacter}
-use Rattle.terminal_presses.specs.Spelling.{is_control, letter_alone, shifted_sequence, arrow_letter, page_spelling}
+use Rattle.terminal_presses.specs.Spelling.{is_control, arrow_spellings, scroll_spellings, page_spelling}
 use Rattle.terminal_presses.specs.Spelling.{function_spellings, key_sequence, IsOneOf, SpellsPress, bytes_heard, IsPressHeard}
 use Rattle.terminal_presses.specs.Spelling.{is_alone_with_alt}
 use Rattle.terminal_presses.specs.Spelling.{AreHeard}
@@ -184,24 +189,37 @@ escape_found : Finds Escape (Byte 27 ∷ Quiet ∷ [])
 unfolding heard_by sequence_after after_byte after_quiet after_ground grounded
 escape_found = (refl, refl)
 
-arrow_found : (key : ArrowKey)
-    → AllFound (Arrow key) (letter_alone (arrow_letter key) ∷ shifted_sequence (arrow_letter key) ∷ [])
-unfolding heard_by sequence_after after_byte after_ground grounded after_escape after_shift after_sequence is_digit sequence_end
-    unmarked_press lettered arrow_at
+arrow_found : (key : ArrowKey) → AllFound (Arrow key) (arrow_spellings key)
+unfolding heard_by sequence_after after_byte after_ground grounded after_escape after_shift after_sequence is_digit with_digit
+    with_number longer sequence_end unmarked_press held_with with_control arrow_with_control lettered numbered_key arrow_at
 arrow_found arrow.Up = ((refl, refl), ((refl, refl), tt))
 arrow_found arrow.Down = ((refl, refl), ((refl, refl), tt))
 arrow_found arrow.Right = ((refl, refl), ((refl, refl), tt))
 arrow_found arrow.Left = ((refl, refl), ((refl, refl), tt))
+arrow_found arrow.Home = ((refl, refl), ((refl, refl), ((refl, refl), ((refl, refl), tt))))
+arrow_found arrow.End = ((refl, refl), ((refl, refl), ((refl, refl), ((refl, refl), tt))))
+arrow_found arrow.WordRight = ((refl, refl), tt)
+arrow_found arrow.WordLeft = ((refl, refl), tt)
+
+scroll_found : (scroll : ScrollKey) → AllFound (Scroll scroll) (scroll_spellings scroll)
+unfolding heard_by sequence_after after_byte after_ground grounded after_escape after_sequence is_digit with_digit
+    with_number longer sequence_end unmarked_press held_with with_control arrow_with_control lettered numbered_key
+scroll_found PageUp = ((refl, refl), tt)
+scroll_found PageDown = ((refl, refl), tt)
+scroll_found First = ((refl, refl), tt)
+scroll_found Last = ((refl, refl), tt)
+scroll_found WheelUp = tt
+scroll_found WheelDown = tt
 
 page_found : (key : PageKey) → Finds (Page key) (bytes_heard (page_spelling key))
-unfolding heard_by sequence_after after_byte after_ground grounded after_escape after_sequence is_digit with_digit longer
-    sequence_end unmarked_press numbered_key
+unfolding heard_by sequence_after after_byte after_ground grounded after_escape after_sequence is_digit with_digit with_number
+    longer sequence_end unmarked_press held_with with_alt scroll_with_alt numbered_key
 page_found page.Up = (refl, refl)
 page_found page.Down = (refl, refl)
 
 function_found : (key : FunctionKey) → AllFound (Function key) (function_spellings key)
 unfolding heard_by sequence_after after_byte after_ground grounded after_escape after_shift after_sequence after_console
-    is_digit with_digit longer sequence_end unmarked_press lettered numbered_key function_at
+    is_digit with_digit longer sequence_end unmarked_press held_with lettered numbered_key function_at
 function_found F1 = ((refl, refl), ((refl, refl), ((refl, refl), ((refl, refl), ((refl, refl), tt)))))
 function_found F2 = ((refl, refl), ((refl, refl), ((refl, refl), ((refl, refl), ((refl, refl), tt)))))
 function_found F3 = ((refl, refl), ((refl, refl), ((refl, refl), ((refl, refl), ((refl, refl), tt)))))
@@ -216,12 +234,12 @@ function_found F10 = ((refl, refl), tt)
 pub paste_found : Finds PasteBegins (bytes_heard (key_sequence (50 ∷ 48 ∷ 48 ∷ 126 ∷ [])))
     × Finds PasteEnds (bytes_heard (key_sequence (50 ∷ 48 ∷ 49 ∷ 126 ∷ [])))
 unfolding heard_by sequence_after after_byte after_ground grounded after_escape after_sequence is_digit with_digit longer
-    sequence_end unmarked_press numbered_key
+    sequence_end unmarked_press held_with numbered_key
 paste_found = ((refl, refl), (refl, refl))
 
 failure_found : Finds FileFails (bytes_heard (key_sequence (50 ∷ 48 ∷ 50 ∷ 126 ∷ [])))
 unfolding heard_by sequence_after after_byte after_ground grounded after_escape after_sequence is_digit with_digit longer
-    sequence_end unmarked_press numbered_key
+    sequence_end unmarked_press held_with numbered_key
 failure_found = (refl, refl)
 
 -- ---- numbers
@@ -385,18 +403,56 @@ report_begins : (text : List ℕ)
 unfolding heard_by sequence_after after_byte after_ground grounded after_escape after_sequence is_digit mouse_mark
 report_begins text = (refl, refl)
 
+-- what is heard amid a report before its end
+abbrev reporting_at : ℕ → ℕ → ℕ → Parser
+reporting_at n column row = amid (numbers mark.Mouse 2 n column row)
+
+-- a report says what it says by its end
+abbrev Ends : ℕ → ℕ → ℕ → ℕ → Press → Type 0
+Ends n column row last press =
+    (parser_after (reporting_at n column row) (bytes_heard (last ∷ [])) ≡ at_rest)
+    × (presses_heard (reporting_at n column row) (bytes_heard (last ∷ [])) ≡ press ∷ [])
+
+mouse_found : (n column row last : ℕ) (press : Press) (text : List ℕ) → IsMouseText n column row last text
+    → Ends n column row last press → Finds press (bytes_heard text)
+mouse_found n column row last press text is e =
+    let end = last ∷ [] in
+    let a = report_begins (is.number ++ 59 ∷ (is.across ++ 59 ∷ (is.down ++ end))) in
+    let b = first_goes mark.Mouse n is.number (is.across ++ 59 ∷ (is.down ++ end)) is.number_is in
+    let c = second_goes mark.Mouse n column is.across (is.down ++ end) is.column_is in
+    let d = third_goes mark.Mouse n column row is.down end is.row_is in
+    subst (λ t. Finds press (bytes_heard t)) (sym is.parts)
+    (a.0 ∙ b.0 ∙ c.0 ∙ d.0 ∙ e.0, a.1 ∙ b.1 ∙ c.1 ∙ d.1 ∙ e.1)
+
 report_found : (report : MouseReport) (text : List ℕ) → IsReport report text → Finds (Mouse report) (bytes_heard text)
 report_found report text is =
-    let n = report_number report is.shift in
-    let end = report_end report.is_down ∷ [] in
-    let a = report_begins (is.number ++ 59 ∷ (is.column ++ 59 ∷ (is.row ++ end))) in
-    let b = first_goes mark.Mouse n is.number (is.column ++ 59 ∷ (is.row ++ end)) is.number_is in
-    let c = second_goes mark.Mouse n report.column is.column (is.row ++ end) is.column_is in
-    let d = third_goes mark.Mouse n report.column report.row is.row end is.row_is in
-    let e = report_ends report.button report.is_down report.with_alt report.with_control is.shift report.column
-    report.row in
-    subst (λ t. Finds (Mouse report) (bytes_heard t)) (sym is.parts)
-    (a.0 ∙ b.0 ∙ c.0 ∙ d.0 ∙ e.0, a.1 ∙ b.1 ∙ c.1 ∙ d.1 ∙ e.1)
+    mouse_found (report_number report is.0) report.column report.row (report_end report.is_down) (Mouse report) text is.1
+    (report_ends report.button report.is_down report.with_alt report.with_control is.0 report.column report.row)
+
+abbrev wheel_of : Bool → ℕ → ℕ → WheelReport
+wheel_of up column row = record { is_up = up; column = column; row = row }
+
+abbrev WheelAgain : Bool → ℕ → ℕ → Bool → Bool → Bool → Type 0
+WheelAgain up column row shift alt control =
+    reported_press (numbers mark.Mouse 2 (number_held (wheel_number up) shift alt control) column row) true
+    ≡ Wheel (wheel_of up column row)
+
+wheel_again : (up shift alt control : Bool) (column row : ℕ) → WheelAgain up column row shift alt control
+unfolding reported_press wheel_press
+wheel_again true shift alt control column row =
+    by_bools (WheelAgain true column row) refl refl refl refl refl refl refl refl shift alt control
+wheel_again false shift alt control column row =
+    by_bools (WheelAgain false column row) refl refl refl refl refl refl refl refl shift alt control
+
+wheel_ends : (up shift alt control : Bool) (column row : ℕ)
+    → Ends (number_held (wheel_number up) shift alt control) column row 77 (Wheel (wheel_of up column row))
+unfolding heard_by sequence_after after_byte after_sequence is_digit sequence_end moused
+wheel_ends up shift alt control column row = (refl, rw (wheel_again up shift alt control column row) refl)
+
+wheel_found : (report : WheelReport) (text : List ℕ) → IsWheel report text → Finds (Wheel report) (bytes_heard text)
+wheel_found report text (shift, alt, control, is) =
+    mouse_found (number_held (wheel_number report.is_up) shift alt control) report.column report.row 77 (Wheel report) text is
+    (wheel_ends report.is_up shift alt control report.column report.row)
 
 -- ---- sizes
 
@@ -423,19 +479,32 @@ size_found rows columns text is =
 
 -- ---- presses
 
+alt_found : Finds (Control 25) (bytes_heard (byte_with_alt 122))
+unfolding heard_by sequence_after after_byte after_ground grounded after_escape
+alt_found = (refl, refl)
+
+control_found : (b : ℕ) (text : List ℕ) → IsControlSpelled b text → Finds (Control b) (bytes_heard text)
+control_found b text (inl is) =
+    subst (λ t. Finds (Control b) (bytes_heard t)) (sym is.1) (found_by b (Control b) (control_grounded b is.0))
+control_found b text (inr is) =
+    subst (λ t. Finds (Control b) (bytes_heard t)) (sym is.1)
+    (subst (λ n. Finds (Control n) (bytes_heard (byte_with_alt 122))) (sym is.0) alt_found)
+
 spelled_found : (press : Press) (text : List ℕ) → SpellsPress press text → Finds press (bytes_heard text)
 spelled_found (Character b) text is =
     subst (λ t. Finds (Character b) (bytes_heard t)) (sym is.1) (found_by b (Character b) (character_grounded b is.0))
 spelled_found Foreign text is = foreign_found text is
-spelled_found (Control b) text is =
-    subst (λ t. Finds (Control b) (bytes_heard t)) (sym is.1) (found_by b (Control b) (control_grounded b is.0))
+spelled_found (Control b) text is = control_found b text is
 spelled_found Back text is = one_found Back ((8 ∷ []) ∷ (127 ∷ []) ∷ []) text back_found is
 spelled_found Escape text is = absurd is
 spelled_found (Arrow key) text is =
-    one_found (Arrow key) (letter_alone (arrow_letter key) ∷ shifted_sequence (arrow_letter key) ∷ []) text (arrow_found key) is
+    one_found (Arrow key) (arrow_spellings key) text (arrow_found key) is
+spelled_found (Scroll scroll) text is =
+    one_found (Scroll scroll) (scroll_spellings scroll) text (scroll_found scroll) is
 spelled_found (Page key) text is = subst (λ t. Finds (Page key) (bytes_heard t)) (sym is) (page_found key)
 spelled_found (Function key) text is = one_found (Function key) (function_spellings key) text (function_found key) is
 spelled_found (Mouse report) text is = report_found report text is
+spelled_found (Wheel report) text is = wheel_found report text is
 spelled_found PasteBegins text is = subst (λ t. Finds PasteBegins (bytes_heard t)) (sym is) paste_found.0
 spelled_found PasteEnds text is = subst (λ t. Finds PasteEnds (bytes_heard t)) (sym is) paste_found.1
 spelled_found (Size rows columns) text is = size_found rows columns text is
@@ -477,18 +546,21 @@ escape_alone b more low =
     let bracket : nat_eq b 91 ≡ false = grind (arith, nat_tests) in
     let letter : nat_eq b 79 ≡ false = grind (arith, nat_tests) in
     let digit : nat_le 49 b ≡ false = grind (arith, nat_tests) in
+    let again : nat_eq b 122 ≡ false = grind (arith, nat_tests) in
     let below : nat_lt b 32 ≡ true = grind (arith, nat_tests) in
     let e = preceded_is (grounded b) in
-    rw (bracket, letter, digit, below, e.0, e.1) refl
+    rw (bracket, letter, digit, again, below, e.0, e.1) refl
 
 pub alt_alone : (b : ℕ) (more : List Heard) → is_alone_with_alt b ≡ true
     → presses_heard at_rest (Byte 27 ∷ Byte b ∷ more) ≡ Unknown ∷ presses_heard at_rest more
 unfolding heard_by sequence_after after_byte after_ground grounded after_escape
 alt_alone b more is =
-    let (high, others) = none_of (nat_lt b 32) ((b == 79) || ((b == 91) || lies_within 49 55 b)) (is_not _ is) in
-    let (letter, rest) = none_of (b == 79) ((b == 91) || lies_within 49 55 b) others in
-    let (bracket, digit) = none_of (b == 91) (lies_within 49 55 b) rest in
-    rw (bracket, letter, digit, high) refl
+    let keys = (b == 122) || lies_within 49 55 b in
+    let (high, others) = none_of (nat_lt b 32) ((b == 79) || ((b == 91) || keys)) (is_not _ is) in
+    let (letter, rest) = none_of (b == 79) ((b == 91) || keys) others in
+    let (bracket, these) = none_of (b == 91) keys rest in
+    let (again, digit) = none_of (b == 122) (lies_within 49 55 b) these in
+    rw (bracket, letter, digit, again, high) refl
 
 -- ---- what is pasted
 

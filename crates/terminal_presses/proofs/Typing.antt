@@ -13,7 +13,7 @@ use Rattle.event_bytes.specs.declared.event.Event.TheVariants.{Typed}
 use Rattle.terminal_presses.specs.declared.press.Press.{Press}
 use Rattle.terminal_presses.specs.declared.press.Press.TheVariants.{Character, Foreign, Control, Back, Escape, Arrow}
 use Rattle.terminal_presses.specs.declared.press.Press.TheVariants.{Page, Function, Mouse, PasteBegins, PasteEnds, Size}
-use Rattle.terminal_presses.specs.declared.press.Press.TheVariants.{FileFails, Unknown}
+use Rattle.terminal_presses.specs.declared.press.Press.TheVariants.{Scroll, Wheel, FileFails, Unknown}
 use Rattle.terminal_presses.specs.Sights.{Sight}
 use Rattle.terminal_presses.specs.declared.action.Action.{Action}
 use Rattle.terminal_presses.specs.declared.action.Action.TheVariants.{Nothing, Post}
@@ -218,8 +218,10 @@ goes_on_with (Control b) p is = record { paste_is = rw is refl; events_are = rw 
 goes_on_with Back p is = record { paste_is = rw is refl; events_are = rw is refl }
 goes_on_with Escape p is = record { paste_is = rw is refl; events_are = rw is refl }
 goes_on_with (Arrow arrow) p is = record { paste_is = rw is refl; events_are = rw is refl }
+goes_on_with (Scroll scroll) p is = record { paste_is = rw is refl; events_are = rw is refl }
 goes_on_with (Page page) p is = record { paste_is = rw is refl; events_are = rw is refl }
 goes_on_with (Function key) p is = record { paste_is = rw is refl; events_are = rw is refl }
+goes_on_with (Wheel report) p is = record { paste_is = rw is refl; events_are = rw is refl }
 goes_on_with (Mouse report) p is = record { paste_is = rw is refl; events_are = rw is refl }
 goes_on_with PasteBegins p is = record { paste_is = rw is refl; events_are = rw is refl }
 goes_on_with PasteEnds p is = record { paste_is = rw is refl; events_are = rw is refl }

@@ -5,7 +5,7 @@ use Rattle.terminal_presses.specs.declared.press.FunctionKey.TheVariants.{F9, F1
 use Rattle.terminal_presses.specs.declared.press.Press.{Press}
 use Rattle.terminal_presses.specs.declared.press.Press.TheVariants.{Character, Foreign, Control, Back, Escape, Arrow}
 use Rattle.terminal_presses.specs.declared.press.Press.TheVariants.{Page, Function, Mouse, PasteBegins, PasteEnds, Size}
-use Rattle.terminal_presses.specs.declared.press.Press.TheVariants.{FileFails, Unknown}
+use Rattle.terminal_presses.specs.declared.press.Press.TheVariants.{Scroll, Wheel, FileFails, Unknown}
 use Rattle.terminal_presses.specs.declared.action.Action.{Action}
 use Rattle.terminal_presses.specs.declared.action.Action.TheVariants.{Nothing, Ring, LookAnew}
 use Rattle.terminal_presses.specs.declared.action.Action.TheVariants.{Leave, TypeFile, Move, Fit}
@@ -58,9 +58,11 @@ answered (Control b) name = controlled_name b name
 answered Back name = shortened_name name
 answered Escape name = (None, Nothing)
 answered (Arrow arrow) name = (Some name, Ring)
+answered (Scroll scroll) name = (Some name, Ring)
 answered (Page page) name = (Some name, Move page)
 answered (Function key) name = (Some name, by_function_amid key)
 answered (Mouse report) name = (Some name, Nothing)
+answered (Wheel report) name = (Some name, Nothing)
 answered PasteBegins name = (Some name, Nothing)
 answered PasteEnds name = (Some name, Nothing)
 answered (Size rows columns) name = (Some name, Fit rows columns)
@@ -76,9 +78,11 @@ pasted_name (Control b) name = (Some name, Ring)
 pasted_name Back name = (Some name, Ring)
 pasted_name Escape name = (Some name, Ring)
 pasted_name (Arrow arrow) name = (Some name, Ring)
+pasted_name (Scroll scroll) name = (Some name, Ring)
 pasted_name (Page page) name = (Some name, Ring)
 pasted_name (Function key) name = (Some name, Ring)
 pasted_name (Mouse report) name = (Some name, Nothing)
+pasted_name (Wheel report) name = (Some name, Nothing)
 pasted_name PasteBegins name = (Some name, Nothing)
 pasted_name PasteEnds name = (Some name, Nothing)
 pasted_name (Size rows columns) name = (Some name, Fit rows columns)

@@ -8,18 +8,22 @@ use Rattle.terminal_presses.specs.declared.press.Button.{Button}
 use Rattle.terminal_presses.specs.declared.press.Button.TheVariants.{Left, Middle, Right}
 use Rattle.terminal_presses.specs.declared.press.FunctionKey.{FunctionKey}
 use Rattle.terminal_presses.specs.declared.press.FunctionKey.TheVariants.{F1, F2, F3, F4, F5, F6, F7, F8, F9, F10}
+use Rattle.terminal_presses.specs.declared.press.Scroll.{Scroll as ScrollKey}
+use Rattle.terminal_presses.specs.declared.press.Scroll.TheVariants.{WheelUp, WheelDown, PageUp, PageDown, First, Last}
 use Rattle.terminal_presses.specs.declared.press.MouseReport.{MouseReport}
+use Rattle.terminal_presses.specs.declared.press.WheelReport.{WheelReport}
 use Rattle.terminal_presses.specs.declared.press.Press.{Press}
 use Rattle.terminal_presses.specs.declared.press.Press.TheVariants.{Character, Foreign, Control, Back, Escape, Arrow}
 use Rattle.terminal_presses.specs.declared.press.Press.TheVariants.{Page, Function, Mouse, PasteBegins, PasteEnds, Size}
-use Rattle.terminal_presses.specs.declared.press.Press.TheVariants.{FileFails, Unknown}
-use Rattle.terminal_presses.specs.Sights.{Sight, is_in_sight, spot_in}
+use Rattle.terminal_presses.specs.declared.press.Press.TheVariants.{Scroll, Wheel, FileFails, Unknown}
+use Rattle.terminal_presses.specs.Sights.{Sight, cell_shown, is_in_sight, spot_in}
 use Rattle.terminal_presses.specs.declared.spot.Spot.{Spot}
 use Rattle.terminal_presses.specs.declared.action.Click.{Click}
 use Rattle.terminal_presses.specs.declared.action.Click.TheVariants.{Mark, Keys}
 use Rattle.terminal_presses.specs.declared.action.Action.{Action}
 use Rattle.terminal_presses.specs.declared.action.Action.TheVariants.{Nothing, Post, Ring, LookAnew, Leave, Undo, Redo}
 use Rattle.terminal_presses.specs.declared.action.Action.TheVariants.{Move, Step, Fit, FileFailed}
+use Rattle.terminal_presses.specs.declared.action.Action.TheVariants as action
 use Rattle.terminal_presses.specs.declared.gesture.Gesture.{Gesture}
 use Rattle.terminal_presses.specs.declared.paste.Paste.{Paste}
 use Rattle.terminal_presses.specs.declared.hand.Hand.{Hand}
@@ -30,9 +34,19 @@ use Rattle.terminal_presses.specs.Gestures.{released_at}
 use Rattle.terminal_presses.specs.Asking.{Asked, answered, pasted_name}
 use Rattle.terminal_presses.specs.Pastes.{line_feed, return, typing_action, new_paste, dropped, pasted_on}
 
+-- a hand with which nothing is under way, and where the pointer of the mouse is then
+abbrev pub resting : Option Spot → Hand
+resting pointer = record {
+  armed = None;
+  gesture = None;
+  paste = None;
+  asked = None;
+  pointer = pointer;
+}
+
 -- the hand that has pressed nothing
 abbrev pub new_hand : Hand
-new_hand = record { armed = None; gesture = None; paste = None; asked = None }
+new_hand = resting None
 
 -- a hand that isn't amid a paste, nor amid the name of a host file
 abbrev pub idle : Hand → Hand
@@ -136,10 +150,47 @@ unfoldable pub gone_up : Option Gesture → Button → Spot → Hand → Hand ×
 gone_up None button spot hand = (hand, Nothing)
 gone_up (Some gesture) button spot hand = rested (released button gesture) spot hand
 
-unfoldable pub hand_after_report : Sight → MouseReport → Hand → Hand × Action
-hand_after_report sight report hand =
+unfoldable pub hand_after_button : Sight → MouseReport → Hand → Hand × Action
+hand_after_button sight report hand =
     if report.is_down then (gone_down hand.gesture sight report hand, Nothing) else
     gone_up hand.gesture report.button (spot_of sight report) hand
+
+-- the pointer is where a report has told it last; outside the display it is nowhere
+abbrev pub pointed_at : Sight → ℕ → ℕ → Hand → Hand
+pointed_at sight column row hand = record hand { pointer = cell_shown sight column row }
+
+abbrev pub hand_after_report : Sight → MouseReport → Hand → Hand × Action
+hand_after_report sight report hand =
+    hand_after_button sight report (pointed_at sight report.column report.row hand)
+
+-- ---- what scrolls
+
+abbrev pub wheel_scroll : Bool → ScrollKey
+wheel_scroll is_up = if is_up then WheelUp else WheelDown
+
+-- the wheel moves the text of the viewer under the pointer, and does nothing while a gesture is under way
+unfoldable pub wheel_action : Bool → Bool → Option Spot → Action
+wheel_action is_up is_amid None = Nothing
+wheel_action is_up is_amid (Some spot) =
+    if is_amid then Nothing else action.Scroll (Some spot) (wheel_scroll is_up)
+
+abbrev pub turned_wheel : WheelReport → Hand → Hand × Action
+turned_wheel report hand =
+    (hand, wheel_action report.is_up (is_some hand.gesture) hand.pointer)
+
+abbrev pub hand_after_wheel : Sight → WheelReport → Hand → Hand × Action
+hand_after_wheel sight report hand =
+    turned_wheel report (pointed_at sight report.column report.row hand)
+
+-- A key that goes a page further moves the text of the viewer under the pointer. Where that is nowhere it is the viewer
+-- of the caret, as for the ends of a text.
+unfoldable pub scroll_place : ScrollKey → Option Spot → Option Spot
+scroll_place PageUp pointer = pointer
+scroll_place PageDown pointer = pointer
+scroll_place WheelUp pointer = None
+scroll_place WheelDown pointer = None
+scroll_place First pointer = None
+scroll_place Last pointer = None
 
 -- ---- presses
 
@@ -151,9 +202,11 @@ fresh sight (Control b) hand = controlled b hand
 fresh sight Back hand = (hand, Post (Key key.Back))
 fresh sight Escape hand = hand_after_escape hand
 fresh sight (Arrow arrow) hand = (hand, Step arrow)
+fresh sight (Scroll scroll) hand = (hand, action.Scroll (scroll_place scroll hand.pointer) scroll)
 fresh sight (Page page) hand = (hand, Move page)
 fresh sight (Function function) hand = by_function function hand
 fresh sight (Mouse report) hand = hand_after_report sight report hand
+fresh sight (Wheel report) hand = hand_after_wheel sight report hand
 fresh sight PasteBegins hand = (record hand { paste = Some new_paste }, Nothing)
 fresh sight PasteEnds hand = (hand, Nothing)
 fresh sight (Size rows columns) hand = (hand, Fit rows columns)

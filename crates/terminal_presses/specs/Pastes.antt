@@ -8,7 +8,7 @@ use Rattle.event_bytes.specs.declared.event.Event.TheVariants.{Typed}
 use Rattle.terminal_presses.specs.declared.press.Press.{Press}
 use Rattle.terminal_presses.specs.declared.press.Press.TheVariants.{Character, Foreign, Control, Back, Escape, Arrow}
 use Rattle.terminal_presses.specs.declared.press.Press.TheVariants.{Page, Function, Mouse, PasteBegins, PasteEnds, Size}
-use Rattle.terminal_presses.specs.declared.press.Press.TheVariants.{FileFails, Unknown}
+use Rattle.terminal_presses.specs.declared.press.Press.TheVariants.{Scroll, Wheel, FileFails, Unknown}
 use Rattle.terminal_presses.specs.declared.action.Action.{Action}
 use Rattle.terminal_presses.specs.declared.action.Action.TheVariants.{Nothing, Post, Fit}
 use Rattle.terminal_presses.specs.declared.paste.Paste.{Paste}
@@ -39,9 +39,11 @@ pasted_byte (Control b) = Some b
 pasted_byte Back = Some question_mark
 pasted_byte Escape = Some question_mark
 pasted_byte (Arrow arrow) = None
+pasted_byte (Scroll scroll) = None
 pasted_byte (Page page) = None
 pasted_byte (Function key) = None
 pasted_byte (Mouse report) = None
+pasted_byte (Wheel report) = None
 pasted_byte PasteBegins = None
 pasted_byte PasteEnds = None
 pasted_byte (Size rows columns) = None

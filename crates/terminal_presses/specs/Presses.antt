@@ -1,5 +1,5 @@
 -- What was pressed, as a function of what was heard.
-use Rattle.std.specs.Prelude.{ℕ, ◌+◌, ◌-◌, ◌*◌, ◌/◌, ◌%◌, Bool, true, false, ◌==◌, ◌||◌, nat_lt, nat_le, min}
+use Rattle.std.specs.Prelude.{ℕ, ◌+◌, ◌-◌, ◌*◌, ◌/◌, ◌%◌, Bool, true, false, ◌==◌, ◌||◌, not, nat_lt, nat_le, min}
 use Rattle.std.specs.Prelude.{◌&&◌, if◌then◌else◌, List, [], ◌∷◌, ◌++◌, Option, Some, None, slice_get}
 use Rattle.event_bytes.specs.Bytes.{lies_within, is_digit, is_text_byte}
 use Rattle.terminal_presses.specs.declared.press.Heard.{Heard}
@@ -8,13 +8,15 @@ use Rattle.terminal_presses.specs.declared.press.Button.{Button}
 use Rattle.terminal_presses.specs.declared.press.Button.TheVariants.{Left, Middle, Right}
 use Rattle.terminal_presses.specs.declared.press.Arrow.{Arrow as ArrowKey}
 use Rattle.terminal_presses.specs.declared.press.Arrow.TheVariants as arrow
+use Rattle.terminal_presses.specs.declared.press.Scroll.{Scroll as ScrollKey}
+use Rattle.terminal_presses.specs.declared.press.Scroll.TheVariants.{WheelUp, WheelDown, PageUp, PageDown, First, Last}
 use Rattle.terminal_presses.specs.declared.press.Page.TheVariants as page
 use Rattle.terminal_presses.specs.declared.press.FunctionKey.{FunctionKey}
 use Rattle.terminal_presses.specs.declared.press.FunctionKey.TheVariants.{F1, F2, F3, F4, F5, F6, F7, F8, F9, F10}
 use Rattle.terminal_presses.specs.declared.press.Press.{Press}
 use Rattle.terminal_presses.specs.declared.press.Press.TheVariants.{Character, Foreign, Control, Back, Escape, Arrow}
 use Rattle.terminal_presses.specs.declared.press.Press.TheVariants.{Page, Function, Mouse, PasteBegins, PasteEnds, Size}
-use Rattle.terminal_presses.specs.declared.press.Press.TheVariants.{FileFails, Unknown}
+use Rattle.terminal_presses.specs.declared.press.Press.TheVariants.{Scroll, Wheel, FileFails, Unknown}
 use Rattle.terminal_presses.specs.declared.press.Presses.{Presses}
 use Rattle.terminal_presses.specs.declared.press.Presses.TheVariants.{Nothing, One, Two}
 use Rattle.terminal_presses.specs.declared.place.Mark.{Mark}
@@ -23,6 +25,7 @@ use Rattle.terminal_presses.specs.declared.place.Numbers.{Numbers}
 use Rattle.terminal_presses.specs.declared.place.SequencePlace.{SequencePlace}
 use Rattle.terminal_presses.specs.declared.place.SequencePlace.TheVariants as place
 use Rattle.terminal_presses.specs.declared.parser.Parser.{Parser}
+use Rattle.terminal_presses.specs.declared.hand.TheConstants.{CONTROL_Y}
 
 -- ---- bytes by themselves
 
@@ -71,22 +74,58 @@ function_at n = press_listed Function (slice_get function_keys n)
 unfoldable pub arrow_at : ℕ → Press
 arrow_at n = press_listed Arrow (slice_get arrows n)
 
--- A to D are the arrows, P to S the first four function keys
+-- A to D are the arrows, P to S the first four function keys, F is End and H is Home
 unfoldable pub lettered : ℕ → Press
 lettered b =
     if lies_within 65 68 b then arrow_at (b - 65) else
-    (if lies_within 80 83 b then function_at (b - 80) else Unknown)
+    (if lies_within 80 83 b then function_at (b - 80) else
+    (if b == 70 then Arrow arrow.End else (if b == 72 then Arrow arrow.Home else Unknown)))
 
 -- keys that are spelled by a number
 unfoldable pub numbered_key : ℕ → Press
 numbered_key n =
     if lies_within 11 15 n then function_at (n - 11) else
     (if lies_within 17 21 n then function_at (n - 12) else
-    (if n == 5 then Page page.Up else
-    (if n == 6 then Page page.Down else
+    (if n == 5 then Scroll PageUp else
+    (if n == 6 then Scroll PageDown else
+    (if (n == 1) || (n == 7) then Arrow arrow.Home else
+    (if (n == 4) || (n == 8) then Arrow arrow.End else
     (if n == 200 then PasteBegins else
     (if n == 201 then PasteEnds else
-    (if n == 202 then FileFails else Unknown))))))
+    (if n == 202 then FileFails else Unknown))))))))
+
+-- with Alt the keys that go a page further move the rows in sight
+unfoldable pub scroll_with_alt : ScrollKey → Press
+scroll_with_alt PageUp = Page page.Up
+scroll_with_alt PageDown = Page page.Down
+scroll_with_alt WheelUp = Scroll WheelUp
+scroll_with_alt WheelDown = Scroll WheelDown
+scroll_with_alt First = Scroll First
+scroll_with_alt Last = Scroll Last
+
+unfoldable pub with_alt : Press → Press
+with_alt (Scroll scroll) = scroll_with_alt scroll
+with_alt press = press
+
+-- with Ctrl an arrow goes by words, and the ends of a row are those of the text
+unfoldable pub arrow_with_control : ArrowKey → Press
+arrow_with_control arrow.Up = Arrow arrow.Up
+arrow_with_control arrow.Down = Arrow arrow.Down
+arrow_with_control arrow.Right = Arrow arrow.WordRight
+arrow_with_control arrow.Left = Arrow arrow.WordLeft
+arrow_with_control arrow.Home = Scroll First
+arrow_with_control arrow.End = Scroll Last
+arrow_with_control arrow.WordRight = Arrow arrow.WordRight
+arrow_with_control arrow.WordLeft = Arrow arrow.WordLeft
+
+unfoldable pub with_control : Press → Press
+with_control (Arrow key) = arrow_with_control key
+with_control press = press
+
+-- what is held with a key, by the second number of its sequence: 3 is Alt, and 5 is Ctrl
+unfoldable pub held_with : ℕ → Press → Press
+held_with n press = if n == 3 then with_alt press else
+    (if n == 5 then with_control press else press)
 
 -- ---- numbers of a sequence
 
@@ -120,10 +159,18 @@ mouse_mark s mark.Odd = record s { mark = mark.Odd }
 
 -- ---- what a whole sequence says
 
--- a button's number has 8 more with Alt and 16 more with Ctrl; from 32 on it is a motion, a wheel or a further button
+-- a turn of the wheel has the number 64 upward and 65 downward, and more with keys as a button has; those that follow
+-- are turns to the sides, which mean nothing
+unfoldable pub wheel_press : Numbers → Bool → Press
+wheel_press s is_down =
+    if nat_lt s.first 64 || (nat_lt 95 s.first || not is_down) then Unknown else
+    press_listed (λ is_up. Wheel (record { is_up = is_up; column = s.second; row = s.third }))
+    (slice_get (true ∷ false ∷ []) (s.first % 4))
+
+-- a button's number has 8 more with Alt and 16 more with Ctrl; from 32 on it is a motion, the wheel or a further button
 unfoldable pub reported_press : Numbers → Bool → Press
 reported_press s is_down =
-    if nat_le 32 s.first then Unknown else
+    if nat_le 32 s.first then wheel_press s is_down else
     press_listed (λ button. Mouse (record {
       button = button;
       is_down = is_down;
@@ -144,8 +191,8 @@ sized s = if (s.first == 8) || (s.first == 48) then Size s.second s.third else U
 
 -- a sequence with no mark ends with ~ after a key's number, with t after a size, or else with a key's letter
 unfoldable pub unmarked_press : Numbers → ℕ → Press
-unmarked_press s b = if b == 126 then numbered_key s.first
-    else (if b == 116 then sized s else lettered b)
+unmarked_press s b = if b == 126 then held_with s.second (numbered_key s.first)
+    else (if b == 116 then sized s else held_with s.second (lettered b))
 
 -- a sequence ends with this byte. M with no mark begins a mouse report of the older form: three bytes follow
 unfoldable pub sequence_end : Numbers → Mark → ℕ → SequencePlace × Presses
@@ -167,14 +214,16 @@ press_alone (at, Some press) = (at, One press)
 unfoldable pub after_ground : ℕ → SequencePlace × Presses
 after_ground b = press_alone (grounded b)
 
--- [ or O go on with a spelling, and a digit from 1 to 7 is Alt with it: a function key. With any other byte from the
--- space on it is the key Alt, and means nothing. Before a byte below that it was a key of its own.
+-- [ or O go on with a spelling, and a digit from 1 to 7 is Alt with it: a function key. Alt with z is Ctrl with y. With
+-- any other byte from the space on it is the key Alt, and means nothing. Before a byte below that it was a key of its
+-- own.
 unfoldable pub after_escape : ℕ → SequencePlace × Presses
 after_escape b =
     if b == 91 then (place.Sequence no_numbers, Nothing) else
     (if b == 79 then (place.Shift, Nothing) else
     (if lies_within 49 55 b then (place.Ground, One (function_at (b - 49))) else
-    (if nat_lt b 32 then preceded Escape (grounded b) else (place.Ground, One Unknown))))
+    (if b == 122 then (place.Ground, One (Control CONTROL_Y)) else
+    (if nat_lt b 32 then preceded Escape (grounded b) else (place.Ground, One Unknown)))))
 
 unfoldable pub after_shift : ℕ → SequencePlace × Presses
 after_shift b = if lies_within 32 126 b then (place.Ground, One (lettered b)) else cut_off b

@@ -16,7 +16,7 @@ use Rattle.terminal_presses.specs.declared.press.FunctionKey.TheVariants.{F1, F2
 use Rattle.terminal_presses.specs.declared.press.MouseReport.{MouseReport}
 use Rattle.terminal_presses.specs.declared.press.Press.{Press}
 use Rattle.terminal_presses.specs.declared.press.Press.TheVariants.{Mouse, PasteBegins, PasteEnds}
-use Rattle.terminal_presses.specs.Sights.{Sight, is_in_sight, spot_in}
+use Rattle.terminal_presses.specs.Sights.{Sight, cell_shown, is_in_sight, spot_in}
 use Rattle.terminal_presses.specs.declared.action.Click.{Click}
 use Rattle.terminal_presses.specs.declared.action.Click.TheVariants.{Mark, Keys}
 use Rattle.terminal_presses.specs.declared.action.Action.{Action}
@@ -62,6 +62,10 @@ pub record Corner : Type 0 where
 -- whether they show a cell of the display
 abbrev pub is_seen : Sight → Corner → Bool
 is_seen sight at = is_in_sight sight at.column at.row
+
+-- that cell, where they show one
+abbrev pub seen_spot : Sight → Corner → Option Spot
+seen_spot sight at = cell_shown sight at.column at.row
 
 -- the cell of the display that they mean
 abbrev pub spot_at : Sight → Corner → Spot

@@ -1,5 +1,5 @@
 -- The cells of the display that a terminal shows.
-use Rattle.std.specs.Prelude.{ℕ, ◌+◌, ◌-◌, ◌<◌, ◌≤◌, Bool, ◌&&◌, min}
+use Rattle.std.specs.Prelude.{ℕ, ◌+◌, ◌-◌, ◌<◌, ◌≤◌, Bool, ◌&&◌, if◌then◌else◌, min, Option, Some, None}
 use Rattle.event_bytes.specs.Bytes.{lies_within}
 use Rattle.viewer_tracks.specs.declared.display.TheConstants.{COLUMNS, ROWS}
 use Rattle.terminal_presses.specs.declared.spot.Spot.{Spot}
@@ -26,3 +26,8 @@ spot_in sight column row = record {
   x = min (column - 1) (COLUMNS - 1);
   y = sight.top - min (row - 1) (sight.rows - 1);
 }
+
+-- the cell that a column and a row of the terminal show; none outside the display
+abbrev pub cell_shown : Sight → ℕ → ℕ → Option Spot
+cell_shown sight column row =
+    if is_in_sight sight column row then Some (spot_in sight column row) else None

@@ -13,11 +13,15 @@ use Rattle.terminal_presses.specs.declared.press.Page.{Page as PageKey}
 use Rattle.terminal_presses.specs.declared.press.Page.TheVariants as page
 use Rattle.terminal_presses.specs.declared.press.FunctionKey.{FunctionKey}
 use Rattle.terminal_presses.specs.declared.press.FunctionKey.TheVariants.{F1, F2, F3, F4, F5, F6, F7, F8, F9, F10}
+use Rattle.terminal_presses.specs.declared.press.Scroll.{Scroll as ScrollKey}
+use Rattle.terminal_presses.specs.declared.press.Scroll.TheVariants.{WheelUp, WheelDown, PageUp, PageDown, First, Last}
 use Rattle.terminal_presses.specs.declared.press.MouseReport.{MouseReport}
+use Rattle.terminal_presses.specs.declared.press.WheelReport.{WheelReport}
 use Rattle.terminal_presses.specs.declared.press.Press.{Press}
 use Rattle.terminal_presses.specs.declared.press.Press.TheVariants.{Character, Foreign, Control, Back, Escape, Arrow}
 use Rattle.terminal_presses.specs.declared.press.Press.TheVariants.{Page, Function, Mouse, PasteBegins, PasteEnds, Size}
-use Rattle.terminal_presses.specs.declared.press.Press.TheVariants.{FileFails, Unknown}
+use Rattle.terminal_presses.specs.declared.press.Press.TheVariants.{Scroll, Wheel, FileFails, Unknown}
+use Rattle.terminal_presses.specs.declared.hand.TheConstants.{CONTROL_Y}
 
 -- ---- numbers
 
@@ -43,23 +47,41 @@ pub record IsNumeral (n : ℕ) (digits : List ℕ) : Type 0 where
 abbrev pub report_end : Bool → ℕ
 report_end down = if down then 77 else 109
 
--- the number of a button, and 4 more with Shift, 8 with Alt, 16 with Ctrl
+-- a number, and 4 more with Shift, 8 with Alt, 16 with Ctrl
+abbrev pub number_held : ℕ → Bool → Bool → Bool → ℕ
+number_held n shift alt control =
+    n + (if shift then 4 else 0) + (if alt then 8 else 0) + (if control then 16 else 0)
+
 abbrev pub report_number : MouseReport → Bool → ℕ
 report_number report shift =
-    button_number report.button + (if shift then 4 else 0) + (if report.with_alt then 8 else 0)
-    + (if report.with_control then 16 else 0)
+    number_held (button_number report.button) shift report.with_alt report.with_control
+
+-- a turn upward, or downward
+abbrev pub wheel_number : Bool → ℕ
+wheel_number up = if up then 64 else 65
 
 -- an escape byte, [ and <, the number of what is pressed, the column, the row, and the end
-pub record IsReport (report : MouseReport) (text : List ℕ) : Type 0 where
-  pub shift : Bool
+pub record IsMouseText (n column row end : ℕ) (text : List ℕ) : Type 0 where
   pub number : List ℕ
-  pub column : List ℕ
-  pub row : List ℕ
-  pub number_is : IsNumeral (report_number report shift) number
-  pub column_is : IsNumeral report.column column
-  pub row_is : IsNumeral report.row row
-  pub parts : text
-      ≡ 27 ∷ 91 ∷ 60 ∷ number ++ 59 ∷ (column ++ 59 ∷ (row ++ report_end report.is_down ∷ []))
+  pub across : List ℕ
+  pub down : List ℕ
+  pub number_is : IsNumeral n number
+  pub column_is : IsNumeral column across
+  pub row_is : IsNumeral row down
+  pub parts : text ≡ 27 ∷ 91 ∷ 60 ∷ number ++ 59 ∷ (across ++ 59 ∷ (down ++ end ∷ []))
+
+abbrev pub IsReport : MouseReport → List ℕ → Type 0
+IsReport report text =
+    (shift : Bool)
+    × IsMouseText (report_number report shift) report.column report.row
+    (report_end report.is_down) text
+
+-- whichever keys are held with it
+abbrev pub IsWheel : WheelReport → List ℕ → Type 0
+IsWheel report text =
+    (shift alt control : Bool)
+    × IsMouseText (number_held (wheel_number report.is_up) shift alt control) report.column
+    report.row 77 text
 
 -- an escape byte, [, the number 8, the rows, the columns, and t
 pub record IsSize (rows columns : ℕ) (text : List ℕ) : Type 0 where
@@ -85,7 +107,8 @@ is_control b = nat_lt b 32 && not (is_text_byte b || ((b == 8) || (b == 27)))
 
 -- a byte that is pressed with Alt, and goes on with no spelling of a key
 abbrev pub is_alone_with_alt : ℕ → Bool
-is_alone_with_alt b = not (nat_lt b 32 || ((b == 79) || ((b == 91) || lies_within 49 55 b)))
+is_alone_with_alt b =
+    not (nat_lt b 32 || ((b == 79) || ((b == 91) || ((b == 122) || lies_within 49 55 b))))
 
 -- an escape byte and [, and those bytes
 abbrev pub key_sequence : List ℕ → List ℕ
@@ -95,23 +118,49 @@ key_sequence bytes = 27 ∷ 91 ∷ bytes
 abbrev pub shifted_sequence : ℕ → List ℕ
 shifted_sequence letter = 27 ∷ 79 ∷ letter ∷ []
 
--- an escape byte and a digit, as the key Alt spells them
-abbrev pub with_alt_digit : ℕ → List ℕ
-with_alt_digit digit = 27 ∷ digit ∷ []
+-- an escape byte and another one, as the key Alt spells them
+abbrev pub byte_with_alt : ℕ → List ℕ
+byte_with_alt byte = 27 ∷ byte ∷ []
 
 -- an escape byte and [, and that letter
 abbrev pub letter_alone : ℕ → List ℕ
 letter_alone letter = key_sequence (letter ∷ [])
 
-abbrev pub arrow_letter : ArrowKey → ℕ
-arrow_letter arrow.Up = 65
-arrow_letter arrow.Down = 66
-arrow_letter arrow.Right = 67
-arrow_letter arrow.Left = 68
+-- a key that has a letter, which terminals spell in two ways
+abbrev pub letter_twice : ℕ → List (List ℕ) → List (List ℕ)
+letter_twice letter others = letter_alone letter ∷ shifted_sequence letter ∷ others
 
+-- a number of one digit
+abbrev pub by_digit : ℕ → List ℕ
+by_digit digit = key_sequence (digit ∷ 126 ∷ [])
+
+-- a digit, the number 3 or 5 for Alt or Ctrl, and the end
+abbrev pub held_sequence : ℕ → ℕ → ℕ → List ℕ
+held_sequence digit held end = key_sequence (digit ∷ 59 ∷ held ∷ end ∷ [])
+
+abbrev pub arrow_spellings : ArrowKey → List (List ℕ)
+arrow_spellings arrow.Up = letter_twice 65 []
+arrow_spellings arrow.Down = letter_twice 66 []
+arrow_spellings arrow.Right = letter_twice 67 []
+arrow_spellings arrow.Left = letter_twice 68 []
+arrow_spellings arrow.Home = letter_twice 72 (by_digit 49 ∷ by_digit 55 ∷ [])
+arrow_spellings arrow.End = letter_twice 70 (by_digit 52 ∷ by_digit 56 ∷ [])
+arrow_spellings arrow.WordRight = held_sequence 49 53 67 ∷ []
+arrow_spellings arrow.WordLeft = held_sequence 49 53 68 ∷ []
+
+-- PageUp and PageDown, and Home and End with Ctrl; no key turns the wheel
+abbrev pub scroll_spellings : ScrollKey → List (List ℕ)
+scroll_spellings PageUp = by_digit 53 ∷ []
+scroll_spellings PageDown = by_digit 54 ∷ []
+scroll_spellings First = held_sequence 49 53 72 ∷ []
+scroll_spellings Last = held_sequence 49 53 70 ∷ []
+scroll_spellings WheelUp = []
+scroll_spellings WheelDown = []
+
+-- PageUp and PageDown with Alt
 abbrev pub page_spelling : PageKey → List ℕ
-page_spelling page.Up = key_sequence (53 ∷ 126 ∷ [])
-page_spelling page.Down = key_sequence (54 ∷ 126 ∷ [])
+page_spelling page.Up = held_sequence 53 51 126
+page_spelling page.Down = held_sequence 54 51 126
 
 -- the first four keys have a letter, which terminals spell in two ways
 abbrev pub by_letter : ℕ → List (List ℕ) → List (List ℕ)
@@ -126,13 +175,13 @@ abbrev pub by_console : ℕ → List ℕ
 by_console letter = key_sequence (91 ∷ letter ∷ [])
 
 abbrev pub function_spellings : FunctionKey → List (List ℕ)
-function_spellings F1 = by_letter 80 (by_number 49 49 ∷ by_console 65 ∷ with_alt_digit 49 ∷ [])
-function_spellings F2 = by_letter 81 (by_number 49 50 ∷ by_console 66 ∷ with_alt_digit 50 ∷ [])
-function_spellings F3 = by_letter 82 (by_number 49 51 ∷ by_console 67 ∷ with_alt_digit 51 ∷ [])
-function_spellings F4 = by_letter 83 (by_number 49 52 ∷ by_console 68 ∷ with_alt_digit 52 ∷ [])
-function_spellings F5 = by_number 49 53 ∷ by_console 69 ∷ with_alt_digit 53 ∷ []
-function_spellings F6 = by_number 49 55 ∷ with_alt_digit 54 ∷ []
-function_spellings F7 = by_number 49 56 ∷ with_alt_digit 55 ∷ []
+function_spellings F1 = by_letter 80 (by_number 49 49 ∷ by_console 65 ∷ byte_with_alt 49 ∷ [])
+function_spellings F2 = by_letter 81 (by_number 49 50 ∷ by_console 66 ∷ byte_with_alt 50 ∷ [])
+function_spellings F3 = by_letter 82 (by_number 49 51 ∷ by_console 67 ∷ byte_with_alt 51 ∷ [])
+function_spellings F4 = by_letter 83 (by_number 49 52 ∷ by_console 68 ∷ byte_with_alt 52 ∷ [])
+function_spellings F5 = by_number 49 53 ∷ by_console 69 ∷ byte_with_alt 53 ∷ []
+function_spellings F6 = by_number 49 55 ∷ byte_with_alt 54 ∷ []
+function_spellings F7 = by_number 49 56 ∷ byte_with_alt 55 ∷ []
 function_spellings F8 = by_number 49 57 ∷ []
 function_spellings F9 = by_number 50 48 ∷ []
 function_spellings F10 = by_number 50 49 ∷ []
@@ -143,18 +192,24 @@ abbrev pub IsOneOf : List (List ℕ) → List ℕ → Type 0
 IsOneOf [] text = ⊥
 IsOneOf (one ∷ others) text = (text ≡ one) ⊎ IsOneOf others text
 
+-- the byte itself; Ctrl with y is also Alt with z
+abbrev pub IsControlSpelled : ℕ → List ℕ → Type 0
+IsControlSpelled b text = (IsTrue (is_control b) × (text ≡ b ∷ []))
+    ⊎ ((b ≡ CONTROL_Y) × (text ≡ byte_with_alt 122))
+
 -- the bytes that spell a press; those of the key Escape are told apart by what comes after them
 abbrev pub SpellsPress : Press → List ℕ → Type 0
 SpellsPress (Character b) text = IsTrue (is_text_byte b) × (text ≡ b ∷ [])
 SpellsPress Foreign text = IsLongCharacter text
-SpellsPress (Control b) text = IsTrue (is_control b) × (text ≡ b ∷ [])
+SpellsPress (Control b) text = IsControlSpelled b text
 SpellsPress Back text = IsOneOf ((8 ∷ []) ∷ (127 ∷ []) ∷ []) text
 SpellsPress Escape text = ⊥
-SpellsPress (Arrow key) text =
-    IsOneOf (letter_alone (arrow_letter key) ∷ shifted_sequence (arrow_letter key) ∷ []) text
+SpellsPress (Arrow key) text = IsOneOf (arrow_spellings key) text
+SpellsPress (Scroll scroll) text = IsOneOf (scroll_spellings scroll) text
 SpellsPress (Page key) text = text ≡ page_spelling key
 SpellsPress (Function key) text = IsOneOf (function_spellings key) text
 SpellsPress (Mouse report) text = IsReport report text
+SpellsPress (Wheel report) text = IsWheel report text
 SpellsPress PasteBegins text = text ≡ key_sequence (50 ∷ 48 ∷ 48 ∷ 126 ∷ [])
 SpellsPress PasteEnds text = text ≡ key_sequence (50 ∷ 48 ∷ 49 ∷ 126 ∷ [])
 SpellsPress (Size rows columns) text = IsSize rows columns text

@@ -1,7 +1,8 @@
 //! What a press comes to.
 
 use crate::host_name::HostName;
-use crate::press::{Arrow, Page};
+use crate::press::{Arrow, Page, Scroll};
+use crate::spot::Spot;
 use event_bytes::{Event, Keys};
 
 /// What the next click is to be, or one that has begun.
@@ -34,6 +35,8 @@ pub enum Action {
     TypeFile(HostName),
     /// Other rows of the display come into sight.
     Move(Page),
+    /// The text of the viewer at that cell moves. None: of the viewer of the caret.
+    Scroll(Option<Spot>, Scroll),
     /// A click beside the caret, as the screen has it.
     Step(Arrow),
     /// The terminal has so many rows, and so many columns.

@@ -4,8 +4,10 @@ ghost use Rattle.terminal_presses.specs.Hands.{new_hand, handled, pasting as pas
 ghost use Rattle.terminal_presses.specs.Hands.{answering as answering_by, pasting_name as pasting_name_by, dropping};
 ghost use Rattle.terminal_presses.specs.Hands.{by_question as question_says, pastes_text};
 ghost use Rattle.terminal_presses.specs.Hands.{controlled as controlled_by, control as control_says, by_function};
-ghost use Rattle.terminal_presses.specs.Hands.{hand_after_report as reported_by, gone_down, gone_up, begun};
+ghost use Rattle.terminal_presses.specs.Hands.{hand_after_report as reported_by, hand_after_wheel as wheeled_by, hand_after_button as buttoned_by};
+ghost use Rattle.terminal_presses.specs.Hands.{gone_down, gone_up, begun};
 ghost use Rattle.terminal_presses.specs.Hands.{click_meant as click_meant, with_asked, asks};
+ghost use Rattle.terminal_presses.specs.Hands.{pointed_at, wheel_action, scroll_place as place_of_scroll};
 ghost use Rattle.terminal_presses.specs.Asking.{answered, entered, lengthened, name_after_byte, shortened_name, controlled_name};
 ghost use Rattle.terminal_presses.specs.Asking.{by_function_amid, pasted_name};
 ghost use Rattle.terminal_presses.specs.Outcomes.{ComesTo};
@@ -14,7 +16,7 @@ use crate::action::{Action, Click};
 use crate::gesture::{Buttons, Gesture};
 use crate::host_name::{HostName, is_host_byte};
 use crate::paste::{LINE_FEED, Paste, typed};
-use crate::press::{Button, FunctionKey, MouseReport, Press};
+use crate::press::{Button, FunctionKey, MouseReport, Press, Scroll, WheelReport};
 use crate::sight::Sight;
 use crate::spot::Spot;
 use event_bytes::{CARRIAGE_RETURN, Event, Key, Keys};
@@ -45,6 +47,9 @@ pub struct Hand {
     gesture: Option<Gesture>,
     paste: Option<Paste>,
     asked: Option<HostName>,
+    /// The cell that the last report of the mouse has told, where it was within the display. A report that is heard
+    /// amid a paste or a name counts for nothing.
+    pointer: Option<Spot>,
 }
 
 impl Hand {
@@ -57,6 +62,7 @@ impl Hand {
             gesture: None,
             paste: None,
             asked: None,
+            pointer: None,
         }
     }
 
@@ -148,9 +154,12 @@ impl Hand {
                 name,
                 Action::Ring,
             ),
-            Press::Arrow(_) | Press::Page(_) | Press::Function(_) => self.keep(name, Action::Ring),
+            Press::Arrow(_) | Press::Scroll(_) | Press::Page(_) | Press::Function(_) => self.keep(
+                name,
+                Action::Ring,
+            ),
             Press::Size(rows, columns) => self.keep(name, Action::Fit(rows, columns)),
-            Press::Mouse(_) | Press::PasteBegins | Press::PasteEnds => self.keep(
+            Press::Mouse(_) | Press::Wheel(_) | Press::PasteBegins | Press::PasteEnds => self.keep(
                 name,
                 Action::Nothing,
             ),
@@ -171,10 +180,10 @@ impl Hand {
                 self.asked = None;
                 Action::Nothing
             }
-            Press::Foreign | Press::Arrow(_) => self.keep(name, Action::Ring),
+            Press::Foreign | Press::Arrow(_) | Press::Scroll(_) => self.keep(name, Action::Ring),
             Press::Page(page) => self.keep(name, Action::Move(page)),
             Press::Function(key) => self.keep(name, function_amid(key)),
-            Press::Mouse(_) | Press::PasteBegins | Press::PasteEnds => self.keep(
+            Press::Mouse(_) | Press::Wheel(_) | Press::PasteBegins | Press::PasteEnds => self.keep(
                 name,
                 Action::Nothing,
             ),
@@ -298,9 +307,11 @@ impl Hand {
             Press::Back => Action::Post(Event::Key(Key::Back)),
             Press::Escape => self.escaped(),
             Press::Arrow(arrow) => Action::Step(arrow),
+            Press::Scroll(scroll) => Action::Scroll(scroll_place(scroll, self.pointer), scroll),
             Press::Page(page) => Action::Move(page),
             Press::Function(key) => self.function(key),
             Press::Mouse(report) => self.reported(sight, report),
+            Press::Wheel(report) => self.wheeled(sight, report),
             Press::PasteBegins => {
                 self.paste = Some(Paste::new());
                 Action::Nothing
@@ -358,10 +369,33 @@ impl Hand {
         Action::Nothing
     }
 
+    /// The pointer of the mouse is there.
+    fn point(&mut self, sight: Sight, column: u16, row: u16)
+        ensures { self.new ≡ pointed_at sight column row self.old }
+    {
+        self.pointer = Spot::shown(sight, column, row);
+    }
+
+    /// What a report of the wheel comes to.
+    fn wheeled(&mut self, sight: Sight, report: WheelReport) -> Action
+        ensures { ComesTo (wheeled_by sight report self.old) self.new result }
+    {
+        self.point(sight, report.column, report.row);
+        wheel(report.is_up, self.gesture.is_some(), self.pointer)
+    }
+
     /// What a report of the mouse comes to.
-    #[tactic(auto, unfolding(crate::specs::Hands::hand_after_report))]
     fn reported(&mut self, sight: Sight, report: MouseReport) -> Action
         ensures { ComesTo (reported_by sight report self.old) self.new result }
+    {
+        self.point(sight, report.column, report.row);
+        self.buttoned(sight, report)
+    }
+
+    /// What it comes to that a button goes down or up.
+    #[tactic(auto, unfolding(crate::specs::Hands::hand_after_button))]
+    fn buttoned(&mut self, sight: Sight, report: MouseReport) -> Action
+        ensures { ComesTo (buttoned_by sight report self.old) self.new result }
     {
         if report.is_down {
             self.go_down(sight, report);
@@ -422,6 +456,35 @@ impl Hand {
         }
         self.gesture = Some(gesture);
         Action::Nothing
+    }
+}
+
+/// What the wheel comes to with the pointer there, whether a gesture is under way or not.
+#[tactic(auto, unfolding(crate::specs::Hands::wheel_action))]
+fn wheel(is_up: bool, is_amid: bool, pointer: Option<Spot>) -> Action
+    ensures { result ≡ wheel_action is_up is_amid pointer }
+{
+    match pointer {
+        Some(spot) if !is_amid => Action::Scroll(
+            Some(spot),
+            if is_up {
+                Scroll::WheelUp
+            } else {
+                Scroll::WheelDown
+            },
+        ),
+        _ => Action::Nothing,
+    }
+}
+
+/// The viewer whose text a key moves: for a page that under the pointer, and for an end that of the caret.
+#[tactic(auto, unfolding(crate::specs::Hands::scroll_place))]
+fn scroll_place(scroll: Scroll, pointer: Option<Spot>) -> Option<Spot>
+    ensures { result ≡ place_of_scroll scroll pointer }
+{
+    match scroll {
+        Scroll::PageUp | Scroll::PageDown => pointer,
+        Scroll::WheelUp | Scroll::WheelDown | Scroll::First | Scroll::Last => None,
     }
 }
 

@@ -1,6 +1,6 @@
 //! What holds of all presses.
 ghost use Rattle.std.specs.Prelude.{◌≡◌, ℕ, ◌+◌, ◌<◌, ◌≤◌, ◌⊎◌, Bool, true, false, ◌==◌, not, List, [], ◌∷◌, ◌++◌};
-ghost use Rattle.std.specs.Prelude.{IsTrue, Some, length, map};
+ghost use Rattle.std.specs.Prelude.{IsTrue, Option, Some, length, map};
 ghost use Rattle.std.specs.List.{list_all};
 ghost use Rattle.event_bytes.specs.declared.keys.Keys.TheVariants as keys;
 ghost use Rattle.terminal_presses.specs.declared.press.Heard.{Heard};
@@ -14,15 +14,16 @@ ghost use Rattle.terminal_presses.specs.declared.action.Action.TheVariants.{Noth
 ghost use Rattle.terminal_presses.specs.declared.action.Click.{Click};
 ghost use Rattle.terminal_presses.specs.declared.action.Click.TheVariants.{Keys};
 ghost use Rattle.terminal_presses.specs.Sights.{Sight, IsSight, spot_in};
+ghost use Rattle.terminal_presses.specs.declared.spot.Spot.{Spot};
 ghost use Rattle.terminal_presses.specs.declared.parser.Parser.{Parser};
 ghost use Rattle.terminal_presses.specs.declared.hand.Hand.{Hand};
 ghost use Rattle.viewer_tracks.specs.declared.display.TheConstants.{COLUMNS};
 ghost use Rattle.terminal_presses.specs.Presses.{at_rest, parser_after, presses_heard};
 ghost use Rattle.terminal_presses.specs.Spelling.{AreHeard, is_alone_with_alt};
-ghost use Rattle.terminal_presses.specs.Hands.{new_hand, idle, asking, handled};
+ghost use Rattle.terminal_presses.specs.Hands.{resting, pointed_at, idle, asking, handled};
 ghost use Rattle.terminal_presses.specs.HostNames.{is_host_name};
 ghost use Rattle.terminal_presses.specs.Pastes.{return};
-ghost use Rattle.terminal_presses.specs.Runs.{hand_after, posted_events, MakesEvents, Corner, is_seen, down_with, down, up, button_alone};
+ghost use Rattle.terminal_presses.specs.Runs.{hand_after, posted_events, MakesEvents, Corner, is_seen, seen_spot, down_with, down, up, button_alone};
 ghost use Rattle.terminal_presses.specs.Runs.{name_with, together, click_event, says, AreThree, paste_of, pasted_text, pasted, Types};
 
 /// It is one whether what is heard comes in one piece or in two, and so in many: what is pressed of both is what is
@@ -45,7 +46,7 @@ pub fn pieces_do_not_matter()
 
 /// Presses that are spelled one after another are found again, and nothing of them is left in the parser. The key
 /// Escape is found without a quiet while too, where a byte below the space follows. With a letter right after it, it is
-/// the key Alt, and means nothing.
+/// the key Alt, and means nothing but with z.
 pub fn spelled_presses_are_found()
     ensures presses { (presses : List Press) (heard : List Heard) → AreHeard presses heard
         → presses_heard at_rest heard ≡ presses }
@@ -73,49 +74,57 @@ pub fn spots_are_in_sight()
 
 /// One or two buttons that go down and are all up again, whichever goes up first, are one event: the keys as they went
 /// down, the cell of the first press and that of the last release. Three are none, and so is a click that begins where
-/// no cell is shown, as on the line below. The hand is then as it was.
+/// no cell is shown, as on the line below. The hand is then as it was, but that the pointer is where the last report
+/// has told it.
 pub fn buttons_make_one_point()
-    ensures one { (sight : Sight) (button : Button) (start end : Corner)
+    ensures one { (sight : Sight) (pointer : Option Spot) (button : Button) (start end : Corner)
         → IsTrue (is_seen sight start)
-        → MakesEvents sight new_hand (down button start ∷ up button end ∷ []) new_hand
+        → MakesEvents sight (resting pointer) (down button start ∷ up button end ∷ [])
+        (resting (seen_spot sight end))
         (click_event (Keys (button_alone button)) sight start end ∷ []) }
-    ensures two { (sight : Sight) (first second : Button) (start p q end : Corner)
+    ensures two { (sight : Sight) (pointer : Option Spot) (first second : Button)
+        (start p q end : Corner)
         → (first ≡ second → ⊥)
         → IsTrue (is_seen sight start)
-        → MakesEvents sight new_hand (down first start ∷ down second p ∷ up first q ∷ up second end
-        ∷ []) new_hand
+        → MakesEvents sight (resting pointer) (down first start ∷ down second p ∷ up first q
+        ∷ up second end ∷ []) (resting (seen_spot sight end))
         (click_event (Keys (together first second)) sight start end ∷ []) }
-    ensures two_turned { (sight : Sight) (first second : Button) (start p q end : Corner)
+    ensures two_turned { (sight : Sight) (pointer : Option Spot) (first second : Button)
+        (start p q end : Corner)
         → (first ≡ second → ⊥)
         → IsTrue (is_seen sight start)
-        → MakesEvents sight new_hand (down first start ∷ down second p ∷ up second q ∷ up first end
-        ∷ []) new_hand
+        → MakesEvents sight (resting pointer) (down first start ∷ down second p ∷ up second q
+        ∷ up first end ∷ []) (resting (seen_spot sight end))
         (click_event (Keys (together first second)) sight start end ∷ []) }
-    ensures three { (sight : Sight) (a b c x y z : Button) (start p q r s end : Corner)
+    ensures three { (sight : Sight) (pointer : Option Spot) (a b c x y z : Button)
+        (start p q r s end : Corner)
         → AreThree a b c → AreThree x y z
-        → MakesEvents sight new_hand (down a start ∷ down b p ∷ down c q ∷ up x r ∷ up y s
-        ∷ up z end ∷ []) new_hand [] }
+        → MakesEvents sight (resting pointer) (down a start ∷ down b p ∷ down c q ∷ up x r ∷ up y s
+        ∷ up z end ∷ []) (resting (seen_spot sight end)) [] }
     ensures outside { (sight : Sight) (button : Button) (hand : Hand) (start end : Corner)
         → hand.gesture ≡ None
         → IsTrue (not (is_seen sight start))
-        → MakesEvents sight (idle hand) (down button start ∷ up button end ∷ []) (idle hand) [] }
+        → MakesEvents sight (idle hand) (down button start ∷ up button end ∷ [])
+        (pointed_at sight end.column end.row (idle hand)) [] }
 {}
 
 /// With the left button alone there is every click: with Alt it is the middle one, with Ctrl the right one, and after a
 /// function key it is what that says.
 #[tactic(auto, using(crate::proofs::Clicks::clicks_of_one))]
 pub fn one_button_is_enough()
-    ensures alt { (sight : Sight) (control : Bool) (start end : Corner)
+    ensures alt { (sight : Sight) (pointer : Option Spot) (control : Bool) (start end : Corner)
         → IsTrue (is_seen sight start)
-        → MakesEvents sight new_hand (down_with true control Left start ∷ up Left end ∷ []) new_hand
-        (click_event (Keys keys.Middle) sight start end ∷ []) }
-    ensures control { (sight : Sight) (start end : Corner) → IsTrue (is_seen sight start)
-        → MakesEvents sight new_hand (down_with false true Left start ∷ up Left end ∷ []) new_hand
-        (click_event (Keys keys.Right) sight start end ∷ []) }
-    ensures function { (sight : Sight) (key : FunctionKey) (click : Click) (start end : Corner)
+        → MakesEvents sight (resting pointer) (down_with true control Left start ∷ up Left end ∷ [])
+        (resting (seen_spot sight end)) (click_event (Keys keys.Middle) sight start end ∷ []) }
+    ensures control { (sight : Sight) (pointer : Option Spot) (start end : Corner)
+        → IsTrue (is_seen sight start)
+        → MakesEvents sight (resting pointer) (down_with false true Left start ∷ up Left end ∷ [])
+        (resting (seen_spot sight end)) (click_event (Keys keys.Right) sight start end ∷ []) }
+    ensures function { (sight : Sight) (pointer : Option Spot) (key : FunctionKey) (click : Click)
+        (start end : Corner)
         → says key ≡ Some click → IsTrue (is_seen sight start)
-        → MakesEvents sight new_hand (Function key ∷ down Left start ∷ up Left end ∷ []) new_hand
-        (click_event click sight start end ∷ []) }
+        → MakesEvents sight (resting pointer) (Function key ∷ down Left start ∷ up Left end ∷ [])
+        (resting (seen_spot sight end)) (click_event click sight start end ∷ []) }
 {}
 
 /// The events of a paste type the pasted text, each 900 bytes of it, but the last. So do those of a host file, whose

@@ -30,6 +30,8 @@ pub use laws::{
     pieces_do_not_matter, spelled_presses_are_found, spots_are_in_sight,
 };
 pub use parser::Parser;
-pub use press::{Arrow, Button, FunctionKey, Heard, MouseReport, Page, Press, Presses};
+pub use press::{
+    Arrow, Button, FunctionKey, Heard, MouseReport, Page, Press, Presses, Scroll, WheelReport,
+};
 pub use sight::Sight;
 pub use spot::Spot;

@@ -5,6 +5,7 @@ ghost use Rattle.terminal_presses.specs.Presses.{grounded, preceded, cut_off, af
 ghost use Rattle.terminal_presses.specs.Presses.{after_console, after_report, after_sequence, after_byte, after_quiet};
 ghost use Rattle.terminal_presses.specs.Presses.{at_rest, heard_by};
 
+use crate::hand::CONTROL_Y;
 use crate::place::{Mark, Numbers, SequencePlace};
 use crate::press::{Heard, Press, Presses};
 use crate::sequence::{function, lettered};
@@ -124,6 +125,11 @@ fn after_escape(byte: u8) -> (SequencePlace, Presses)
         (SequencePlace::Shift, Presses::Nothing)
     } else if b'1' <= byte && byte <= b'7' {
         (SequencePlace::Ground, Presses::One(function(byte - b'1')))
+    } else if byte == b'z' {
+        (
+            SequencePlace::Ground,
+            Presses::One(Press::Control(CONTROL_Y)),
+        )
     } else if byte < b' ' {
         preceded(Press::Escape, grounded(byte))
     } else {

@@ -17,13 +17,21 @@ pub enum Button {
     Right,
 }
 
-/// A key that goes a character or a row further.
+/// A key that goes a character or a row further, to an end of the row, or a word further.
 #[derive(Clone, Copy, Debug, PartialEq, Eq)]
 pub enum Arrow {
     Up,
     Down,
     Right,
     Left,
+    /// The key Home.
+    Home,
+    /// The key End.
+    End,
+    /// Right with Ctrl.
+    WordRight,
+    /// Left with Ctrl.
+    WordLeft,
 }
 
 /// A key that goes many rows further.
@@ -31,6 +39,23 @@ pub enum Arrow {
 pub enum Page {
     Up,
     Down,
+}
+
+/// How a person wishes a viewer's text to move.
+#[derive(Clone, Copy, Debug, PartialEq, Eq)]
+pub enum Scroll {
+    /// Some lines toward the beginning, by the wheel.
+    WheelUp,
+    /// Some lines toward the end, by the wheel.
+    WheelDown,
+    /// As many lines as are in sight, toward the beginning.
+    PageUp,
+    /// As many lines as are in sight, toward the end.
+    PageDown,
+    /// To the first line.
+    First,
+    /// To the last line.
+    Last,
 }
 
 /// A function key.
@@ -65,6 +90,17 @@ pub struct MouseReport {
     pub row: u16,
 }
 
+/// What a terminal reports of the wheel.
+#[derive(Clone, Copy, Debug, PartialEq, Eq)]
+pub struct WheelReport {
+    /// Whether it turns upward; otherwise it turns downward.
+    pub is_up: bool,
+    /// The terminal's column, counted from 1 at the left.
+    pub column: u16,
+    /// The terminal's row, counted from 1 at the top.
+    pub row: u16,
+}
+
 /// What is pressed, or else told by the terminal.
 #[derive(Clone, Copy, Debug, PartialEq, Eq)]
 pub enum Press {
@@ -79,14 +115,18 @@ pub enum Press {
     Back,
     /// The key Escape.
     Escape,
-    /// An arrow.
+    /// An arrow, or another key that moves the caret.
     Arrow(Arrow),
-    /// A key that goes many rows further.
+    /// A key that moves the text of a viewer.
+    Scroll(Scroll),
+    /// A key that goes many rows of the display further: PageUp or PageDown with Alt.
     Page(Page),
     /// A function key.
     Function(FunctionKey),
     /// A button of the mouse.
     Mouse(MouseReport),
+    /// The wheel of the mouse.
+    Wheel(WheelReport),
     /// What follows is pasted.
     PasteBegins,
     /// What is pasted ends here.

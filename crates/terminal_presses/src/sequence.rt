@@ -3,10 +3,14 @@ ghost use Rattle.std.specs.Prelude.{◌≡◌, ◌<◌};
 ghost use Rattle.terminal_presses.specs.Presses.{function_at, arrow_at, lettered as letter_says};
 ghost use Rattle.terminal_presses.specs.Presses.{numbered_key as number_says, longer as longer_number, no_numbers};
 ghost use Rattle.terminal_presses.specs.Presses.{with_digit, with_number, mouse_mark, reported_press, moused, sized, unmarked_press};
-ghost use Rattle.terminal_presses.specs.Presses.{sequence_end, is_bare_sequence};
+ghost use Rattle.terminal_presses.specs.Presses.{sequence_end, is_bare_sequence, wheel_press, held_with};
+ghost use Rattle.terminal_presses.specs.Presses.{with_alt as alt_says, with_control as control_says};
+ghost use Rattle.terminal_presses.specs.Presses.{arrow_with_control as arrow_controlled, scroll_with_alt as scroll_alternate};
 
 use crate::place::{Mark, Numbers, SequencePlace};
-use crate::press::{Arrow, Button, FunctionKey, MouseReport, Page, Press, Presses};
+use crate::press::{
+    Arrow, Button, FunctionKey, MouseReport, Page, Press, Presses, Scroll, WheelReport,
+};
 
 /// The function key at a place, counted from 0.
 #[tactic(auto, unfolding(crate::specs::Presses::function_at))]
@@ -52,8 +56,74 @@ pub(crate) fn lettered(letter: u8) -> Press
         arrow(letter - b'A')
     } else if b'P' <= letter && letter <= b'S' {
         function(letter - b'P')
+    } else if letter == b'F' {
+        Press::Arrow(Arrow::End)
+    } else if letter == b'H' {
+        Press::Arrow(Arrow::Home)
     } else {
         Press::Unknown
+    }
+}
+
+/// A key with what is held with it, by the second number of its sequence.
+#[tactic(auto, unfolding(crate::specs::Presses::held_with))]
+fn held_with(number: u16, press: Press) -> Press
+    ensures { result ≡ held_with number press }
+{
+    if number == 3 {
+        with_alt(press)
+    } else if number == 5 {
+        with_control(press)
+    } else {
+        press
+    }
+}
+
+/// A key with Alt, where it means another one.
+#[tactic(auto, unfolding(crate::specs::Presses::with_alt))]
+fn with_alt(press: Press) -> Press
+    ensures { result ≡ alt_says press }
+{
+    match press {
+        Press::Scroll(scroll) => scroll_with_alt(scroll),
+        other => other,
+    }
+}
+
+/// A key that moves the text of a viewer, with Alt: those that go a page further move the rows in sight.
+#[tactic(auto, unfolding(crate::specs::Presses::scroll_with_alt))]
+fn scroll_with_alt(scroll: Scroll) -> Press
+    ensures { result ≡ scroll_alternate scroll }
+{
+    match scroll {
+        Scroll::PageUp => Press::Page(Page::Up),
+        Scroll::PageDown => Press::Page(Page::Down),
+        Scroll::WheelUp | Scroll::WheelDown | Scroll::First | Scroll::Last => Press::Scroll(scroll),
+    }
+}
+
+/// A key with Ctrl, where it means another one.
+#[tactic(auto, unfolding(crate::specs::Presses::with_control))]
+fn with_control(press: Press) -> Press
+    ensures { result ≡ control_says press }
+{
+    match press {
+        Press::Arrow(arrow) => arrow_with_control(arrow),
+        other => other,
+    }
+}
+
+/// A key that moves the caret, with Ctrl: an arrow goes by words, and the ends are those of the text.
+#[tactic(auto, unfolding(crate::specs::Presses::arrow_with_control))]
+fn arrow_with_control(arrow: Arrow) -> Press
+    ensures { result ≡ arrow_controlled arrow }
+{
+    match arrow {
+        Arrow::Right => Press::Arrow(Arrow::WordRight),
+        Arrow::Left => Press::Arrow(Arrow::WordLeft),
+        Arrow::Home => Press::Scroll(Scroll::First),
+        Arrow::End => Press::Scroll(Scroll::Last),
+        Arrow::Up | Arrow::Down | Arrow::WordRight | Arrow::WordLeft => Press::Arrow(arrow),
     }
 }
 
@@ -67,9 +137,13 @@ fn numbered(number: u16) -> Press
     } else if 17 <= number && number <= 21 {
         function((number - 12) as u8)
     } else if number == 5 {
-        Press::Page(Page::Up)
+        Press::Scroll(Scroll::PageUp)
     } else if number == 6 {
-        Press::Page(Page::Down)
+        Press::Scroll(Scroll::PageDown)
+    } else if number == 1 || number == 7 {
+        Press::Arrow(Arrow::Home)
+    } else if number == 4 || number == 8 {
+        Press::Arrow(Arrow::End)
     } else if number == 200 {
         Press::PasteBegins
     } else if number == 201 {
@@ -175,11 +249,11 @@ impl Numbers {
         ensures { result ≡ unmarked_press self last }
     {
         if last == b'~' {
-            numbered(self.first)
+            held_with(self.second, numbered(self.first))
         } else if last == b't' {
             self.sized()
         } else {
-            lettered(last)
+            held_with(self.second, lettered(last))
         }
     }
 
@@ -209,13 +283,31 @@ impl Numbers {
         }
     }
 
-    /// What is reported of a button that goes down or up.
+    /// What is reported of the wheel.
+    #[tactic(auto, unfolding(crate::specs::Presses::wheel_press))]
+    fn wheeled(self, is_down: bool) -> Press
+        ensures { result ≡ wheel_press self is_down }
+    {
+        if self.first < 64 || 95 < self.first || !is_down {
+            return Press::Unknown;
+        }
+        match [true, false].get((self.first % 4) as usize) {
+            None => Press::Unknown,
+            Some(is_up) => Press::Wheel(WheelReport {
+                is_up: *is_up,
+                column: self.second,
+                row: self.third,
+            }),
+        }
+    }
+
+    /// What is reported of a button that goes down or up, or of the wheel.
     #[tactic(auto, unfolding(crate::specs::Presses::reported_press))]
     fn reported(self, is_down: bool) -> Press
         ensures { result ≡ reported_press self is_down }
     {
         if self.first >= 32 {
-            return Press::Unknown;
+            return self.wheeled(is_down);
         }
         let buttons = [Button::Left, Button::Middle, Button::Right];
         match buttons.get((self.first % 4) as usize) {

@@ -1,6 +1,6 @@
 //! Cells of the display, as a terminal points at them.
 ghost use Rattle.std.specs.Prelude.{◌≡◌};
-ghost use Rattle.terminal_presses.specs.Sights.{spot_in};
+ghost use Rattle.terminal_presses.specs.Sights.{cell_shown, spot_in};
 
 use crate::sight::Sight;
 use viewer_tracks::COLUMNS;
@@ -23,6 +23,17 @@ impl Spot {
         Spot {
             x: right as u8,
             y: sight.top() - down as u8,
+        }
+    }
+
+    /// The cell that a column and a row of the terminal show. None outside the display.
+    pub fn shown(sight: Sight, column: u16, row: u16) -> Option<Spot>
+        ensures { result ≡ cell_shown sight column row }
+    {
+        if sight.shows(column, row) {
+            Some(Spot::nearest(sight, column, row))
+        } else {
+            None
         }
     }
 }

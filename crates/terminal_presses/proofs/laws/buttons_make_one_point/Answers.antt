@@ -5,12 +5,12 @@ pub returns-clause-one : goal.returns-clause-one
 returns-clause-one c = one_button
 
 pub returns-clause-two : goal.returns-clause-two
-returns-clause-two c sight first second start p q end other seen =
-    (two_buttons sight first second start p q end other seen).in_turn
+returns-clause-two c sight pointer first second start p q end other seen =
+    (two_buttons sight pointer first second start p q end other seen).in_turn
 
 pub returns-clause-two_turned : goal.returns-clause-two_turned
-returns-clause-two_turned c sight first second start p q end other seen =
-    (two_buttons sight first second start p q end other seen).turned
+returns-clause-two_turned c sight pointer first second start p q end other seen =
+    (two_buttons sight pointer first second start p q end other seen).turned
 
 pub returns-clause-three : goal.returns-clause-three
 returns-clause-three c = three_buttons
