@@ -43,7 +43,7 @@ def rows():
             for line in lines:
                 name, colon, used = line.partition('#')[0].partition(':')
                 if colon:
-                    found[name.strip()] = line.strip(), used.split()
+                    found[name.split()[0]] = line.strip(), used.split()
     return found
 
 

@@ -7,6 +7,7 @@ ghost use Rattle.desk_journal.specs.Device.{IsOnlyRead};
 ghost use Rattle.desk_journal.specs.Opening.{IsNoStore, IsOpened};
 ghost use Rattle.desk_journal.specs.Session.{session_of};
 ghost use Rattle.desk_journal.specs.View.{IsDurable};
+ghost use Rattle.desk_page.specs.Lines.{page_line};
 ghost use Rattle.desk_sitting.specs.Sittings.{looked, new_sitting};
 ghost use Rattle.first_desk.specs.FirstDesk.{furnishing};
 ghost use Rattle.screen_drawing.specs.Drawn.{drawing_of};
@@ -85,13 +86,21 @@ pub fn begin_new<D: Disk + Drop>(alloc: Global, disk: D) -> Result<Page<D>, Erro
     Ok(page)
 }
 
-/// Adds the drawing of what the desktop shows. All events of what it shows are acknowledged, and nothing is posted.
+/// Adds the drawing of what the desktop shows, and the line below it. All events of what it shows are acknowledged, and
+/// nothing is posted.
 ///
-/// Errors: `NoMemory`; `Fault`. The drawing may then have a front of it.
-pub fn show<D: Disk>(alloc: Global, page: &mut Page<D>, drawing: &mut Vec<u8>) -> Result<(), Error>
+/// Errors: `NoMemory`; `Fault`. The drawing and the line may then have a front of it.
+pub fn show<D: Disk>(
+    alloc: Global,
+    page: &mut Page<D>,
+    drawing: &mut Vec<u8>,
+    line: &mut Vec<u8>,
+) -> Result<(), Error>
     requires { page.old.store.must_reopen ≡ false }
     ensures drawn { OnOk result (D.honest page.old.store.disk
         → drawing.new.items ≡ drawing.old.items ++ drawing_of (shown_screen page.old.store.desktop)) }
+    ensures line { OnOk result (D.honest page.old.store.disk → line.new.items
+        ≡ line.old.items ++ page_line (shown_screen page.old.store.desktop) page.new.sitting) }
     ensures sitting { OnOk result (D.honest page.old.store.disk
         → page.new.sitting ≡ looked (shown_screen page.old.store.desktop) page.old.sitting) }
     ensures parser { page.new.parser ≡ page.old.parser }
@@ -102,6 +111,10 @@ pub fn show<D: Disk>(alloc: Global, page: &mut Page<D>, drawing: &mut Vec<u8>) -
     let mut screen = Screen::new();
     page.store.screen(alloc, &mut screen)?;
     page.sitting.look(&screen);
+    let below = page.sitting.line(&screen);
+    if line.extend_from_slice(below.as_slice()).is_err() {
+        return Err(Error::NoMemory);
+    }
     match draw(drawing, screen.rows()) {
         Ok(()) => Ok(()),
         Err(_) => Err(Error::NoMemory),

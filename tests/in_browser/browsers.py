@@ -1,0 +1,307 @@
+"""Chromium and Firefox without a window, driven over a pipe and over a socket of this machine: no library but Python's own."""
+import base64
+import functools
+import http.server
+import json
+import os
+import shutil
+import signal
+import socket
+import subprocess
+import tempfile
+import threading
+import time
+
+TOP = os.path.dirname(os.path.dirname(os.path.dirname(os.path.realpath(__file__))))
+BUTTONS = {'left': (0, 1), 'middle': (1, 4), 'right': (2, 2)}
+SILENT = {'stdout': subprocess.DEVNULL, 'stderr': subprocess.DEVNULL, 'start_new_session': True}
+ROWS = '''JSON.stringify([...document.querySelectorAll('#screen text')].map(t =>
+    [t.getAttribute('x') / 9, Math.floor(t.getAttribute('y') / 19), t.textContent]))'''
+KEYS = {'\r': ('Enter', '\ue007'), '\x1b': ('Escape', '\ue00c')}
+
+
+class Page:
+    """What both browsers have in common: a page of the desktop, and what it shows."""
+
+    def until(self, code, seconds=60):
+        end = time.time() + seconds
+        while time.time() < end:
+            value = self.js(code)
+            if value:
+                return value
+            time.sleep(0.02)
+        raise TimeoutError(f'{code}; {self.js("JSON.stringify(document.body.dataset)")}; {self.js("note.textContent")}')
+
+    def begin(self, url):
+        self.go(url)
+        self.until('document.body && (document.body.dataset.ready || document.body.dataset.failed)')
+        self.count = self.js('times.length')
+        return self.js('document.body.dataset.ready || "failed: " + document.body.dataset.failed')
+
+    def wait(self, more):
+        """Until so many more presses have been answered by a scene."""
+        self.count += more
+        self.until(f'times.length >= {self.count}')
+
+    def rows(self):
+        """The texts of the screen, with their places in cells."""
+        return self.js(ROWS)
+
+    def text(self, low=0, high=80):
+        """The text between two columns, row by row from the top."""
+        lines = {}
+        for x, y, part in json.loads(self.rows()):
+            if low <= x < high:
+                lines.setdefault(y, []).append((x, part.rstrip()))
+        return [' '.join(part for _, part in sorted(lines[y])).rstrip() for y in sorted(lines)]
+
+    def cell(self, x, y):
+        """The point in the middle of a cell."""
+        return self.js(f'(box => [box.left + ({x} + 0.5) * box.width / 80, box.top + ({y} + 0.5) * box.height / 32])'
+                       '(screen_.getBoundingClientRect())')
+
+    def find(self, word, low=0, high=80):
+        """The cell of the first character of a word that is shown."""
+        for x, y, part in json.loads(self.rows()):
+            if word in part and low <= x < high:
+                return int(x) + part.index(word), y
+        raise LookupError(word)
+
+    def call(self, word, low=0, high=80):
+        x, y = self.find(word, low, high)
+        self.click(x + 1, y, 'middle')
+
+
+class Chromium(Page):
+    def __init__(self, profile, *flags):
+        commands, to = os.pipe()
+        back, answers = os.pipe()
+
+        def set_up():
+            os.dup2(commands, 1000)
+            os.dup2(answers, 1001)
+            os.dup2(1000, 3)
+            os.dup2(1001, 4)
+
+        words = ['chromium', '--headless', '--no-sandbox', '--disable-gpu', '--no-first-run', f'--user-data-dir={profile}',
+                 '--remote-debugging-pipe', '--window-size=900,900', *flags, 'about:blank']
+        self.process = subprocess.Popen(words, preexec_fn=set_up, close_fds=False, **SILENT)
+        os.close(commands)
+        os.close(answers)
+        self.to, self.back, self.number, self.left, self.session, self.events, self.count = to, back, 0, b'', None, [], 0
+
+    def ask(self, method, **params):
+        self.number += 1
+        message = {'id': self.number, 'method': method, 'params': params, **({'sessionId': self.session} if self.session else {})}
+        os.write(self.to, json.dumps(message).encode() + b'\0')
+        while True:
+            while b'\0' not in self.left:
+                more = os.read(self.back, 1 << 20)
+                if not more:
+                    raise EOFError
+                self.left += more
+            one, self.left = self.left.split(b'\0', 1)
+            got = json.loads(one)
+            if got.get('id') == self.number:
+                if 'error' in got:
+                    raise RuntimeError(got['error'])
+                return got['result']
+            self.events.append(got)
+
+    def go(self, url):
+        self.session = None
+        target = self.ask('Target.createTarget', url='about:blank')['targetId']
+        self.session = self.ask('Target.attachToTarget', targetId=target, flatten=True)['sessionId']
+        self.ask('Page.enable')
+        self.ask('Runtime.enable')
+        self.ask('Page.navigate', url=url)
+        time.sleep(0.1)
+
+    def js(self, code, wait=False):
+        answer = self.ask('Runtime.evaluate', expression=code, returnByValue=True, awaitPromise=wait)
+        if 'exceptionDetails' in answer:
+            if 'is not defined' in str(answer) or 'null' in str(answer):
+                return None
+            raise RuntimeError(answer['exceptionDetails'])
+        return answer['result'].get('value')
+
+    def mouse(self, kind, x, y, name, held=None):
+        button, mask = BUTTONS[name]
+        at = self.cell(x, y)
+        down = {'mousePressed': mask, 'mouseReleased': 0}[kind] if held is None else held
+        self.ask('Input.dispatchMouseEvent', type=kind, x=at[0], y=at[1], button=name, buttons=down, clickCount=1)
+
+    def press(self, x, y, name, held=None):
+        self.mouse('mousePressed', x, y, name, held)
+
+    def release(self, x, y, name, held=None):
+        self.mouse('mouseReleased', x, y, name, held)
+
+    def click(self, x, y, name='left'):
+        self.press(x, y, name)
+        self.release(x, y, name)
+        self.wait(2)
+
+    def type(self, words, wait=True):
+        for c in words:
+            key = KEYS.get(c, (c,))[0]
+            self.ask('Input.dispatchKeyEvent', type='keyDown', key=key, text=c)
+            self.ask('Input.dispatchKeyEvent', type='keyUp', key=key)
+        if wait:
+            self.wait(len(words))
+
+    def control(self, letter):
+        for kind in ('keyDown', 'keyUp'):
+            self.ask('Input.dispatchKeyEvent', type=kind, key=letter, code=f'Key{letter.upper()}',
+                     windowsVirtualKeyCode=ord(letter.upper()), modifiers=2)
+        self.wait(1)
+
+    def shot(self, path):
+        with open(path, 'wb') as file:
+            file.write(base64.b64decode(self.ask('Page.captureScreenshot')['data']))
+
+    def end(self, sure):
+        os.killpg(self.process.pid, signal.SIGKILL if sure else signal.SIGTERM)
+        self.process.wait(30)
+        os.close(self.to)
+        os.close(self.back)
+
+    def kill(self):
+        self.end(True)
+
+    def quit(self):
+        try:
+            self.session = None
+            self.ask('Browser.close')
+        except (EOFError, OSError):
+            pass
+        self.process.wait(30)
+        os.close(self.to)
+        os.close(self.back)
+
+
+class Firefox(Page):
+    def __init__(self, profile, *prefs):
+        with socket.socket() as free:
+            free.bind(('127.0.0.1', 0))
+            port = free.getsockname()[1]
+        os.makedirs(profile, exist_ok=True)
+        with open(f'{profile}/user.js', 'w', encoding='ascii') as file:
+            said = (f'"marionette.port", {port}', '"browser.shell.checkDefaultBrowser", false', *prefs)
+            file.write(''.join(f'user_pref({pref});\n' for pref in said))
+        words = ['firefox-esr', '--headless', '--marionette', '--profile', profile, '--no-remote', '--width', '900',
+                 '--height', '980']
+        self.process = subprocess.Popen(words, **SILENT)
+        for _ in range(600):
+            try:
+                self.socket = socket.create_connection(('127.0.0.1', port))
+                break
+            except OSError:
+                time.sleep(0.1)
+        self.left, self.number, self.count = b'', 0, 0
+        self.read()
+        self.ask('WebDriver:NewSession', capabilities={})
+        self.ask('WebDriver:SetTimeouts', script=600000)
+
+    def read(self):
+        while b':' not in self.left:
+            self.left += self.more()
+        size, rest = self.left.split(b':', 1)
+        while len(rest) < int(size):
+            rest += self.more()
+        self.left = rest[int(size):]
+        return json.loads(rest[:int(size)])
+
+    def more(self):
+        got = self.socket.recv(1 << 20)
+        if not got:
+            raise EOFError
+        return got
+
+    def ask(self, name, **params):
+        self.number += 1
+        message = json.dumps([0, self.number, name, params]).encode()
+        self.socket.sendall(b'%d:' % len(message) + message)
+        answer = self.read()
+        if answer[2]:
+            raise RuntimeError(answer[2])
+        return answer[3]
+
+    def go(self, url):
+        self.ask('WebDriver:Navigate', url=url)
+
+    def js(self, code, wait=False):
+        script = 'return window.eval(arguments[0])'
+        if wait:
+            script = 'const done = arguments[1]; Promise.resolve(window.eval(arguments[0])).then(done)'
+        how = 'WebDriver:ExecuteAsyncScript' if wait else 'WebDriver:ExecuteScript'
+        return self.ask(how, script=script, args=[code], sandbox=None)['value']
+
+    def pointer(self, *acts):
+        mouse = {'type': 'pointer', 'id': 'mouse', 'parameters': {'pointerType': 'mouse'}, 'actions': list(acts)}
+        self.ask('WebDriver:PerformActions', actions=[mouse])
+
+    def to(self, x, y):
+        at = self.cell(x, y)
+        return {'type': 'pointerMove', 'x': int(at[0]), 'y': int(at[1]), 'duration': 0}
+
+    def press(self, x, y, name, held=None):
+        self.pointer(self.to(x, y), {'type': 'pointerDown', 'button': BUTTONS[name][0]})
+
+    def release(self, x, y, name, held=None):
+        self.pointer(self.to(x, y), {'type': 'pointerUp', 'button': BUTTONS[name][0]})
+
+    def click(self, x, y, name='left'):
+        button = BUTTONS[name][0]
+        self.pointer(self.to(x, y), {'type': 'pointerDown', 'button': button}, {'type': 'pointerUp', 'button': button})
+        self.wait(2)
+
+    def type(self, words, wait=True):
+        acts = []
+        for c in words:
+            key = KEYS.get(c, (c, c))[1]
+            acts += [{'type': 'keyDown', 'value': key}, {'type': 'keyUp', 'value': key}]
+        self.ask('WebDriver:PerformActions', actions=[{'type': 'key', 'id': 'keys', 'actions': acts}])
+        if wait:
+            self.wait(len(words))
+
+    def control(self, letter):
+        acts = [{'type': kind, 'value': key} for kind, key in
+                (('keyDown', '\ue009'), ('keyDown', letter), ('keyUp', letter), ('keyUp', '\ue009'))]
+        self.ask('WebDriver:PerformActions', actions=[{'type': 'key', 'id': 'keys', 'actions': acts}])
+        self.wait(1)
+
+    def shot(self, path):
+        with open(path, 'wb') as file:
+            file.write(base64.b64decode(self.ask('WebDriver:TakeScreenshot', full=False, hash=False)['value']))
+
+    def kill(self):
+        os.killpg(self.process.pid, signal.SIGKILL)
+        self.process.wait()
+
+    def quit(self):
+        try:
+            self.ask('Marionette:Quit', flags=['eForceQuit'])
+        except (EOFError, OSError, RuntimeError):
+            pass
+        self.process.wait(30)
+
+
+def browsers():
+    """Those that are on this machine."""
+    return [one for one, program in ((Chromium, 'chromium'), (Firefox, 'firefox-esr')) if shutil.which(program)]
+
+
+def served(folder=f'{TOP}/docs'):
+    """The address of the page, served from this machine."""
+    class Quiet(http.server.SimpleHTTPRequestHandler):
+        def log_message(self, *words):
+            pass
+
+    server = http.server.ThreadingHTTPServer(('127.0.0.1', 0), functools.partial(Quiet, directory=folder))
+    threading.Thread(target=server.serve_forever, daemon=True).start()
+    return f'http://127.0.0.1:{server.server_port}/desk.html'
+
+
+def room():
+    return tempfile.mkdtemp(prefix='desk-page-')

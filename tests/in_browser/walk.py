@@ -1,0 +1,148 @@
+#!/usr/bin/env python3
+"""walk.py [FOLDER]: the walk of docs/SIT-DOWN.md in each browser, with pictures in the folder; then a chord, a paste, the
+buttons for a mouse with one button, undo, documents in and out, the store saved and opened again, and another start. The file
+that was saved, and the one that the browser keeps, go to `./oberon check` and `./desk picture`, where these are built."""
+import base64
+import json
+import os
+import shutil
+import subprocess
+import sys
+
+from browsers import ROWS, TOP, browsers, room, served
+
+PICTURES = sys.argv[1] if len(sys.argv) > 1 else None
+PASTE = '''(event => {
+    Object.defineProperty(event, 'clipboardData', {value: {getData: () => %r}});
+    document.getElementById('keys').dispatchEvent(event);
+})(new Event('paste', {bubbles: true, cancelable: true}))'''
+SAVED = '''new Promise(done => {
+    const old = download;
+    download = bytes => {
+        download = old;
+        let s = '';
+        for (let i = 0; i < bytes.length; i += 30000) s += String.fromCharCode(...bytes.subarray(i, i + 30000));
+        done(btoa(s));
+    };
+    %s; })'''
+FILE = '''(() => {
+    const d = new DataTransfer();
+    d.items.add(new File([%r], %r));
+    dispatchEvent(Object.assign(new Event('drop', {cancelable: true}), {dataTransfer: d}));
+})()'''
+LOAD = '''window.there = new Uint8Array(15621 * 1024);
+for (const [n, bytes] of %s) there.set(Uint8Array.from(atob(bytes), c => c.charCodeAt(0)), 1024 * n);
+worker.postMessage({load: there})'''
+
+
+def same(what, got, wanted):
+    if got != wanted:
+        sys.exit(f'{what}: {got!r}, and not {wanted!r}')
+    print(f'  {what}: ok')
+
+
+def checked(store, what):
+    """What the native programs, proved or as the sources stand, say of a store."""
+    for program, words in (('oberon', ['check']), ('desk', ['picture'])):
+        for built in (f'crates/{program}/out/{folder}{program}' for folder in ('', 'unproved/')):
+            if os.path.exists(f'{TOP}/{built}'):
+                ran = subprocess.run([f'{TOP}/{built}', *words, store], stdout=subprocess.PIPE, check=False)
+                good = ran.returncode == 0 and (words == ['check'] or b'World' in ran.stdout)
+                same(f'{what}: {built} {words[0]}', good, True)
+
+
+def kept_by(profile, store):
+    """The file in which the browser keeps the store: it begins as the store does."""
+    for folder, _, files in os.walk(profile):
+        for name in files:
+            path = os.path.join(folder, name)
+            if name != 'my.disk' and os.path.isfile(path):
+                with open(path, 'rb') as file:
+                    if file.read(1024) == store[:1024]:
+                        return path
+    return sys.exit('the file in which the browser keeps the store is not found')
+
+
+def walk(kind, url, profile):
+    page = kind(profile)
+    print(kind.__name__, page.begin(url), page.js('navigator.userAgent.split(" ").at(-1)'), 'ready after',
+          round(page.js('started')), 'ms')
+    shot = lambda name: PICTURES and page.shot(f'{PICTURES}/{kind.__name__.lower()}-{name}.png')
+    shot('1-begin')
+    page.call('Edit.Open', 50)                                   # Edit.Open A.Text
+    same('a viewer opens', page.text(0, 50)[0].split(' |')[0], 'A.Text')
+    page.click(2, 1)
+    page.type('Hello World\r')
+    same('typed', page.text(1, 50)[0 if page.text(1, 50)[0].startswith('Hello') else 1], 'Hello World')
+    page.press(7, 1, 'right')
+    page.release(11, 1, 'right')
+    page.wait(2)
+    page.call('Edit.ChangeColor', 50)
+    blue = 'getComputedStyle([...document.querySelectorAll("#screen text")].find(t => t.textContent.startsWith("World"))).fill'
+    page.until('[...document.querySelectorAll("#screen text")].some(t => t.textContent.startsWith("World"))')
+    print('  the colour of World:', page.js(blue))
+    page.click(48, 0, 'middle')                                  # Edit.Store, as far as there is room
+    page.call('System.OpenLog', 50)
+    same('the log', any('Edit.Store A.Text 12' in row for row in page.text(50)), True)
+    shot('2-walk')
+    page.call('System.Close', 0, 50)
+    same('the viewer is gone', any('Hello' in row for row in page.text(0, 50)), False)
+    page.call('Edit.Open', 50)
+    same('and opened again', any('World' in row for row in page.text(0, 50)), True)
+    page.click(8, 3)
+    page.js(PASTE % 'pasted\ntext\n')
+    page.wait(1)
+    same('a paste', [row for row in page.text(1, 50) if row.startswith(('pasted', 'text'))], ['pasted', 'text'])
+    x, y = page.find('pasted', 1, 50)
+    page.press(x, y, 'right')
+    page.press(x + 5, y, 'left', held=3)
+    page.release(x + 5, y, 'left', held=2)
+    page.release(x + 5, y, 'right')
+    page.wait(4)
+    same('right with left deletes', any('pasted' in row for row in page.text(1, 50)), False)
+    page.control('z')
+    same('Ctrl-Z takes it back', any('pasted' in row for row in page.text(1, 50)), True)
+    print('  the line says:', page.js('line.textContent'))
+    page.control('y')
+    same('Ctrl-Y does it again', any('pasted' in row for row in page.text(1, 50)), False)
+    page.js('document.querySelector("#bar [data-key=F2]").click()')
+    page.wait(1)
+    same('the line below', page.js('line.textContent'), 'the next click calls the word there; Escape calls it off')
+    x, y = page.find('System.Directory', 50)
+    page.click(x + 1, y, 'left')
+    same('one button calls', any('A.Text' in row for row in page.text(50, 80)), True)
+    page.click(2, 1, 'middle')
+    same('a refusal', page.js('line.textContent').startswith('refused (4)'), True)
+    page.js(FILE % ('dropped\r\nlines\n', 'Drop-ped.Text'))
+    page.wait(0)
+    page.until('note.textContent.includes("Dropped.Text")')
+    got = base64.b64decode(page.js(SAVED % 'worker.postMessage({give: spelled("Dropped.Text")})', wait=True)).decode()
+    same('brought in and given out', got, 'dropped\nlines\n')
+    store = base64.b64decode(page.js(SAVED % 'worker.postMessage({save: true})', wait=True))
+    same('the size of the store', len(store), 15621 * 1024)
+    with open(f'{profile}/my.disk', 'wb') as file:
+        file.write(store)
+    checked(f'{profile}/my.disk', 'saved')
+    before = page.rows()
+    page.type('lost')
+    sectors = [(n, store[n * 1024:n * 1024 + 1024]) for n in range(15621)]
+    page.js(LOAD % json.dumps([[n, base64.b64encode(sector).decode()] for n, sector in sectors if any(sector)]))
+    page.until(f'{ROWS} == {before!r}')
+    print('  the store that was saved is there again: ok')
+    page.quit()
+    page = kind(profile)
+    page.begin(url)
+    same('and after another start', page.rows(), before)
+    shot('3-again')
+    page.quit()
+    checked(kept_by(profile, store), 'kept')
+
+
+kinds = browsers()
+if not kinds:
+    sys.exit(print('no browser here: skipped'))
+for one in kinds:
+    where = room()
+    walk(one, served(), where)
+    shutil.rmtree(where, ignore_errors=True)
+print('done')

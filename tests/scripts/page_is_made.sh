@@ -1,0 +1,2 @@
+# docs/desk.html is made again from these sources, byte by byte.
+"$TESTS/../tools/page" --check
