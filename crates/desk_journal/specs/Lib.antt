@@ -11,3 +11,4 @@ pub mod Migrating
 pub mod Prefixes
 pub mod Files
 pub mod Undoing
+pub mod Scrolling

@@ -8,7 +8,7 @@ use Rattle.event_bytes.specs.declared.keys.Keys.{Keys as MouseKeys}
 use Rattle.event_bytes.specs.declared.keys.Keys.TheVariants.{Left, LeftMiddle, LeftRight, Middle, MiddleLeft}
 use Rattle.event_bytes.specs.declared.keys.Keys.TheVariants.{MiddleRight, Right, RightLeft, RightMiddle}
 use Rattle.desk_past.specs.declared.deed.Deed.{Deed}
-use Rattle.desk_past.specs.declared.deed.Deed.TheVariants.{Typed, Key, Mark, Click, Call, File, Part}
+use Rattle.desk_past.specs.declared.deed.Deed.TheVariants.{Typed, Key, Mark, Click, Call, Scroll, File, Part}
 
 abbrev pub is_middle : MouseKeys → Bool
 is_middle Middle = true
@@ -67,5 +67,6 @@ deed_words (Key key) = key_deed key
 deed_words Mark = codes "the marker"
 deed_words (Click keys) = keys_deed keys
 deed_words (Call x y) = codes "a command"
+deed_words Scroll = codes "a scroll"
 deed_words File = codes "a file"
 deed_words Part = codes "a part of it, and the rest can't be"

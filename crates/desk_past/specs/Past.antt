@@ -66,6 +66,14 @@ refused_after (Some press) past = pushed (record press { events = one_more_of pr
 unfoldable pub with_refused : PastView → PastView
 with_refused past = refused_after (last_press past) (but_last_press past)
 
+abbrev pub press_named : Option DonePress → Deed → PastView → PastView
+press_named None deed past = past
+press_named (Some press) deed past = pushed (record press { deed = deed }) past
+
+-- the press that was done last did this
+unfoldable pub named : Deed → PastView → PastView
+named deed past = press_named (last_press past) deed (but_last_press past)
+
 -- ---- taking back
 
 -- how many events are taken back next: those of the last press, or else the last one that wasn't refused

@@ -18,6 +18,8 @@ pub enum Deed {
     Click(Keys),
     /// The word at this cell was called.
     Call { x: u8, y: u8 },
+    /// A text moved in its viewer.
+    Scroll,
     /// A file was made, or got other characters.
     File,
     /// A part of what a press did, of which the rest can't be taken back.
@@ -67,6 +69,7 @@ impl Deed {
             Deed::Mark => b"the marker",
             Deed::Click(keys) => click_words(keys),
             Deed::Call { .. } => b"a command",
+            Deed::Scroll => b"a scroll",
             Deed::File => b"a file",
             Deed::Part => b"a part of it, and the rest can't be",
         }

@@ -1,7 +1,7 @@
 //! What the presses of a sitting did, as far as they can be taken back.
 ghost use Rattle.std.specs.Prelude.{◌≡◌, length};
 ghost use Rattle.desk_past.specs.Past.{past_after, back_count, back_deed, counted, first_deed, joined, left_past, no_past, past_joined};
-ghost use Rattle.desk_past.specs.Past.{pushed, with_event, with_refused};
+ghost use Rattle.desk_past.specs.Past.{named, pushed, with_event, with_refused};
 
 use crate::deed::Deed;
 use arrayvec::ArrayVec;
@@ -85,6 +85,19 @@ impl Past {
                 events: press.events.saturating_add(1),
                 deed: press.deed,
             }),
+        }
+    }
+
+    /// What the press did that was done last.
+    #[tactic(auto, unfolding(crate::specs::Past::named))]
+    pub fn name(&mut self, deed: Deed)
+        ensures { self.new ≡ named deed self.old }
+    {
+        if let Some(press) = self.presses.pop() {
+            self.push(DonePress {
+                events: press.events,
+                deed,
+            });
         }
     }
 
