@@ -9,7 +9,7 @@ use Rattle.sector_disk.proofs.Touching.{at_last}
 use Rattle.event_bytes.specs.declared.event.Event.{Event}
 use Rattle.screen_pictures.specs.declared.cell.Cell.{Cell}
 use Rattle.store_layout.specs.Meaning.{Shows}
-use Rattle.terminal_painting.specs.declared.face.Face.{Face}
+use Rattle.screen_drawing.specs.declared.face.Face.{Face}
 use Rattle.sector_disk.specs.Faults.{FailsAs}
 use Rattle.terminal_keyboard.specs.declared.keyboard.KeyboardEnd.{KeyboardEnd}
 use Rattle.terminal_keyboard.specs.declared.keyboard.KeyboardEnd.TheVariants as keyboard

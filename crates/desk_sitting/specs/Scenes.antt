@@ -4,12 +4,12 @@ use Rattle.std.specs.Io.KnownBytes.{Appends}
 use Rattle.byte_streams.specs.Sent.{AppendsFront}
 use Rattle.viewer_tracks.specs.declared.display.TheConstants.{ROWS}
 use Rattle.screen_pictures.specs.declared.cell.Cell.{Cell}
-use Rattle.terminal_painting.specs.declared.face.Face.{Face}
-use Rattle.terminal_painting.specs.declared.scene.Scene.{Scene}
-use Rattle.terminal_painting.specs.declared.operation.Operation.TheVariants.{Ring}
-use Rattle.terminal_painting.specs.Scene.{scene_rows, line_height, text_below}
-use Rattle.terminal_painting.specs.Painting.{Paints, PaintsFront}
-use Rattle.terminal_painting.specs.Spelling.{operation_bytes}
+use Rattle.screen_drawing.specs.declared.face.Face.{Face}
+use Rattle.screen_drawing.specs.declared.scene.Scene.{Scene}
+use Rattle.screen_drawing.specs.declared.operation.Operation.TheVariants.{Ring}
+use Rattle.screen_drawing.specs.Scene.{scene_rows, line_height, text_below}
+use Rattle.screen_drawing.specs.Painting.{Paints, PaintsFront}
+use Rattle.screen_drawing.specs.Spelling.{operation_bytes}
 use Rattle.desk_sitting.specs.declared.sitting.Sitting.{Sitting}
 use Rattle.desk_sitting.specs.Sayings.{line_of}
 use Rattle.desk_sitting.specs.Sittings.{looked}

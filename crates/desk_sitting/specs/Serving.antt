@@ -11,7 +11,7 @@ use Rattle.desk_journal.specs.Device.{IsOnlyRead, IsSameDevice}
 use Rattle.desk_journal.specs.Errors.{Error, NoMemory, Fault as DiskFault}
 use Rattle.desk_journal.specs.Session.{session_of}
 use Rattle.desk_journal.specs.View.{StoreView, IsDurable}
-use Rattle.terminal_painting.specs.declared.face.Face.{Face}
+use Rattle.screen_drawing.specs.declared.face.Face.{Face}
 use Rattle.terminal_presses.specs.declared.parser.Parser.{Parser}
 use Rattle.terminal_presses.specs.declared.press.Heard.{Heard}
 use Rattle.terminal_presses.specs.Presses.{at_rest, parser_after, presses_heard}

@@ -5,8 +5,8 @@ ghost use Rattle.desk_sitting.specs.declared.ending.SittingEnd.TheVariants.{Outp
 ghost use Rattle.desk_sitting.specs.Endings.{sitting_end_of, end_of_keyboard};
 
 use desk_journal::Error;
+use screen_drawing::OutputFault;
 use terminal_keyboard::KeyboardEnd;
-use terminal_painting::OutputFault;
 
 /// How a sitting came to its end.
 #[derive(Clone, Copy, Debug, PartialEq, Eq)]

@@ -1,10 +1,10 @@
 //! What a terminal is sent: worked paintings of one row of a screen and the line below.
 
 use byte_streams::CountedWriter;
+use screen_drawing::{OutputFault, Painter, Scene};
 use screen_pictures::{Cell, Mark};
 use std::alloc::Global;
 use std::test::Fail;
-use terminal_painting::{OutputFault, Painter, Scene};
 
 /// The cell of a text where there is no character.
 pub(crate) fn blank() -> Cell {

@@ -2,10 +2,10 @@
 use Rattle.std.specs.Prelude.{◌≡◌, ℕ, ◌+◌, ◌*◌, List, [], ◌∷◌, codes, length}
 use Rattle.std.specs.Fmt.{decimal}
 use Rattle.std.specs.List.{concat}
-use Rattle.terminal_painting.specs.declared.face.Face.{Face}
-use Rattle.terminal_painting.specs.declared.pen.Pen.{Pen}
+use Rattle.screen_drawing.specs.declared.face.Face.{Face}
+use Rattle.screen_drawing.specs.declared.pen.Pen.{Pen}
 use Rattle.screen_drawing.specs.Drawn.{escaped_text, heading, rectangle, rule_text, slant_text, text_cells, weight_text}
-use Rattle.screen_drawing.specs.Spelling.{baseline, cell_height, cell_width, colour_code}
+use Rattle.screen_drawing.specs.Strokes.{baseline, cell_height, cell_width, colour_code}
 
 pub rectangle_pieces : (x y width height colour : ℕ) (xs ys widths heights colours : List ℕ) → xs ≡ decimal x
     → ys ≡ decimal y → widths ≡ decimal width → heights ≡ decimal height → colours ≡ colour_code colour

@@ -9,10 +9,10 @@ use Rattle.std.specs.List.{flat_map, range_with_len}
 use denote.Bor.{Bor}
 use Rattle.byte_streams.specs.Sent.{AppendsFront}
 use Rattle.byte_streams.proofs.Taking.{HasTaken, front_part, taken_all, taken_part}
-use Rattle.terminal_painting.specs.declared.face.Face.{Face}
-use Rattle.terminal_painting.specs.declared.pen.Pen.{Pen}
+use Rattle.screen_drawing.specs.declared.face.Face.{Face}
+use Rattle.screen_drawing.specs.declared.pen.Pen.{Pen}
 use Rattle.screen_drawing.specs.Drawn.{drawn_start, drawn_stretch, is_start, pen_at, stretch_at}
-use Rattle.screen_drawing.specs.Spelling.{joined_pieces}
+use Rattle.screen_drawing.specs.Strokes.{joined_pieces}
 
 -- a part more of what is left, or a front of it
 pub next_taken : (old mid new : Option (List ℕ)) (text left part rest : List ℕ) → left ≡ part ++ rest

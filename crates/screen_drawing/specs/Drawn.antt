@@ -12,16 +12,16 @@ use Rattle.screen_pictures.specs.declared.cell.Mark.{Mark}
 use Rattle.screen_pictures.specs.declared.cell.Mark.TheVariants.{Marker, Caret, Selected, Menu, Bar, Text, Filler}
 use Rattle.screen_pictures.specs.Bytes.{space}
 use Rattle.screen_pictures.specs.Screen.{column_at, row_at}
-use Rattle.terminal_painting.specs.declared.face.Face.{Face}
-use Rattle.terminal_painting.specs.declared.pen.Pen.{Pen}
-use Rattle.terminal_painting.specs.declared.pen.Weight.{Weight}
-use Rattle.terminal_painting.specs.declared.pen.Weight.TheVariants.{Regular, Bold, Faint}
-use Rattle.terminal_painting.specs.declared.pen.Rule.{Rule}
-use Rattle.terminal_painting.specs.declared.pen.Rule.TheVariants.{Plain, Under, Over}
-use Rattle.terminal_painting.specs.declared.pen.TheConstants.{BLACK, WHITE}
-use Rattle.terminal_painting.specs.Scene.{row_of_cells}
-use Rattle.terminal_painting.specs.Pen.{blank_face, same_pen}
-use Rattle.screen_drawing.specs.Spelling.{baseline, caret_width, cell_height, cell_width, colour_code, escaped_byte}
+use Rattle.screen_drawing.specs.declared.face.Face.{Face}
+use Rattle.screen_drawing.specs.declared.pen.Pen.{Pen}
+use Rattle.screen_drawing.specs.declared.pen.Weight.{Weight}
+use Rattle.screen_drawing.specs.declared.pen.Weight.TheVariants.{Regular, Bold, Faint}
+use Rattle.screen_drawing.specs.declared.pen.Rule.{Rule}
+use Rattle.screen_drawing.specs.declared.pen.Rule.TheVariants.{Plain, Under, Over}
+use Rattle.screen_drawing.specs.declared.pen.TheConstants.{BLACK, WHITE}
+use Rattle.screen_drawing.specs.Scene.{row_of_cells}
+use Rattle.screen_drawing.specs.Pen.{blank_face, same_pen}
+use Rattle.screen_drawing.specs.Strokes.{baseline, caret_width, cell_height, cell_width, colour_code, escaped_byte}
 
 -- a rectangle in one colour: its corner, width and height in units
 abbrev pub rectangle : ℕ → ℕ → ℕ → ℕ → ℕ → List ℕ

@@ -1,2 +1,9 @@
+pub mod Pen
+pub mod Grid
 pub mod Spelling
+pub mod Changes
+pub mod Shows
+pub mod Scene
+pub mod Painting
+pub mod Strokes
 pub mod Drawn

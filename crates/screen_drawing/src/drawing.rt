@@ -7,15 +7,15 @@ ghost use Rattle.screen_drawing.specs.Drawn.{background, drawing_of, drawn_caret
 ghost use Rattle.screen_drawing.specs.Drawn.{drawn_rows, drawn_paper, drawn_start, drawn_stretch, drawn_text, heading};
 ghost use Rattle.screen_drawing.specs.Drawn.{is_bare, is_in_another_pen, is_ruled, is_start, pen_at, stretch_at};
 ghost use Rattle.screen_drawing.specs.Drawn.{are_spaces, stretch_length};
-ghost use Rattle.screen_drawing.specs.Spelling.{caret_width, cell_height, cell_width};
+ghost use Rattle.screen_drawing.specs.Strokes.{caret_width, cell_height, cell_width};
 
 use crate::pieces::{Drawing, send_all};
 use crate::shapes::{Area, paper_cells, rectangle, text_cells};
 use crate::spelling::{CARET_WIDTH, CELL_HEIGHT, CELL_WIDTH, digits};
+use crate::{BLACK, Face, Pen, Row, Rule, WHITE, row_of_cells};
 use byte_streams::{OutputFault, flush, send};
 use screen_pictures::{Cell, Mark};
 use std::io::Write;
-use terminal_painting::{BLACK, Face, Pen, Row, Rule, WHITE, row_of_cells};
 use viewer_tracks::{COLUMNS, ROWS};
 
 const COLUMN_COUNT: usize = COLUMNS as usize;

@@ -1,7 +1,7 @@
 //! A text that is written piece by piece.
 ghost use Rattle.std.specs.Prelude.{◌≡◌};
 ghost use Rattle.byte_streams.specs.Sent.{Sends};
-ghost use Rattle.screen_drawing.specs.Spelling.{joined_pieces};
+ghost use Rattle.screen_drawing.specs.Strokes.{joined_pieces};
 
 use byte_streams::{OutputFault, send};
 use std::io::Write;

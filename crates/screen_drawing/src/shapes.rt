@@ -1,13 +1,13 @@
 //! Rectangles and texts of a drawing.
 ghost use Rattle.std.specs.Prelude.{◌≡◌, ◌<◌, ◌≤◌, length};
 ghost use Rattle.byte_streams.specs.Sent.{Sends};
-ghost use Rattle.terminal_painting.specs.declared.face.Face.{Face as AFace};
+ghost use Rattle.screen_drawing.specs.declared.face.Face.{Face as AFace};
 ghost use Rattle.screen_drawing.specs.Drawn.{paper_cells, rectangle, rule_text, slant_text, text_cells, weight_text};
 
 use crate::pieces::{Drawing, send_all};
 use crate::spelling::{BASELINE, CELL_HEIGHT, CELL_WIDTH, colour_code, digits, escaped};
+use crate::{Face, Pen, Rule, Weight};
 use std::io::Write;
-use terminal_painting::{Face, Pen, Rule, Weight};
 
 /// A place and a size on the drawing, in units.
 #[derive(Clone, Copy)]

@@ -2,12 +2,12 @@
 ghost use Rattle.std.specs.Prelude.{◌≡◌, ◌++◌, ◌+◌, ◌*◌, ◌<◌, ◌≤◌, length};
 ghost use Rattle.std.specs.Fmt.{decimal};
 ghost use Rattle.arrayvec.specs.ArrayVec.{array_vec_len};
-ghost use Rattle.screen_drawing.specs.Spelling.{colour_code, escaped_byte, step_strength, strength};
+ghost use Rattle.screen_drawing.specs.Strokes.{colour_code, escaped_byte, step_strength, strength};
 ghost use Rattle.screen_drawing.specs.Drawn.{escaped_text};
 
+use crate::Face;
 use arrayvec::ArrayVec;
 use byte_streams::hex_digit;
-use terminal_painting::Face;
 
 /// The width of a cell, in units of the drawing.
 pub(crate) const CELL_WIDTH: u16 = 9;
@@ -40,7 +40,7 @@ pub(crate) fn digits(number: u16) -> Digits
 }
 
 /// A colour of the terminal.
-#[tactic(auto, unfolding(crate::specs::Spelling::colour_code))]
+#[tactic(auto, unfolding(crate::specs::Strokes::colour_code))]
 pub(crate) fn colour_code(colour: u8) -> [u8; 7]
     ensures { result ≡ colour_code colour }
 {
@@ -91,7 +91,7 @@ pub(crate) fn escaped(faces: &[Face]) -> Escaped
 }
 
 /// Adds a character.
-#[tactic(auto, unfolding(crate::specs::Spelling::escaped_byte))]
+#[tactic(auto, unfolding(crate::specs::Strokes::escaped_byte))]
 fn put_escaped(text: &mut Escaped, byte: u8)
     requires { array_vec_len text.old + 5 ≤ 400 }
     ensures value { text.new.items ≡ text.old.items ++ escaped_byte byte }

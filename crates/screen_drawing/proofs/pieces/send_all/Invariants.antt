@@ -1,6 +1,6 @@
 use Rattle.std.proofs.Common.{drop}
 use Rattle.byte_streams.proofs.Taking.{HasTaken}
-use Rattle.screen_drawing.specs.Spelling.{joined_pieces}
+use Rattle.screen_drawing.specs.Strokes.{joined_pieces}
 use Rattle.screen_drawing.proofs.pieces.send_all.Given as goal
 
 abbrev pub invariant-loop-piece : goal.invariant-loop-piece

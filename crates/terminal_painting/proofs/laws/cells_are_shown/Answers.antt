@@ -1,8 +1,0 @@
-use Rattle.terminal_painting.proofs.Reading.{cell_shown, letter_shown}
-use Rattle.terminal_painting.proofs.laws.cells_are_shown.Goals as goal
-
-pub returns-clause-cells : goal.returns-clause-cells
-returns-clause-cells c = cell_shown
-
-pub returns-clause-below : goal.returns-clause-below
-returns-clause-below c = letter_shown

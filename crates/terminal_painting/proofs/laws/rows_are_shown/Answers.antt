@@ -1,8 +1,0 @@
-use Rattle.terminal_painting.proofs.Showing.{row_kept, row_shown}
-use Rattle.terminal_painting.proofs.laws.rows_are_shown.Goals as goal
-
-pub returns-clause-shown : goal.returns-clause-shown
-returns-clause-shown c = row_shown
-
-pub returns-clause-kept : goal.returns-clause-kept
-returns-clause-kept c = row_kept
