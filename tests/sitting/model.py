@@ -2,6 +2,7 @@
 which rows are in sight and what the line below says, is here once more (crates/desk_sitting/specs)."""
 import subprocess
 
+import scrolling
 from presses import FILES, spelled, told
 
 COLUMNS, ROWS = 80, 32
@@ -12,6 +13,7 @@ UNREAD = "The host's file can't be read, and nothing was typed."
 KEYS = 'F1 marker, F2 calls, F3 selects, Ctrl-Z undo, Ctrl-O file, Ctrl-Q leaves'
 NO_KEY = 'That key means nothing here.'
 NO_TEXT = 'There is no text on that side of the caret, or no caret in sight.'
+NO_SCROLL = 'Nothing moves there: no viewer, no caret, or too few rows of a text.'
 TOO_LOW = 'This window is too low: it has fewer than 12 rows.'
 # What it says of a refusal, by its code.
 REASONS = {
@@ -59,6 +61,8 @@ class Model:
     """A desktop, the part of it that is in sight in a window of so many rows, and what the line below says."""
 
     def __init__(self, oberon, store, window):
+        self.oberon, self.store = oberon, store
+        self.pointer = None
         self.play = subprocess.Popen([oberon, 'play', store], stdin=subprocess.PIPE, stdout=subprocess.PIPE)
         self.top, self.rows = ROWS - 1, ROWS
         self.follows = True
@@ -113,6 +117,10 @@ class Model:
     def spot(self, column, row):
         return min(max(column - 1, 0), COLUMNS - 1), self.top - min(max(row - 1, 0), self.rows - 1)
 
+    def shown(self, column, row):
+        """The cell that is shown there; None outside the display."""
+        return self.spot(column, row) if column <= COLUMNS and row <= self.rows else None
+
     # ---- presses
 
     def post(self, line):
@@ -150,6 +158,16 @@ class Model:
             pass  # (it begins outside the display)
         elif kind == 'point':
             self.post('point %s %d %d %d %d' % (rest[0], *self.spot(*rest[1:3]), *self.spot(*rest[3:])))
+        elif kind == 'pointer':
+            self.pointer = self.shown(*rest)
+        elif kind == 'wheel':
+            self.pointer = self.shown(*rest[1:])
+            if self.pointer:
+                self.scroll(self.viewer_at(*self.pointer), ('wheel', rest[0]))
+        elif kind == 'text page':
+            self.scroll(self.viewer_at(*self.pointer) if self.pointer else self.viewer_of_caret(), ('page', rest[0]))
+        elif kind == 'text end':
+            self.scroll(self.viewer_of_caret(), rest[0])
         elif kind == 'arrow':
             self.step(rest[0])
         elif kind == 'file':
@@ -173,6 +191,31 @@ class Model:
             return
         self.saying = KEYS
         self.paste(told(FILES[name]), looks=True)
+
+    def scroll(self, viewer, wish):
+        """The text of a viewer moves. The rows in sight don't follow the caret for it."""
+        self.saying = KEYS
+        lines = viewer and scrolling.presses(self.oberon, self.store, viewer, wish)
+        if lines is None:
+            self.saying = NO_SCROLL
+            return
+        follows = self.follows
+        for line in lines:
+            self.post(line)
+        self.follows = follows
+        self.name_press('a scroll')
+
+    def name_press(self, words):
+        """What is said of the events of this press, if it has any, where they are taken back."""
+
+    def viewer_of_caret(self):
+        """The viewer in which the caret stands, in sight or not: it is, once a line is begun. None where there is none, or
+        where it shows no row of its text."""
+        answers = scrolling.played(self.oberon, self.store, ['type %0d', 'screen'])
+        if answers[0] != 'ok':
+            return None
+        place = Screen(answers[1:answers.index('end')]).caret()
+        return place and self.viewer_at(*place)
 
     def step(self, word):
         """A left click beside the caret, where a text is shown there."""
@@ -211,13 +254,18 @@ class Model:
         spans = [(int(v[1]), int(v[2]), int(v[3])) for v in viewers]
         return any(left < x < left + WIDTHS[left] and bottom <= y < top - 1 for left, bottom, top in spans)
 
-    def middle(self, x, y):
-        """The row in the middle of the viewer that is seen at a cell, or else the row of the cell."""
+    def viewer_at(self, x, y):
+        """The viewer that is seen at a cell: its leftmost column, its first row, the row after its last and its name."""
         left, found = (0 if x < 50 else 50), None
         for line in self.lines('list'):
-            kind, *numbers = line.split(' ')
-            if kind == 'over' and int(numbers[0]) == left:
+            kind, *words = line.split(' ')
+            if kind == 'over' and int(words[0]) == left:
                 found = None
-            if kind == 'viewer' and int(numbers[0]) == left and int(numbers[1]) <= y < int(numbers[2]):
-                found = int(numbers[1]), int(numbers[2])
-        return sum(found, -1) // 2 if found else y
+            if kind == 'viewer' and int(words[0]) == left and int(words[1]) <= y < int(words[2]):
+                found = int(words[0]), int(words[1]), int(words[2]), words[3]
+        return found
+
+    def middle(self, x, y):
+        """The row in the middle of the viewer that is seen at a cell, or else the row of the cell."""
+        viewer = self.viewer_at(x, y)
+        return sum(viewer[1:3], -1) // 2 if viewer else y

@@ -1,8 +1,9 @@
 """Random presses: the bytes that a terminal sends for them, and what they mean.
 
 A meaning is a tuple: ('type', text), ('paste', texts), ('key', word), ('mark', column, row), ('point', keys, column, row, column, row),
-('arrow', word), ('page', word), ('fit', rows), ('file', name), ('ring',) or ('ring at a name',). Columns and rows are those of the terminal,
-from 1 at the upper left."""
+('arrow', word), ('page', word), ('wheel', word, column, row), ('text page', word), ('text end', word), ('pointer', column, row),
+('fit', rows), ('file', name), ('ring',) or ('ring at a name',). Columns and rows are those of the terminal, from 1 at the
+upper left."""
 
 PRINTED = [chr(code) for code in range(32, 127)]
 GESTURES = ['l', 'm', 'r', 'lm', 'lr', 'ml', 'mr', 'rl', 'rm']
@@ -128,7 +129,21 @@ def press(random, rows, is_whole):
     if kind == 16 and not is_whole:
         height = random.choice([2, 5, 12, 13, 24, 32, 33, 34, 45])
         return b'\x1b[%d;%d;81t' % (random.choice([8, 48]), height), [('fit', height)]
-    return mouse(random, rows, is_whole)
+    if kind in (17, 18):
+        return scroll(random, rows)
+    data, meanings = mouse(random, rows, is_whole)
+    _, column, row = data.rstrip(b'm').rsplit(b';', 2)
+    return data, meanings + [('pointer', int(column), int(row))]
+
+
+def scroll(random, rows):
+    """The wheel, or a key that moves a text."""
+    if random.random() < 0.5:
+        place, flags = cell(random, rows), random.choice([0, 0, 4, 8, 16])
+        number, word = random.choice([(64, 'up'), (65, 'down'), (65, 'down')])
+        return b'\x1b[<%d;%d;%dM' % (number + flags, *place), [('wheel', word, *place)]
+    return random.choice([(b'\x1b[5~', [('text page', 'up')]), (b'\x1b[6~', [('text page', 'down')]),
+                          (b'\x1b[1;5H', [('text end', 'first')]), (b'\x1b[1;5F', [('text end', 'last')])])
 
 
 def mouse(random, rows, is_whole):

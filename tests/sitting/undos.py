@@ -41,6 +41,13 @@ class Deed:
             if rest[0] == 'm':
                 self.cell = tuple(int(number) for number in rest[1].split(' ')[:2])
 
+    @classmethod
+    def named(cls, words):
+        """What is said in these words."""
+        deed = cls('mark')
+        deed.words = words
+        return deed
+
     @staticmethod
     def length(line):
         text = line[len('type '):]
@@ -145,6 +152,10 @@ class Undoing(Model):
             self.joins = True
         return done
 
+    def name_press(self, words):
+        if self.joins:
+            self.presses[-1][1] = Deed.named(words)
+
     def undo(self):
         """The last press is taken back, of this sitting."""
         lines = self.history.take_back(self.presses[-1][0] if self.presses else self.refused + 1)
@@ -155,7 +166,8 @@ class Undoing(Model):
         deed = self.deed_of(lines)
         self.undone = [*self.undone, (lines, deed)][-MOST_AGAIN:]
         self.end()
-        self.play = subprocess.Popen([self.oberon, 'play', self.copied()], stdin=subprocess.PIPE, stdout=subprocess.PIPE)
+        self.store = self.copied()
+        self.play = subprocess.Popen([self.oberon, 'play', self.store], stdin=subprocess.PIPE, stdout=subprocess.PIPE)
         for line in self.stands:
             self.ask(line)
         self.follows = True
@@ -181,6 +193,8 @@ class Undoing(Model):
         self.joins = False
         for line in lines:
             self.posted(line)
+        if self.joins:
+            self.presses[-1][1] = deed or Deed.named(PART)
         self.saying = 'did again: ' + (deed.told() if deed else PART)
 
 

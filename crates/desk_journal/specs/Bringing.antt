@@ -34,8 +34,10 @@ module _ {D : Type 0} (d : Ghosts D) where
     pub unwritten : IsOnlyRead d old.disk new.disk
 
   -- Ok: the desktop and the reply are those of the definition
-  pub record AreBrought (documents : Documents) (reply : Reply) (old new : StoreView D) : Type 0 where
-    pub brought : IsBringing (d.honest old.disk) documents old.kept new.kept old.desktop new.desktop reply
+  pub record AreBrought (documents : Documents) (reply : Reply) (old new : StoreView D)
+      : Type 0 where
+    pub brought : IsBringing (d.honest old.disk) documents old.kept new.kept old.desktop new.desktop
+        reply
     -- from now on a crash leaves that desktop
     pub durable : IsDurable d new
     pub usable : new.must_reopen ≡ false

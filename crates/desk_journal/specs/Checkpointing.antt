@@ -28,7 +28,8 @@ module _ {D : Type 0} (d : Ghosts D) where
     pub usable : new.must_reopen ≡ false
 
   -- All that a checkpoint promises where it returns this.
-  pub record IsCheckpointed {T : Type 0} (answer : Result T Error) (old new : StoreView D) : Type 0 where
+  pub record IsCheckpointed {T : Type 0} (answer : Result T Error) (old new : StoreView D)
+      : Type 0 where
     pub any_moment : LeavesDesktop old new
     pub ok : OnOk answer (IsRenewed old new)
     pub fault : IsErrOf answer Fault → IsBroken new

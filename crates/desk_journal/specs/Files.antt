@@ -47,7 +47,10 @@ module _ {F : Type 0} (f : Ghosts F) where
 
   -- Between two states of a store a crash leaves bytes that mean the desktop after a prefix of these events, and at the
   -- second of them one that holds every event that was acknowledged.
-  pub record FileKeeps (desktop : Desktop) (acknowledged events : List Event) (old new : StoreView (FileDisk F f))
+  pub record FileKeeps (desktop : Desktop) (acknowledged events : List Event)
+      (old new : StoreView (FileDisk F f))
       : Type 0 where
-    pub any_moment : FileLeavesOnly (bytes_under old) (bytes_under new) (MeansPrefix FILE_SECTORS desktop [] events)
-    pub at_last : FileLeaves (current (bytes_under new)) (MeansPrefix FILE_SECTORS desktop acknowledged events)
+    pub any_moment : FileLeavesOnly (bytes_under old) (bytes_under new)
+        (MeansPrefix FILE_SECTORS desktop [] events)
+    pub at_last : FileLeaves (current (bytes_under new))
+        (MeansPrefix FILE_SECTORS desktop acknowledged events)

@@ -9,7 +9,8 @@ use Rattle.desk_slots.specs.Errors.{OfLook}
 use Rattle.desk_journal.specs.View.{StoreView}
 
 -- It only looks, whatever it returns.
-pub record OnlyLooks {D T : Type 0} (d : Ghosts D) (result : Result T Error) (old new : StoreView D) : Type 0 where
+pub record OnlyLooks {D T : Type 0} (d : Ghosts D) (result : Result T Error) (old new : StoreView D)
+    : Type 0 where
   -- what the store shows stays, and over every disk what it keeps
   pub desktop : d.honest old.disk → new.desktop ≡ old.desktop
   pub kept : new.kept ≡ old.kept

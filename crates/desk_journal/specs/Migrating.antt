@@ -11,7 +11,8 @@ use Rattle.desk_journal.specs.View.{StoreView}
 -- The call is a checkpoint up to a store between, and from there, if that is done, a post to a store of the newest
 -- version with room in its journal. So until the checkpoint's last sync every image means the desktop before, and no
 -- record of the event is written before that.
-pub record ChecksFirst {D : Type 0} (d : Ghosts D) (event : Event) (answer : Result Reply Error) (old new : StoreView D)
+pub record ChecksFirst {D : Type 0} (d : Ghosts D) (event : Event) (answer : Result Reply Error)
+    (old new : StoreView D)
     : Type 0 where
   pub between : StoreView D
   pub outcome : Result ⊤ Error

@@ -44,12 +44,14 @@ AnswersWorn answer old new = TurnsAway (IsErrOf answer Worn) (IsLast old × IsDu
 
 -- MustReopen: after NoMemory or Fault of an earlier post, or Fault of an earlier checkpoint
 abbrev pub AnswersMustReopen : {D T : Type 0} → Result T Error → StoreView D → StoreView D → Type 0
-AnswersMustReopen answer old new = TurnsAway (IsErrOf answer MustReopen) (old.must_reopen ≡ true) old new
+AnswersMustReopen answer old new =
+    TurnsAway (IsErrOf answer MustReopen) (old.must_reopen ≡ true) old new
 
 module _ {D : Type 0} (d : Ghosts D) where
   -- A call that may write, whatever it returns: MustReopen changes nothing, Fault comes exactly where a failure was
   -- counted, each error is one of the call's, and the device stays what it was past the sectors of a store.
-  pub record Behaves {T : Type 0} (OfCall : Error → Type 0) (answer : Result T Error) (old new : StoreView D)
+  pub record Behaves {T : Type 0} (OfCall : Error → Type 0) (answer : Result T Error)
+      (old new : StoreView D)
       : Type 0 where
     pub reopen : AnswersMustReopen answer old new
     pub faults : FailsAs Fault OfCall answer (d.failures old.disk) (d.failures new.disk)
@@ -65,7 +67,8 @@ module _ {D : Type 0} (d : Ghosts D) where
   -- Ok: the event is acknowledged, whatever the reply
   pub record IsAcknowledged (event : Event) (reply : Reply) (old new : StoreView D) : Type 0 where
     -- it was stepped by the newest version
-    pub stepped : IsStep (d.honest old.disk) LAYOUT event old.kept new.kept old.desktop new.desktop reply
+    pub stepped : IsStep (d.honest old.disk) LAYOUT event old.kept new.kept old.desktop new.desktop
+        reply
     -- from now on a crash leaves that desktop
     pub durable : IsDurable d new
     -- the journal has one event more, or, where a checkpoint was due, is a new one with this event
@@ -88,7 +91,8 @@ module _ {D : Type 0} (d : Ghosts D) where
       ⊎ (new.desktop ≡ (step old.desktop event).desktop)
 
   -- All that a post of the event promises where it returns this.
-  pub record IsPosted (event : Event) (answer : Result Reply Error) (old new : StoreView D) : Type 0 where
+  pub record IsPosted (event : Event) (answer : Result Reply Error) (old new : StoreView D)
+      : Type 0 where
     pub any_moment : LeavesEither event old new
     pub ok : IfOk answer (λ reply. IsAcknowledged event reply old new)
     pub memory : IsErrOf answer NoMemory → IsStarved old new

@@ -8,7 +8,8 @@ use Rattle.store_layout.specs.Meaning.{Means}
 
 -- The content means the desktop after some of these events, the first of them and none left out, and among them every
 -- event that was acknowledged.
-pub record MeansPrefix (size : ℕ) (desktop : Desktop) (acknowledged events : List Event) (c : Content) : Type 0 where
+pub record MeansPrefix (size : ℕ) (desktop : Desktop) (acknowledged events : List Event)
+    (c : Content) : Type 0 where
   pub count : ℕ
   pub none_lost : length acknowledged ≤ count
   pub within : count ≤ length events

@@ -22,5 +22,6 @@ pub record StoreView (D : Type 0) : Type 0 where
 -- a crash now leaves what the store shows
 abbrev pub IsDurable : {D : Type 0} → Ghosts D → StoreView D → Type 0
 IsDurable d store = d.honest store.disk
-    → Leaves (now (d.trail store.disk)) (Shows (d.size store.disk) store.layout store.epoch store.events
+    → Leaves (now (d.trail store.disk))
+    (Shows (d.size store.disk) store.layout store.epoch store.events
     store.desktop)

@@ -184,7 +184,8 @@ impl<D: Disk> Store<D> {
     /// first two change nothing; after the last two the store must be opened again.
     pub fn post(&mut self, alloc: Global, event: &Event) -> Result<Reply, Error>
         ensures any_moment { LeavesEither D.Disk event.now self.old self.new }
-        ensures ok { IfOk result (λ reply. IsAcknowledged D.Disk event.now reply self.old self.new) }
+        ensures ok { IfOk result (λ reply. IsAcknowledged D.Disk event.now reply self.old
+            self.new) }
         ensures memory { IsErrOf result Error.NoMemory → IsStarved D.Disk self.old self.new }
         ensures fault { IsErrOf result Error.Fault → IsBroken self.new
             × RecordsDone D.Disk event.now self.old self.new }
@@ -212,7 +213,8 @@ impl<D: Disk> Store<D> {
     fn put(&mut self, alloc: Global, event: &Event) -> Result<Reply, Error>
         requires { self.old.must_reopen ≡ false → HasJournalRoom self.old }
         ensures any_moment { LeavesEither D.Disk event.now self.old self.new }
-        ensures ok { IfOk result (λ reply. IsAcknowledged D.Disk event.now reply self.old self.new) }
+        ensures ok { IfOk result (λ reply. IsAcknowledged D.Disk event.now reply self.old
+            self.new) }
         ensures memory { IsErrOf result Error.NoMemory → IsStarved D.Disk self.old self.new }
         ensures fault { IsErrOf result Error.Fault → IsBroken self.new
             × RecordsDone D.Disk event.now self.old self.new }

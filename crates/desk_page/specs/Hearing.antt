@@ -15,7 +15,8 @@ heard_of [] = Quiet ∷ []
 heard_of (byte ∷ bytes) = Byte byte ∷ heard_of bytes
 
 -- These presses are done, one after another, and then a host file that is asked for is told as unread.
-pub record Hears {D : Type 0} (d : Ghosts D) (presses : List Press) (s s' : Sitting) (old new : StoreView D)
+pub record Hears {D : Type 0} (d : Ghosts D) (presses : List Press) (s s' : Sitting)
+    (old new : StoreView D)
     : Type 0 where
   pub sitting : Sitting
   pub does : DoesPresses d presses s sitting old new

@@ -21,8 +21,10 @@ use store_documents::host_text;
 /// Errors: those of `Store::bring`.
 pub fn bring<D: Disk>(alloc: Global, page: &mut Page<D>, document: Document) -> Result<Reply, Error>
     ensures any_moment { LeavesAllOrNone D.Disk (document ∷ []) page.old.store page.new.store }
-    ensures brought { IfOk result (λ reply. AreBrought D.Disk (document ∷ []) reply page.old.store page.new.store) }
-    ensures memory { IsErrOf result Error.NoMemory → IsUnwritten D.Disk page.old.store page.new.store }
+    ensures brought { IfOk result (λ reply.
+        AreBrought D.Disk (document ∷ []) reply page.old.store page.new.store) }
+    ensures memory { IsErrOf result Error.NoMemory
+        → IsUnwritten D.Disk page.old.store page.new.store }
     ensures sitting { page.new.sitting ≡ page.old.sitting }
     ensures parser { page.new.parser ≡ page.old.parser }
 {
@@ -37,12 +39,14 @@ pub fn give<D: Disk>(
     page: &mut Page<D>,
     name: &Name,
 ) -> Result<Option<Vec<u8>>, Error>
-    ensures given { IfOk result (λ text. D.honest page.old.store.disk → option_map (λ bytes. bytes.items) text
+    ensures given { IfOk result (λ text. D.honest page.old.store.disk
+        → option_map (λ bytes. bytes.items) text
         ≡ option_map (λ characters. exported (map (λ character. character.0) characters))
         (file_of page.old.store.desktop name.now)) }
     ensures disk { IsOnlyRead D.Disk page.old.store.disk page.new.store.disk }
     ensures usable { page.new.store.must_reopen ≡ page.old.store.must_reopen }
-    ensures session { D.honest page.old.store.disk → session_of page.new.store ≡ session_of page.old.store }
+    ensures session { D.honest page.old.store.disk
+        → session_of page.new.store ≡ session_of page.old.store }
     ensures sitting { page.new.sitting ≡ page.old.sitting }
     ensures parser { page.new.parser ≡ page.old.parser }
 {

@@ -38,8 +38,10 @@ pub fn hear<D: Disk>(alloc: Global, page: &mut Page<D>, heard: &[Heard]) -> Resu
     ensures done { OnOk result (D.honest page.old.store.disk → IsDurable D.Disk page.old.store
         → Hears D.Disk (presses_heard page.old.parser heard.now) page.old.sitting page.new.sitting
         page.old.store page.new.store) }
-    ensures broke { IfErr result (λ error. D.honest page.old.store.disk → IsDurable D.Disk page.old.store
-        → Breaks D.Disk error (presses_heard page.old.parser heard.now) page.old.sitting page.old.store page.new.store) }
+    ensures broke { IfErr result (λ error. D.honest page.old.store.disk
+        → IsDurable D.Disk page.old.store
+        → Breaks D.Disk error (presses_heard page.old.parser heard.now) page.old.sitting
+        page.old.store page.new.store) }
     ensures usable { OnOk result (page.new.store.must_reopen ≡ false) }
     ensures faults { FailsAs Error.Fault OfPresses result (D.failures page.old.store.disk)
         (D.failures page.new.store.disk) }

@@ -70,7 +70,8 @@ pub fn begin<D: Disk + Drop>(alloc: Global, disk: D) -> Result<Page<D>, Error>
 /// Errors: `TooSmall` where the disk has fewer sectors than a store needs; `Fault`; `NoMemory`. The disk may then be no
 /// store.
 pub fn begin_new<D: Disk + Drop>(alloc: Global, disk: D) -> Result<Page<D>, Error>
-    ensures desktop { IfOk result (λ page. D.honest disk → page.store.desktop ≡ steps empty_desktop furnishing) }
+    ensures desktop { IfOk result (λ page. D.honest disk
+        → page.store.desktop ≡ steps empty_desktop furnishing) }
     ensures durable { IfOk result (λ page. IsDurable D.Disk page.store) }
     ensures sitting { IfOk result (λ page. page.sitting ≡ new_sitting HEIGHT Saying.Greeting) }
     ensures parser { IfOk result (λ page. page.parser ≡ at_rest) }
@@ -98,13 +99,15 @@ pub fn show<D: Disk>(
 ) -> Result<(), Error>
     requires { page.old.store.must_reopen ≡ false }
     ensures drawn { OnOk result (D.honest page.old.store.disk
-        → drawing.new.items ≡ drawing.old.items ++ drawing_of (shown_screen page.old.store.desktop)) }
+        → drawing.new.items ≡ drawing.old.items
+        ++ drawing_of (shown_screen page.old.store.desktop)) }
     ensures line { OnOk result (D.honest page.old.store.disk → line.new.items
         ≡ line.old.items ++ page_line (shown_screen page.old.store.desktop) page.new.sitting) }
     ensures sitting { OnOk result (D.honest page.old.store.disk
         → page.new.sitting ≡ looked (shown_screen page.old.store.desktop) page.old.sitting) }
     ensures parser { page.new.parser ≡ page.old.parser }
-    ensures session { D.honest page.old.store.disk → session_of page.new.store ≡ session_of page.old.store }
+    ensures session { D.honest page.old.store.disk
+        → session_of page.new.store ≡ session_of page.old.store }
     ensures disk { IsOnlyRead D.Disk page.old.store.disk page.new.store.disk }
     ensures usable { page.new.store.must_reopen ≡ false }
 {

@@ -14,8 +14,8 @@ use Rattle.terminal_presses.specs.declared.parser.Parser.{Parser}
 use Rattle.terminal_presses.specs.Presses.{heard_by, in_order, parser_after, presses_heard}
 use Rattle.terminal_presses.proofs.Pieces.{parser_of_both, pressed_of_both}
 use Rattle.desk_sitting.specs.declared.sitting.Sitting.{Sitting}
-use Rattle.desk_sitting.specs.Sittings.{after_press}
-use Rattle.desk_sitting.specs.Doing.{seat_of, OfPresses, ComesToSeat, DoesPresses, none, one_more, Breaks, DoesAllPresses}
+use Rattle.desk_sitting.specs.Sittings.{accepted_of, after_press}
+use Rattle.desk_sitting.specs.Doing.{seat_of, OfPresses, DoesPress, DoesPresses, none, one_more, Breaks, DoesAllPresses}
 
 -- ---- one thing more is heard
 
@@ -53,7 +53,7 @@ module _ {D : Type 0} (d : Ghosts D) where
   does_last : {presses : List Press} {s s' : Sitting} {old new : StoreView D} → DoesPresses d presses s s' old new
       → IsDurable d old → IsDurable d new
   does_last none durable = durable
-  does_last (one_more press before done) durable = done.durable
+  does_last (one_more press before done) durable = done.goes.durable
 
   breaks_both : {error : Error} {first second : List Press} {s s' : Sitting} {old mid new : StoreView D}
       → DoesPresses d first s s' old mid → Breaks d error second s' mid new → Breaks d error (first ++ second) s old new
@@ -95,7 +95,8 @@ module _ {D : Type 0} (d : Ghosts D) where
   }
 
   pub one_taken : {T : Type 0} (press : Press) (result : Result T Error) (s s' : Sitting) (old new : StoreView D)
-      → ComesToSeat d (after_press press (seat_of s old)) result s' old new → DoesAllPresses d (press ∷ []) result s s' old new
+      → DoesPress d (accepted_of press (seat_of s old)) (after_press press (seat_of s old)) result s' old new
+      → DoesAllPresses d (press ∷ []) result s s' old new
   one_taken press result s s' old new takes = record {
     done = on_ok_weaker result (λ done honest durable. one_more press none (done honest durable)) takes.done;
     broke = IfErr-weaker result _ _ (λ error undone honest durable. record {

@@ -1,6 +1,7 @@
 pub mod Accepted
 pub mod Between
 pub mod Done
+pub mod Pressed
 pub mod Sessions
 pub mod Surviving
 pub mod Taking

@@ -3,7 +3,6 @@ use Rattle.std.proofs.Common.{◌≡◌, ◌∙◌, true, false, refl, ap, List,
 use Rattle.std.specs.Prelude.{Bool, Option, ◌&&◌, not, if◌then◌else◌}
 use Rattle.std.proofs.lemmas.Bool.{cond-true, cond-false}
 use Rattle.event_bytes.specs.declared.event.Event.{Event}
-use Rattle.desk_journal.specs.Session.{is_worn}
 use Rattle.terminal_presses.specs.declared.action.Action.{Action}
 use Rattle.terminal_presses.specs.declared.action.Action.TheVariants as action
 use Rattle.terminal_presses.specs.declared.hand.Hand.{Hand}
@@ -13,7 +12,7 @@ use Rattle.desk_sitting.specs.declared.question.Question.TheVariants.{Leaving}
 use Rattle.desk_sitting.specs.declared.sitting.Sitting.{Sitting}
 use Rattle.desk_sitting.specs.Questions.{questioned, comes_first, question_of}
 use Rattle.desk_sitting.specs.Sittings.{Seat, QuestionsComeOnce, QuestionsPostNothing, acted, after_press}
-use Rattle.desk_sitting.specs.Sittings.{asks_first, posts, with_hand}
+use Rattle.desk_sitting.specs.Sittings.{accepted_by, asks_first, posts, with_hand}
 use Rattle.desk_sitting.proofs.Accepted.{hand_asks}
 
 both : (a b : Bool) → not a && b ≡ true → (a ≡ false) × (b ≡ true)
@@ -44,8 +43,8 @@ posts_nothing press d is =
     let (here, asks) = both d.sitting.leaves (asks_first made.1 d.sitting) is in
     let held = record d { sitting = with_hand made.0 d.sitting } in
     let next = cond-false d.sitting.leaves d (acted made.1 held) here ∙ asked_is made.1 d made.0 asks in (
-      none_either d.sitting.leaves _ (none_either (is_worn d.session) _
-          (cond-true (asks_first made.1 d.sitting) [] (posts made.1 d) asks)),
+      none_either d.sitting.leaves _ (ap (accepted_by d.session)
+          (cond-true (asks_first made.1 d.sitting) [] (posts made.1 d.session.desktop) asks)),
       ap (λ (t : Seat). t.session) next,
       ap (λ (t : Seat). t.sitting.leaves) next
           ∙ asking_keeps (question_of made.1 held.sitting) held.sitting ∙ here,
@@ -76,6 +75,8 @@ asking_asks (action.TypeFile name) s None = refl
 asking_asks (action.TypeFile name) s (Some question) = refl
 asking_asks (action.Move page) s None = refl
 asking_asks (action.Move page) s (Some question) = refl
+asking_asks (action.Scroll at scroll) s None = refl
+asking_asks (action.Scroll at scroll) s (Some question) = refl
 asking_asks (action.Step arrow) s None = refl
 asking_asks (action.Step arrow) s (Some question) = refl
 asking_asks (action.Fit rows columns) s None = refl

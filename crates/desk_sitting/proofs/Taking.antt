@@ -73,7 +73,7 @@ of_post error (inr (inr (inl reopen))) usable room = absurd (usable reopen)
 of_post error (inr (inr (inr worn))) usable room = absurd (room worn)
 
 -- an error of a look at a store that is in use
-of_look : (error : Error) → OfLook error → (error ≡ MustReopen → ⊥) → OfPresses error
+pub of_look : (error : Error) → OfLook error → (error ≡ MustReopen → ⊥) → OfPresses error
 of_look error (inl memory) usable = inl memory
 of_look error (inr (inl fault)) usable = inr fault
 of_look error (inr (inr reopen)) usable = absurd (usable reopen)

@@ -23,7 +23,7 @@ use Rattle.desk_journal.specs.Session.{Session, session_of}
 use Rattle.desk_journal.specs.View.{StoreView, IsDurable}
 use Rattle.desk_sitting.specs.declared.sitting.Sitting.{Sitting}
 use Rattle.desk_sitting.specs.Doing.{Breaks, DoesPresses, OfPresses, seat_of}
-use Rattle.desk_sitting.specs.Sittings.{accepted_events, accepted_of, looked}
+use Rattle.desk_sitting.specs.Sittings.{accepted_events, looked}
 use Rattle.desk_sitting.specs.declared.ending.SittingEnd.{SittingEnd}
 use Rattle.desk_sitting.specs.declared.ending.SittingEnd.TheVariants.{Left, Closed, Input, TooLong, Output, Fault, Memory}
 use Rattle.desk_sitting.specs.Endings.{EndsBy, IsOfNoKeyboard, sitting_end_of, end_of_keyboard}
@@ -285,8 +285,9 @@ module _ {D : Type 0} (d : Ghosts D) where
         let breaks : Breaks d error (presses_heard old.parser hearing) (sitting_shown old) mid new.store =
         subst (λ t. Breaks d error (presses_heard old.parser hearing) t mid new.store) (sees honest)
         (fails ((looks honest durable).disk.device.still honest) (looks honest durable).durable) in
-        let events : List Event = accepted_events breaks.done (seat_of (sitting_shown old) mid) in
-        let begun : List Event = accepted_of breaks.press (seat_of breaks.sitting breaks.mid) in
+        let events : List Event = accepted_events breaks.done (seat_of (sitting_shown old) mid)
+        ++ breaks.undone.acknowledged in
+        let begun : List Event = breaks.undone.begun in
         let broke : Broke d error events begun old new = record {
           hearing = hearing;
           mid = mid;

@@ -7,6 +7,7 @@ pub mod Listed
 pub mod Questions
 pub mod Sayings
 pub mod Scenes
+pub mod Scrolling
 pub mod Serving
 pub mod Sitting
 pub mod Sittings

@@ -37,7 +37,8 @@ comes_first last (Some question) = not (is_asked last question)
 -- the question is asked: the terminal rings, and the line below says it
 abbrev pub questioned : Option Question → Sitting → Sitting
 questioned None s = s
-questioned (Some question) s = record s { question = Some question; saying = Asks question; rings = true }
+questioned (Some question) s =
+    record s { question = Some question; saying = Asks question; rings = true }
 
 -- what is done to the terminal alone: it tells its size, or is painted anew
 abbrev pub is_of_terminal : Action → Bool

@@ -8,8 +8,8 @@ use Rattle.event_bytes.specs.declared.keys.Keys.TheVariants.{MiddleRight, Right,
 use Rattle.terminal_presses.specs.declared.action.Click.{Click}
 use Rattle.terminal_presses.specs.declared.action.Click.TheVariants.{Mark, Keys}
 use Rattle.desk_sitting.specs.declared.saying.Saying.{Saying}
-use Rattle.desk_sitting.specs.declared.saying.Saying.TheVariants.{Greeting, Unproved, InMemory, Keys as ForKeys, Asks, NoKey, NoText, ToolFiled}
-use Rattle.desk_sitting.specs.declared.saying.Saying.TheVariants.{Refused, CutShort}
+use Rattle.desk_sitting.specs.declared.saying.Saying.TheVariants.{Greeting, Unproved, InMemory, Keys as ForKeys, Asks, NoKey, NoText, NoScroll}
+use Rattle.desk_sitting.specs.declared.saying.Saying.TheVariants.{ToolFiled, Refused, CutShort}
 use Rattle.desk_sitting.specs.declared.saying.Saying.TheVariants.{Worn, Unread, Unfinished, TooNarrow, TooLow, TookBack, DidAgain}
 use Rattle.desk_sitting.specs.declared.saying.Saying.TheVariants.{NothingBack, NothingAgain, NotBack}
 use Rattle.desk_sitting.specs.declared.question.Question.{Question}
@@ -49,13 +49,15 @@ short_reason code =
 
 -- how far a paste or a host file came that was cut short, and why
 abbrev pub cut_short : ℕ → ℕ → List ℕ
-cut_short typed code = decimal typed ++ codes " characters typed, the rest dropped: " ++ short_reason code
+cut_short typed code =
+    decimal typed ++ codes " characters typed, the rest dropped: " ++ short_reason code
 
 -- with which keys the next click is
 abbrev pub keys_words : MouseKeys → List ℕ
 keys_words Left = codes "the next click sets the caret; Escape calls it off"
 keys_words LeftMiddle = codes "the next click copies the selection there; Escape calls it off"
-keys_words LeftRight = codes "the next click gives the selection the look there; Escape calls it off"
+keys_words LeftRight =
+    codes "the next click gives the selection the look there; Escape calls it off"
 keys_words Middle = codes "the next click calls the word there; Escape calls it off"
 keys_words MiddleLeft = codes "the next click: middle and left; Escape calls it off"
 keys_words MiddleRight = codes "the next click: middle and right; Escape calls it off"
@@ -88,23 +90,30 @@ told_back screen (deed.Call x y) = called (called_word screen x y) (deed.Call x 
 told_back screen what = told (codes "took back: ") what
 
 abbrev pub question_words : Question → List ℕ
-question_words Leaving = codes "This desktop is in memory: Ctrl-Q again leaves, and then it is gone."
+question_words Leaving =
+    codes "This desktop is in memory: Ctrl-Q again leaves, and then it is gone."
 
 -- where this is the screen
 unfoldable pub words : List (List Cell) → Saying → List ℕ
-words screen Greeting = codes "Middle button, or F2 and then a click, calls the word there; Ctrl-Q leaves"
-words screen Unproved = codes "Compiled, not proved yet: ./prove does it. F2+click calls a word; Ctrl-Q leaves"
+words screen Greeting =
+    codes "Middle button, or F2 and then a click, calls the word there; Ctrl-Q leaves"
+words screen Unproved =
+    codes "Compiled, not proved yet: ./prove does it. F2+click calls a word; Ctrl-Q leaves"
 words screen InMemory = codes "This desktop is in memory: when you leave (Ctrl-Q) it is gone."
-words screen ForKeys = codes "F1 marker, F2 calls, F3 selects, Ctrl-Z undo, Ctrl-O file, Ctrl-Q leaves"
+words screen ForKeys =
+    codes "F1 marker, F2 calls, F3 selects, Ctrl-Z undo, Ctrl-O file, Ctrl-Q leaves"
 words screen (Asks question) = question_words question
 words screen NoKey = codes "That key means nothing here."
 words screen NoText = codes "There is no text on that side of the caret, or no caret in sight."
-words screen ToolFiled = codes "System.Tool was gone, and is a document again: the same click opens it."
+words screen NoScroll = codes "Nothing moves there: no viewer, no caret, or too few rows of a text."
+words screen ToolFiled =
+    codes "System.Tool was gone, and is a document again: the same click opens it."
 words screen (Refused code) = reason code
 words screen (CutShort typed code) = cut_short typed code
 words screen Worn = codes "This store takes no more events: its epochs are used up."
 words screen Unread = codes "The host's file can't be read, and nothing was typed."
-words screen Unfinished = codes "The host's file can't be read to its end; what came of it is typed."
+words screen Unfinished =
+    codes "The host's file can't be read to its end; what came of it is typed."
 words screen TooNarrow = codes "This window is too narrow: it has fewer than 80 columns."
 words screen TooLow = codes "This window is too low: it has fewer than 12 rows."
 words screen (TookBack what) = told_back screen what

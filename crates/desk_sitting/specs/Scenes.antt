@@ -43,7 +43,8 @@ abbrev pub after_scene : Bool → Bool → List ℕ
 after_scene rings asks = bell_bytes rings ++ request asks
 
 -- A writer took what has the terminal show the scene.
-pub record IsScenePainted (s : Sitting) (screen : List (List Cell)) (known known' : List (List Face))
+pub record IsScenePainted (s : Sitting) (screen : List (List Cell))
+    (known known' : List (List Face))
     (held held' : Option (List ℕ)) : Type 0 where
   pub scene : Scene
   pub is : IsSceneOf s screen scene
@@ -61,7 +62,8 @@ pub record IsHalfPainted (s : Sitting) (screen : List (List Cell)) (known : List
 pub record IsSceneShown (s : Sitting) (screen : List (List Cell)) (known known' : List (List Face))
     (held held' : Option (List ℕ)) : Type 0 where
   pub between : Option (List ℕ)
-  pub painted : IsScenePainted (looked screen s) screen (known_by s.forgets known) known' held between
+  pub painted : IsScenePainted (looked screen s) screen (known_by s.forgets known) known' held
+      between
   pub after : Appends between held' (after_scene s.rings s.asks)
 
 -- It took a front of that.
@@ -71,10 +73,12 @@ pub data IsSceneCutShort (s : Sitting) (screen : List (List Cell)) (known : List
       → IsSceneCutShort s screen known held held'
   behind_it : {known' : List (List Face)} {between : Option (List ℕ)}
       → IsScenePainted (looked screen s) screen (known_by s.forgets known) known' held between
-      → AppendsFront between held' (after_scene s.rings s.asks) → IsSceneCutShort s screen known held held'
+      → AppendsFront between held' (after_scene s.rings s.asks)
+      → IsSceneCutShort s screen known held held'
 
 -- Why the scene isn't shown. Where the screen can't be worked out, nothing is sent.
-abbrev pub IsUnshown : SittingEnd → Sitting → List (List Cell) → List (List Face) → Option (List ℕ) → Option (List ℕ)
+abbrev pub IsUnshown : SittingEnd → Sitting → List (List Cell) → List (List Face) → Option (List ℕ)
+    → Option (List ℕ)
     → Type 0
 IsUnshown Left s screen known held held' = ⊥
 IsUnshown Closed s screen known held held' = ⊥

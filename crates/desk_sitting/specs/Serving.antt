@@ -18,7 +18,7 @@ use Rattle.terminal_presses.specs.Presses.{at_rest, parser_after, presses_heard}
 use Rattle.desk_sitting.specs.declared.saying.Saying.{Saying}
 use Rattle.desk_sitting.specs.declared.sitting.Sitting.{Sitting}
 use Rattle.desk_sitting.specs.Doing.{Breaks, DoesPresses, seat_of}
-use Rattle.desk_sitting.specs.Sittings.{accepted_events, accepted_of, after_fetch, looked, new_sitting}
+use Rattle.desk_sitting.specs.Sittings.{accepted_events, after_fetch, looked, new_sitting}
 use Rattle.desk_sitting.specs.declared.ending.SittingEnd.{SittingEnd}
 use Rattle.desk_sitting.specs.declared.ending.SittingEnd.TheVariants.{Left, Closed, Input, TooLong, Output, Fault, Memory}
 use Rattle.desk_sitting.specs.Scenes.{IsSceneShown, IsSceneCutShort}
@@ -41,7 +41,8 @@ store_screen store = shown_screen store.desktop
 abbrev pub sitting_shown : {D : Type 0} → TurnState D → Sitting
 sitting_shown p = looked (store_screen p.store) p.sitting
 
-abbrev pub turn_state_of : {D : Type 0} → Parser → Sitting → StoreView D → List Heard → List (List Face)
+abbrev pub turn_state_of : {D : Type 0} → Parser → Sitting → StoreView D → List Heard
+    → List (List Face)
     → Option (List ℕ) → TurnState D
 turn_state_of parser sitting store heard known held = record {
   parser = parser;
@@ -53,8 +54,10 @@ turn_state_of parser sitting store heard known held = record {
 }
 
 -- nothing was heard yet, and nothing is known of the terminal
-abbrev pub first_place : {D : Type 0} → ℕ → Saying → StoreView D → List Heard → Option (List ℕ) → TurnState D
-first_place height greeting store heard held = turn_state_of at_rest (new_sitting height greeting) store heard [] held
+abbrev pub first_place : {D : Type 0} → ℕ → Saying → StoreView D → List Heard → Option (List ℕ)
+    → TurnState D
+first_place height greeting store heard held =
+    turn_state_of at_rest (new_sitting height greeting) store heard [] held
 
 -- the keyboard was asked for the text of a host file, where one is wanted
 pub record IsFetched (old new : Sitting) : Type 0 where
@@ -77,7 +80,8 @@ CountsEnding Memory failed failed' = failed' ≡ failed
 
 -- and it stays where the sitting goes on
 abbrev pub CountsTurn : {T : Type 0} → Result T SittingEnd → ℕ → ℕ → Type 0
-CountsTurn result failed failed' = MatchResult result (λ _. failed' ≡ failed) (λ end. CountsEnding end failed failed')
+CountsTurn result failed failed' =
+    MatchResult result (λ _. failed' ≡ failed) (λ end. CountsEnding end failed failed')
 
 -- the number of calls of the writer that failed rose exactly where a turn ends by `Output`
 abbrev pub CountsOutput : {T : Type 0} → Result T SittingEnd → ℕ → ℕ → Type 0
@@ -99,9 +103,11 @@ module _ {D : Type 0} (d : Ghosts D) where
   -- ---- a turn
 
   -- The terminal shows the desktop, and then this is heard.
-  pub record HearsAfterScene (hearing : List Heard) (old : TurnState D) (mid : StoreView D) (new : TurnState D) : Type 0 where
+  pub record HearsAfterScene (hearing : List Heard) (old : TurnState D) (mid : StoreView D)
+      (new : TurnState D) : Type 0 where
     pub looked : IsLookedAt old.store mid
-    pub shown : IsSceneShown old.sitting (store_screen old.store) old.known new.known old.held new.held
+    pub shown : IsSceneShown old.sitting (store_screen old.store) old.known new.known old.held
+        new.held
     pub heard : new.heard ≡ old.heard ++ hearing
 
   -- Then what is pressed by it is done, of which these events are accepted, and the keyboard is asked for the text of a
@@ -112,15 +118,19 @@ module _ {D : Type 0} (d : Ghosts D) where
     pub scene : HearsAfterScene hearing old mid new
     pub parser : new.parser ≡ parser_after old.parser hearing
     pub sitting : Sitting
-    pub does : DoesPresses d (presses_heard old.parser hearing) (sitting_shown old) sitting mid new.store
-    pub are : events ≡ accepted_events (presses_heard old.parser hearing) (seat_of (sitting_shown old) mid)
+    pub does : DoesPresses d (presses_heard old.parser hearing) (sitting_shown old) sitting mid
+        new.store
+    pub are : events ≡ accepted_events (presses_heard old.parser hearing)
+        (seat_of (sitting_shown old) mid)
     pub brings : IsFetched sitting new.sitting
 
   -- so many turns, one after another, in which these events are accepted, and after none of which the person has left
   pub data IsTurnRun (first : TurnState D) : ℕ → List Event → TurnState D → Type 0 where
     none : IsTurnRun first 0 [] first
-    one_more : {count : ℕ} {events more : List Event} {mid new : TurnState D} → IsTurnRun first count events mid
-        → Turns more mid new → new.sitting.leaves ≡ false → IsTurnRun first (count + 1) (events ++ more) new
+    one_more : {count : ℕ} {events more : List Event} {mid new : TurnState D}
+        → IsTurnRun first count events mid
+        → Turns more mid new → new.sitting.leaves ≡ false
+        → IsTurnRun first (count + 1) (events ++ more) new
 
   -- ---- how it ends
 
@@ -140,29 +150,35 @@ module _ {D : Type 0} (d : Ghosts D) where
     pub held : new.held ≡ old.held
     pub heard : new.heard ≡ old.heard
 
-  -- A press fails. These events are accepted of the presses before it, and this one, if any, was to be its own. What is
-  -- pressed after it isn't done.
-  pub record Broke (error : Error) (events begun : List Event) (old new : TurnState D) : Type 0 where
+  -- A press fails. These events are accepted of the presses before it and of it, and this one, if any, was to be its
+  -- next. What is pressed after it isn't done.
+  pub record Broke (error : Error) (events begun : List Event) (old new : TurnState D)
+      : Type 0 where
     pub hearing : List Heard
     pub mid : StoreView D
     pub scene : HearsAfterScene hearing old mid new
     pub breaks : Breaks d error (presses_heard old.parser hearing) (sitting_shown old) mid new.store
     pub are : events ≡ accepted_events breaks.done (seat_of (sitting_shown old) mid)
-    pub fails : begun ≡ accepted_of breaks.press (seat_of breaks.sitting breaks.mid)
+        ++ breaks.undone.acknowledged
+    pub fails : begun ≡ breaks.undone.begun
 
   -- A sitting ends in a turn, in which these events are accepted. One more is begun where the disk fails in a press: it
   -- isn't acknowledged, and may be in an image or not. For want of memory it is in none.
-  pub data SittingStops : SittingEnd → List Event → List Event → TurnState D → TurnState D → Type 0 where
-    left : {events : List Event} {old new : TurnState D} → Turns events old new → new.sitting.leaves ≡ true
+  pub data SittingStops : SittingEnd → List Event → List Event → TurnState D → TurnState D
+      → Type 0 where
+    left : {events : List Event} {old new : TurnState D} → Turns events old new
+        → new.sitting.leaves ≡ true
         → SittingStops Left events [] old new
     closed : {old new : TurnState D} → IsDeaf old new → SittingStops Closed [] [] old new
     unheard : {old new : TurnState D} → IsDeaf old new → SittingStops Input [] [] old new
     unseen : {old new : TurnState D} → IsUnseen old new → SittingStops Output [] [] old new
     faulty : {old new : TurnState D} → IsBlind old new → SittingStops Fault [] [] old new
     starved : {old new : TurnState D} → IsBlind old new → SittingStops Memory [] [] old new
-    faulty_press : {events begun : List Event} {old new : TurnState D} → Broke DiskFault events begun old new
+    faulty_press : {events begun : List Event} {old new : TurnState D}
+        → Broke DiskFault events begun old new
         → SittingStops Fault events begun old new
-    starved_press : {events begun : List Event} {old new : TurnState D} → Broke NoMemory events begun old new
+    starved_press : {events begun : List Event} {old new : TurnState D}
+        → Broke NoMemory events begun old new
         → SittingStops Memory events [] old new
 
   -- some events are accepted in a turn, and in the one in which it ends
@@ -170,19 +186,23 @@ module _ {D : Type 0} (d : Ghosts D) where
   HasTurned old new = (events : List Event) × Turns events old new
 
   abbrev pub HasStopped : SittingEnd → TurnState D → TurnState D → Type 0
-  HasStopped end old new = (events : List Event) × (begun : List Event) × SittingStops end events begun old new
+  HasStopped end old new = (events : List Event) × (begun : List Event)
+      × SittingStops end events begun old new
 
   -- It ends so after so many turns, or because there were as many as can be counted.
-  pub data Ends : SittingEnd → ℕ → List Event → List Event → TurnState D → TurnState D → Type 0 where
+  pub data Ends : SittingEnd → ℕ → List Event → List Event → TurnState D → TurnState D
+      → Type 0 where
     stopped : {end : SittingEnd} {count : ℕ} {events begun : List Event} {old new : TurnState D}
         → SittingStops end events begun old new → Ends end count events begun old new
     too_long : {place : TurnState D} → Ends TooLong (2 ^ 64 - 1) [] [] place place
 
   -- All that a turn promises that returns this.
-  pub record TakesTurn {T : Type 0} (result : Result T SittingEnd) (old new : TurnState D) : Type 0 where
+  pub record TakesTurn {T : Type 0} (result : Result T SittingEnd) (old new : TurnState D)
+      : Type 0 where
     pub goes_on : OnOk result (d.honest old.store.disk → IsDurable d old.store → HasTurned old new)
     pub stays : OnOk result (new.sitting.leaves ≡ false)
-    pub stops : IfErr result (λ end. d.honest old.store.disk → IsDurable d old.store → HasStopped end old new)
+    pub stops : IfErr result (λ end. d.honest old.store.disk → IsDurable d old.store
+        → HasStopped end old new)
     pub usable : OnOk result (new.store.must_reopen ≡ false)
     pub still_usable : IfErr result (λ end. IsUsableAt end new.store)
     pub counts : CountsTurn result (d.failures old.store.disk) (d.failures new.store.disk)

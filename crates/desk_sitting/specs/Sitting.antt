@@ -6,12 +6,14 @@ use Rattle.desk_journal.specs.View.{StoreView, IsDurable}
 use Rattle.terminal_presses.specs.declared.press.Heard.{Heard}
 use Rattle.desk_sitting.specs.declared.ending.SittingEnd.{SittingEnd}
 use Rattle.desk_sitting.specs.Serving.{TakesTurn, TurnState, IsTurnRun, Ends}
-use Rattle.desk_sitting.specs.Surviving.{GoesBy, SurvivesEnd}
+use Rattle.desk_sitting.specs.Doing.{GoesBy}
+use Rattle.desk_sitting.specs.Surviving.{SurvivesEnd}
 use Rattle.desk_sitting.specs.Travelling.{IsBetween, IsBrokenOff, TakesBetween}
 
 module _ {D : Type 0} (d : Ghosts D) where
   -- all that a turn promises, of either kind
-  abbrev pub TakesEitherTurn : {T : Type 0} → Result T SittingEnd → TurnState D → TurnState D → Type 0
+  abbrev pub TakesEitherTurn : {T : Type 0} → Result T SittingEnd → TurnState D → TurnState D
+      → Type 0
   TakesEitherTurn result old new = TakesTurn d result old new ⊎ TakesBetween d result old new
 
   -- A stretch of turns in which nothing is taken back and done again: from its first place so many turns led to this
@@ -27,11 +29,13 @@ module _ {D : Type 0} (d : Ghosts D) where
   pub data Comes (first : TurnState D) : ℕ → TurnState D → Type 0 where
     here : Comes first 0 first
     again : {before count : ℕ} {start place next : TurnState D} → Comes first before start
-        → IsStretchOfTurns start count place → IsBetween d place next → Comes first (before + count + 1) next
+        → IsStretchOfTurns start count place → IsBetween d place next
+        → Comes first (before + count + 1) next
 
   -- From the first place of its last stretch, before which there were so many turns, a sitting came to this end, where
   -- this is the store, this was heard, and the writer holds this.
-  pub record IsSat (end : SittingEnd) (before : ℕ) (first : TurnState D) (store : StoreView D) (heard : List Heard)
+  pub record IsSat (end : SittingEnd) (before : ℕ) (first : TurnState D) (store : StoreView D)
+      (heard : List Heard)
       (held : Option (List ℕ)) : Type 0 where
     pub durable : IsDurable d first.store
     -- the turns after which it went on, and the events that were accepted in them
@@ -53,7 +57,8 @@ module _ {D : Type 0} (d : Ghosts D) where
     pub survives : SurvivesEnd d end events begun first.store store
 
   -- It ended where an event was to be taken back, or done again.
-  pub record IsLost (end : SittingEnd) (first : TurnState D) (store : StoreView D) (heard : List Heard)
+  pub record IsLost (end : SittingEnd) (first : TurnState D) (store : StoreView D)
+      (heard : List Heard)
       (held : Option (List ℕ)) : Type 0 where
     pub count : ℕ
     pub place : TurnState D
@@ -66,7 +71,8 @@ module _ {D : Type 0} (d : Ghosts D) where
 
   -- From its first place a sitting came to this end: by stretches, of each of which a crash leaves the desktop that was
   -- shown at any of its scenes, after the first of the events accepted since then.
-  pub record Sits (end : SittingEnd) (first : TurnState D) (store : StoreView D) (heard : List Heard)
+  pub record Sits (end : SittingEnd) (first : TurnState D) (store : StoreView D)
+      (heard : List Heard)
       (held : Option (List ℕ)) : Type 0 where
     pub before : ℕ
     pub start : TurnState D

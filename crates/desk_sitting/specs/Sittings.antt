@@ -5,6 +5,7 @@ use Rattle.event_bytes.specs.declared.event.Event.{Event}
 use Rattle.event_bytes.specs.declared.event.Event.TheVariants.{File, Point}
 use Rattle.event_bytes.specs.declared.keys.Keys.TheVariants.{Left}
 use Rattle.screen_pictures.specs.declared.cell.Cell.{Cell}
+use Rattle.desktop_definitions.specs.Desktop.{Desktop}
 use Rattle.desktop_definitions.specs.declared.reply.Reply.{Reply}
 use Rattle.desktop_definitions.specs.declared.reply.Reply.TheVariants.{Done, No}
 use Rattle.desktop_definitions.specs.Listing.{entries_of}
@@ -17,16 +18,18 @@ use Rattle.terminal_presses.specs.declared.hand.Hand.{Hand}
 use Rattle.terminal_presses.specs.Hands.{dropping, handled, new_hand, pastes_text}
 use Rattle.viewer_tracks.specs.declared.display.TheConstants.{ROWS}
 use Rattle.desk_sitting.specs.declared.saying.Saying.{Saying}
-use Rattle.desk_sitting.specs.declared.saying.Saying.TheVariants.{NoKey, NoText, Refused, CutShort, Worn, Unread}
+use Rattle.desk_sitting.specs.declared.saying.Saying.TheVariants.{NoKey, NoText, NoScroll, Refused, CutShort, Worn, Unread}
 use Rattle.desk_sitting.specs.declared.saying.Saying.TheVariants.{Unfinished, TooNarrow, TooLow, ToolFiled}
 use Rattle.desk_sitting.specs.declared.sitting.Sitting.{Sitting}
 use Rattle.desk_sitting.specs.declared.sitting.Travel.TheVariants.{Back, Again}
 use Rattle.desk_past.specs.Again.{no_again}
+use Rattle.desk_past.specs.declared.deed.Deed.TheVariants.{Scroll as Scrolled}
 use Rattle.desk_past.specs.Deeds.{typed_more}
 use Rattle.desk_sitting.specs.Listed.{event_meant}
-use Rattle.desk_past.specs.Past.{past_after, no_past, with_refused}
+use Rattle.desk_past.specs.Past.{past_after, named, no_past, with_refused}
 use Rattle.desk_sitting.specs.Questions.{questioned, comes_first, question_of, resting_of, unasked}
 use Rattle.desk_sitting.specs.Aims.{aimed, caret_cell}
+use Rattle.desk_sitting.specs.Scrolling.{scroll_presses}
 use Rattle.desk_journal.specs.Session.{Session, is_worn, taken}
 use Rattle.desk_sitting.specs.Windows.{fitted, following_sight, height_told, is_low, is_narrow, moved_sight}
 
@@ -127,6 +130,25 @@ unfoldable pub after_click : Option (ℕ × ℕ) → Seat → Seat
 after_click None seat = record seat { sitting = refused NoText seat.sitting }
 after_click (Some place) seat = after_post (Point Left place.0 place.1 place.0 place.1) seat
 
+-- events that are posted, one after another
+abbrev pub after_posts : List Event → Seat → Seat
+after_posts [] seat = seat
+after_posts (event ∷ events) seat = after_posts events (after_post event seat)
+
+-- A scroll is done: the rows in sight don't follow the caret for it, and what was done, if anything, is named so.
+abbrev pub scrolled : Bool → Sitting → Sitting
+scrolled follows s = record s {
+  follows = follows;
+  past = if s.joins then named Scrolled s.past else s.past;
+}
+
+-- the presses that scroll, or a ring where there are none
+unfoldable pub after_scroll : Option (List Event) → Seat → Seat
+after_scroll None seat = record seat { sitting = refused NoScroll seat.sitting }
+after_scroll (Some events) seat =
+    let next : Seat = after_posts events seat in
+    record next { sitting = scrolled seat.sitting.follows next.sitting }
+
 -- what the line below says once the terminal has told its size: where that is too small, that
 abbrev pub is_too_small : Saying → Bool
 is_too_small TooNarrow = true
@@ -135,7 +157,8 @@ is_too_small _ = false
 
 abbrev pub fitted_saying : Bool → Bool → Saying → Saying → Saying
 fitted_saying narrow low rest saying =
-    if narrow then TooNarrow else (if low then TooLow else (if is_too_small saying then rest else saying))
+    if narrow then TooNarrow else (if low then TooLow else
+    (if is_too_small saying then rest else saying))
 
 -- why the terminal rings: where a name is asked for, that stands on the line below
 abbrev pub ring_reason : Sitting → Saying
@@ -159,8 +182,12 @@ acted_alone action.FileFailed s = refused Unfinished s
 acted_alone _ s = s
 
 unfoldable pub done_by : Action → Seat → Seat
-done_by (action.Post event) seat = after_post (event_meant (entries_of seat.session.desktop) event) seat
-done_by (action.Step arrow) seat = after_click (aimed arrow (shown_screen seat.session.desktop)) seat
+done_by (action.Post event) seat =
+    after_post (event_meant (entries_of seat.session.desktop) event) seat
+done_by (action.Step arrow) seat =
+    after_click (aimed arrow (shown_screen seat.session.desktop)) seat
+done_by (action.Scroll at scroll) seat =
+    after_scroll (scroll_presses at scroll seat.session.desktop) seat
 done_by alone seat = record seat { sitting = acted_alone alone seat.sitting }
 
 -- whether a question is asked, and no more is done
@@ -170,7 +197,8 @@ asks_first a s = comes_first s.question (question_of a s)
 -- What would lose something is asked about first. What does anything else forgets the question.
 unfoldable pub acted : Action → Seat → Seat
 acted a seat =
-    if asks_first a seat.sitting then record seat { sitting = questioned (question_of a seat.sitting) seat.sitting }
+    if asks_first a seat.sitting then
+    record seat { sitting = questioned (question_of a seat.sitting) seat.sitting }
     else done_by a (record seat { sitting = unasked a seat.sitting })
 
 -- Once the hand has taken a press: where that is amid a text that is pasted, it is counted how many of its characters
@@ -198,34 +226,44 @@ abbrev pub click_at : Option (ℕ × ℕ) → List Event
 click_at None = []
 click_at (Some place) = Point Left place.0 place.1 place.0 place.1 ∷ []
 
-abbrev pub posts : Action → Seat → List Event
-posts (action.Post event) seat = event_meant (entries_of seat.session.desktop) event ∷ []
-posts (action.Step arrow) seat = click_at (aimed arrow (shown_screen seat.session.desktop))
-posts _ seat = []
+abbrev pub posts : Action → Desktop → List Event
+posts (action.Post event) d = event_meant (entries_of d) event ∷ []
+posts (action.Step arrow) d = click_at (aimed arrow (shown_screen d))
+posts (action.Scroll at scroll) d = unwrap_or (scroll_presses at scroll d) []
+posts _ d = []
 
 -- a question posts none
 abbrev pub posts_unasked : Action → Seat → List Event
-posts_unasked a seat = if asks_first a seat.sitting then [] else posts a seat
+posts_unasked a seat = if asks_first a seat.sitting then [] else posts a seat.session.desktop
+
+-- which of these events are accepted, posted one after another: a worn store takes none
+abbrev pub accepted_by : Session → List Event → List Event
+accepted_by session [] = []
+accepted_by session (event ∷ events) =
+    (if is_worn session then [] else event ∷ []) ++ accepted_by (taken session event) events
 
 -- the events of a press that are accepted
 abbrev pub accepted_of : Press → Seat → List Event
-accepted_of press seat = if seat.sitting.leaves then [] else (if is_worn seat.session then [] else
-    posts_unasked (handled seat.sitting.sight press seat.sitting.hand).1 seat)
+accepted_of press seat = if seat.sitting.leaves then [] else accepted_by seat.session
+    (posts_unasked (handled seat.sitting.sight press seat.sitting.hand).1 seat)
 
 abbrev pub accepted_events : List Press → Seat → List Event
 accepted_events [] seat = []
-accepted_events (press ∷ presses) seat = accepted_of press seat ++ accepted_events presses (after_press press seat)
+accepted_events (press ∷ presses) seat =
+    accepted_of press seat ++ accepted_events presses (after_press press seat)
 
 -- presses lead to the desktop to which the events lead that are accepted of them
 abbrev pub PressesAreSteps : Type 0
 PressesAreSteps = (presses : List Press) (seat : Seat)
-    → (after_presses presses seat).session.desktop ≡ steps seat.session.desktop (accepted_events presses seat)
+    → (after_presses presses seat).session.desktop
+    ≡ steps seat.session.desktop (accepted_events presses seat)
 
 -- ---- questions
 
 -- a press asks a question
 abbrev pub asks_by : Press → Seat → Bool
-asks_by press seat = not seat.sitting.leaves && asks_first (handled seat.sitting.sight press seat.sitting.hand).1 seat.sitting
+asks_by press seat = not seat.sitting.leaves
+    && asks_first (handled seat.sitting.sight press seat.sitting.hand).1 seat.sitting
 
 -- A press that asks posts nothing, and leaves what it is asked about as it is.
 abbrev pub QuestionsPostNothing : Type 0

@@ -2,58 +2,47 @@
 -- is what is known of a disk.
 use Rattle.std.specs.Prelude.{◌≡◌, ◌≢◌, ◌≤◌, ℕ, List, [], ◌++◌, length}
 use Rattle.sector_disk.specs.declared.disk.Disk.{Ghosts}
-use Rattle.sector_disk.specs.Trail.{now, Leaves, LeavesOnly}
+use Rattle.sector_disk.specs.Trail.{LeavesOnly}
 use Rattle.event_bytes.specs.declared.event.Event.{Event}
-use Rattle.desktop_definitions.specs.Step.{steps}
 use Rattle.store_layout.specs.Meaning.{Means}
-use Rattle.desk_journal.specs.Device.{IsSameDevice}
-use Rattle.desk_journal.specs.Prefixes.{MeansPrefix}
 use Rattle.desk_journal.specs.View.{StoreView, IsDurable}
 use Rattle.terminal_presses.specs.declared.press.Heard.{Heard}
 use Rattle.desk_sitting.specs.declared.ending.SittingEnd.{SittingEnd}
 use Rattle.desk_sitting.specs.declared.ending.SittingEnd.TheVariants.{Fault, Memory}
+use Rattle.desk_sitting.specs.Doing.{GoesBy, SittingSurvives}
 use Rattle.desk_sitting.specs.Serving.{TurnState, HearsAfterScene, IsTurnRun, Ends}
 
 module _ {D : Type 0} (d : Ghosts D) where
-  -- Between two moments of a store a crash leaves the desktop of the first, after a prefix of the events that were
-  -- acknowledged since and of one that was begun; at the second of them, after one that holds all acknowledged events.
-  pub record SittingSurvives (acknowledged begun : List Event) (old new : StoreView D) : Type 0 where
-    pub any_moment : LeavesOnly (d.trail old.disk) (d.trail new.disk)
-        (MeansPrefix (d.size old.disk) old.desktop [] (acknowledged ++ begun))
-    pub at_last : Leaves (now (d.trail new.disk))
-        (MeansPrefix (d.size old.disk) old.desktop acknowledged (acknowledged ++ begun))
-
-  -- A store goes on by these events: it shows the desktop after them, and from now on a crash leaves that.
-  pub record GoesBy (events : List Event) (old new : StoreView D) : Type 0 where
-    pub survives : SittingSurvives events [] old new
-    pub shows : new.desktop ≡ steps old.desktop events
-    pub durable : IsDurable d new
-    pub device : IsSameDevice d old.disk new.disk
-
   -- What a crash leaves of a sitting that comes to this end. At most one event was begun, and none unless the disk
   -- failed. Where neither the disk nor the memory failed, the store went on by the events that were acknowledged.
-  pub record SurvivesEnd (end : SittingEnd) (acknowledged begun : List Event) (old new : StoreView D) : Type 0 where
-    pub survives : SittingSurvives acknowledged begun old new
+  pub record SurvivesEnd (end : SittingEnd) (acknowledged begun : List Event)
+      (old new : StoreView D) : Type 0 where
+    pub survives : SittingSurvives d acknowledged begun old new
     pub one : length begun ≤ 1
     pub none_begun : end ≢ Fault → begun ≡ []
-    pub goes_by : end ≢ Fault → end ≢ Memory → GoesBy acknowledged old new
+    pub goes_by : end ≢ Fault → end ≢ Memory → GoesBy d acknowledged old new
 
   -- ---- what holds of all sittings, from any of their places on
 
   -- Turns: the store goes on by the events that are accepted in them, and so each further place is such a place.
   abbrev pub TurnsSurvive : Type 0
-  TurnsSurvive = (count : ℕ) (events : List Event) (old new : TurnState D) → IsTurnRun d old count events new
-      → d.honest old.store.disk → IsDurable d old.store → GoesBy events old.store new.store
+  TurnsSurvive = (count : ℕ) (events : List Event) (old new : TurnState D)
+      → IsTurnRun d old count events new
+      → d.honest old.store.disk → IsDurable d old.store → GoesBy d events old.store new.store
 
   -- A scene: until the first press after it is done a crash leaves the desktop that is shown.
   abbrev pub ScenesSurvive : Type 0
-  ScenesSurvive = (hearing : List Heard) (old new : TurnState D) (mid : StoreView D) → HearsAfterScene d hearing old mid new
+  ScenesSurvive = (hearing : List Heard) (old new : TurnState D) (mid : StoreView D)
+      → HearsAfterScene d hearing old mid new
       → d.honest old.store.disk → IsDurable d old.store
-      → LeavesOnly (d.trail old.store.disk) (d.trail mid.disk) (Means (d.size old.store.disk) old.store.desktop)
+      → LeavesOnly (d.trail old.store.disk) (d.trail mid.disk)
+      (Means (d.size old.store.disk) old.store.desktop)
 
   -- The rest of the sitting: a crash leaves the desktop that is shown at the place, after a prefix of the events that
   -- are accepted from then on.
   abbrev pub EndsSurvive : Type 0
-  EndsSurvive = (end : SittingEnd) (count turns : ℕ) (events more begun : List Event) (old mid new : TurnState D)
+  EndsSurvive = (end : SittingEnd) (count turns : ℕ) (events more begun : List Event)
+      (old mid new : TurnState D)
       → IsTurnRun d old count events mid → Ends d end turns more begun mid new
-      → d.honest old.store.disk → IsDurable d old.store → SurvivesEnd end (events ++ more) begun old.store new.store
+      → d.honest old.store.disk → IsDurable d old.store
+      → SurvivesEnd end (events ++ more) begun old.store new.store

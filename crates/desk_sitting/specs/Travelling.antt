@@ -31,9 +31,11 @@ module _ {D : Type 0} (d : Ghosts D) where
     pub still : IsStill old new
 
   -- All that such a turn promises that returns this.
-  pub record TakesBetween {T : Type 0} (result : Result T SittingEnd) (old new : TurnState D) : Type 0 where
+  pub record TakesBetween {T : Type 0} (result : Result T SittingEnd) (old new : TurnState D)
+      : Type 0 where
     pub goes_on : OnOk result (d.honest old.store.disk → IsDurable d old.store → IsBetween old new)
-    pub stops : IfErr result (λ end. d.honest old.store.disk → IsDurable d old.store → IsBrokenOff end old new)
+    pub stops : IfErr result (λ end. d.honest old.store.disk → IsDurable d old.store
+        → IsBrokenOff end old new)
     pub usable : OnOk result (new.store.must_reopen ≡ false)
     pub still_usable : IfErr result (λ end. IsUsableAt end new.store)
     pub counts : CountsTurn result (d.failures old.store.disk) (d.failures new.store.disk)

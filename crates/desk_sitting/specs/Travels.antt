@@ -18,7 +18,7 @@ use Rattle.desk_past.specs.declared.again.NextEvent.{NextEvent}
 use Rattle.desk_past.specs.declared.deed.Deed.{Deed}
 use Rattle.desk_sitting.specs.declared.sitting.Travel.{Travel}
 use Rattle.desk_past.specs.Again.{kept_at, next_event, rest_at, taken_press}
-use Rattle.desk_past.specs.Past.{back_count, back_deed, left_past}
+use Rattle.desk_past.specs.Past.{back_count, back_deed, left_past, named}
 use Rattle.desk_sitting.specs.Doing.{IsUndone, OfPresses, seat_of}
 use Rattle.desk_sitting.specs.Sittings.{after_post, refused}
 
@@ -54,13 +54,14 @@ goes_again place s = record s {
   again = rest_at place s.again;
 }
 
--- The sitting after an event was done again, of a press that did this. Where the store took it, that is said.
+-- The sitting after an event was done again, of a press that did this. Where the store took it, that is said, and known.
 abbrev pub did_again : Deed → Place → Place → Sitting → Sitting
 did_again deed from to s =
     if is_same_place from to then s else record s {
       saying = DidAgain deed;
       rings = false;
       again = record s.again { place = to };
+      past = named deed s.past;
     }
 
 module _ {D : Type 0} (d : Ghosts D) where
@@ -75,7 +76,8 @@ module _ {D : Type 0} (d : Ghosts D) where
         → Travelled s s' old new
     -- there was nothing to do again
     nothing : s.travels ≡ Some Again → next_event (store_place old) s.again ≡ None
-        → s' ≡ refused NothingAgain (goes_again (store_place old) s) → new ≡ old → Travelled s s' old new
+        → s' ≡ refused NothingAgain (goes_again (store_place old) s) → new ≡ old
+        → Travelled s s' old new
     -- the next event of the press that was taken back last was done again
     again : (event : NextEvent) (mid : Sitting) → s.travels ≡ Some Again
         → next_event (store_place old) s.again ≡ Some event
@@ -101,9 +103,11 @@ module _ {D : Type 0} (d : Ghosts D) where
         → IsStuck error s old new
 
   -- All that a call promises that is to do what was asked for.
-  pub record Travels {T : Type 0} (result : Result T Error) (s s' : Sitting) (old new : StoreView D) : Type 0 where
+  pub record Travels {T : Type 0} (result : Result T Error) (s s' : Sitting) (old new : StoreView D)
+      : Type 0 where
     pub done : OnOk result (d.honest old.disk → IsDurable d old → IsTravelled s s' old new)
-    pub stuck : IfErr result (λ error. d.honest old.disk → IsDurable d old → IsStuck error s old new)
+    pub stuck : IfErr result (λ error. d.honest old.disk → IsDurable d old
+        → IsStuck error s old new)
     pub usable : OnOk result (new.must_reopen ≡ false)
     pub faults : FailsAs Fault OfPresses result (d.failures old.disk) (d.failures new.disk)
     pub device : IsSameDevice d old.disk new.disk

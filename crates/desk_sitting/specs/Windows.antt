@@ -31,7 +31,8 @@ fitted height sight = record { top = max sight.top (rows_in height - 1); rows = 
 -- as many rows upward or downward as are in sight, as far as there are any
 unfoldable pub moved_sight : PageKey → Sight → Sight
 moved_sight Up sight = record { top = min (sight.top + sight.rows) (ROWS - 1); rows = sight.rows }
-moved_sight Down sight = record { top = max (sight.top - sight.rows) (sight.rows - 1); rows = sight.rows }
+moved_sight Down sight =
+    record { top = max (sight.top - sight.rows) (sight.rows - 1); rows = sight.rows }
 
 -- as few rows as bring a cell into sight
 unfoldable pub following_sight : Option (ℕ × ℕ) → Sight → Sight

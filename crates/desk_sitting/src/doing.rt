@@ -12,11 +12,11 @@ use sector_disk::Disk;
 use std::alloc::Global;
 use terminal_presses::{Heard, Parser, Press, Presses};
 
-/// Does what is pressed by all that was heard, one press after another, each event acknowledged before the next press.
+/// Does what is pressed by all that was heard, one press after another, each event acknowledged before the next one.
 ///
-/// Errors: `NoMemory`, where memory runs out, and the event of the press that failed is on the disk in no image;
-/// `Fault`, where the disk fails, and it may be there or not. Nothing that was pressed after it is done, and the store
-/// must be opened again where its event was posted.
+/// Errors: `NoMemory`, where memory runs out, and the event that was begun is on the disk in no image; `Fault`, where the
+/// disk fails, and it may be there or not. Those that were posted before it are there. Nothing that was pressed after it
+/// is done, and the store must be opened again where that event was posted.
 pub fn do_presses<D: Disk>(
     alloc: Global,
     sitting: &mut Sitting,
@@ -27,11 +27,14 @@ pub fn do_presses<D: Disk>(
     requires { store.old.must_reopen ≡ false }
     ensures parser { OnOk result (parser.new ≡ parser_after parser.old hearing.now) }
     ensures done { OnOk result (D.honest store.old.disk → IsDurable D.Disk store.old
-        → DoesPresses D.Disk (presses_heard parser.old hearing.now) sitting.old sitting.new store.old store.new) }
+        → DoesPresses D.Disk (presses_heard parser.old hearing.now) sitting.old sitting.new
+        store.old store.new) }
     ensures broke { IfErr result (λ error. D.honest store.old.disk → IsDurable D.Disk store.old
-        → Breaks D.Disk error (presses_heard parser.old hearing.now) sitting.old store.old store.new) }
+        → Breaks D.Disk error (presses_heard parser.old hearing.now) sitting.old store.old
+        store.new) }
     ensures usable { OnOk result (store.new.must_reopen ≡ false) }
-    ensures faults { FailsAs Error.Fault OfPresses result (D.failures store.old.disk) (D.failures store.new.disk) }
+    ensures faults { FailsAs Error.Fault OfPresses result (D.failures store.old.disk)
+        (D.failures store.new.disk) }
     ensures device { IsSameDevice D.Disk store.old.disk store.new.disk }
 {
     for heard in hearing {
@@ -50,7 +53,8 @@ fn do_each<D: Disk>(
     store: &mut Store<D>,
 ) -> Result<(), Error>
     requires { store.old.must_reopen ≡ false }
-    ensures { DoesAllPresses D.Disk (in_order presses) result sitting.old sitting.new store.old store.new }
+    ensures { DoesAllPresses D.Disk (in_order presses) result sitting.old sitting.new store.old
+        store.new }
 {
     match presses {
         Presses::Nothing => Ok(()),
@@ -71,7 +75,8 @@ fn do_both<D: Disk>(
     store: &mut Store<D>,
 ) -> Result<(), Error>
     requires { store.old.must_reopen ≡ false }
-    ensures { DoesAllPresses D.Disk (first ∷ second ∷ []) result sitting.old sitting.new store.old store.new }
+    ensures { DoesAllPresses D.Disk (first ∷ second ∷ []) result sitting.old sitting.new store.old
+        store.new }
 {
     sitting.press(alloc, first, store)?;
     sitting.press(alloc, second, store)

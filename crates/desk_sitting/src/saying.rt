@@ -29,6 +29,8 @@ pub enum Saying {
     NoKey,
     /// An arrow that leads to no text.
     NoText,
+    /// A scroll where no text can move.
+    NoScroll,
     /// The text of all commands was gone, and is a document again.
     ToolFiled,
     /// An event was refused, with this code.
@@ -202,6 +204,9 @@ impl Saying {
             Saying::NoText => line(
                 b"There is no text on that side of the caret, or no caret in sight.",
             ),
+            Saying::NoScroll => line(
+                b"Nothing moves there: no viewer, no caret, or too few rows of a text.",
+            ),
             Saying::ToolFiled => line(
                 b"System.Tool was gone, and is a document again: the same click opens it.",
             ),
@@ -234,7 +239,8 @@ pub(crate) fn line_of(
     armed: Option<Click>,
     saying: Saying,
 ) -> SayingLine
-    ensures { result.items ≡ line_of screen.now (option_map (λ name. name.now) asked.entry) armed saying }
+    ensures { result.items ≡ line_of screen.now (option_map (λ name. name.now) asked.entry) armed
+        saying }
 {
     match saying {
         Saying::Asks(question) => line(question_words(question)),
@@ -249,7 +255,8 @@ fn line_by_hand(
     armed: Option<Click>,
     saying: Saying,
 ) -> SayingLine
-    ensures { result.items ≡ line_by_hand screen.now (option_map (λ name. name.now) asked.entry) armed saying }
+    ensures { result.items ≡ line_by_hand screen.now (option_map (λ name. name.now) asked.entry)
+        armed saying }
 {
     if let Some(name) = asked {
         return question(name);

@@ -101,8 +101,10 @@ fn step<K: Keyboard, W: AnswerWriter, D: Disk>(
 ) -> Result<(), SittingEnd>
     requires { store.old.must_reopen ≡ false }
     ensures steps { TakesEitherTurn D.Disk result
-        (turn_state_of parser.old sitting.old store.old (K.heard keyboard.old) painter.old (W.contents writer.old))
-        (turn_state_of parser.new sitting.new store.new (K.heard keyboard.new) painter.new (W.contents writer.new)) }
+        (turn_state_of parser.old sitting.old store.old (K.heard keyboard.old) painter.old
+        (W.contents writer.old))
+        (turn_state_of parser.new sitting.new store.new (K.heard keyboard.new) painter.new
+        (W.contents writer.new)) }
     ensures ended { IfErr result (EndsBy (K.ended keyboard.new)) }
     ensures output { CountsOutput result (W.failures writer.old) (W.failures writer.new) }
 {
@@ -118,7 +120,8 @@ fn step<K: Keyboard, W: AnswerWriter, D: Disk>(
 /// Errors: `Fault` and `Memory`.
 fn go<D: Disk>(alloc: Global, sitting: &mut Sitting, store: &mut Store<D>) -> Result<(), SittingEnd>
     requires { store.old.must_reopen ≡ false }
-    ensures between { (parser : AParser) (heard : List Heard) (known : List (List Face)) (held : Option (List ℕ))
+    ensures between { (parser : AParser) (heard : List Heard) (known : List (List Face))
+        (held : Option (List ℕ))
         → TakesBetween D.Disk result (turn_state_of parser sitting.old store.old heard known held)
         (turn_state_of parser sitting.new store.new heard known held) }
     ensures cause { IfErr result IsOfNoKeyboard }
@@ -142,8 +145,10 @@ fn turn<K: Keyboard, W: AnswerWriter, D: Disk>(
 ) -> Result<(), SittingEnd>
     requires { store.old.must_reopen ≡ false }
     ensures turns { TakesTurn D.Disk result
-        (turn_state_of parser.old sitting.old store.old (K.heard keyboard.old) painter.old (W.contents writer.old))
-        (turn_state_of parser.new sitting.new store.new (K.heard keyboard.new) painter.new (W.contents writer.new)) }
+        (turn_state_of parser.old sitting.old store.old (K.heard keyboard.old) painter.old
+        (W.contents writer.old))
+        (turn_state_of parser.new sitting.new store.new (K.heard keyboard.new) painter.new
+        (W.contents writer.new)) }
     ensures ended { IfErr result (EndsBy (K.ended keyboard.new)) }
     ensures output { CountsOutput result (W.failures writer.old) (W.failures writer.new) }
 {
@@ -162,7 +167,8 @@ fn turn<K: Keyboard, W: AnswerWriter, D: Disk>(
 fn bring<K: Keyboard>(sitting: &mut Sitting, keyboard: &mut K)
     ensures brought { IsFetched sitting.old sitting.new }
     ensures asked { IfSome sitting.old.wanted (λ name. (will_be_heard : Bool)
-        × K.answers keyboard.old keyboard.new name will_be_heard × (sitting.new ≡ after_fetch will_be_heard sitting.old)) }
+        × K.answers keyboard.old keyboard.new name will_be_heard
+        × (sitting.new ≡ after_fetch will_be_heard sitting.old)) }
     ensures silent { K.heard keyboard.new ≡ K.heard keyboard.old }
 {
     let will_be_heard = match &sitting.wanted {
@@ -183,12 +189,14 @@ fn show<W: AnswerWriter, D: Disk>(
     writer: &mut W,
 ) -> Result<(), SittingEnd>
     requires { store.old.must_reopen ≡ false }
-    ensures looks { D.honest store.old.disk → IsDurable D.Disk store.old → IsLookedAt D.Disk store.old store.new }
+    ensures looks { D.honest store.old.disk → IsDurable D.Disk store.old
+        → IsLookedAt D.Disk store.old store.new }
     ensures shown { OnOk result (D.honest store.old.disk
         → (sitting.new ≡ looked (store_screen store.old) sitting.old)
         × IsSceneShown sitting.old (store_screen store.old)
         painter.old painter.new (W.contents writer.old) (W.contents writer.new)) }
-    ensures unshown { IfErr result (λ end. D.honest store.old.disk → IsUnshown end sitting.old (store_screen store.old)
+    ensures unshown { IfErr result (λ end. D.honest store.old.disk
+        → IsUnshown end sitting.old (store_screen store.old)
         painter.old (W.contents writer.old) (W.contents writer.new)) }
     ensures cause { IfErr result IsOfNoKeyboard }
     ensures output { CountsOutput result (W.failures writer.old) (W.failures writer.new) }
@@ -213,9 +221,11 @@ fn paint<W: AnswerWriter>(
     writer: &mut W,
     screen: &Screen,
 ) -> Result<(), SittingEnd>
-    ensures painted { OnOk result (IsScenePainted sitting.now screen.now (known_by forgets painter.old) painter.new
+    ensures painted { OnOk result (IsScenePainted sitting.now screen.now
+        (known_by forgets painter.old) painter.new
         (W.contents writer.old) (W.contents writer.new)) }
-    ensures front { OnErr result (IsHalfPainted sitting.now screen.now (known_by forgets painter.old)
+    ensures front { OnErr result (IsHalfPainted sitting.now screen.now
+        (known_by forgets painter.old)
         (W.contents writer.old) (W.contents writer.new)) }
     ensures end { IfErr result (λ end. end ≡ TakesNoMore) }
     ensures cause { CountsFault result (W.failures writer.old) (W.failures writer.new) }
@@ -230,7 +240,8 @@ fn paint<W: AnswerWriter>(
 
 /// The rows of the screen that are in sight, and the sitting's line below them.
 fn scene_of<'a>(sitting: &Sitting, screen: &'a Screen, line: &'a [u8]) -> Scene<'a>
-    requires { line.now ≡ line_of screen.now sitting.now.hand.asked sitting.now.hand.armed sitting.now.saying }
+    requires { line.now ≡ line_of screen.now sitting.now.hand.asked sitting.now.hand.armed
+        sitting.now.saying }
     ensures scene { IsSceneOf sitting.now screen.now result }
     ensures in_sight { IsInSight result }
 {
@@ -246,7 +257,8 @@ fn scene_of<'a>(sitting: &Sitting, screen: &'a Screen, line: &'a [u8]) -> Scene<
 ///
 /// Error: `Output`, and a front may have been sent.
 fn follow<W: AnswerWriter>(writer: &mut W, rings: bool, asks: bool) -> Result<(), SittingEnd>
-    ensures sent { Sends result (W.contents writer.old) (W.contents writer.new) (after_scene rings asks) }
+    ensures sent { Sends result (W.contents writer.old) (W.contents writer.new)
+        (after_scene rings asks) }
     ensures end { IfErr result (λ end. end ≡ TakesNoMore) }
     ensures cause { CountsFault result (W.failures writer.old) (W.failures writer.new) }
 {

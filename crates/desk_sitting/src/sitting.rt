@@ -1,27 +1,30 @@
 //! A person at a terminal, before a store.
-ghost use Rattle.std.specs.Prelude.{◌≡◌, ◌≢◌, false, OnOk, IfErr};
+ghost use Rattle.std.specs.Prelude.{◌≡◌, ◌≢◌, false, OnOk, IfErr, [], option_map, unwrap_or};
 ghost use Rattle.terminal_presses.specs.Hands.{handled};
-ghost use Rattle.desk_sitting.specs.Doing.{ComesToSeat, seat_of};
+ghost use Rattle.desk_journal.specs.Session.{session_of};
+ghost use Rattle.desk_sitting.specs.Doing.{ComesToSeat, DoesAction, DoesPress, seat_of};
 ghost use Rattle.desk_sitting.specs.Sayings.{line_of};
 ghost use Rattle.desk_sitting.specs.Questions.{is_nothing, is_of_terminal, question_of, questioned, unasked};
 ghost use Rattle.desk_sitting.specs.Sittings.{acted, acted_alone, after_press, after_fetch, after_click, looked, new_sitting};
 ghost use Rattle.desk_sitting.specs.Sittings.{done_by, done_saying, ring_reason};
 ghost use Rattle.desk_sitting.specs.Sittings.{came_to, fitted_saying, after_post, refused, replied, turned_away};
+ghost use Rattle.desk_sitting.specs.Sittings.{accepted_by, accepted_of, after_posts, after_scroll, posts_unasked, scrolled};
 ghost use Rattle.desk_sitting.specs.Sittings.{with_hand};
+ghost use Rattle.desk_sitting.specs.Scrolling.{cell_meant as cell_of_spot, wish_of as wish_of_scroll};
 
 use crate::aim::{aimed, caret_of};
 use crate::listed::{event_meant, is_by_list};
 use crate::question::{Question, comes_first};
 use crate::saying::{Saying, SayingLine, is_in_memory, line_of, resting_of};
 use crate::window::{fitted, followed, height_told, is_low, is_narrow, moved};
-use desk_journal::{Error, Store};
-use desk_past::{Again, Past, typed_more};
+use desk_journal::{Error, Store, Wish};
+use desk_past::{Again, Deed, Past, typed_more};
 use desktop_definitions::Reply;
 use event_bytes::{Event, Keys};
 use screen_cells::Screen;
 use sector_disk::Disk;
 use std::alloc::Global;
-use terminal_presses::{Action, Arrow, Hand, HostName, Press, Sight};
+use terminal_presses::{Action, Arrow, Hand, HostName, Press, Scroll, Sight, Spot};
 
 /// What is asked for beside a press: to take the last one back, or to do again what was taken back last.
 #[derive(Clone, Copy, Debug, PartialEq, Eq)]
@@ -98,7 +101,8 @@ impl Sitting {
 
     /// The line below this screen, of 80 characters at most.
     pub fn line(&self, screen: &Screen) -> SayingLine
-        ensures { result.items ≡ line_of screen.now self.now.hand.asked self.now.hand.armed self.now.saying }
+        ensures { result.items ≡ line_of screen.now self.now.hand.asked self.now.hand.armed
+            self.now.saying }
     {
         line_of(screen, self.hand.asked(), self.hand.armed(), self.saying)
     }
@@ -178,7 +182,7 @@ impl Sitting {
 
     /// Does what is pressed. After the person has left nothing is done.
     ///
-    /// Errors: `NoMemory`, where memory runs out, and an event of the press is on the disk in no image; `Fault`, where
+    /// Errors: `NoMemory`, where memory runs out, and an event that was begun is on the disk in no image; `Fault`, where
     /// the disk fails, and it may be there or not.
     pub(crate) fn press<D: Disk>(
         &mut self,
@@ -187,7 +191,8 @@ impl Sitting {
         store: &mut Store<D>,
     ) -> Doing
         requires { store.old.must_reopen ≡ false }
-        ensures { ComesToSeat D.Disk (after_press press (seat_of self.old store.old)) result self.new store.old store.new }
+        ensures { DoesPress D.Disk (accepted_of press (seat_of self.old store.old))
+            (after_press press (seat_of self.old store.old)) result self.new store.old store.new }
     {
         if self.leaves {
             return Ok(());
@@ -199,7 +204,8 @@ impl Sitting {
     /// The hand takes a press. Amid a text that is pasted it is counted how many of its characters are typed, and its
     /// events are those of one press.
     fn take(&mut self, press: Press) -> Action
-        ensures state { self.new ≡ with_hand (handled self.old.sight press self.old.hand).0 self.old }
+        ensures state { self.new ≡ with_hand (handled self.old.sight press self.old.hand).0
+            self.old }
         ensures answer { result ≡ (handled self.old.sight press self.old.hand).1 }
     {
         let pastes = self.hand.pastes_text();
@@ -215,7 +221,9 @@ impl Sitting {
     /// Does what a press comes to, or asks first.
     fn act<D: Disk>(&mut self, alloc: Global, action: Action, store: &mut Store<D>) -> Doing
         requires { store.old.must_reopen ≡ false }
-        ensures { ComesToSeat D.Disk (acted action (seat_of self.old store.old)) result self.new store.old store.new }
+        ensures { DoesPress D.Disk
+            (accepted_by (session_of store.old) (posts_unasked action (seat_of self.old store.old)))
+            (acted action (seat_of self.old store.old)) result self.new store.old store.new }
     {
         let question = self.question_of(&action);
         if comes_first(self.question, question) {
@@ -273,11 +281,12 @@ impl Sitting {
     /// Does what a press comes to.
     fn do_action<D: Disk>(&mut self, alloc: Global, action: Action, store: &mut Store<D>) -> Doing
         requires { store.old.must_reopen ≡ false }
-        ensures { ComesToSeat D.Disk (done_by action (seat_of self.old store.old)) result self.new store.old store.new }
+        ensures { DoesAction D.Disk action result self.old self.new store.old store.new }
     {
         match action {
             Action::Post(event) => self.post_meant(alloc, event, store),
             Action::Step(arrow) => self.step(alloc, arrow, store),
+            Action::Scroll(at, scroll) => self.scroll(alloc, at, scroll, store),
             alone => {
                 self.act_alone(alone);
                 Ok(())
@@ -291,7 +300,7 @@ impl Sitting {
         ensures { self.new ≡ acted_alone action self.old }
     {
         match action {
-            Action::Nothing | Action::Post(_) | Action::Step(_) => {}
+            Action::Nothing | Action::Post(_) | Action::Step(_) | Action::Scroll(_, _) => {}
             Action::Ring => {
                 let reason = self.ring_reason();
                 self.refuse(reason);
@@ -325,7 +334,8 @@ impl Sitting {
     /// Posts what an event of the hand is at the desk, by the list of the desktop where that is asked for it.
     fn post_meant<D: Disk>(&mut self, alloc: Global, event: Event, store: &mut Store<D>) -> Doing
         requires { store.old.must_reopen ≡ false }
-        ensures { ComesToSeat D.Disk (done_by (Action.Post event) (seat_of self.old store.old)) result self.new
+        ensures { ComesToSeat D.Disk (done_by (Action.Post event) (seat_of self.old store.old))
+            result self.new
             store.old store.new }
     {
         if !is_by_list(&event) {
@@ -339,7 +349,8 @@ impl Sitting {
     /// A left click beside the caret, as the screen has it, or a ring where no text is shown there.
     fn step<D: Disk>(&mut self, alloc: Global, arrow: Arrow, store: &mut Store<D>) -> Doing
         requires { store.old.must_reopen ≡ false }
-        ensures { ComesToSeat D.Disk (done_by (Action.Step arrow) (seat_of self.old store.old)) result self.new store.old
+        ensures { ComesToSeat D.Disk (done_by (Action.Step arrow) (seat_of self.old store.old))
+            result self.new store.old
             store.new }
     {
         let mut screen = Screen::new();
@@ -355,7 +366,8 @@ impl Sitting {
         store: &mut Store<D>,
     ) -> Doing
         requires { store.old.must_reopen ≡ false }
-        ensures { ComesToSeat D.Disk (after_click place (seat_of self.old store.old)) result self.new store.old store.new }
+        ensures { ComesToSeat D.Disk (after_click place (seat_of self.old store.old)) result
+            self.new store.old store.new }
     {
         match place {
             None => {
@@ -375,6 +387,73 @@ impl Sitting {
         }
     }
 
+    /// Moves the text of the viewer at a spot, or where none is meant of that of the caret, by presses in its scroll bar.
+    fn scroll<D: Disk>(
+        &mut self,
+        alloc: Global,
+        at: Option<Spot>,
+        scroll: Scroll,
+        store: &mut Store<D>,
+    ) -> Doing
+        requires { store.old.must_reopen ≡ false }
+        ensures { DoesAction D.Disk (Action.Scroll at scroll) result self.old self.new
+            store.old store.new }
+    {
+        let presses = store.scroll(alloc, cell_meant(at), wish_of(scroll))?;
+        self.post_scroll(alloc, presses, store)
+    }
+
+    /// Posts the presses that scroll, or rings where there are none. The rows in sight don't follow the caret for it.
+    fn post_scroll<D: Disk>(
+        &mut self,
+        alloc: Global,
+        presses: Option<Vec<Event>>,
+        store: &mut Store<D>,
+    ) -> Doing
+        requires { store.old.must_reopen ≡ false }
+        ensures { DoesPress D.Disk (accepted_by (session_of store.old)
+            (unwrap_or (option_map (λ events. events.items) presses) []))
+            (after_scroll (option_map (λ events. events.items) presses)
+            (seat_of self.old store.old))
+            result self.new store.old store.new }
+    {
+        match presses {
+            None => {
+                self.refuse(Saying::NoScroll);
+                Ok(())
+            }
+            Some(events) => {
+                let follows = self.follows;
+                self.post_all(alloc, events.as_slice(), store)?;
+                self.end_scroll(follows);
+                Ok(())
+            }
+        }
+    }
+
+    /// A scroll is done. What was done, if anything, is named so.
+    fn end_scroll(&mut self, follows: bool)
+        ensures { self.new ≡ scrolled follows self.old }
+    {
+        self.follows = follows;
+        if self.joins {
+            self.past.name(Deed::Scroll);
+        }
+    }
+
+    /// Posts events, one after another, each acknowledged before the next one.
+    fn post_all<D: Disk>(&mut self, alloc: Global, events: &[Event], store: &mut Store<D>) -> Doing
+        requires { store.old.must_reopen ≡ false }
+        ensures { DoesPress D.Disk (accepted_by (session_of store.old) events.now)
+            (after_posts events.now (seat_of self.old store.old)) result self.new store.old
+            store.new }
+    {
+        for event in events {
+            self.post(alloc, event, store)?;
+        }
+        Ok(())
+    }
+
     /// Posts an event.
     pub(crate) fn post<D: Disk>(
         &mut self,
@@ -383,7 +462,8 @@ impl Sitting {
         store: &mut Store<D>,
     ) -> Doing
         requires { store.old.must_reopen ≡ false }
-        ensures { ComesToSeat D.Disk (after_post event.now (seat_of self.old store.old)) result self.new store.old store.new }
+        ensures { ComesToSeat D.Disk (after_post event.now (seat_of self.old store.old)) result
+            self.new store.old store.new }
     {
         match store.post(alloc, event) {
             Ok(reply) => {
@@ -396,7 +476,8 @@ impl Sitting {
 
     /// What an error of a post comes to: a worn store rings, and any other error is passed on.
     fn turned_away(&mut self, error: Error) -> Doing
-        ensures worn { OnOk result ((error ≡ Error.Worn) × (self.new ≡ turned_away Saying.Worn self.old)) }
+        ensures worn { OnOk result ((error ≡ Error.Worn)
+            × (self.new ≡ turned_away Saying.Worn self.old)) }
         ensures other { IfErr result (λ passed. (error ≢ Error.Worn) × (passed ≡ error)) }
     {
         match error {
@@ -406,6 +487,30 @@ impl Sitting {
             }
             other => Err(other),
         }
+    }
+}
+
+/// What a scroll wishes of a viewer's text. The wheel moves it by three lines.
+fn wish_of(scroll: Scroll) -> Wish
+    ensures { result ≡ wish_of_scroll scroll }
+{
+    match scroll {
+        Scroll::WheelUp => Wish::Up(3),
+        Scroll::WheelDown => Wish::Down(3),
+        Scroll::PageUp => Wish::PageUp,
+        Scroll::PageDown => Wish::PageDown,
+        Scroll::First => Wish::Line(0),
+        Scroll::Last => Wish::End,
+    }
+}
+
+/// The cell that is meant, as column and row.
+fn cell_meant(at: Option<Spot>) -> Option<(u8, u8)>
+    ensures { result ≡ cell_of_spot at }
+{
+    match at {
+        None => None,
+        Some(spot) => Some((spot.x, spot.y)),
     }
 }
 

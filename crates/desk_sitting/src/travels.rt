@@ -132,6 +132,7 @@ impl Sitting {
         self.saying = Saying::DidAgain(deed);
         self.rings = false;
         self.again.come_to(to);
+        self.past.name(deed);
     }
 }
 

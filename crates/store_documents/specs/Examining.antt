@@ -26,7 +26,8 @@ part_at n =
     else if nat_lt n (gate 0 0) then Slot ((n - slot_gate 0) / 2)
     else if nat_lt n (image_at 0) then Journal ((n - gate 0 0) / (2 * JOURNAL_EVENTS))
     else if nat_lt n (area_start 0) then Image ((n - image_at 0) / IMAGE_SECTORS)
-    else if nat_lt n (area_start 0 + AREA_SECTORS * AREAS) then Characters ((n - area_start 0) / AREA_SECTORS)
+    else if nat_lt n (area_start 0 + AREA_SECTORS * AREAS) then Characters
+    ((n - area_start 0) / AREA_SECTORS)
     else Unused
 
 -- each sector of the label, a slot, a journal, an image or an area stands in that part
@@ -36,5 +37,7 @@ pub record ArePartsOfLayout : Type 0 where
   pub heads : (slot : ℕ) → slot < SLOTS → part_at (slot_head slot) ≡ Slot slot
   pub journals : (slot k : ℕ) → slot < SLOTS → k < JOURNAL_EVENTS
       → (part_at (gate slot k) ≡ Journal slot) × (part_at (body slot k) ≡ Journal slot)
-  pub images : (slot k : ℕ) → slot < SLOTS → k < IMAGE_SECTORS → part_at (image_at slot + k) ≡ Image slot
-  pub areas : (area k : ℕ) → area < AREAS → k < AREA_SECTORS → part_at (area_at area k) ≡ Characters area
+  pub images : (slot k : ℕ) → slot < SLOTS → k < IMAGE_SECTORS
+      → part_at (image_at slot + k) ≡ Image slot
+  pub areas : (area k : ℕ) → area < AREAS → k < AREA_SECTORS
+      → part_at (area_at area k) ≡ Characters area

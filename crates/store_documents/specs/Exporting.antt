@@ -30,10 +30,12 @@ text_in_form form text = text_for_reader form.reader form.is_joined text
 -- the document whole; or nothing, where there is none
 abbrev pub IsExported : Form → Option (Text ℕ) → Bool → Option (List ℕ) → Option (List ℕ) → Type 0
 IsExported form None found old new = (found ≡ false) × Keeps old new
-IsExported form (Some text) found old new = (found ≡ true) × Appends old new (text_in_form form text)
+IsExported form (Some text) found old new = (found ≡ true)
+    × Appends old new (text_in_form form text)
 
 -- nothing, where the store refused; or a front of a document that there is, where the output did
-abbrev pub IsExportCutOff : Form → Option (Text ℕ) → ExportFault → Option (List ℕ) → Option (List ℕ) → Type 0
+abbrev pub IsExportCutOff : Form → Option (Text ℕ) → ExportFault → Option (List ℕ) → Option (List ℕ)
+    → Type 0
 IsExportCutOff form file (Store error) old new = Keeps old new
 IsExportCutOff form None Output old new = ⊥
 IsExportCutOff form (Some text) Output old new = AppendsFront old new (text_in_form form text)

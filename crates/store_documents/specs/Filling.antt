@@ -24,7 +24,8 @@ unit_end column (b ∷ text) =
 
 -- something stays together from a column on, and passes the width
 abbrev pub has_wide_unit : ℕ → ℕ → List ℕ → Bool
-has_wide_unit width column text = nat_lt width (unit_end column text) && nat_lt column (unit_end column text)
+has_wide_unit width column text =
+    nat_lt width (unit_end column text) && nat_lt column (unit_end column text)
 
 -- a line is broken behind a blank where what follows on it would pass the width
 abbrev pub is_broken_behind : ℕ → ℕ → ℕ → List ℕ → Bool
@@ -60,12 +61,14 @@ joined_text text = joined_after 0 text
 -- no line of a text that begins in a column has more columns than the width
 abbrev pub has_narrow_lines : ℕ → ℕ → List ℕ → Bool
 has_narrow_lines width column [] = nat_le column width
-has_narrow_lines width column (b ∷ text) = nat_le column width && has_narrow_lines width (column_behind column b) text
+has_narrow_lines width column (b ∷ text) =
+    nat_le column width && has_narrow_lines width (column_behind column b) text
 
 -- at the beginning of a line nothing that stays together has more columns than the width
 abbrev pub has_short_units : ℕ → List ℕ → Bool
 has_short_units width [] = true
-has_short_units width (b ∷ text) = nat_le (unit_end 0 (b ∷ text)) width && has_short_units width text
+has_short_units width (b ∷ text) =
+    nat_le (unit_end 0 (b ∷ text)) width && has_short_units width text
 
 -- the document of a file, laid out, or why the file is none
 abbrev pub document_laid_out : Option ℕ → List ℕ → Result (List ℕ) Unfit

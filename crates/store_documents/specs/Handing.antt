@@ -21,7 +21,8 @@ abbrev pub AreTaken : Option ℕ → Documents → Documents → Type 0
 AreTaken width files documents = map (document_of_file width) files ≡ map Ok documents
 
 -- the file at an index is the first that is no document, for this reason
-pub record IsFirstUnfit (width : Option ℕ) (files : Documents) (index : ℕ) (why : Unfit) : Type 0 where
+pub record IsFirstUnfit (width : Option ℕ) (files : Documents) (index : ℕ) (why : Unfit)
+    : Type 0 where
   pub documents : Documents
   pub before : AreTaken width (take index files) documents
   pub unfit : option_map (document_of_file width) (slice_get files index) ≡ Some (Err why)
@@ -40,4 +41,5 @@ is_named_before documents index = is_named_among (slice_get documents index) (ta
 
 -- a document behind others
 abbrev pub IsHandedBehind : Option ℕ → List ℕ × List ℕ → Documents → Documents → Type 0
-IsHandedBehind width file old new = (document : List ℕ × List ℕ) × (document_of_file width file ≡ Ok document) × (new ≡ old ++ document ∷ [])
+IsHandedBehind width file old new = (document : List ℕ × List ℕ)
+    × (document_of_file width file ≡ Ok document) × (new ≡ old ++ document ∷ [])

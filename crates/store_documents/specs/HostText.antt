@@ -22,7 +22,8 @@ exported text = map host_byte text
 -- what a byte of the host's is to a document, after another one: a LF right after CR has ended no line of its own
 abbrev pub returned : ℕ → ℕ → Option ℕ
 returned before b =
-    if b == line_feed then (if before == carriage_return then None else Some carriage_return) else Some b
+    if b == line_feed then (if before == carriage_return then None else Some carriage_return) else
+    Some b
 
 -- the text that the rest of a file comes to, after a byte
 abbrev pub text_after : ℕ → List ℕ → List ℕ

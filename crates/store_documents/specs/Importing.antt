@@ -41,7 +41,8 @@ pub record AreTogether (sorted : Sorted) (coming : Coming) : Type 0 where
 
 module _ {D : Type 0} (d : Ghosts D) where
   -- documents in the way may not be replaced: these are they, and nothing was done
-  pub record AreInTheWay (replace : Bool) (documents others : Documents) (old new : StoreView D) : Type 0 where
+  pub record AreInTheWay (replace : Bool) (documents others : Documents) (old new : StoreView D)
+      : Type 0 where
     pub unasked : replace ≡ false
     pub some : ¬ (others ≡ [])
     pub others_are : d.honest old.disk → others ≡ other_ones old.desktop documents
@@ -53,9 +54,12 @@ module _ {D : Type 0} (d : Ghosts D) where
     pub coming_are : d.honest old.disk → AreComing old.desktop documents coming
     pub asked : d.honest old.disk → (replace ≡ true) ⊎ (other_ones old.desktop documents ≡ [])
     pub nothing : coming.documents.items ≡ [] → (reply ≡ Done) × HasOnlyLooked d old new
-    pub brought : ¬ (coming.documents.items ≡ []) → AreBrought d coming.documents.items reply old new
+    pub brought : ¬ (coming.documents.items ≡ [])
+        → AreBrought d coming.documents.items reply old new
 
   -- what an import of documents came to
   abbrev pub IsImport : Bool → Documents → Imported → StoreView D → StoreView D → Type 0
-  IsImport replace documents (Kept others) old new = AreInTheWay replace documents others.items old new
-  IsImport replace documents (Told reply coming) old new = HasImported replace documents reply coming old new
+  IsImport replace documents (Kept others) old new =
+      AreInTheWay replace documents others.items old new
+  IsImport replace documents (Told reply coming) old new =
+      HasImported replace documents reply coming old new

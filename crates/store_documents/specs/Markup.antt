@@ -56,20 +56,24 @@ unfoldable pub web_font : ℕ → List ℕ
 web_font font =
     if font == 1 then codes ";font-style:italic"
     else (if font == 2 then codes ";font-weight:bold"
-    else (if font == 3 then codes ";font-size:smaller" else (if font == 4 then codes ";font-size:larger" else [])))
+    else (if font == 3 then codes ";font-size:smaller" else
+    (if font == 4 then codes ";font-size:larger" else [])))
 
 -- where characters in a look begin: its font, colour and offset, and how a browser shows them
 unfoldable pub look_numbers : Look → List ℕ
-look_numbers look = decimal look.font ++ (codes " " ++ (decimal look.colour ++ (codes " " ++ signed_decimal look.voff)))
+look_numbers look = decimal look.font
+    ++ (codes " " ++ (decimal look.colour ++ (codes " " ++ signed_decimal look.voff)))
 
 unfoldable pub raised_style : ℤ → List ℕ
 raised_style voff = codes ";vertical-align:" ++ (signed_decimal voff ++ codes "px")
 
 unfoldable pub look_style : Look → List ℕ
-look_style look = codes "color:" ++ (web_colour look.colour ++ (web_font look.font ++ raised_style look.voff))
+look_style look = codes "color:" ++
+    (web_colour look.colour ++ (web_font look.font ++ raised_style look.voff))
 
 unfoldable pub look_tag : Look → List ℕ
-look_tag look = codes "<span data-look='" ++ (look_numbers look ++ (codes "' style='" ++ (look_style look ++ codes "'>")))
+look_tag look = codes "<span data-look='"
+    ++ (look_numbers look ++ (codes "' style='" ++ (look_style look ++ codes "'>")))
 
 -- where those before them end too
 abbrev pub turn_tags : Option Look → List ℕ

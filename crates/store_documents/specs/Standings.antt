@@ -41,16 +41,20 @@ is_other Same = false
 is_other Other = true
 
 -- the documents by how they stand, each list in their order
-pub record AreSorted (d : Desktop) (documents : List (List ℕ × List ℕ)) (sorted : Sorted) : Type 0 where
+pub record AreSorted (d : Desktop) (documents : List (List ℕ × List ℕ)) (sorted : Sorted)
+    : Type 0 where
   pub fresh : sorted.fresh.items ≡ filter (λ document. is_new (standing_of d document)) documents
   pub same : sorted.same.items ≡ filter (λ document. is_same (standing_of d document)) documents
   pub other : sorted.other.items ≡ filter (λ document. is_other (standing_of d document)) documents
 
 -- a document behind those that stand as it does
-pub record IsPutBehind (document : List ℕ × List ℕ) (standing : Standing) (old new : Sorted) : Type 0 where
-  pub fresh_is : new.fresh.items ≡ old.fresh.items ++ (if is_new standing then document ∷ [] else [])
+pub record IsPutBehind (document : List ℕ × List ℕ) (standing : Standing) (old new : Sorted)
+    : Type 0 where
+  pub fresh_is : new.fresh.items ≡ old.fresh.items
+      ++ (if is_new standing then document ∷ [] else [])
   pub same_is : new.same.items ≡ old.same.items ++ (if is_same standing then document ∷ [] else [])
-  pub other_is : new.other.items ≡ old.other.items ++ (if is_other standing then document ∷ [] else [])
+  pub other_is : new.other.items ≡ old.other.items
+      ++ (if is_other standing then document ∷ [] else [])
 
 -- any number of looks: the store is as it was, and its disk was only read
 pub record HasOnlyLooked {D : Type 0} (d : Ghosts D) (old new : StoreView D) : Type 0 where

@@ -24,9 +24,11 @@ pub fn copy<D: Disk, E: Disk, W: Watch>(
 ) -> Result<(), Fault>
     requires from { count ≤ D.size from.old }
     requires to { count ≤ E.size to.old }
-    ensures same { OnOk result (D.honest from.old → E.honest to.old → HaveSame count (now (D.trail from.old)).reads
+    ensures same { OnOk result (D.honest from.old → E.honest to.old
+        → HaveSame count (now (D.trail from.old)).reads
         (now (E.trail to.new)).reads) }
-    ensures settled { OnOk result (E.honest to.old → (n : ℕ) → n < count → (now (E.trail to.new)).pending n ≡ false) }
+    ensures settled { OnOk result (E.honest to.old → (n : ℕ) → n < count
+        → (now (E.trail to.new)).pending n ≡ false) }
     ensures read { IsConfined D.size D.honest D.trail Nowhere from.old from.new }
     ensures written { IsConfined E.size E.honest E.trail (λ n. n < count) to.old to.new }
 {

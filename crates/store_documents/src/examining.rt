@@ -35,7 +35,8 @@ pub fn examine<D: Disk>(disk: &mut D) -> Result<Examined, Fault>
     requires { STORE_SECTORS ≤ D.size disk.old }
     ensures kept { IsConfined D.size D.honest D.trail Nowhere disk.old disk.new }
     ensures faults { CountsFault result (D.failures disk.old) (D.failures disk.new) }
-    ensures examined { IfOk result (λ found. D.honest disk.old → found ≡ examined (now (D.trail disk.old)).reads) }
+    ensures examined { IfOk result (λ found. D.honest disk.old
+        → found ≡ examined (now (D.trail disk.old)).reads) }
 {
     let mut sector = [0; SECTOR_BYTES as usize];
     disk.read(LABEL, &mut sector)?;
@@ -52,7 +53,8 @@ fn read_state<D: Disk>(disk: &mut D, slot: u32) -> Result<SlotState, Fault>
     requires two { slot < SLOTS }
     ensures kept { IsConfined D.size D.honest D.trail Nowhere disk.old disk.new }
     ensures faults { CountsFault result (D.failures disk.old) (D.failures disk.new) }
-    ensures state { IfOk result (λ state. D.honest disk.old → state ≡ slot_state (now (D.trail disk.old)).reads slot) }
+    ensures state { IfOk result (λ state. D.honest disk.old
+        → state ≡ slot_state (now (D.trail disk.old)).reads slot) }
 {
     let mut sector = [0; SECTOR_BYTES as usize];
     disk.read(slot_gate(slot), &mut sector)?;

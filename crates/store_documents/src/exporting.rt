@@ -67,9 +67,11 @@ pub fn export<D: Disk, W: Write>(
     output: &mut W,
 ) -> Result<bool, ExportFault>
     ensures done { IfOk result (λ found. D.honest store.old.disk
-        → IsExported form (file_of store.old.desktop name.now) found (W.contents output.old) (W.contents output.new)) }
+        → IsExported form (file_of store.old.desktop name.now) found (W.contents output.old)
+        (W.contents output.new)) }
     ensures stopped { IfErr result (λ fault. D.honest store.old.disk
-        → IsExportCutOff form (file_of store.old.desktop name.now) fault (W.contents output.old) (W.contents output.new)) }
+        → IsExportCutOff form (file_of store.old.desktop name.now) fault (W.contents output.old)
+        (W.contents output.new)) }
     ensures looked { HasOnlyLooked D.Disk store.old store.new }
 {
     match store.file(alloc, name)? {
@@ -119,7 +121,8 @@ fn program_text(
     characters: &[(u8, Look)],
     is_joined: bool,
 ) -> Result<Vec<u8>, AllocError>
-    ensures { IfOk result (λ text. text.items ≡ exported (with_lines is_joined (bytes_of characters.now))) }
+    ensures { IfOk result (λ text. text.items
+        ≡ exported (with_lines is_joined (bytes_of characters.now))) }
 {
     let text = lines_of(alloc, characters, is_joined)?;
     host_bytes(alloc, &text)
@@ -131,7 +134,8 @@ fn terminal_text(
     characters: &[(u8, Look)],
     is_joined: bool,
 ) -> Result<Vec<u8>, AllocError>
-    ensures { IfOk result (λ text. text.items ≡ printable (with_lines is_joined (bytes_of characters.now))) }
+    ensures { IfOk result (λ text. text.items
+        ≡ printable (with_lines is_joined (bytes_of characters.now))) }
 {
     let text = lines_of(alloc, characters, is_joined)?;
     printable_bytes(alloc, &text)

@@ -45,7 +45,8 @@ pub fn document(alloc: Global, file: &[u8]) -> Result<Vec<u8>, Unfit>
     ensures text { IfOk result (λ text. imported file.now ≡ Ok text.items) }
     ensures plain { IfOk result (λ text. IsTrue (list_all text_byte text.items)) }
     ensures short { IfOk result (λ text. length text.items ≤ MOST_BYTES) }
-    ensures why { IfErr result (λ unfit. ¬ (unfit ≡ Unfit.NoMemory) → imported file.now ≡ Err unfit) }
+    ensures why { IfErr result (λ unfit. ¬ (unfit ≡ Unfit.NoMemory)
+        → imported file.now ≡ Err unfit) }
 {
     let text = document_text(alloc, file)?;
     if text.len() > MOST_BYTES {

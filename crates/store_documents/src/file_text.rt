@@ -17,7 +17,8 @@ const QUESTION_MARK: u8 = 63;
 /// alone.
 #[tactic(auto, using(crate::proofs::Texts::map_twice))]
 pub fn host_text(alloc: Global, characters: &[(u8, Look)]) -> Result<Vec<u8>, AllocError>
-    ensures { IfOk result (λ text. text.items ≡ exported (map (λ character. character.0) characters.now)) }
+    ensures { IfOk result (λ text. text.items
+        ≡ exported (map (λ character. character.0) characters.now)) }
 {
     characters
         .iter()
@@ -29,7 +30,8 @@ pub fn host_text(alloc: Global, characters: &[(u8, Look)]) -> Result<Vec<u8>, Al
 /// other byte a question mark. It fails for want of memory alone.
 #[tactic(auto, using(crate::proofs::Texts::map_twice))]
 pub fn printable_text(alloc: Global, characters: &[(u8, Look)]) -> Result<Vec<u8>, AllocError>
-    ensures { IfOk result (λ text. text.items ≡ printable (map (λ character. character.0) characters.now)) }
+    ensures { IfOk result (λ text. text.items
+        ≡ printable (map (λ character. character.0) characters.now)) }
 {
     characters
         .iter()

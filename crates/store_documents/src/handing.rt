@@ -83,7 +83,8 @@ fn add_document(
     width: Option<usize>,
     documents: &mut Vec<Document>,
 ) -> Result<(), Unfit>
-    ensures added { OnOk result (IsHandedBehind width file.now documents.old.items documents.new.items) }
+    ensures added { OnOk result (IsHandedBehind width file.now documents.old.items
+        documents.new.items) }
     ensures why { IfErr result (λ why. ¬ (why ≡ Unfit.NoMemory)
         → (document_of_file width file.now ≡ Err why) × (documents.new ≡ documents.old)) }
 {
@@ -97,7 +98,8 @@ fn add_document(
 /// The document of a file.
 fn document_of(alloc: Global, file: &Handed, width: Option<usize>) -> Result<Document, Unfit>
     ensures document { IfOk result (λ document. document_of_file width file.now ≡ Ok document) }
-    ensures why { IfErr result (λ why. ¬ (why ≡ Unfit.NoMemory) → document_of_file width file.now ≡ Err why) }
+    ensures why { IfErr result (λ why. ¬ (why ≡ Unfit.NoMemory)
+        → document_of_file width file.now ≡ Err why) }
 {
     let text = document_within(alloc, file.as_bytes(), width)?;
     match Document::new(file.name().clone()?, text) {

@@ -41,9 +41,12 @@ pub fn import<D: Disk>(
     documents: Vec<Document>,
     replace: bool,
 ) -> Result<Imported, Error>
-    ensures any_moment { LeavesAllOrNone D.Disk (coming_ones store.old.desktop documents.items) store.old store.new }
-    ensures told { IfOk result (λ import. IsImport D.Disk replace documents.items import store.old store.new) }
-    ensures failed { IfErr result (λ _. store.new.must_reopen ≡ false → HasOnlyLooked D.Disk store.old store.new) }
+    ensures any_moment { LeavesAllOrNone D.Disk (coming_ones store.old.desktop documents.items)
+        store.old store.new }
+    ensures told { IfOk result (λ import.
+        IsImport D.Disk replace documents.items import store.old store.new) }
+    ensures failed { IfErr result (λ _. store.new.must_reopen ≡ false
+        → HasOnlyLooked D.Disk store.old store.new) }
 {
     let _info = store.info()?;
     import_into(alloc, store, documents, replace)
@@ -57,9 +60,12 @@ fn import_into<D: Disk>(
     replace: bool,
 ) -> Result<Imported, Error>
     requires { IsDurable D.Disk store.old }
-    ensures any_moment { LeavesAllOrNone D.Disk (coming_ones store.old.desktop documents.items) store.old store.new }
-    ensures told { IfOk result (λ import. IsImport D.Disk replace documents.items import store.old store.new) }
-    ensures failed { IfErr result (λ _. store.new.must_reopen ≡ false → HasOnlyLooked D.Disk store.old store.new) }
+    ensures any_moment { LeavesAllOrNone D.Disk (coming_ones store.old.desktop documents.items)
+        store.old store.new }
+    ensures told { IfOk result (λ import.
+        IsImport D.Disk replace documents.items import store.old store.new) }
+    ensures failed { IfErr result (λ _. store.new.must_reopen ≡ false
+        → HasOnlyLooked D.Disk store.old store.new) }
 {
     let sorted = sort(alloc, store, documents)?;
     if is_in_the_way(&sorted, replace) {
@@ -113,7 +119,8 @@ fn bring_some<D: Disk>(
 ) -> Result<Reply, Error>
     requires { IsDurable D.Disk store.old }
     ensures any_moment { LeavesAllOrNone D.Disk documents.now store.old store.new }
-    ensures nothing { documents.now ≡ [] → IfOk result (λ reply. (reply ≡ Reply.Done) × (store.new ≡ store.old)) }
+    ensures nothing { documents.now ≡ []
+        → IfOk result (λ reply. (reply ≡ Reply.Done) × (store.new ≡ store.old)) }
     ensures brought { ¬ (documents.now ≡ []) → IfOk result (λ reply.
         AreBrought D.Disk documents.now reply store.old store.new) }
     ensures failed { IfErr result (λ _. store.new.must_reopen ≡ false → store.new ≡ store.old) }

@@ -61,7 +61,8 @@ fn push_text(bytes: &mut Vec<u8>, text: &[(u8, Look)]) -> Result<(), AllocError>
 
 /// Adds where another look begins behind one, if it is another.
 fn push_turn(bytes: &mut Vec<u8>, before: Look, look: Look) -> Result<(), AllocError>
-    ensures { OnOk result (bytes.new.items ≡ bytes.old.items ++ turn_tags (turned_look before look)) }
+    ensures { OnOk result (bytes.new.items ≡ bytes.old.items
+        ++ turn_tags (turned_look before look)) }
 {
     if is_that_look(before, look) {
         return Ok(());

@@ -31,6 +31,8 @@ abbrev pub IsOnDisk : ℕ → Draining → Type 0
 IsOnDisk size r = (i : ℕ) → i < extent_of r → start_sector r + i / SECTOR_BYTES < size
 
 -- two states of a source over the same disk and the same bytes, between which nothing was written
-abbrev pub OnSameBytes : {D : Type 0} → Ghosts D → D → D → Draining → Draining → GName → GName → GName → GName → Type 0
-OnSameBytes d old new r r' = OnSameStretch d (λ _ _. Nowhere) old new (start_sector r) (start_sector r')
+abbrev pub OnSameBytes : {D : Type 0} → Ghosts D → D → D → Draining → Draining → GName → GName
+    → GName → GName → Type 0
+OnSameBytes d old new r r' =
+    OnSameStretch d (λ _ _. Nowhere) old new (start_sector r) (start_sector r')
     (extent_of r) (extent_of r')

@@ -27,14 +27,17 @@ pub record IsSpread (c : Content) (from full used : ℕ) (buffer bytes : List �
   pub count : length bytes ≡ SECTOR_BYTES * full + used
   pub above : (k j : ℕ) → k < full → j < SECTOR_BYTES
       → get_or (c (from + k)) j 0 ≡ get_or bytes (SECTOR_BYTES * k + j) 0
-  pub rest : (j : ℕ) → j < SECTOR_BYTES → get_or buffer j 0 ≡ get_or bytes (SECTOR_BYTES * full + j) 0
+  pub rest : (j : ℕ) → j < SECTOR_BYTES
+      → get_or buffer j 0 ≡ get_or bytes (SECTOR_BYTES * full + j) 0
 
 -- Where these bytes fit the sectors, sectors and buffer have them. Of more bytes nothing is said: the last of them are
 -- dropped.
 abbrev pub HasTaken : Content → Filling → List ℕ → Type 0
-HasTaken c f bytes = length bytes ≤ SECTOR_BYTES * most_sectors f → IsSpread c f.from f.full f.used f.buffer bytes
+HasTaken c f bytes = length bytes ≤ SECTOR_BYTES * most_sectors f
+    → IsSpread c f.from f.full f.used f.buffer bytes
 
 -- two states of a sink over the same disk and the same sectors, between which no other sector was written
-abbrev pub OnSameSectors : {D : Type 0} → Ghosts D → D → D → Filling → Filling → GName → GName → GName → GName → Type 0
+abbrev pub OnSameSectors : {D : Type 0} → Ghosts D → D → D → Filling → Filling → GName → GName
+    → GName → GName → Type 0
 OnSameSectors d old new f f' = OnSameStretch d InRange old new (first_sector f) (first_sector f')
     (most_sectors f) (most_sectors f')

@@ -22,14 +22,16 @@ pub record AreShut (c : Content) : Type 0 where
 
 -- each head under an open gate is good
 abbrev pub AreHeadsGood : Content → Type 0
-AreHeadsGood c = (slot : ℕ) → slot < SLOTS → is_open (c (slot_gate slot)) ≡ true → IsGoodHead (head c slot)
+AreHeadsGood c = (slot : ℕ) → slot < SLOTS → is_open (c (slot_gate slot)) ≡ true
+    → IsGoodHead (head c slot)
 
 -- the slot is open over a head that isn't good, and no slot before it is so
 pub record HasBadHead (c : Content) (slot : ℕ) : Type 0 where
   pub two : slot < SLOTS
   pub opened : is_open (c (slot_gate slot)) ≡ true
   pub bad : IsGoodHead (head c slot) → ⊥
-  pub before : (other : ℕ) → other < slot → is_open (c (slot_gate other)) ≡ true → IsGoodHead (head c other)
+  pub before : (other : ℕ) → other < slot → is_open (c (slot_gate other)) ≡ true
+      → IsGoodHead (head c other)
 
 -- the slot in use has no image
 pub record HasBadImage (c : Content) (slot : ℕ) : Type 0 where
@@ -79,10 +81,12 @@ FindingLaw = (size : ℕ) (c : Content) → FindsOneThing size c
 
 -- a content shows one desktop, by one version, one epoch and one number of events
 abbrev pub ShowingLaw : Type 0
-ShowingLaw = (size : ℕ) (c : Content) (version number count version' number' count' : ℕ) (d d' : Desktop)
+ShowingLaw = (size : ℕ) (c : Content) (version number count version' number' count' : ℕ)
+    (d d' : Desktop)
     → Shows size version number count d c → Shows size version' number' count' d' c
     → (d' ≡ d) × (version' ≡ version) × (number' ≡ number) × (count' ≡ count)
 
 -- a content shows one standing: one slot, one version, one epoch, one start, and one list of events
 abbrev pub StandingLaw : Type 0
-StandingLaw = (size : ℕ) (c : Content) (s s' : Standing) → Stands size c s → Stands size c s' → s ≡ s'
+StandingLaw = (size : ℕ) (c : Content) (s s' : Standing) → Stands size c s → Stands size c s'
+    → s ≡ s'

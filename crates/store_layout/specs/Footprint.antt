@@ -24,12 +24,14 @@ pub record IsInUse (c : Content) (slot : ℕ) : Type 0 where
 pub record AgreesOnFootprint (c c' : Content) : Type 0 where
   pub label : c' LABEL ≡ c LABEL
   pub slot_gates : (slot : ℕ) → slot < SLOTS → c' (slot_gate slot) ≡ c (slot_gate slot)
-  pub heads : (slot : ℕ) → slot < SLOTS → is_open (c (slot_gate slot)) ≡ true → c' (slot_head slot) ≡ c (slot_head slot)
+  pub heads : (slot : ℕ) → slot < SLOTS → is_open (c (slot_gate slot)) ≡ true
+      → c' (slot_head slot) ≡ c (slot_head slot)
   pub image : (slot k : ℕ) → IsInUse c slot → SECTOR_BYTES * k < (head c slot).extent
       → c' (image_at slot + k) ≡ c (image_at slot + k)
   pub area : (slot k : ℕ) → IsInUse c slot → k < full_sectors (head c slot).written
       → c' (area_at (head c slot).area k) ≡ c (area_at (head c slot).area k)
-  pub gates : (slot k : ℕ) → IsInUse c slot → k < JOURNAL_EVENTS → IsLedTo c slot k → c' (gate slot k) ≡ c (gate slot k)
+  pub gates : (slot k : ℕ) → IsInUse c slot → k < JOURNAL_EVENTS → IsLedTo c slot k
+      → c' (gate slot k) ≡ c (gate slot k)
   pub bodies : (slot k : ℕ) → IsInUse c slot → k < JOURNAL_EVENTS → IsLedTo c slot (k + 1)
       → c' (body slot k) ≡ c (body slot k)
 

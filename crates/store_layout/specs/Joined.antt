@@ -6,7 +6,8 @@ use Rattle.sector_disk.specs.Confined.{IsConfined}
 
 -- Two states over the same disk, and over the same stretch of its sectors: where it begins, and how long it is. Between
 -- them no sector was written but those that may be for such a stretch.
-pub record OnSameStretch {D : Type 0} (d : Ghosts D) (Area : ℕ → ℕ → ℕ → Type 0) (old new : D) (from from' many many' : ℕ)
+pub record OnSameStretch {D : Type 0} (d : Ghosts D) (Area : ℕ → ℕ → ℕ → Type 0) (old new : D)
+    (from from' many many' : ℕ)
     (disk disk' bytes bytes' : GName) : Type 0 where
   pub confined : IsConfined d.size d.honest d.trail (Area from many) old new
   pub same_from : from' ≡ from

@@ -18,14 +18,16 @@ module _ {D : Type 0} {d : Ghosts D} {Area : ℕ → ℕ → ℕ → Type 0} whe
     same_bytes = refl;
   }
 
-  pub stretch_through : {s s' s'' : D} {from from' from'' many many' many'' : ℕ} {i i' i'' j j' j'' : GName}
+  pub stretch_through : {s s' s'' : D} {from from' from'' many many' many'' : ℕ}
+      {i i' i'' j j' j'' : GName}
       → OnSameStretch d Area s s' from from' many many' i i' j j'
       → OnSameStretch d Area s' s'' from' from'' many' many'' i' i'' j' j''
       → OnSameStretch d Area s s'' from from'' many many'' i i'' j j''
   stretch_through {s' = s'} {s'' = s''} {from = from} {many' = many'} x y = record {
     confined = joined d.size d.honest d.trail x.confined
         (subst (λ n. IsConfined d.size d.honest d.trail (Area from n) s' s'') x.same_many
-        (subst (λ n. IsConfined d.size d.honest d.trail (Area n many') s' s'') x.same_from y.confined));
+        (subst (λ n. IsConfined d.size d.honest d.trail (Area n many') s' s'') x.same_from
+        y.confined));
     same_from = y.same_from ∙ x.same_from;
     same_many = y.same_many ∙ x.same_many;
     same_disk = y.same_disk ∙ x.same_disk;

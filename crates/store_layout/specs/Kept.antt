@@ -18,7 +18,8 @@ pub record IsSettled (size : ℕ) (disk : Trail) (s : Standing) : Type 0 where
   pub stands : Stands size (now disk).reads s
 
 -- the disk is settled and shows the desktop, by this slot, version and epoch and so many events
-pub record ShowsSettled (size : ℕ) (disk : Trail) (live version number count : ℕ) (desktop : Desktop) : Type 0 where
+pub record ShowsSettled (size : ℕ) (disk : Trail) (live version number count : ℕ)
+    (desktop : Desktop) : Type 0 where
   pub standing : Standing
   pub settled : IsSettled size disk standing
   pub slot : standing.slot ≡ live
@@ -69,7 +70,8 @@ OpenGate c slot n = (n ≡ slot_gate slot) × (is_open (c (slot_gate slot)) ≡ 
 
 -- what is written behind its closed gate: its head, the first gate of its journal, its image
 abbrev pub InSlot : ℕ → ℕ → Type 0
-InSlot slot n = (n ≡ slot_head slot) ⊎ ((n ≡ gate slot 0) ⊎ ((image_at slot ≤ n) × (n < image_at slot + IMAGE_SECTORS)))
+InSlot slot n = (n ≡ slot_head slot)
+    ⊎ ((n ≡ gate slot 0) ⊎ ((image_at slot ≤ n) × (n < image_at slot + IMAGE_SECTORS)))
 
 -- the sectors of an area from this one on
 abbrev pub InArea : ℕ → ℕ → ℕ → Type 0

@@ -53,7 +53,8 @@ head_of bytes = record {
   epoch = from_be_bytes w32 (take 4 (drop 4 bytes));
   written = from_be_bytes w32 (take 4 (drop 8 bytes));
   extent = from_be_bytes w32 (take 4 (drop 12 bytes));
-  area = if from_be_bytes w32 (take 4 bytes) == FIRST_LAYOUT then 0 else from_be_bytes w32 (take 4 (drop 16 bytes));
+  area = if from_be_bytes w32 (take 4 bytes) == FIRST_LAYOUT then 0 else from_be_bytes w32
+      (take 4 (drop 16 bytes));
 }
 
 -- the head of a slot

@@ -84,7 +84,8 @@ pub record Stands (size : ℕ) (c : Content) (s : Standing) : Type 0 where
   pub good : IsGoodHead (head c s.slot)
   pub version : (head c s.slot).version ≡ s.version
   pub epoch : (head c s.slot).epoch ≡ s.epoch
-  pub other : (idle : ℕ) → s.slot + idle ≡ 1 → is_open (c (slot_gate idle)) ≡ true → IsOlder c s.epoch idle
+  pub other : (idle : ℕ) → s.slot + idle ≡ 1 → is_open (c (slot_gate idle)) ≡ true
+      → IsOlder c s.epoch idle
   pub image : HasImage c s.slot s.start
   pub journal : IsJournal c s.slot 0 s.events
 

@@ -56,8 +56,10 @@ impl Draining {
         ensures at { self.new.at ≡ self.old.at }
         ensures loaded { D.honest disk.old → IsSectorLoaded (now (D.trail disk.old)).reads self.old
             → IsSectorLoaded (now (D.trail disk.old)).reads self.new }
-        ensures buffer { OnOk result (D.honest disk.old → IsSectorLoaded (now (D.trail disk.old)).reads self.old
-            → self.new.buffer ≡ (now (D.trail disk.old)).reads (self.old.from + self.old.at / SECTOR_BYTES)) }
+        ensures buffer { OnOk result (D.honest disk.old
+            → IsSectorLoaded (now (D.trail disk.old)).reads self.old
+            → self.new.buffer ≡ (now (D.trail disk.old)).reads
+            (self.old.from + self.old.at / SECTOR_BYTES)) }
     {
         if self.at % SECTOR_BYTES == 0 {
             return disk.read(self.from + self.at / SECTOR_BYTES, &mut self.buffer);

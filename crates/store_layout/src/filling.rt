@@ -15,7 +15,8 @@ fn blank() -> Sector
 /// Copies the bytes into a sector, from byte `at` of it on.
 fn pour(sector: &mut Sector, at: usize, bytes: &[u8])
     requires { at + length bytes.now ≤ SECTOR_BYTES }
-    ensures { sector.new ≡ take at sector.old ++ (bytes.now ++ drop (at + length bytes.now) sector.old) }
+    ensures { sector.new ≡ take at sector.old
+        ++ (bytes.now ++ drop (at + length bytes.now) sector.old) }
 {
     sector[at..at + bytes.len()].copy_from_slice(bytes);
 }
@@ -71,10 +72,13 @@ impl Filling {
         ensures cause { CountsFault result (D.failures disk.old) (D.failures disk.new) }
         ensures from { self.new.from ≡ self.old.from }
         ensures limit { self.new.limit ≡ self.old.limit }
-        ensures turned { OnOk result (self.new.used ≡ SECTOR_BYTES → self.new.full + 1 ≡ self.new.limit) }
+        ensures turned { OnOk result (self.new.used ≡ SECTOR_BYTES
+            → self.new.full + 1 ≡ self.new.limit) }
         ensures spread { OnOk result (D.honest disk.old → (bytes : List ℕ)
-            → IsSpread (now (D.trail disk.old)).reads self.old.from self.old.full self.old.used self.old.buffer bytes
-            → IsSpread (now (D.trail disk.new)).reads self.old.from self.new.full self.new.used self.new.buffer bytes) }
+            → IsSpread (now (D.trail disk.old)).reads self.old.from self.old.full self.old.used
+            self.old.buffer bytes
+            → IsSpread (now (D.trail disk.new)).reads self.old.from self.new.full self.new.used
+            self.new.buffer bytes) }
     {
         if self.used < SECTOR_BYTES as usize || self.full + 1 >= self.limit {
             return Ok(());

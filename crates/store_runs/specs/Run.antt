@@ -61,7 +61,8 @@ events_of_posts posts = map (λ p. p.event) posts
 
 -- The content means the desktop after some of the accepted events of all these posts, the first of them and none left
 -- out, and among them every event of the posts so far that was acknowledged.
-pub record MeansPostsPrefix (size : ℕ) (desktop : Desktop) (so_far all : List Post) (c : Content) : Type 0 where
+pub record MeansPostsPrefix (size : ℕ) (desktop : Desktop) (so_far all : List Post) (c : Content)
+    : Type 0 where
   pub count : ℕ
   pub within : count ≤ length (accepted_posts all)
   pub none_lost : list_any is_acknowledged (drop count (accepted_posts so_far)) ≡ false
@@ -70,14 +71,20 @@ pub record MeansPostsPrefix (size : ℕ) (desktop : Desktop) (so_far all : List 
 -- These posts came one after another between two moments, and checkpoints between them. At each moment of a post a
 -- crash leaves a prefix of the accepted events that holds every event acknowledged before it, and once it was answered,
 -- every event acknowledged so far; at each moment of a checkpoint, one that holds all of these.
-pub data RunSurvives (size : ℕ) (desktop : Desktop) (trail : Trail) (from : ℕ) : ℕ → List Post → Type 0 where
+pub data RunSurvives (size : ℕ) (desktop : Desktop) (trail : Trail) (from : ℕ) : ℕ → List Post
+    → Type 0 where
   none : RunSurvives size desktop trail from from []
-  one_more : {mid to : ℕ} {posts : List Post} (post : Post) → RunSurvives size desktop trail from mid posts → mid ≤ to
-      → ((t : ℕ) → mid ≤ t → t ≤ to → Leaves (trail.at t) (MeansPostsPrefix size desktop posts (posts ++ post ∷ [])))
-      → Leaves (trail.at to) (MeansPostsPrefix size desktop (posts ++ post ∷ []) (posts ++ post ∷ []))
+  one_more : {mid to : ℕ} {posts : List Post} (post : Post)
+      → RunSurvives size desktop trail from mid posts → mid ≤ to
+      → ((t : ℕ) → mid ≤ t → t ≤ to → Leaves (trail.at t)
+      (MeansPostsPrefix size desktop posts (posts ++ post ∷ [])))
+      → Leaves (trail.at to) (MeansPostsPrefix size desktop (posts ++ post ∷ [])
+      (posts ++ post ∷ []))
       → RunSurvives size desktop trail from to (posts ++ post ∷ [])
-  renewed : {mid to : ℕ} {posts : List Post} → RunSurvives size desktop trail from mid posts → mid ≤ to
-      → ((t : ℕ) → mid ≤ t → t ≤ to → Leaves (trail.at t) (MeansPostsPrefix size desktop posts posts))
+  renewed : {mid to : ℕ} {posts : List Post} → RunSurvives size desktop trail from mid posts
+      → mid ≤ to
+      → ((t : ℕ) → mid ≤ t → t ≤ to → Leaves (trail.at t)
+      (MeansPostsPrefix size desktop posts posts))
       → RunSurvives size desktop trail from to posts
 
 -- a call that was made, and what it returned
@@ -89,7 +96,8 @@ pub record Served : Type 0 where
 abbrev pub served_of : List StoreCall → List StoreAnswer → List Served
 served_of [] answers = []
 served_of (call ∷ calls) [] = []
-served_of (call ∷ calls) (answer ∷ answers) = record { call = call; answer = answer } ∷ served_of calls answers
+served_of (call ∷ calls) (answer ∷ answers) =
+    record { call = call; answer = answer } ∷ served_of calls answers
 
 -- the posts among them
 abbrev pub posts_in : List Served → List Post
@@ -101,24 +109,29 @@ posts_in (s ∷ served) = before s.call s.answer (posts_in served)
     before Checkpoint answer later = later
 
 -- What the call promises of the states before and after it. A checkpoint that succeeds is answered Done.
-abbrev pub ServesCall : {D : Type 0} → Ghosts D → StoreCall → StoreAnswer → StoreView D → StoreView D → Type 0
+abbrev pub ServesCall : {D : Type 0} → Ghosts D → StoreCall → StoreAnswer → StoreView D
+    → StoreView D → Type 0
 ServesCall d (Posting event) answer old new = IsPosted d event answer old new
-ServesCall d Checkpoint answer old new = IsCheckpointed d answer old new × IfOk answer (λ reply. reply ≡ Done)
+ServesCall d Checkpoint answer old new = IsCheckpointed d answer old new
+    × IfOk answer (λ reply. reply ≡ Done)
 
 -- These calls led from the one state of a store to the other: each promises what such a call does, from where those
 -- before it led.
 abbrev pub IsCallRun : {D : Type 0} → Ghosts D → List Served → StoreView D → StoreView D → Type 0
 IsCallRun d [] old new = new ≡ old
-IsCallRun {D = D} d (s ∷ served) old new = (mid : StoreView D) × ServesCall d s.call s.answer old mid × IsCallRun d served mid new
+IsCallRun {D = D} d (s ∷ served) old new = (mid : StoreView D)
+    × ServesCall d s.call s.answer old mid × IsCallRun d served mid new
 
 -- one run after another is a run
 abbrev pub ComposingLaw : {D : Type 0} → Ghosts D → Type 0
-ComposingLaw {D = D} d = (served more : List Served) (first mid last : StoreView D) → IsCallRun d served first mid
+ComposingLaw {D = D} d = (served more : List Served) (first mid last : StoreView D)
+    → IsCallRun d served first mid
     → IsCallRun d more mid last → IsCallRun d (served ++ more) first last
 
 -- what a crash leaves of a run, wherever it cuts it off
 abbrev pub SurvivesRun : {D : Type 0} → Ghosts D → List Served → StoreView D → StoreView D → Type 0
-SurvivesRun d served old new = d.honest old.disk → RunSurvives (d.size old.disk) old.desktop (d.trail new.disk)
+SurvivesRun d served old new = d.honest old.disk
+    → RunSurvives (d.size old.disk) old.desktop (d.trail new.disk)
     (d.trail old.disk).clock (d.trail new.disk).clock (posts_in served)
 
 -- a run from a usable store survives
@@ -132,7 +145,8 @@ SurvivalLaw {D = D} d = (served : List Served) (old new : StoreView D) → IsCal
 abbrev pub ReopeningLaw : {D : Type 0} → Ghosts D → Type 0
 ReopeningLaw {D = D} d = (closed opened : StoreView D) → d.honest closed.disk → IsDurable d closed
     → IsOpened d closed.disk opened
-    → (opened.desktop ≡ closed.desktop) × (opened.layout ≡ closed.layout) × (opened.epoch ≡ closed.epoch)
+    → (opened.desktop ≡ closed.desktop) × (opened.layout ≡ closed.layout)
+    × (opened.epoch ≡ closed.epoch)
     × (opened.events ≡ closed.events)
 
 -- ---- calls that were all answered Ok
@@ -165,7 +179,8 @@ all_counted [] n = n
 all_counted (call ∷ calls) n = all_counted calls (counts_after call n)
 
 -- the content means the desktop after some of the events, the first of them and none left out
-pub record MeansSome (size : ℕ) (desktop : Desktop) (events : List Event) (c : Content) : Type 0 where
+pub record MeansSome (size : ℕ) (desktop : Desktop) (events : List Event) (c : Content)
+    : Type 0 where
   pub count : ℕ
   pub within : count ≤ length events
   pub means : Means size (steps desktop (take count events)) c
@@ -175,13 +190,15 @@ abbrev pub StopsAReopening : Error → Type 0
 StopsAReopening = OneOf (NoMemory ∷ Fault ∷ Worn ∷ [])
 
 -- some of the calls, the first of them, lead to the last epoch
-pub record LeadsToLastEpoch {D : Type 0} (calls : List StoreCall) (closed : StoreView D) : Type 0 where
+pub record LeadsToLastEpoch {D : Type 0} (calls : List StoreCall) (closed : StoreView D)
+    : Type 0 where
   pub count : ℕ
   pub within : count ≤ length calls
   pub last : (all_counted (take count calls) (counts_of closed)).epoch ≡ LAST_EPOCH
 
 -- the store that was opened after all the calls: nothing is lost
-pub record IsReopened {D : Type 0} (d : Ghosts D) (calls : List StoreCall) (closed reopened : StoreView D) : Type 0
+pub record IsReopened {D : Type 0} (d : Ghosts D) (calls : List StoreCall)
+    (closed reopened : StoreView D) : Type 0
   where
     pub desktop : d.honest closed.disk → reopened.desktop ≡ steps closed.desktop (events_in calls)
     pub counts : d.honest closed.disk → counts_of reopened ≡ all_counted calls (counts_of closed)

@@ -39,7 +39,8 @@ pub fn take_back<D: Disk>(
     store: &mut Store<D>,
     count: u32,
 ) -> Result<Vec<Event>, Error>
-    ensures { PromisesUndo D.Disk count (told_of (λ events. events.items) result) store.old store.new }
+    ensures { PromisesUndo D.Disk count (told_of (λ events. events.items) result) store.old
+        store.new }
 {
     store.undo(alloc, count)
 }
@@ -55,7 +56,8 @@ pub fn serve_all<D: Disk>(
 ) -> Result<Vec<StoreAnswer>, NoMemory>
     requires { store.old.must_reopen ≡ false }
     ensures each { IfOk result (λ answers. length answers.items ≡ length calls.now) }
-    ensures run { IfOk result (λ answers. IsCallRun D.Disk (served_of calls.now answers.items) store.old store.new) }
+    ensures run { IfOk result (λ answers.
+        IsCallRun D.Disk (served_of calls.now answers.items) store.old store.new) }
     // However the calls ended, and wherever a crash cuts them off.
     ensures any_moment { IfOk result (λ answers. SurvivesRun D.Disk
         (served_of calls.now answers.items) store.old store.new) }
@@ -90,8 +92,10 @@ pub fn serve_and_reopen<D: Disk>(
     ensures stops { D.honest store.disk → IfErr result (λ e. StopsAReopening e.0) }
     // It is worn only after calls that led to the last epoch.
     ensures worn { IfErr result (λ e. e.0 ≡ Error.Worn → LeadsToLastEpoch calls.now store) }
-    ensures device { IsSameDevice D.Disk store.disk (disk_after (λ reopened. reopened.disk) result) }
-    ensures faults { FailsAs Error.Fault OfReopen (result_of result) (D.failures store.disk) (D.failures (disk_after
+    ensures device { IsSameDevice D.Disk store.disk
+        (disk_after (λ reopened. reopened.disk) result) }
+    ensures faults { FailsAs Error.Fault OfReopen (result_of result) (D.failures store.disk)
+        (D.failures (disk_after
         (λ reopened. reopened.disk) result)) }
 {
     let mut store = store;

@@ -27,7 +27,8 @@ module _ {R : Type 0} (remaining : R → Option (List ℕ)) where
   -- What is told next of a text, and the bytes that are read for it. The text ends where no more may be read or the
   -- reader is at its end, and it breaks off only where a read has failed.
   pub record TellsNext (old new : HostPaste R) (told : List Heard) : Type 0 where
-    pub takes : TakesText old.stage new.stage old.left new.left (remaining old.reader) (remaining new.reader) told
+    pub takes : TakesText old.stage new.stage old.left new.left (remaining old.reader)
+        (remaining new.reader) told
     pub ended : new.stage ≡ Ended → (old.left ≡ 0) ⊎ IsAtEnd (remaining new.reader)
     pub broken : new.stage ≡ Broken → old.failed < new.failed
 

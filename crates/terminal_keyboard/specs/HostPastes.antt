@@ -26,12 +26,15 @@ harmless b = if b == 27 then 63 else b
 -- What is told of a text at one time, and the bytes that are read for it. `left` is how many bytes may still be read.
 pub data TellsText : Stage → ℕ → Stage → ℕ → List ℕ → List Heard → Type 0 where
   begins : {left : ℕ} → TellsText Begins left GoesOn left [] (bytes_heard paste_begins)
-  goes_on : {left : ℕ} {text : List ℕ} → TellsText GoesOn (left + length text) GoesOn left text (bytes_heard (map harmless text))
+  goes_on : {left : ℕ} {text : List ℕ}
+      → TellsText GoesOn (left + length text) GoesOn left text (bytes_heard (map harmless text))
   ends : {left : ℕ} → TellsText GoesOn left Ended left [] (bytes_heard paste_ends)
-  breaks : {left : ℕ} → TellsText GoesOn left Broken left [] (bytes_heard (paste_ends ++ file_fails))
+  breaks : {left : ℕ} → TellsText GoesOn left Broken left []
+      (bytes_heard (paste_ends ++ file_fails))
 
 -- The same of a reader, whose bytes are known or not.
-pub record TakesText (stage stage' : Stage) (left left' : ℕ) (known known' : Option (List ℕ)) (told : List Heard)
+pub record TakesText (stage stage' : Stage) (left left' : ℕ) (known known' : Option (List ℕ))
+    (told : List Heard)
     : Type 0 where
   pub text : List ℕ
   pub read : Consumes known known' text

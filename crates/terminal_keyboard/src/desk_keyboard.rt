@@ -52,7 +52,8 @@ impl<'a, K: KeySource> DeskKeyboard<'a, K> {
         ensures terminal { self.new.terminal ≡ self.old.terminal }
         ensures none { is_coming self.old.brought ≡ false → result ≡ None }
         ensures some { is_coming self.old.brought ≡ true → result ≢ None }
-        ensures told { IfSome result (TellsFile ⟦<File as Read>⟧.remaining self.old.brought self.new.brought) }
+        ensures told { IfSome result (TellsFile ⟦<File as Read>⟧.remaining self.old.brought
+            self.new.brought) }
         ensures over { IsNone result → is_coming self.new.brought ≡ false }
     {
         match &mut self.brought {

@@ -32,7 +32,8 @@ pub trait KeySource {
     /// `Fault`: what is below failed in this call. In both cases nothing was heard.
     fn hear(&mut self) -> Result<Hearing, KeyboardEnd>
         ensures told { IfOk result (λ told. heard self.new ≡ heard self.old ++ told) }
-        ensures bytes { IfOk result (λ told. Consumes (left self.old) (left self.new) (heard_bytes told)) }
+        ensures bytes { IfOk result (λ told.
+            Consumes (left self.old) (left self.new) (heard_bytes told)) }
         ensures line { IfOk result IsWithinLine }
         ensures silent { OnErr result (heard self.new ≡ heard self.old) }
         ensures none { OnErr result (Consumes (left self.old) (left self.new) []) }

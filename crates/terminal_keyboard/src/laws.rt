@@ -16,14 +16,19 @@ use terminal_presses::pastes_are_typed;
 /// is a carriage return, and a question mark stands for each character that can't be typed, the key Escape's byte too.
 /// Where a read fails, the paste is of the text before, and that it ends there is told behind it.
 pub fn texts_are_typed()
-    ensures pasted { (most left : ℕ) (text : List ℕ) (told : List Heard) → AreTold most Stage.Ended left text told
-        → told ≡ pasted (map harmless text) }
-    ensures typed { (most left : ℕ) (text : List ℕ) (told : List Heard) (sight : Sight) (hand : Hand)
+    ensures pasted { (most left : ℕ) (text : List ℕ) (told : List Heard)
         → AreTold most Stage.Ended left text told
-        → Types (posted_events sight (idle hand) (presses_heard at_rest told)) (pasted_text (map harmless text)) }
-    ensures broken { (most left : ℕ) (text : List ℕ) (told : List Heard) → AreTold most Stage.Broken left text told
+        → told ≡ pasted (map harmless text) }
+    ensures typed { (most left : ℕ) (text : List ℕ) (told : List Heard) (sight : Sight)
+        (hand : Hand)
+        → AreTold most Stage.Ended left text told
+        → Types (posted_events sight (idle hand) (presses_heard at_rest told))
+        (pasted_text (map harmless text)) }
+    ensures broken { (most left : ℕ) (text : List ℕ) (told : List Heard)
+        → AreTold most Stage.Broken left text told
         → told ≡ pasted (map harmless text) ++ bytes_heard file_fails }
-    ensures few { (most left : ℕ) (text : List ℕ) (told : List Heard) → AreTold most Stage.Ended left text told
+    ensures few { (most left : ℕ) (text : List ℕ) (told : List Heard)
+        → AreTold most Stage.Ended left text told
         → left + length text ≡ most }
 {
     pastes_are_typed();

@@ -37,7 +37,8 @@ impl<R: Read + IsTerminal> TerminalInput<R> {
     /// A keyboard of which nothing was heard.
     pub fn new(reader: R) -> TerminalInput<R>
         ensures none { result.log.items ≡ [] }
-        ensures left { prepend_known (heard_bytes (kept_for_later result.later)) (R.remaining result.reader)
+        ensures left { prepend_known (heard_bytes (kept_for_later result.later))
+            (R.remaining result.reader)
             ≡ R.remaining reader }
     {
         TerminalInput {
@@ -71,13 +72,17 @@ impl<R: Read + IsTerminal> TerminalInput<R> {
     /// What was read and isn't told yet; where there is none, what is read next.
     fn gathered(&mut self) -> Result<Hearing, KeyboardEnd>
         ensures bytes { IfOk result (λ heard.
-            Consumes (prepend_known (heard_bytes (kept_for_later self.old.later)) (R.remaining self.old.reader))
+            Consumes (prepend_known (heard_bytes (kept_for_later self.old.later))
+            (R.remaining self.old.reader))
             (R.remaining self.new.reader) (heard_bytes heard)) }
         ensures none { OnErr result (
-            Consumes (prepend_known (heard_bytes (kept_for_later self.old.later)) (R.remaining self.old.reader))
-            (prepend_known (heard_bytes (kept_for_later self.new.later)) (R.remaining self.new.reader)) []) }
+            Consumes (prepend_known (heard_bytes (kept_for_later self.old.later))
+            (R.remaining self.old.reader))
+            (prepend_known (heard_bytes (kept_for_later self.new.later))
+            (R.remaining self.new.reader)) []) }
         ensures log { self.new.log.items ≡ self.old.log.items }
-        ensures cause { IfErr result (λ why. HasEnded (R.remaining self.new.reader) self.new.failed self.new.idle why) }
+        ensures cause { IfErr result (λ why.
+            HasEnded (R.remaining self.new.reader) self.new.failed self.new.idle why) }
     {
         match self.later.take() {
             Some(heard) => Ok(heard),
@@ -104,7 +109,8 @@ fn listen<R: Read + IsTerminal>(
     ensures quiet { IfOk result (λ told. is_quiet_while told ≡ was_quiet.new) }
     ensures once { IfOk result (λ told. is_quiet_while told ≡ true → was_quiet.old ≡ false) }
     ensures closed { result ≡ Err Closed → IsAtEnd (R.remaining reader.new) }
-    ensures cause { result ≡ Err Fault → (failed.old < failed.new) ⊎ (idle.old + (2 ^ 64 - 1) ≤ idle.new) }
+    ensures cause { result ≡ Err Fault → (failed.old < failed.new)
+        ⊎ (idle.old + (2 ^ 64 - 1) ≤ idle.new) }
 {
     let mut piece = [0; MOST_HEARD];
     for _count in 0..u64::MAX {

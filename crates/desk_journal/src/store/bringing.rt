@@ -24,7 +24,8 @@ impl<D: Disk> Store<D> {
     /// the store must be opened again.
     pub fn bring(&mut self, alloc: Global, documents: &[Document]) -> Result<Reply, Error>
         ensures any_moment { LeavesAllOrNone D.Disk documents.now self.old self.new }
-        ensures ok { IfOk result (λ reply. AreBrought D.Disk documents.now reply self.old self.new) }
+        ensures ok { IfOk result (λ reply. AreBrought D.Disk documents.now reply self.old
+            self.new) }
         ensures memory { IsErrOf result Error.NoMemory → IsUnwritten D.Disk self.old self.new }
         ensures fault { IsErrOf result Error.Fault → IsBroken self.new }
         ensures worn { TurnsAway (IsErrOf result Error.Worn) (IsLast self.old) self.old self.new }

@@ -1,0 +1,88 @@
+"""Which presses in a viewer's scroll bar lead to a line (crates/desk_input/specs/Lines.antt and Scrolling.antt). What a viewer
+shows is found out on a copy of the store: there `Edit.Store` is typed into the text and called."""
+import os
+import shutil
+import subprocess
+import urllib.parse
+
+COMMAND = 'Edit.Store ~@!#~'
+CARRIAGE_RETURN = b'\r'
+MOST_PRESSES = 100
+
+
+def played(oberon, store, lines):
+    """The answers of a script that is played on a copy of the store."""
+    copy = store + '.copy'
+    shutil.copy(store, copy)
+    try:
+        run = subprocess.run([oberon, 'play', copy], input='\n'.join(lines).encode(), check=True, capture_output=True)
+    finally:
+        os.remove(copy)
+    return run.stdout.decode().split('\n')
+
+
+def text_shown(oberon, store, viewer):
+    """The bytes of a viewer's text, and where the first line in sight begins."""
+    left, bottom, top, name = viewer
+    x, y = left + 1, top - 2
+    lines = played(oberon, store, [f'mark {x} {y}', f'point l {x} {y} {x} {y}', 'type ' + COMMAND,
+                                   f'point m {x} {y} {x} {y}', 'show ' + name])
+    assert lines[:4] == ['ok'] * 4, (viewer, lines[:4])
+    text = b''.join(urllib.parse.unquote_to_bytes(line.split(' ', 3)[3]) for line in lines[4:lines.index('end', 4)])
+    org = text.index(COMMAND.encode())
+    return text[:org] + text[org + len(COMMAND):], org
+
+
+def line_start(text, position):
+    return text.rfind(CARRIAGE_RETURN, 0, position) + 1
+
+
+def line_above(text, count, position):
+    for _ in range(count):
+        position = max(line_start(text, position) - 1, 0)
+    return line_start(text, position)
+
+
+def line_below(text, count, position):
+    for _ in range(count):
+        end = text.find(CARRIAGE_RETURN, position)
+        position = line_start(text, len(text) if end < 0 else end + 1)
+    return line_start(text, position)
+
+
+def wished(text, height, org, wish):
+    """Where the line begins that is wished."""
+    if wish == 'first':
+        return 0
+    if wish == 'last':
+        return line_above(text, height - 1, len(text))
+    word, way = wish
+    count = 3 if word == 'wheel' else height - 1
+    return (line_above if way == 'up' else line_below)(text, count, org)
+
+
+def rows_pressed(text, height, org, target):
+    """The keys and the rows of the frame at which they are pressed; None where it is too far."""
+    pressed, start = [], org
+    if not (org <= target and text.count(CARRIAGE_RETURN, org, target) < height):
+        starts = [line_start(text, len(text) * row // height) for row in range(height)]
+        row = max((row for row in range(1, height) if starts[row] <= target), default=0)
+        pressed, start = [('m', row)], starts[row]
+    pages, rest = divmod(text.count(CARRIAGE_RETURN, start, target), height - 1)
+    if pages > MOST_PRESSES:
+        return None
+    return pressed + [('l', height - 1)] * pages + [('l', rest)] * (rest != 0)
+
+
+def presses(oberon, store, viewer, wish):
+    """The lines of a script that scroll a viewer, a tuple of its leftmost column, the first row, the row after the last
+    and its name. None where none do."""
+    left, bottom, top, _ = viewer
+    height = top - bottom - 1
+    if height < 2:
+        return None
+    text, org = text_shown(oberon, store, viewer)
+    rows = rows_pressed(text, height, org, wished(text, height, org, wish))
+    if rows is None:
+        return None
+    return [f'point {keys} {left} {top - 2 - row} {left} {top - 2 - row}' for keys, row in rows]
