@@ -15,7 +15,7 @@ use denote.Steps.{nothing}
 use denote.Struct.Struct.{within}
 use denote.Struct.Owning.{shape}
 use Rattle.std_alloc.specs.Box.Ownership.{box_owns}
-use Rattle.libc.specs.Heap.{chunk}
+use Rattle.piece_ring.specs.Ownership.{chunk}
 use Rattle.page_exports.specs.Owning.{owned, IsThere}
 use Rattle.page_exports.specs.contracts.kept.Kept as kept
 use Rattle.page_exports.specs.contracts.held.Held as held

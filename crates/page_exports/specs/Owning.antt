@@ -3,7 +3,7 @@ use Rattle.std.specs.Prelude.{Option, Some, None}
 use Rattle.std.specs.Borrow.{ftrue}
 use Rattle.std.specs.Box.Ownership.{box_owns}
 use Rattle.std.specs.Coded.{Coded, coded_option}
-use Rattle.libc.specs.Heap.{chunk}
+use Rattle.piece_ring.specs.Ownership.{chunk}
 use Rattle.page_exports.specs.contracts.kept.Kept.{the_row}
 use base.Fml.{Fml}
 use denote.RawPtr.{Ptr}
