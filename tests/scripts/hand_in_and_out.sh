@@ -47,7 +47,8 @@ for file in empty lines odd; do "$tools/hand_in" A.Text $file; done
 } | "$OBERON" play desk.disk | uniq
 "$tools/hand_out" desk.disk A.Text | tr -s pqr
 "$tools/hand_out" desk.disk A.Text | wc -c
-env -u OBERON "$tools/hand_out" desk.disk A.Text | wc -c
+env -u OBERON "$tools/hand_out" desk.disk A.Text 2> said | wc -c
+grep -v 'this program is compiled but not yet proved' said >&2
 
 # What is handed out stays as it was.
 cp desk.disk before.disk
