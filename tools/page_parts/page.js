@@ -186,7 +186,7 @@ addEventListener('drop', async event => {
 
 // ---- The module, which stands here packed.
 async function unpacked() {
-    const packed = Uint8Array.from(atob(by('wasm').textContent.trim()), c => c.charCodeAt(0));
+    const packed = Uint8Array.from(by('wasm').textContent.trim().match(/../g), digits => parseInt(digits, 16));
     const stream = new Blob([packed]).stream().pipeThrough(new DecompressionStream('deflate-raw'));
     return new Uint8Array(await new Response(stream).arrayBuffer());
 }
