@@ -1,7 +1,7 @@
 #!/usr/bin/env python3
 """gestures.py [GESTURES [SEED]]: random gestures go to the module of docs/desk.html, in a browser, and to the native library that
-the kit makes of the same sources (tools/page --native). After each of them status, calls of the disk, drawing, line, bell and
-leaving have to be the same."""
+the kit makes of the same sources (tools/page --native). After each of them status, calls of the disk, drawing, line, bell,
+leaving and pointer have to be the same."""
 import base64
 import ctypes
 import json
@@ -39,7 +39,7 @@ RUN = '''(async () => {
         const bytes = Uint8Array.from(gesture, c => c.charCodeAt(0)), at = place(bytes);
         const status = m.page_press(held, at, BigInt(bytes.length));
         m.page_give_back(at);
-        out.push([status, made(0), made(1), made(2), m.page_rings(held), m.page_leaves(held)]);
+        out.push([status, made(0), made(1), made(2), m.page_rings(held), m.page_leaves(held), m.page_pointer(held)]);
     }
     return JSON.stringify(out); })()'''
 
@@ -75,14 +75,14 @@ def natively(gestures):
     place, size = ctypes.c_void_p, ctypes.c_size_t
     library.page_begin.argtypes = library.page_press.argtypes = [place, ctypes.c_char_p, size]
     library.page_copy.argtypes, library.page_copy.restype = [place, ctypes.c_uint32, place, size], size
-    library.page_rings.argtypes = library.page_leaves.argtypes = [place]
+    library.page_rings.argtypes = library.page_leaves.argtypes = library.page_pointer.argtypes = [place]
     held, to = ctypes.byref(ctypes.c_uint64(0)), ctypes.create_string_buffer(1 << 22)
     library.page_begin(held, b'', 0)
     for one in gestures:
         made = [library.page_press(held, one.encode('latin1'), len(one))]
         for kind in range(3):
             made.append(zlib.crc32(ctypes.string_at(to, library.page_copy(held, kind, to, 1 << 22))))
-        yield made + [library.page_rings(held), library.page_leaves(held)]
+        yield made + [library.page_rings(held), library.page_leaves(held), library.page_pointer(held)]
 
 
 kinds = browsers()

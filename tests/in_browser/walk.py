@@ -1,6 +1,6 @@
 #!/usr/bin/env python3
-"""walk.py [FOLDER]: the walk of docs/SIT-DOWN.md in each browser, with pictures in the folder; then a chord, a paste, the
-buttons for a mouse with one button, undo, documents in and out, the store saved and opened again, and another start. The file
+"""walk.py [FOLDER]: the walk of docs/SIT-DOWN.md in each browser, with pictures in the folder; then a paste, copying, a chord,
+undo, the buttons for a mouse with one button, how keys are told, the pointer that keys move, documents in and out, the store saved and opened again, and another start. The file
 that was saved, and the one that the browser keeps, go to `./oberon check` and `./desk picture`, where these are built."""
 import base64
 import json
@@ -33,6 +33,14 @@ FILE = '''(() => {
 LOAD = '''window.there = new Uint8Array(15621 * 1024);
 for (const [n, bytes] of %s) there.set(Uint8Array.from(atob(bytes), c => c.charCodeAt(0)), 1024 * n);
 worker.postMessage({load: there})'''
+
+# What is pressed with Shift (1), Alt (2) and Ctrl (4), and the bytes that the page tells of it; none stay the browser's.
+TOLD = [('a', 0, 'a'), ('A', 1, 'A'), ('s', 4, '\x13'), ('c', 4, ''), ('s', 5, ''), ('5', 4, ''), ('2', 2, '\x1b2'), (' ', 2, '\x1b '),
+        ('z', 2, '\x1bz'), ('Tab', 0, '\t'), ('Enter', 0, '\r'), ('Backspace', 0, '\x7f'), ('Escape', 0, '\x1b'),
+        ('Delete', 0, '\x1b[3~'), ('F2', 0, '\x1bOQ'), ('F11', 0, '\x1b[23~'), ('F12', 0, ''), ('ArrowLeft', 0, '\x1b[D'),
+        ('ArrowLeft', 1, '\x1b[1;2D'), ('ArrowLeft', 2, '\x1b[1;3D'), ('ArrowLeft', 4, '\x1b[1;5D'), ('Home', 4, '\x1b[1;5H'),
+        ('PageUp', 2, '\x1b[5;3~'), ('Shift', 1, ''), ('\u00e9', 0, '\u00e9')]
+KEY = """pressed(new KeyboardEvent('keydown', {key: %r, shiftKey: %d, altKey: %d, ctrlKey: %d}))"""
 
 
 def same(what, got, wanted):
@@ -93,6 +101,14 @@ def walk(kind, url, profile):
     page.js(PASTE % 'pasted\ntext\n')
     page.wait(1)
     same('a paste', [row for row in page.text(1, 50) if row.startswith(('pasted', 'text'))], ['pasted', 'text'])
+    x, y = page.find('text', 1, 50)
+    page.press(x, y, 'right')
+    page.release(x + 3, y, 'right')
+    page.wait(2)
+    page.control('c')
+    page.click(8, y + 1)
+    page.control('v')
+    same('copied and put in', [row for row in page.text(1, 50) if 'text' in row], ['text', 'text'])
     x, y = page.find('pasted', 1, 50)
     page.press(x, y, 'right')
     page.press(x + 5, y, 'left', held=3)
@@ -113,6 +129,15 @@ def walk(kind, url, profile):
     same('one button calls', any('A.Text' in row for row in page.text(50, 80)), True)
     page.click(2, 1, 'middle')
     same('a refusal', page.js('line.textContent').startswith('refused (4)'), True)
+    for key, held, bytes_told in TOLD:
+        told = page.js(KEY % (key, held & 1, held & 2, held & 4))
+        if told != bytes_told:
+            sys.exit(f'{key!r} with {held} is told as {told!r}')
+    print('  keys are told as a terminal tells them: ok')
+    for key, is_shown in (('F11', True), ('ArrowDown', True), ('Escape', False)):
+        page.js(f"keys.dispatchEvent(new KeyboardEvent('keydown', {{key: '{key}'}}))")
+        page.wait(1)
+        same(f'the pointer after {key}', page.js('by("pointer").style.display') == '', is_shown)
     page.js(FILE % ('dropped\r\nlines\n', 'Drop-ped.Text'))
     page.wait(0)
     page.until('note.textContent.includes("Dropped.Text")')

@@ -10,7 +10,7 @@ import subprocess
 import tempfile
 import time
 
-from model import GREETING, KEYS, NO_KEY, ROWS, UNREAD, Screen
+from model import GREETING, KEYS, NO_KEY, ONE_SIDE, ROWS, TOO_NARROW, UNREAD, Screen
 from sitting import Ended, Sitting
 
 LETTERS = 'abcdefghijklmnopqrstuvwxyz'
@@ -291,7 +291,7 @@ def no_host_file(trial):
     for name in ('none', '.', 'pipe', '/dev/zero', 'long', 'x' * 255):
         bells = sitting.terminal.bells
         sitting.press(b'\x0f' + name.encode() + b'\r')
-        trial.check(sitting.wait(lambda: sitting.terminal.bells > bells, 5), f'{name[:9]}: no bell')
+        trial.check(sitting.wait(lambda: sitting.terminal.bells > bells), f'{name[:9]}: no bell')
         trial.check(UNREAD in sitting.terminal.line(ROWS), f'{name[:9]}: {sitting.terminal.line(ROWS)!r}')
         sitting.press(b'a')
         trial.check(sitting.look_anew(), 'no scene')
@@ -309,7 +309,7 @@ def typed_by(trial, keys, wanted, said=None, then=b''):
     """The keys, pressed at one time, make this the text of a new document, and the line below says that. Others come
     then."""
     trial.store()
-    sitting = trial.sit(trial.path)
+    sitting = trial.sit('--no-fill', trial.path)  # (some lines are longer than what is seen of them)
     sitting.press(keys)
     trial.check(sitting.look_anew(), 'no scene')
     sitting.rest(0.1)
@@ -327,7 +327,7 @@ def pasted_name(trial):
     paste = b'\x1b[200~%s\x1b[201~'
     typed_by(trial, b'\x0f' + paste % b'a text' + b'\r', b'typed')
     typed_by(trial, b'\x0f' + paste % b'a text\r\n\x18\x11\x1b' + b'\r', b'typed')
-    typed_by(trial, b'\x0f' + paste % b'a text\rrm -r x\x11\r', b'', 'Type which file? a textrm -r x', b'\x07')
+    typed_by(trial, b'\x0f' + paste % b'a text\rrm -r x\x11\r', b'', 'Type which file? a textrm -r x', b'\x1b')
     typed_by(trial, b'\x0f' + paste % (b'n' * 300) + b'\r', b'long')
 
 
@@ -474,10 +474,10 @@ def resized_amid_paste(trial):
 
 
 def narrow(trial):
-    """A window that is made narrower than the display is told as too small."""
+    """A window that is made narrower than 45 columns is told as too small."""
     sitting = trial.sit_anew()
-    sitting.resize(33, 70)
-    trial.check(sitting.wait(lambda: 'fewer than 80 columns' in sitting.terminal.line(ROWS), 5), 'it is not told')
+    sitting.resize(33, 44)
+    trial.check(sitting.wait(lambda: sitting.terminal.line(ROWS) == TOO_NARROW[:44], 5), 'it is not told')
     sitting.resize(33, 80)
     trial.check(sitting.wait(lambda: sitting.terminal.line(ROWS) == KEYS, 5), sitting.terminal.line(ROWS))
     trial.leaves(sitting)
@@ -512,8 +512,31 @@ def first_scene(trial):
         trial.leaves(sitting)
 
 
+def sides(trial):
+    """A window of 60 columns shows the right side first, by a key the left one, and at a key that types the caret's."""
+    sitting = trial.begin(trial.desk, trial.path, rows=33, columns=60)
+    terminal = sitting.terminal
+    sitting.wait(lambda: terminal.scenes > 0)
+    trial.check(terminal.line(0).startswith('System.Tool'), f'at the beginning {terminal.line(0)!r}')
+    trial.check(terminal.line(ROWS) == ONE_SIDE[:60].rstrip(), terminal.line(ROWS))
+    sitting.press(b'\x1b[1;3D')
+    trial.check(sitting.wait(lambda: 'System.Tool' not in terminal.line(0), 5), terminal.line(0))
+    sitting.press(b'\x1b[<0;31;3M\x1b[<0;31;3m\x1b[1;3C')
+    trial.check(sitting.wait(lambda: terminal.line(0).startswith('System.Tool'), 5), terminal.line(0))
+    sitting.press(b'\x1b[<0;4;3M\x1b[<0;4;3m')
+    trial.check(sitting.wait(lambda: 25 in terminal.modes, 5), 'the click set no caret')
+    sitting.press(b'\x1b[1;3D')
+    trial.check(sitting.wait(lambda: 25 not in terminal.modes, 5), 'the caret is to be seen on the other side')
+    sitting.press(b'x')
+    trial.check(sitting.wait(lambda: 25 in terminal.modes, 5), 'the side of the caret is not in sight')
+    sitting.resize(33, 80)
+    trial.check(sitting.wait(lambda: terminal.line(0)[50:].startswith('System.Tool'), 5), terminal.line(0))
+    trial.check(not terminal.mistakes, terminal.mistakes)
+    trial.leaves(sitting)
+
+
 def too_small(trial):
-    for rows, columns in ((11, 80), (33, 79), (0, 0)):
+    for rows, columns in ((11, 80), (33, 44), (11, 44), (0, 0)):
         trial.refused(2, trial.path, rows=rows, columns=columns, says=[f' {columns} and {rows}'] if rows else ())
     trial.check(not os.path.exists(trial.path), 'a store was made')
 
@@ -676,6 +699,59 @@ def in_memory(trial):
     trial.check(sitting.end() == 0 and not os.listdir(trial.folder), f'status {sitting.status}')
 
 
+def closing(trial):
+    """Closing a viewer whose text no document has is asked about, and the same press right after that does it. A text that
+    is stored, is empty, or that another viewer shows closes at once, and so does any without questions."""
+    sitting = trial.sit_anew()
+    terminal, asked = sitting.terminal, "A.Text isn't stored: press again closes it"
+
+    def at(word, with_f2=False):
+        column = terminal.line(0).index(word) + 2
+        return (b'\x1bOQ\x1b[<0;%d;1M\x1b[<0;%d;1m' if with_f2 else b'\x1b[<1;%d;1M\x1b[<1;%d;1m') % (column, column)
+
+    def told(wanted, text):
+        trial.check(sitting.wait(lambda: (asked in terminal.line(ROWS)) == wanted, 5), text)
+
+    def gone(wanted, text):
+        trial.check(sitting.wait(lambda: terminal.line(0).startswith('A.Text') != wanted, 5), text)
+
+    sitting.press(b'Hello')
+    for with_f2 in (False, True):
+        for again in ('x', 'y'):
+            sitting.press(at('System.Close', with_f2))
+            told(True, f'nothing is asked ({with_f2})')
+            gone(False, 'a question closes')
+            sitting.press(again.encode())
+            told(False, f'another key answers ({with_f2})')
+        sitting.press(at('System.Close', with_f2))
+        told(True, f'nothing is asked anew ({with_f2})')
+        sitting.press(at('System.Close', with_f2))
+        gone(True, f'it is asked for ever ({with_f2})')
+        sitting.press(b'\x1a')
+        gone(False, 'Ctrl-Z doesn\'t take a Close back')
+    sitting.press(b'\rEdit.ChangeColor 3\r' + STORE)
+    sitting.press(b'\x1b[<2;2;2M\x1b[<2;4;2m\x1b[<1;3;3M\x1b[<1;3;3m' + at('System.Close'))
+    told(True, 'a look is lost unasked')
+    sitting.press(b'\x1a' + at('System.Close'))
+    gone(True, 'a stored text does not close')
+    sitting.press(b'\x1a')
+    gone(False, 'Ctrl-Z does not take the second Close back')
+    sitting.press(b'q' + at('System.Copy'))
+    told(False, 'a copy is asked about')
+    sitting.press(at('System.Close'))
+    told(False, 'a text that another viewer shows is asked about')
+    sitting.press(b'\x1a\x1a' + STORE + at('System.Close'))
+    gone(True, f'a stored text does not close: {terminal.line(ROWS)!r}')
+    trial.leaves(sitting)
+    sitting = trial.sit('--no-questions', trial.path)
+    terminal = sitting.terminal
+    sitting.press(b'\x1a')
+    gone(False, 'Ctrl-Z does not go back')
+    sitting.press(b'z' + at('System.Close'))
+    gone(True, 'it is asked without questions')
+    trial.leaves(sitting)
+
+
 def no_store(trial):
     """A file that is no store stays as it is."""
     for text in (b'', b'a text\n', bytes(16_000_000)):
@@ -737,6 +813,7 @@ TRIALS = {
     'a narrow window': narrow,
     'another size of the window': resized,
     'a first scene': first_scene,
+    'the sides of a narrow window': sides,
     'a small window': too_small,
     'no terminal': no_terminal,
     'no file': new_store,
@@ -747,6 +824,7 @@ TRIALS = {
     'two at once': two_makers,
     'words of the first text': first_words,
     'no path': in_memory,
+    'closing': closing,
     'no store': no_store,
     'a store in use': in_use,
     'a path where no file can be': no_file,

@@ -10,12 +10,12 @@ import sys
 import tempfile
 
 import endings
-from model import ROWS, Model
+from model import COLUMNS, ROWS, Model
 from presses import FILES, press, spelled
 from sitting import MODES, Ended, Sitting, TooSlow
 
 PRESSES = 300
-WINDOWS = [(33, 80), (33, 80), (24, 80), (40, 100), (12, 81)]
+WINDOWS = [(33, 80), (20, 60), (24, 80), (40, 100), (12, 45), (33, 80), (24, 79), (60, 200), (12, 81), (40, 50)]
 
 
 def begin(oberon, path, tool):
@@ -45,25 +45,34 @@ def press_anyhow(sitting, model, presses, chance):
 
 
 def hearings(presses, chance):
-    """The presses in runs that are heard at one time, each of 63 bytes at most. A longer press is alone, and after a
-    file of the host's, which is heard before the terminal, another run begins."""
+    """The presses in runs that are heard at one time, each of 63 bytes at most. A longer press is alone, and so is news of
+    the window's size, which the terminal has at once. After a file of the host's, which is heard before the terminal,
+    another run begins."""
     run, most = [], 1
     for one in presses:
-        if run and (len(run) == most or sum(len(data) for data, _ in [*run, one]) > 63 or is_file(run[-1])):
+        if run and (len(run) == most or sum(len(data) for data, _ in [*run, one]) > 63 or is_file(run[-1])
+                    or has('fit', run[-1]) or has('fit', one)):
             yield run
             run, most = [], chance.choice([1, 1, 2, 3, 5, 8])
         run.append(one)
     yield run
 
 
+def has(kind, press_and_meanings):
+    return any(meaning[0] == kind for meaning in press_and_meanings[1])
+
+
 def is_file(press_and_meanings):
-    return any(meaning[0] == 'file' for meaning in press_and_meanings[1])
+    return has('file', press_and_meanings)
 
 
 def press_by_hearings(sitting, model, presses, chance):
     """Presses of which it is known what is heard at one time: only then do the rows in sight follow the caret."""
     sitting.answers = False
     for run in hearings(presses, chance):
+        if has('fit', run[0]):
+            sitting.hear_long(b'')  # (a bell may have come before the last scene)
+            sitting.rest(0.1)
         for one in run:
             take(sitting, model, *one)
         data = b''.join(data for data, _ in run)
@@ -89,7 +98,7 @@ def take(sitting, model, data, meanings):
     for meaning in meanings:
         model.take(meaning)
         if meaning[0] == 'fit':
-            sitting.terminal.resize(meaning[1], sitting.terminal.columns)
+            sitting.terminal.resize(*meaning[1:])
     if has_lines and not is_paste:
         model.look()
 
@@ -110,9 +119,9 @@ def sit(seed, desk, oberon, folder, tool):
         with open(f'{folder}/{name}', 'wb') as file:
             file.write(data)
     os.mkfifo(f'{folder}/pipe')
-    sitting, model = Sitting([desk, theirs], rows, columns, folder), Model(oberon, ours, rows)
+    sitting, model = Sitting([desk, '--no-questions', theirs], rows, columns, folder), Model(oberon, ours, rows, columns)
     try:
-        wrong = sat(sitting, model, rows, chance)
+        wrong = sat(sitting, model, rows > ROWS and columns >= COLUMNS, rows, chance)
     finally:
         sitting.stop()
     if model.end() != 0 or not filecmp.cmp(theirs, ours, shallow=False):
@@ -120,18 +129,17 @@ def sit(seed, desk, oberon, folder, tool):
     return wrong
 
 
-def sat(sitting, model, rows, chance):
+def sat(sitting, model, is_whole, rows, chance):
     """From the first scene until the person has left."""
     terminal, wrong = sitting.terminal, []
     if not sitting.wait(lambda: terminal.scenes > 0):
         return ['no scene came']
     if not MODES <= terminal.modes:
         wrong.append('the terminal was not set')
-    is_whole = rows > ROWS
     presses = [press(chance, rows, is_whole) for _ in range(PRESSES)]
     (press_anyhow if is_whole else press_by_hearings)(sitting, model, presses, chance)
     wanted = model.in_sight()
-    sitting.wait(lambda: characters(terminal.cells, model.rows) == wanted)
+    sitting.wait(lambda: characters(terminal.cells, model.rows) == wanted, 120)
     sitting.rest(0.3)
     if not sitting.look_anew():
         wrong.append('no scene came after the last press')
@@ -155,11 +163,11 @@ def compared(terminal, model, wanted):
         wrong.append('another screen: ' + repr([(g, w) for g, w in zip(painted, wanted) if g != w][:3]))
     if before != after:
         wrong.append('the screen that is painted anew is another one')
-    if terminal.line(model.rows) != model.saying:
-        wrong.append(f'the line below is {terminal.line(model.rows)!r} and not {model.saying!r}')
+    if terminal.line(model.rows) != model.line():
+        wrong.append(f'the line below is {terminal.line(model.rows)!r} and not {model.line()!r}')
     caret = model.screen().caret()
-    place = caret and (caret[0], model.top - caret[1])
-    if place and not 0 <= place[1] < model.rows:
+    place = caret and (caret[0] - model.left(), model.top - caret[1])
+    if place and not (0 <= place[0] < model.columns() and 0 <= place[1] < model.rows):
         place = None
     if (place is not None) != (25 in terminal.modes):
         wrong.append('the cursor is %s' % ('hidden' if place else 'to be seen'))

@@ -1,5 +1,6 @@
 """What presses come to, by another program: their events go as lines of a script to `oberon`. The rest of a sitting,
 which rows are in sight and what the line below says, is here once more (crates/desk_sitting/specs)."""
+import itertools
 import subprocess
 
 import scrolling
@@ -10,26 +11,39 @@ WIDTHS = {0: 50, 50: 30}  # of the tracks, by their left columns
 GREETING = 'Middle button, or F2 and then a click, calls the word there; Ctrl-Q leaves'
 UNREAD = "The host's file can't be read, and nothing was typed."
 # What the line below says where nothing else is to be said.
-KEYS = 'F1 marker, F2 calls, F3 selects, Ctrl-Z undo, Ctrl-O file, Ctrl-Q leaves'
+KEYS = 'F2 calls, Ctrl-Z undo, Ctrl-Q leaves, F3 selects, F1 marker, Ctrl-O file'
 NO_KEY = 'That key means nothing here.'
 NO_TEXT = 'There is no text on that side of the caret, or no caret in sight.'
+NOTHING_AFTER = 'There is no character after the caret, or no caret in sight.'
 NO_SCROLL = 'Nothing moves there: no viewer, no caret, or too few rows of a text.'
+NO_WORD = 'No caret, or no such word, is in sight: System.Tool shows the commands.'
+FILLS = 'A line is broken at its last blank where it would pass the edge.'
+FILLS_NOT = "Lines aren't broken while you type, and may pass the edge."
+# What stands in a menu before a word that a key calls.
+FRONTS = {'Edit.Search': ' System.Copy ', 'Edit.Store': ' Edit.Search '}
 TOO_LOW = 'This window is too low: it has fewer than 12 rows.'
+TOO_NARROW = 'This window is too narrow: it has fewer than 45 columns.'
+ONE_SIDE = 'Alt-Left, Alt-Right: the other side. F2 and a click calls a word; Ctrl-Q leaves'
+NAME = frozenset('ABCDEFGHIJKLMNOPQRSTUVWXYZabcdefghijklmnopqrstuvwxyz0123456789.')
 # What it says of a refusal, by its code.
 REASONS = {
     1: 'no viewer has the caret; a left click in a text sets it',
-    2: 'nothing is selected; the right button, drawn over a text, selects',
-    3: 'a parameter is missing or of another kind',
-    4: "the word there is no command's",
-    5: 'there is no document of that name, or it is named twice',
-    6: '262,144 characters held, or 4,194,304 written: System.Collect',
+    2: 'nothing is selected; right button or F3, drawn over a text, selects',
+    3: 'behind the word a name or number is missing, or is of another kind',
+    4: "the word there is no command's; System.Tool has all commands",
+    5: 'no document of that name, or named twice: see System.Directory',
+    6: '262,144 held (close, delete) or 4,194,304 written (System.Collect)',
     7: 'no viewer is at the marker (F1 and a click set it), or none closed',
     8: 'there are 256 documents; System.DeleteFiles makes room',
     9: 'the cell lies outside the display',
-    10: "what is searched isn't there from the caret on",
-    11: 'there is no such font, colour or offset',
+    10: 'not found from the caret on; a click at the beginning starts over',
+    11: 'fonts are 0 to 4, colours 0 to 15, and offsets -64 to 63',
     13: "a viewer of one row can't be parted",
 }
+
+
+def is_in_word(character):
+    return character.isascii() and character.isalnum() or character == '.'
 
 
 class Screen:
@@ -58,16 +72,17 @@ class Screen:
 
 
 class Model:
-    """A desktop, the part of it that is in sight in a window of so many rows, and what the line below says."""
+    """A desktop, the part of it that is in sight in a window of so many rows and columns, and what the line below says."""
 
-    def __init__(self, oberon, store, window):
+    def __init__(self, oberon, store, window, columns=COLUMNS):
         self.oberon, self.store = oberon, store
-        self.pointer = None
+        self.pointer, self.put_away = None, None
         self.play = subprocess.Popen([oberon, 'play', store], stdin=subprocess.PIPE, stdout=subprocess.PIPE)
         self.top, self.rows = ROWS - 1, ROWS
-        self.follows = True
-        self.saying = GREETING
-        self.fit(window)
+        self.side = 50
+        self.follows = self.fills = True
+        self.saying = GREETING if columns >= COLUMNS else ONE_SIDE
+        self.fit(window, columns)
         self.look()
 
     def ask(self, line):
@@ -86,9 +101,22 @@ class Model:
         return Screen(self.lines('screen'))
 
     def in_sight(self):
-        """The rows in sight, from the top."""
-        first = ROWS - 1 - self.top
-        return self.screen().rows[first:first + self.rows]
+        """The rows in sight, from the top, as far as their columns are."""
+        first, left = ROWS - 1 - self.top, self.left()
+        rows = self.screen().rows[first:first + self.rows]
+        return [row[left:left + self.columns()].rstrip() for row in rows]
+
+    def left(self):
+        """The column of the display in the window's first column."""
+        return 0 if self.width == COLUMNS else self.side
+
+    def columns(self):
+        """How many columns of the display are in sight."""
+        return COLUMNS if self.width == COLUMNS else min(self.width, WIDTHS[self.side])
+
+    def line(self):
+        """What is seen of the line below."""
+        return self.saying[:self.width].rstrip()
 
     def end(self):
         self.play.stdin.close()
@@ -96,13 +124,16 @@ class Model:
 
     # ---- the window
 
-    def fit(self, window):
+    def fit(self, window, columns):
+        self.width = max(1, min(columns, COLUMNS))
         self.rows = max(1, min(window - 1, ROWS))
         self.top = max(self.top, self.rows - 1)
 
     def move(self, word):
         self.follows = False
-        if word == 'up':
+        if word in ('left', 'right'):
+            self.side = 0 if word == 'left' else 50
+        elif word == 'up':
             self.top = min(self.top + self.rows, ROWS - 1)
         else:
             self.top = max(self.top - self.rows, self.rows - 1)
@@ -113,13 +144,14 @@ class Model:
         self.follows = False
         if place:
             self.top = max(place[1], min(self.top, place[1] + self.rows - 1))
+            self.side = 0 if place[0] < 50 else 50
 
     def spot(self, column, row):
-        return min(max(column - 1, 0), COLUMNS - 1), self.top - min(max(row - 1, 0), self.rows - 1)
+        return self.left() + min(max(column - 1, 0), self.columns() - 1), self.top - min(max(row - 1, 0), self.rows - 1)
 
     def shown(self, column, row):
         """The cell that is shown there; None outside the display."""
-        return self.spot(column, row) if column <= COLUMNS and row <= self.rows else None
+        return self.spot(column, row) if column <= self.columns() and row <= self.rows else None
 
     # ---- presses
 
@@ -132,7 +164,25 @@ class Model:
             return True
         code = int(reply.removeprefix('no '))
         self.saying = f'refused ({code}): {REASONS[code]}'
+        if code == 5 and line.startswith('point m '):
+            name = self.parameter(*map(int, line.split(' ')[2:4]))
+            if name:
+                self.saying = f'refused (5) from {name[:31]} on: no document, or named twice'
         return False
+
+    def parameter(self, x, y):
+        """The word behind the one at a cell, in the same row of a text; no character where there is none."""
+        screen = self.screen()
+        row, last, at = screen.rows[ROWS - 1 - y].ljust(COLUMNS), x, x
+        while last + 1 < COLUMNS and (screen.mark(last + 1, y) == 'c' or self.is_text(screen, last + 1, y)):
+            last += 1
+        while at < COLUMNS and row[at] in NAME:
+            at += 1
+        while at < COLUMNS and row[at] == ' ':
+            at += 1
+        if at > last:
+            return ''
+        return ''.join(itertools.takewhile(lambda character: character in NAME, row[at:]))
 
     def paste(self, texts, looks=False):
         """The pieces of a paste, or of a file, up to one that is refused. No store is so full here that one is refused
@@ -146,7 +196,12 @@ class Model:
     def take(self, meaning):
         kind, *rest = meaning
         if kind == 'type':
-            self.post('type ' + spelled(rest[0]))
+            self.type(rest[0])
+        elif kind == 'call':
+            self.call(rest[0])
+        elif kind == 'fill':
+            self.fills = not self.fills
+            self.saying = FILLS if self.fills else FILLS_NOT
         elif kind == 'paste':
             self.paste(rest[0])
         elif kind == 'key':
@@ -154,7 +209,7 @@ class Model:
         elif kind == 'mark':
             x, y = self.spot(*rest)
             self.post(f'mark {x} {self.middle(x, y)}')
-        elif kind == 'point' and (rest[1] > COLUMNS or rest[2] > self.rows):
+        elif kind == 'point' and not self.shown(*rest[1:3]):
             pass  # (it begins outside the display)
         elif kind == 'point':
             self.post('point %s %d %d %d %d' % (rest[0], *self.spot(*rest[1:3]), *self.spot(*rest[3:])))
@@ -168,13 +223,27 @@ class Model:
             self.scroll(self.viewer_at(*self.pointer) if self.pointer else self.viewer_of_caret(), ('page', rest[0]))
         elif kind == 'text end':
             self.scroll(self.viewer_of_caret(), rest[0])
+        elif kind == 'line':
+            self.scroll(self.viewer_of_caret(), ('number', max(rest[0] - 1, 0)))
         elif kind == 'arrow':
             self.step(rest[0])
+        elif kind == 'keyed':
+            self.keyed(rest[0])
+        elif kind == 'at caret':
+            place = self.screen().caret()
+            if place:
+                self.click(rest[0], place, place)
+            else:
+                self.saying = NO_TEXT
+        elif kind == 'delete':
+            self.delete()
         elif kind == 'file':
             self.bring(rest[0])
         elif kind == 'fit':
-            self.fit(rest[0])
-            if rest[0] < 12 or self.saying == TOO_LOW:
+            self.fit(*rest)
+            if rest[1] < 45:
+                self.saying = TOO_NARROW
+            elif rest[0] < 12 or self.saying in (TOO_LOW, TOO_NARROW):
                 self.saying = TOO_LOW if rest[0] < 12 else KEYS
         elif kind == 'ring':
             self.saying = NO_KEY
@@ -183,6 +252,87 @@ class Model:
         else:
             self.saying = KEYS
             self.move(rest[0])
+
+    def click(self, keys, start, end):
+        if keys == 'mark':
+            self.post(f'mark {end[0]} {self.middle(*end)}')
+        else:
+            self.post('point %s %d %d %d %d' % (keys, *start, *end))
+
+    def keyed(self, steps):
+        """What a pointer that keys move is used for, from where it is shown until it is put away."""
+        at, start = self.pointer or self.put_away or self.spot(COLUMNS // 2, self.rows // 2 + 1), None
+        for kind, *rest in steps:
+            if kind == 'move':
+                at = min(max(at[0] + rest[0], 0), COLUMNS - 1), min(max(at[1] + rest[1], 0), ROWS - 1)
+            elif kind == 'begin':
+                start = at
+            elif kind == 'off':
+                start = None
+            else:
+                self.begin_press()
+                self.click(rest[0], start or at, at)
+                start = None
+        self.put_away = at
+
+    def begin_press(self):
+        """What comes now is of a press of its own."""
+
+    def post_all(self, lines):
+        """One after another, up to one that is refused."""
+        return all(self.post(line) for line in lines)
+
+    def type(self, character):
+        """A character is typed, and breaks its line where the caret is in the last column of its viewer."""
+        screen, letter = self.screen(), 'type ' + spelled(character)
+        lines = self.filled(screen, character, letter) if self.fills else [letter]
+        if self.post_all(lines) and len(lines) > 1:
+            self.name_press('typed 2 characters')
+
+    def filled(self, screen, character, letter):
+        x, y = screen.caret() or (0, 0)
+        if x not in (COLUMNS - 1, WIDTHS[0] - 1) or character == '\r':
+            return [letter]
+        if character in ' \t':
+            return [letter, 'type %0d']
+        left, bottom, top, _ = self.viewer_at(x, y)
+        blank = screen.rows[ROWS - 1 - y].ljust(COLUMNS).rfind(' ', left + 1, x)
+        if blank < 0:
+            return [letter]
+        row = top - 2 - (top - 1 - bottom) // 2 if y == bottom else y - 1
+        back = left + x - blank
+        return [f'point l {blank + 1} {y} {blank + 1} {y}', 'type %0d', f'point l {back} {row} {back} {row}', letter]
+
+    def call(self, word):
+        """A command is called on the viewer of the caret, by its word in the menu, or else in a text and by the marker."""
+        screen = self.screen()
+        place, self.saying = screen.caret(), NO_WORD
+        if not place:
+            return
+        left, bottom, top, _ = self.viewer_at(*place)
+        menu = screen.rows[ROWS - top].ljust(COLUMNS)[left:left + WIDTHS[left]]
+        column = menu.find(FRONTS[word]) + len(FRONTS[word])
+        if FRONTS[word] in menu and column < len(menu):
+            self.post(f'point m {left + column} {top - 1} {left + column} {top - 1}')
+        else:
+            at = self.word_in_texts(screen, word)
+            if at:
+                self.post_all([f'mark {left} {(bottom + top - 1) // 2}', 'point m %d %d %d %d' % (*at, *at)])
+        self.name_press('a command')
+
+    def word_in_texts(self, screen, word):
+        """The lowest row in which a text shows the word whole, and the first column there."""
+        def shows(x, y):
+            return x < COLUMNS and (screen.mark(x, y) == 'c' or self.is_text(screen, x, y))
+
+        for y in range(ROWS):
+            row = screen.rows[ROWS - 1 - y].ljust(COLUMNS + 1)
+            for x in range(1, COLUMNS - len(word)):
+                end = x + len(word)
+                if (row[x:end] == word and not is_in_word(row[x - 1]) and not is_in_word(row[end])
+                        and shows(x, y) and shows(end, y)):
+                    return x, y
+        return None
 
     def bring(self, name):
         """A file of the host's is typed, each event of it heard by itself."""
@@ -209,13 +359,14 @@ class Model:
         """What is said of the events of this press, if it has any, where they are taken back."""
 
     def viewer_of_caret(self):
-        """The viewer in which the caret stands, in sight or not: it is, once a line is begun. None where there is none, or
-        where it shows no row of its text."""
-        answers = scrolling.played(self.oberon, self.store, ['type %0d', 'screen'])
-        if answers[0] != 'ok':
-            return None
-        place = Screen(answers[1:answers.index('end')]).caret()
-        return place and self.viewer_at(*place)
+        """The viewer in which the caret stands, in sight or not: it is, once a line is begun, or a letter more where the
+        marker stands on it. None where there is none, or where it shows no row of its text."""
+        for text in ('%0d', '%0dx'):
+            answers = scrolling.played(self.oberon, self.store, ['type ' + text, 'screen'])
+            place = answers[0] == 'ok' and Screen(answers[1:answers.index('end')]).caret()
+            if place:
+                return self.viewer_at(*place)
+        return None
 
     def step(self, word):
         """A left click beside the caret, where a text is shown there."""
@@ -229,8 +380,71 @@ class Model:
             x = self.along(screen, x, y, word)
         else:
             x, y = {'up': (x, y + 1), 'down': (x, y - 1), 'right': (x + 1, y), 'left': (x - 1, y)}[word]
-        if 0 <= x < COLUMNS and 0 <= y < ROWS and self.is_text(screen, x, y):
-            self.post(f'point l {x} {y} {x} {y}')
+        if self.shows_text(screen, x, y):
+            self.left_click(x, y)
+            if word == 'right' and start == screen.caret():
+                self.pass_tabulator(start)
+        elif start == screen.caret() and (word == 'down' or word == 'up' and self.is_menu(x, y)):
+            if self.shift(word, NO_TEXT):
+                self.left_click(*start)
+        self.name_press('the caret, or a viewer that was drawn')
+
+    def left_click(self, x, y):
+        return self.post(f'point l {x} {y} {x} {y}')
+
+    def shows_text(self, screen, x, y):
+        return 0 <= x < COLUMNS and 0 <= y < ROWS and self.is_text(screen, x, y)
+
+    def is_menu(self, x, y):
+        viewer = y < ROWS and self.viewer_at(x, y)
+        return viewer and y == viewer[2] - 1 and self.screen().mark(x, y) == '.'
+
+    def pass_tabulator(self, start):
+        """Clicks further on in the row, while the caret stands before a blank where it stood. The first was made."""
+        for x in range(start[0] + 2, min(start[0] + 5, COLUMNS)):
+            screen = self.screen()
+            blank = screen.rows[ROWS - 1 - start[1]].ljust(COLUMNS)[start[0]] == ' '
+            if screen.caret() != start or not blank or not self.is_text(screen, x, start[1]):
+                return
+            self.left_click(x, start[1])
+
+    def shift(self, word, why_not):
+        """Whether the text of the viewer of the caret moves by a line."""
+        viewer = self.viewer_of_caret()
+        if not viewer or word == 'down' and scrolling.presses(self.oberon, self.store, viewer, 'last') == []:
+            self.saying = why_not
+            return False
+        lines = scrolling.presses(self.oberon, self.store, viewer, ('line', word))
+        for line in lines or []:
+            self.post(line)
+        if not lines:
+            self.saying = why_not
+        return bool(lines)
+
+    def delete(self):
+        """The character after the caret is deleted, or the end of its line."""
+        screen = self.screen()
+        start = screen.caret()
+        if not start or not self.shows_text(screen, start[0] + 1, start[1]):
+            self.saying = NOTHING_AFTER
+            return
+        self.left_click(start[0] + 1, start[1])
+        self.pass_tabulator(start)
+        if self.screen().caret() == start:
+            x, y = start[0], start[1] - 1
+            screen = self.screen()
+            if not self.shows_text(screen, x, y):
+                if self.shift('down', NOTHING_AFTER):
+                    self.delete()
+                self.name_press('the caret, or a viewer that was drawn')
+                return
+            self.left_click(self.along(screen, x, y, 'home'), y)
+            if self.screen().caret() == start:
+                self.saying = NOTHING_AFTER
+                self.name_press('the caret, or a viewer that was drawn')
+                return
+        self.post('key back')
+        self.name_press('a character deleted')
 
     def along(self, screen, x, y, word):
         """The column to which a key leads that goes to an end of a row's text or to one of its words."""

@@ -1,10 +1,11 @@
 """Random presses: the bytes that a terminal sends for them, and what they mean.
 
-A meaning is a tuple: ('type', text), ('paste', texts), ('key', word), ('mark', column, row), ('point', keys, column, row, column, row),
-('arrow', word), ('page', word), ('wheel', word, column, row), ('text page', word), ('text end', word), ('pointer', column, row),
-('fit', rows), ('file', name), ('ring',) or ('ring at a name',). Columns and rows are those of the terminal, from 1 at the
+A meaning is a tuple: ('type', text), ('call', word), ('fill',), ('paste', texts), ('key', word), ('mark', column, row), ('point', keys, column, row, column, row),
+('arrow', word), ('delete',), ('line', number), ('page', word), ('wheel', word, column, row), ('text page', word), ('text end', word), ('pointer', column, row),
+('fit', rows, columns), ('file', name), ('keyed', steps), ('at caret', keys), ('ring',) or ('ring at a name',). Columns and rows are those of the terminal, from 1 at the
 upper left."""
 
+COLUMNS = 80
 PRINTED = [chr(code) for code in range(32, 127)]
 GESTURES = ['l', 'm', 'r', 'lm', 'lr', 'ml', 'mr', 'rl', 'rm']
 NUMBERS = {'l': 0, 'm': 1, 'r': 2}
@@ -12,20 +13,21 @@ ARROWS = {'up': [b'[A', b'OA'], 'down': [b'[B', b'OB'], 'right': [b'[C', b'OC'],
           'home': [b'[H', b'OH', b'[1~', b'[7~'], 'end': [b'[F', b'OF', b'[4~', b'[8~'],
           'word right': [b'[1;5C'], 'word left': [b'[1;5D']}
 # What a byte below the space is, where it is a key.
-CONTROLS = {3: ('key', 'copy'), 7: ('key', 'escape'), 10: ('type', '\r'), 22: ('key', 'paste'), 24: ('key', 'cut')}
+CONTROLS = {3: ('key', 'copy'), 6: ('call', 'Edit.Search'), 10: ('type', '\r'), 19: ('call', 'Edit.Store'),
+            22: ('key', 'paste'), 23: ('fill',), 24: ('key', 'cut')}
 # The clicks that a function key says, by its spellings.
 FUNCTIONS = {'m': [b'\x1bOQ', b'\x1b[Q', b'\x1b[12~', b'\x1b[[B', b'\x1b2'], 'r': [b'\x1bOR', b'\x1b[13~', b'\x1b[[C', b'\x1b3'],
              'lm': [b'\x1bOS', b'\x1b[14~', b'\x1b[[D'], 'lr': [b'\x1b[15~', b'\x1b[[E'], 'rl': [b'\x1b[17~', b'\x1b6'],
              'rm': [b'\x1b[18~']}
 MARK = [b'\x1bOP', b'\x1b[P', b'\x1b[11~', b'\x1b[[A', b'\x1b1']
 # What means nothing: a wheel that goes up or to the side, a motion, keys and answers that are not told apart, a byte
-# amid a letter of another script, a mouse report of the older form, a function key that is called off, and Alt with a
-# letter.
+# amid a letter of another script, a mouse report of the older form, and Alt with a letter.
 NOTHING = [b'\x1b[<64;3;4m', b'\x1b[<66;3;4M', b'\x1b[<35;3;4M', b'\x1b[1;5E', b'\x1b[?1;2c', b'\x1b[I', b'\x1b[2~',
            b'\x1b[27u', b'\x80', b'\x1b[M !!', b'\x1bOz', b'\x1b[1;2;3;4;5;6;7z',
-           b'\x1bOQ\x07', b'\x1b1\x07', b'\x1bx', b'\x1b.']
-# What rings: keys that mean nothing here, and letters of other scripts.
-RINGING = [b'\x01', b'\x00', '\u00e4'.encode(), '\u2014'.encode(), b'\xff']
+           b'\x1bx', b'\x1b.']
+# What rings: keys that mean nothing here, one of them after a function key that is called off, and letters of other
+# scripts.
+RINGING = [b'\x1bOQ\x1b\x00', b'\x1b1\x1b\x00', b'\x01', b'\x00', '\u00e4'.encode(), '\u2014'.encode(), b'\xff']
 
 
 # The files of the host that are brought in, and names of what is none: that isn't there, a folder, a pipe.
@@ -97,13 +99,20 @@ def called_off(random):
     """A name of a host file is asked for, and nothing comes of it."""
     name, rings = random.choice([(b'', 0), (b'n', 0), (b'a name.txt', 0), (b'x\x7f\x7f', 1), (b'\xff\x18', 1), (b'\x1b[A', 1),
                                  (b'\x1b[<0;3;4M\x1b[<0;3;4m', 0), (b'\x1b[200~x\n\x1b[201~', 1)])
-    return random.choice([b'\x0f', b'\x1b[19~']) + name + b'\x07', [('ring at a name',)] * rings
+    return random.choice([b'\x0f', b'\x1b[19~']) + name + b'\x1b\x00', [('ring at a name',)] * rings + [('ring',)]
+
+
+def line_asked(random):
+    """A line is asked for, by a number that is typed or pasted; what is no digit rings."""
+    number = random.choice([0, 1, 1, 2, 3, 5, 8, 13, 21, 40, 99, 100, 10 ** 11])
+    typed, rings = random.choice([(b'%d', 0), (b'%dx', 1), (b'\x1b[A%d', 1), (b'%d7\x7f', 0), (b'\x1b[200~%d\n\x1b[201~', 1)])
+    return b'\x07' + typed % number + b'\r', [('ring at a name',)] * rings + [('line', number)]
 
 
 def press(random, rows, is_whole):
     """One press, or a few that belong together, in a window of so many rows. Where the whole display is in sight a
     paste may be of several events, and elsewhere the window may get another size."""
-    kind = random.randrange(26)
+    kind = random.randrange(29)
     if kind < 6:
         character = random.choice(PRINTED + ['\r', '\t', 'e', 'a', ' '])
         return character.encode(), [('type', character)]
@@ -117,23 +126,81 @@ def press(random, rows, is_whole):
     if kind == 10:
         return random.choice([(random.choice(NOTHING), []), (random.choice(RINGING), [('ring',)])])
     if kind == 11:
-        word = random.choice(list(ARROWS))
-        return b'\x1b' + random.choice(ARROWS[word]), [('arrow', word)]
+        return arrow(random)
     if kind == 12 or kind == 13 and not is_whole:
-        return random.choice([(b'\x1b[5;3~', [('page', 'up')]), (b'\x1b[6;3~', [('page', 'down')])])
+        return random.choice([(b'\x1b[5;3~', [('page', 'up')]), (b'\x1b[6;3~', [('page', 'down')]),
+                              (b'\x1b[1;3D', [('page', 'left')]), (b'\x1b[1;3C', [('page', 'right')])])
+    if kind == 26:
+        return b'\x1b[3~', [('delete',)]
+    if kind == 27:
+        return random.choice([line_asked(random), *[arrow(random)] * 2])
     if kind == 14:
-        letter = random.choice('abxyZ. ')
+        letter = random.choice('abxyZ.')
         return b'\x1b' + letter.encode(), []
     if kind == 15:
         return random.choice([called_off, brought])(random)
     if kind == 16 and not is_whole:
-        height = random.choice([2, 5, 12, 13, 24, 32, 33, 34, 45])
-        return b'\x1b[%d;%d;81t' % (random.choice([8, 48]), height), [('fit', height)]
+        height = random.choice([2, 5, 12, 13, 24, 32, 33, 34, 44])
+        width = random.choice([30, 45, 49, 50, 51, 60, 79, 80, 81, 200])
+        told = (height, width) if random.random() < 0.7 or width < 45 or height >= 45 else (width, height)
+        return b'\x1b[%d;%d;%dt' % (random.choice([8, 48]), *told), [('fit', height, width)]
+    if kind == 19:
+        text = ''.join(random.choices(['word ', 'a ', 'longer ', 'sentence. ', 'end,  ', 'x', '\t'], k=random.randrange(20)))
+        return text.encode(), [('type', character) for character in text]
     if kind in (17, 18):
         return scroll(random, rows)
+    if kind == 28:
+        return random.choice([(b'\x05', [('at caret', 'm')]), (b'\x14', [('at caret', 'mark')])])
+    if kind == 20 and is_whole:
+        return keyed(random)
     data, meanings = mouse(random, rows, is_whole)
     _, column, row = data.rstrip(b'm').rsplit(b';', 2)
     return data, meanings + [('pointer', int(column), int(row))]
+
+
+def keyed(random):
+    """Clicks of a pointer that keys move: it is shown, and put away again. A step is ('move', across, up), in cells, or the
+    columns themselves for the ends of a row; or ('click', keys), from where it begins by ('begin',), unless
+    that is called off by ('off',), or at one cell."""
+    data, steps = random.choice([b'\x1b[23~', b'\x1b ']), []
+    for _ in range(random.randrange(1, 4)):
+        data += moves(random, steps)
+        keys = random.choice(['l', 'mark', *FUNCTIONS])
+        if keys == 'l' and random.random() < 0.5:
+            data += b'\r'
+        else:
+            spellings = MARK if keys == 'mark' else FUNCTIONS.get(keys, [b'\x1b[24~'])
+            steps.append(('begin',))
+            data += random.choice(spellings) + moves(random, steps)
+            if random.random() < 0.2:
+                data += b'\x1b'  # (more escape bytes and Returns follow)
+                steps.append(('off',))
+                continue
+            data += random.choice([b'\r', random.choice(spellings)])
+        steps.append(('click', keys))
+    return data + random.choice([b'\x1b[23~', b'\x1b ']), [('keyed', steps)]
+
+
+def moves(random, steps):
+    """Some arrows, alone, with Shift and with Ctrl."""
+    ways = {'A': (0, 1), 'B': (0, -1), 'C': (1, 0), 'D': (-1, 0)}
+    data = b''
+    for _ in range(random.randrange(0, 12)):
+        letter = random.choice('ABCDABCDHF')
+        if letter in 'HF':
+            data += b'\x1b[' + random.choice([b'', b'1;2']) + letter.encode()
+            steps.append(('move', -COLUMNS if letter == 'H' else COLUMNS, 0))
+            continue
+        far = random.random() < 0.4
+        held = random.choice([b'1;2', b'1;5']) if far and letter in 'CD' else b'1;2' if far else b''
+        data += b'\x1b[' + held + letter.encode()
+        steps.append(('move', *((8 if far else 1) * way for way in ways[letter])))
+    return data
+
+
+def arrow(random):
+    word = random.choice(list(ARROWS))
+    return b'\x1b' + random.choice(ARROWS[word]), [('arrow', word)]
 
 
 def scroll(random, rows):
@@ -151,7 +218,7 @@ def mouse(random, rows, is_whole):
     kind = random.randrange(10)
     start, end = cell(random, rows), cell(random, rows)
     if kind in (2, 3):
-        start = (min(start[0], 80), min(start[1], 32) if is_whole else 1)
+        start = (min(start[0], 80 if is_whole else 30), min(start[1], 32) if is_whole else 1)
     if kind < 2:
         place = (random.choice([2, 3, 5, 52, 55]), random.randrange(2, min(rows, 12)))
         return drag(random, 'l', place, place), [('point', 'l', *place, *place)]

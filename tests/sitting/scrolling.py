@@ -44,7 +44,7 @@ def line_above(text, count, position):
 
 
 def line_below(text, count, position):
-    for _ in range(count):
+    for _ in range(min(count, text.count(CARRIAGE_RETURN) + 1)):
         end = text.find(CARRIAGE_RETURN, position)
         position = line_start(text, len(text) if end < 0 else end + 1)
     return line_start(text, position)
@@ -54,10 +54,12 @@ def wished(text, height, org, wish):
     """Where the line begins that is wished."""
     if wish == 'first':
         return 0
+    if wish[0] == 'number':
+        return line_below(text, wish[1], 0)
     if wish == 'last':
         return line_above(text, height - 1, len(text))
     word, way = wish
-    count = 3 if word == 'wheel' else height - 1
+    count = {'wheel': 3, 'line': 1}.get(word, height - 1)
     return (line_above if way == 'up' else line_below)(text, count, org)
 
 

@@ -27,8 +27,11 @@ class Terminal:
     def resize(self, rows, columns):
         """Has another size. What is shown stays where it was, as far as there is room."""
         self.rows, self.columns = rows, columns
-        old = [row[:columns] + [(' ', PLAIN)] * (columns - len(row)) for row in self.cells[:rows]]
-        self.cells = old + [[(' ', PLAIN)] * columns for _ in range(rows - len(old))]
+        self.cells, self.main = self.fitted(self.cells), self.fitted(self.main)
+
+    def fitted(self, cells):
+        old = [row[:self.columns] + [(' ', PLAIN)] * (self.columns - len(row)) for row in cells[:self.rows]]
+        return old + [[(' ', PLAIN)] * self.columns for _ in range(self.rows - len(old))]
 
     def blank(self):
         return [[(' ', self.pen)] * self.columns for _ in range(self.rows)]

@@ -8,7 +8,7 @@ import sys
 import tempfile
 
 from main import begin, characters
-from model import COLUMNS, Model
+from model import COLUMNS, Model, is_in_word
 from presses import FILES, drag, press
 from sitting import MODES, Ended, Sitting, TooSlow
 
@@ -73,11 +73,7 @@ def word_at(screen, x, y):
         start -= 1
     while end < len(row) and is_in_word(row[end]):
         end += 1
-    return row[start:end][:48]
-
-
-def is_in_word(character):
-    return character.isascii() and character.isalnum() or character == '.'
+    return row[start:end][:31]
 
 
 class History:
@@ -129,8 +125,11 @@ class Undoing(Model):
         return name
 
     def take(self, meaning):
-        self.joins = False
+        self.begin_press()
         super().take(meaning)
+
+    def begin_press(self):
+        self.joins = False
 
     def post(self, line):
         self.undone = []
@@ -223,7 +222,7 @@ def sit(seed, desk, oberon, folder, tool):
     for name, data in FILES.items():
         with open(f'{folder}/{name}', 'wb') as file:
             file.write(data)
-    sitting, model = Sitting([desk, theirs], ROWS, 80, folder), Undoing(oberon, ours, ROWS, folder)
+    sitting, model = Sitting([desk, '--no-questions', theirs], ROWS, 80, folder), Undoing(oberon, ours, ROWS, folder)
     terminal = sitting.terminal
     try:
         if not sitting.wait(lambda: terminal.scenes > 0 and MODES <= terminal.modes):

@@ -44,24 +44,44 @@ worker.onmessage = ({ data }) => {
     if (data.given) download(data.bytes, data.given);
 };
 
-// ---- What is shown.
-let read = 0;
-function show({ svg, line: below, status, rings, left }) {
-    screen_.innerHTML = svg;
+// ---- What is shown. Each line of a drawing but the first and the last is an element: those that changed are replaced.
+let read = 0, drawn = [];
+function draw(svg) {
+    const lines = svg.split('\n').slice(1, -2), root = screen_.firstChild, least = Math.min(lines.length, drawn.length);
+    let low = 0, high = 0;                                // how many lines are as before, from the first and from the last
+    while (low < least && lines[low] === drawn[low]) low++;
+    while (high < least - low && lines.at(-1 - high) === drawn.at(-1 - high)) high++;
+    if (low) {                                            // the first one, a style, always is
+        const part = document.createElementNS(root.namespaceURI, 'g');
+        part.innerHTML = lines.slice(low, lines.length - high).join('');
+        for (const old of [...root.children].slice(low, drawn.length - high)) old.remove();
+        root.children[low - 1].after(...part.children);
+    } else screen_.innerHTML = svg;
+    drawn = lines;
+}
+function point(cell) {                                    // a box at the pointer that keys move, the last element
+    const box = by('pointer') || screen_.firstChild.appendChild(document.createElementNS(screen_.firstChild.namespaceURI, 'rect'));
+    const places = { id: 'pointer', width: 9, height: 19, x: (cell - 1) % 80 * 9, y: (31 - Math.floor((cell - 1) / 80)) * 19 };
+    for (const place in places) box.setAttribute(place, places[place]);
+    box.style.display = cell ? '' : 'none';
+}
+function show({ svg, line: below, status, rings, left, pointer }) {
+    draw(svg);
+    if (pointer || by('pointer')) point(pointer);
     line.textContent = status ? words(status) : below;
     clearTimeout(read);
-    read = setTimeout(() => { by('words').textContent = rows(); }, 150);  // a reader of the screen has time
+    read = setTimeout(() => { by('words').textContent = rows('text'); }, 150);  // a reader of the screen has time
     if (rings || status) { line.classList.remove('rings'); void line.offsetWidth; line.classList.add('rings'); }
     if (left) { say('You have left. Everything is kept; sit down again when you like.'); by('again').hidden = false; }
     if (sent.length) times.push(performance.now() - sent.shift());
 }
-function rows() {                                         // the screen as lines of text
+function rows(wanted) {                                   // the texts of the drawing that are wanted, as lines
     const lines = {};
-    for (const text of screen_.querySelectorAll('text')) {
-        (lines[text.getAttribute('y')] ||= []).push([+text.getAttribute('x'), text.textContent.trim()]);
+    for (const text of screen_.querySelectorAll(wanted)) {
+        const x = text.getAttribute('x') / 9, line = lines[text.getAttribute('y')] ||= { from: x, words: '' };
+        line.words = line.words.padEnd(x - line.from) + text.textContent;
     }
-    const line = y => lines[y].sort((a, b) => a[0] - b[0]).map(part => part[1]).join('  ');
-    return Object.keys(lines).map(Number).sort((a, b) => a - b).map(line).join('\n');
+    return Object.values(lines).map(line => line.words.trimEnd()).join('\n');
 }
 function download(bytes, name) {
     const link = document.createElement('a');
@@ -110,29 +130,31 @@ for (const [kind, end] of [['touchstart', 'M'], ['touchend', 'm']]) {
     }, { passive: false });
 }
 
-// ---- Keys, as a terminal tells them, and the bar, which says what the next click is.
-const KEYS = {
-    Enter: '\r', Tab: '\t', Backspace: '\x7f', Escape: '\x1b',
-    F1: '\x1bOP', F2: '\x1bOQ', F3: '\x1bOR', F4: '\x1bOS', F5: '\x1b[15~', F6: '\x1b[17~', F7: '\x1b[18~',
-};
-const MOVES = {                                           // what stands before a 5 for Ctrl, and behind it
-    ArrowUp: ['1', 'A'], ArrowDown: ['1', 'B'], ArrowRight: ['1', 'C'], ArrowLeft: ['1', 'D'], End: ['1', 'F'], Home: ['1', 'H'],
-    Delete: ['3', '~'], PageUp: ['5', '~'], PageDown: ['6', '~'],
-};
-function move([number, end], control) {
-    const alone = end === '~' ? number : '';
-    return `\x1b[${control ? number + ';5' : alone}${end}`;
+// ---- Keys, as xterm spells them. `held` is 1 for Shift, 2 for Alt and 4 for Ctrl, added up.
+const PLAIN = { Enter: '\r', Tab: '\t', Backspace: '\x7f', Escape: '\x1b' };
+const LETTERS = { ArrowUp: 'A', ArrowDown: 'B', ArrowRight: 'C', ArrowLeft: 'D', End: 'F', Home: 'H', F1: 'P', F2: 'Q', F3: 'R', F4: 'S' };
+const NUMBERS = { Delete: 3, PageUp: 5, PageDown: 6, F5: 15, F6: 17, F7: 18, F8: 19, F9: 20, F10: 21, F11: 23 };
+const MAC = /^(Mac|iP)/.test(navigator.platform);
+function spell(key, held) {                               // nothing where the key stays the browser's
+    const more = held ? ';' + (1 + held) : '';
+    if (key in NUMBERS) return `\x1b[${NUMBERS[key]}${more}~`;
+    if (key in LETTERS) return held ? `\x1b[1${more}${LETTERS[key]}` : (key[0] === 'F' ? '\x1bO' : '\x1b[') + LETTERS[key];
+    let byte = PLAIN[key] || (key.length === 1 ? key : '');
+    if (held & 4 && byte === key) byte = held & 1 || !/[ @-_a-z]/.test(key) ? '' : String.fromCharCode(key.toUpperCase().charCodeAt(0) & 31);
+    return byte && (held & 2 ? '\x1b' : '') + byte;
+}
+function pressed(event) {                                 // the bytes of a key that goes down
+    const { key, code, shiftKey, altKey, ctrlKey, metaKey } = event, held = shiftKey + 2 * altKey + 4 * (ctrlKey || metaKey);
+    const typed = event.getModifierState('AltGraph') || MAC && altKey && /^[!-/:-@[-`{-~]$/.test(key);
+    if (event.isComposing || held > 3 && /^[cvx]$/i.test(key) || metaKey && !/^[syz]$/i.test(key)) return '';
+    if (key.length > 1 || held < 2 || typed) return spell(key, typed || key.length === 1 ? 0 : held);
+    return spell(/^(Digit|Key)/.test(code) && !/^[ -~]$/.test(key) ? code.at(-1).toLowerCase() : key, held);
 }
 keys.addEventListener('keydown', event => {
-    const key = event.key, control = event.ctrlKey || event.metaKey;
-    if (event.isComposing || key === 'Tab' && event.shiftKey) return;  // Shift-Tab leaves the screen
-    if (control && key.toLowerCase() === 'o' || key === 'F8') by('typed').click();
-    else if (control && /^[cgqxyz]$/i.test(key)) send(String.fromCharCode(key.toUpperCase().charCodeAt(0) - 64));
-    else if (key in MOVES && !event.altKey) send(move(MOVES[key], control));
-    else if (event.altKey && /^Digit[1-7]$/.test(event.code)) send('\x1b' + event.code[5]);
-    else if (control || event.altKey && key.length > 1) return;
-    else if (key in KEYS) send(KEYS[key]);
-    else if (key.length === 1) send(key);
+    const bytes = pressed(event);
+    if (event.key === 'Tab' && event.shiftKey) by('bar').querySelector('[data-key]').focus();  // Shift-Tab leaves the screen
+    else if (bytes === '\x0f' || bytes === spell('F8', 0)) by('typed').click();
+    else if (bytes) send(bytes);
     else return;
     event.preventDefault();
 });
@@ -142,12 +164,27 @@ function typed() {                                        // by an input method
 }
 keys.addEventListener('input', event => { if (!event.isComposing) typed(); });
 keys.addEventListener('compositionend', typed);
-const paste = text => { if (text) send('\x1b[200~' + text.replaceAll('\x1b', '?') + '\x1b[201~'); };
-addEventListener('paste', event => { event.preventDefault(); paste(event.clipboardData.getData('text')); });
 for (const key of document.querySelectorAll('#bar [data-key]')) {
-    key.onclick = () => { send(KEYS[key.dataset.key]); keys.focus(); };
+    key.onclick = () => { send(spell(key.dataset.key, +key.dataset.held || 0)); keys.focus(); };
 }
 by('keyboard').onclick = () => keys.focus();
+
+// ---- Copying. What the desktop copies goes to the clipboard too, as far as it is in sight; from there it comes with its looks.
+let copied = '';
+for (const [kind, byte] of [['copy', '\x03'], ['cut', '\x18']]) {
+    keys.addEventListener(kind, event => {
+        copied = rows('rect[fill="#afd7ff"] + text');
+        if (copied) event.clipboardData.setData('text/plain', copied);
+        event.preventDefault();
+        send(byte);
+    });
+}
+const paste = text => { if (text) send('\x1b[200~' + text.replaceAll('\x1b', '?') + '\x1b[201~'); };
+addEventListener('paste', event => {
+    const text = event.clipboardData.getData('text');
+    if (!text || text.replaceAll('\r\n', '\n') === copied) send('\x16'); else paste(text);
+    event.preventDefault();
+});
 
 // ---- Documents, and the whole desktop.
 const bytesOf = async file => new Uint8Array(await file.arrayBuffer());
@@ -178,6 +215,11 @@ by('export-link').onclick = () => {
 };
 by('save-link').onclick = () => worker.postMessage({ save: true });
 by('again').onclick = () => location.reload();
+by('whole-link').onclick = async () => {                  // Chrome and Edge then hand out the keys too that they keep
+    await document.documentElement.requestFullscreen();
+    await navigator.keyboard?.lock?.();
+    keys.focus();
+};
 addEventListener('dragover', event => event.preventDefault());
 addEventListener('drop', async event => {
     event.preventDefault();
@@ -186,7 +228,8 @@ addEventListener('drop', async event => {
 
 // ---- The module, which stands here packed.
 async function unpacked() {
-    const packed = Uint8Array.from(by('wasm').textContent.trim().match(/../g), digits => parseInt(digits, 16));
+    const digits = by('wasm').textContent.trim(), packed = new Uint8Array(digits.length / 2);
+    for (let i = 0; i < packed.length; i++) packed[i] = parseInt(digits.slice(2 * i, 2 * i + 2), 16);
     const stream = new Blob([packed]).stream().pipeThrough(new DecompressionStream('deflate-raw'));
     return new Uint8Array(await new Response(stream).arrayBuffer());
 }

@@ -89,15 +89,16 @@ async function chosen() {
 async function repeat(calls, on) {
     for (let at = 0; at < calls.length;) {
         const n = new DataView(calls.buffer).getUint32(at, true);
-        if (n === SYNC) await on.sync(); else on.write(n, calls.subarray(at + 4, at + 4 + SECTOR));  // durable: one after another
-        at += n === SYNC ? 4 : 4 + SECTOR;
+        if (n !== SYNC) on.write(n, calls.subarray(at + 4, at + 4 + SECTOR));  // durable: one after another
+        else if (!on.clean) await on.sync();              // durable: where anything was written since the last one
+        at += (on.clean = n === SYNC) ? 4 : 4 + SECTOR;
     }
 }
 // ---- What the page asks for.
 async function scene(status, calls) {
     await repeat(calls, medium);                          // durable: before the scene is shown
-    const rings = module.page_rings(held), left = module.page_leaves(held);
-    postMessage({ svg: text(made(DRAWING)), line: text(made(LINE)), status, rings, left });
+    const rings = module.page_rings(held), left = module.page_leaves(held), pointer = module.page_pointer(held);
+    postMessage({ svg: text(made(DRAWING)), line: text(made(LINE)), status, rings, left, pointer });
 }
 function used(bytes) {                                    // the sectors up to the last one that isn't all zeros
     let last = Math.min(bytes.length, SIZE);
@@ -109,8 +110,7 @@ const ASKED = {
         module = (await WebAssembly.instantiate(data.module, {})).instance.exports;
         name = data.name;
         medium = await chosen();
-        const sectors = used(await medium.load()), first = memoryMedium();
-        let why = '';
+        let sectors = used(await medium.load()), first = memoryMedium(), why = '';
         begin(sectors);
         if (!sectors.length) {                            // a new store is put on the medium as a whole
             await repeat(made(CALLS), first);

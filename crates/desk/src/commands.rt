@@ -18,6 +18,18 @@ const SIT: &[Argument<'static>] = &[
         kind: Kind::Choice,
     },
     Argument {
+        name: "no-questions",
+        kind: Kind::Choice,
+    },
+    Argument {
+        name: "no-fill",
+        kind: Kind::Choice,
+    },
+    Argument {
+        name: "columns",
+        kind: Kind::Named,
+    },
+    Argument {
         name: "rows",
         kind: Kind::Wanted,
     },

@@ -1,17 +1,19 @@
 //! What the program is asked to do.
 
 use crate::commands::COMMANDS;
+use crate::sitting::Window;
 use program_arguments::{Asked, Refusal, asked_by};
 use std::alloc::{AllocError, Global};
 
 /// What the program is asked to do.
 #[derive(Drop)]
 pub enum Order<'a> {
-    /// To serve a person at a terminal with so many rows, at the desktop of a store, or at one in memory where no path
-    /// is given; with word there whether the program is unproved.
+    /// To serve a person at a terminal of this size, at the desktop of a store, or at one in memory where no path is
+    /// given; with word there whether the program is unproved, and whether it asks before a press loses something.
     Sit {
-        rows: u16,
+        window: Window,
         unproved: bool,
+        questions: bool,
         path: Option<&'a str>,
     },
     /// To print the screen of a store as a picture.
@@ -99,8 +101,9 @@ fn order_named<'a>(alloc: Global, asked: &Asked<'a>) -> Result<Option<Order<'a>>
 fn short_order<'a>(asked: &Asked<'a>) -> Option<Order<'a>> {
     match asked.command {
         "sit" => Some(Order::Sit {
-            rows: asked.word("rows")?.parse::<u16>().ok()?,
+            window: window_of(asked)?,
             unproved: asked.chooses("unproved"),
+            questions: !asked.chooses("no-questions"),
             path: asked.word("path"),
         }),
         "picture" => Some(Order::Picture(asked.word("path")?)),
@@ -121,6 +124,19 @@ fn short_order<'a>(asked: &Asked<'a>) -> Option<Order<'a>> {
         }),
         _ => None,
     }
+}
+
+/// The size of the terminal: its rows, and its columns, which are 80 where they aren't told.
+fn window_of(asked: &Asked<'_>) -> Option<Window> {
+    let columns = match asked.word("columns") {
+        None => 80,
+        Some(word) => word.parse::<u16>().ok()?,
+    };
+    Some(Window {
+        rows: asked.word("rows")?.parse::<u16>().ok()?,
+        columns,
+        fills: !asked.chooses("no-fill"),
+    })
 }
 
 /// The order of an import.

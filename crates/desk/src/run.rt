@@ -2,7 +2,7 @@
 //! `desk_stores` and `desk_documents`). A person who sits down is served by `serve` of `desk_sitting` (`sitting`).
 
 use crate::orders::{Export, Import, Order, order_of};
-use crate::sitting::{sit_at, sit_in_memory};
+use crate::sitting::{Service, sit_at, sit_in_memory};
 use desk_documents::{
     Manner, Putting, Stop, backup, check, earlier, events_back, export_all, export_names, import,
     list, list_json,
@@ -41,7 +41,7 @@ fn decline(rt: &HostRuntime, refusal: Refusal) -> u8 {
         Refusal::Memory => Trouble::Memory.say(rt, ""),
         Refusal::Usage => {
             let _ = eprintln!(rt;
-                "desk: usage: sit [--unproved] ROWS [PATH] | picture PATH | import PATH FILE.. | export PATH NAME.. | export --looks PATH NAME | list PATH | backup PATH COPY | check PATH | history PATH | earlier PATH K COPY, in UTF-8"
+                "desk: usage: sit [--unproved] [--no-questions] [--no-fill] [--columns N] ROWS [PATH] | picture PATH | import PATH FILE.. | export PATH NAME.. | export --looks PATH NAME | list PATH | backup PATH COPY | check PATH | history PATH | earlier PATH K COPY, in UTF-8"
             );
             2
         }
@@ -52,15 +52,31 @@ fn decline(rt: &HostRuntime, refusal: Refusal) -> u8 {
 fn follow(rt: &HostRuntime, order: &Order<'_>) -> u8 {
     match order {
         Order::Sit {
-            rows,
+            window,
+            questions,
             path: None,
             ..
-        } => sit_in_memory(rt, *rows),
+        } => {
+            let service = Service {
+                window: *window,
+                greeting: Saying::InMemory,
+                questions: *questions,
+            };
+            sit_in_memory(rt, service)
+        }
         Order::Sit {
-            rows,
+            window,
             unproved,
+            questions,
             path: Some(path),
-        } => sit_at(rt, *rows, path, greeting(*unproved)),
+        } => {
+            let service = Service {
+                window: *window,
+                greeting: greeting(*unproved),
+                questions: *questions,
+            };
+            sit_at(rt, path, service)
+        }
         Order::Picture(path) => told(rt, path, picture(rt, path)),
         other => follow_over_documents(rt, other),
     }

@@ -11,6 +11,7 @@ use Rattle.command_table.specs.Parameters.{IsTextPlace}
 use Rattle.command_table.specs.declared.command.Command.{Command}
 use Rattle.desktop_definitions.specs.declared.call.ViewerCommand.{ViewerCommand}
 use Rattle.desktop_definitions.specs.declared.call.Call.{Call}
+use Rattle.desktop_definitions.specs.declared.reply.Reply.{Reply}
 use Rattle.desktop_definitions.specs.declared.reply.Reply.TheVariants.{No}
 use Rattle.desktop_definitions.specs.Limits.{no_command, wrong_symbol, no_viewer}
 use Rattle.desktop_definitions.specs.Needs.{needs, given}
@@ -25,8 +26,9 @@ use Rattle.desktop_definitions.specs.Outcome.{reply_codes}
 use Rattle.desktop_definitions.specs.Call.{text_called, target_viewer}
 use Rattle.desktop_definitions.specs.Commands.{done_with_viewer, command_at, commanded, after_call}
 use Rattle.desk_commands.specs.Calls.{IsCall}
-use Rattle.desk_core.specs.Doing.{Settles}
-use Rattle.desk_commands.proofs.ReadFirst.{Reads, refused_after}
+use Rattle.desk_core.specs.declared.stop.Stop.{Stop}
+use Rattle.desk_core.specs.Doing.{Settles, Does}
+use Rattle.desk_commands.proofs.ReadFirst.{Reads, refused_after, does_after}
 
 -- a look that is set by a name or a number
 pub ruleset looks_set = (font_sets_look, colour_sets_look, offset_sets_look)
@@ -48,6 +50,17 @@ pub refused_given : {S A : Type 0} (s : Ghosts S) (read : Desktop → Result A �
 refused_given {A = A} s read follow code old mid d reads over known is exact =
     refused_after s (λ x. given (read x) (follow x)) code old mid d reads over known
     (λ h. ap (λ (r : Result A ℕ). given r (follow (seen (s.characters old) d))) (sym (exact h) ∙ is))
+
+-- and where it is given, what is done with it
+pub does_given : {S A : Type 0} (s : Ghosts S)
+    (ground_through : (a b c : S) → s.same_ground a b → s.same_ground b c → s.same_ground a c)
+    (read : Desktop → Result A ℕ) (follow : Desktop → A → Result Desktop ℕ) (a : A) (old mid new : S)
+    (d after : KeptDesktop) (result : Result Reply Stop) {found : Result A ℕ} → Reads s old mid
+    → s.failures mid ≡ s.failures old → found ≡ Ok a → (s.honest old → found ≡ read (seen (s.characters old) d))
+    → Does s (λ x. follow x a) result mid new d after → Does s (λ x. given (read x) (follow x)) result old new d after
+does_given {A = A} s ground_through read follow a old mid new d after result reads calm is exact =
+    does_after s ground_through (λ (x : Desktop) (r : Result A ℕ). given r (follow x)) read (Ok a) old mid new d after result
+    reads calm (λ h. sym is ∙ exact h)
 
 -- a value that isn't wanted is refused
 pub same_wanted : {A : Type 0} (o : Option A) → ok_or o wrong_symbol ≡ needs o wrong_symbol (λ a. Ok a)

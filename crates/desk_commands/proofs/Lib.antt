@@ -5,3 +5,5 @@ pub mod StoringLemmas
 pub mod RewritingLemmas
 pub mod CallLemmas
 pub mod LogLemmas
+pub mod Comparing
+pub mod LosingLemmas

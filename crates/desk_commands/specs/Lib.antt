@@ -2,3 +2,4 @@ pub mod Calls
 pub mod Lines
 pub mod Rewriting
 pub mod Words
+pub mod Unstored

@@ -4,12 +4,12 @@ ghost use Rattle.sector_disk.specs.Faults.{OneOf};
 ghost use Rattle.readers_scanners.specs.Symbol.{IsSymbolShaped};
 ghost use Rattle.command_table.specs.Parameters.{place_lent, text_lent, listed_names, first_names};
 ghost use Rattle.desktop_definitions.specs.Call.{text_called, seen_at_marker, target_viewer, number_in, value_of, as_name};
-ghost use Rattle.desktop_definitions.specs.Call.{as_number, names_of};
+ghost use Rattle.desktop_definitions.specs.Call.{as_number, name_of, names_of};
 ghost use Rattle.desktop_definitions.specs.Commands.{done_with_name, done_with_number, done_with_viewer, commanded};
 ghost use Rattle.desktop_definitions.specs.Commands.{after_call};
 ghost use Rattle.desktop_definitions.specs.Outcome.{reply_codes as known_codes};
 ghost use Rattle.desktop_definitions.specs.DeskWords.{kept_place, kept_menu};
-ghost use Rattle.desk_commands.specs.Calls.{IsCall, IsViewerOnTop, done_with_value};
+ghost use Rattle.desk_commands.specs.Calls.{IsCall, IsViewerOnTop};
 ghost use Rattle.desk_core.specs.Words.{flat, IsOnTop, needs, IsKeptWhole, IsOver, kept_desktop, Does, TellsValue, TellsAs};
 ghost use Rattle.desk_commands.specs.Words.{no_viewer, version_number, given, files_deleted};
 
@@ -20,7 +20,6 @@ use crate::log::{clear_log, log_directory};
 use crate::looks::{change_look, colour_set, font_set, offset_set, set_look};
 use crate::searches::{recall_deleted, search};
 use crate::stores::{delete_files, store};
-use ValueCommand::{ByName, ByNumber};
 use arrayvec::ArrayVec;
 use char_file::{CharSource, Fault};
 use command_table::{Command, MOST_NAMES, Version, called, name_in, names, params};
@@ -74,21 +73,21 @@ pub fn call<S: CharSource>(
 }
 
 /// Does what a command says.
-#[tactic(auto, unfolding(desktop_definitions::specs::Commands::commanded, desktop_definitions::specs::Call::name_of, desktop_definitions::specs::Call::number_of))]
+#[tactic(auto, unfolding(desktop_definitions::specs::Commands::commanded, desktop_definitions::specs::Call::number_of))]
 fn obey<S: CharSource>(desk: &mut Desk, command: Command, call: Call, source: &mut S) -> StepResult
     requires { IsCall (S.characters source.old) (kept_desktop desk.old) call }
     ensures { Does S.CharSource (λ d. commanded d command call) result
         source.old source.new (kept_desktop desk.old) (kept_desktop desk.new) }
 {
     match command {
-        Command::EditOpen => command_with_value(desk, ByName(OpenDocument), call, source),
-        Command::SystemOpen => command_with_value(desk, ByName(OpenFile), call, source),
-        Command::SystemSetFont => command_with_value(desk, ByName(SetFont), call, source),
-        Command::EditChangeFont => command_with_value(desk, ByName(ChangeFont), call, source),
-        Command::SystemSetColor => command_with_value(desk, ByNumber(SetColor), call, source),
-        Command::SystemSetOffset => command_with_value(desk, ByNumber(SetOffset), call, source),
-        Command::EditChangeColor => command_with_value(desk, ByNumber(ChangeColor), call, source),
-        Command::EditChangeOffset => command_with_value(desk, ByNumber(ChangeOffset), call, source),
+        Command::EditOpen => command_with_name(desk, OpenDocument, call, source),
+        Command::SystemOpen => command_with_name(desk, OpenFile, call, source),
+        Command::SystemSetFont => command_with_name(desk, SetFont, call, source),
+        Command::EditChangeFont => command_with_name(desk, ChangeFont, call, source),
+        Command::SystemSetColor => command_with_number(desk, SetColor, call, source),
+        Command::SystemSetOffset => command_with_number(desk, SetOffset, call, source),
+        Command::EditChangeColor => command_with_number(desk, ChangeColor, call, source),
+        Command::EditChangeOffset => command_with_number(desk, ChangeOffset, call, source),
         Command::SystemClose => command_with_viewer(desk, ViewerCommand::Close, call, source),
         Command::SystemCopy => command_with_viewer(desk, ViewerCommand::Copy, call, source),
         Command::EditStore => command_with_viewer(desk, ViewerCommand::Store, call, source),
@@ -104,54 +103,46 @@ fn obey<S: CharSource>(desk: &mut Desk, command: Command, call: Call, source: &m
     }
 }
 
-/// A command that takes the value after its word, which has to be a name or a number.
-#[derive(Clone, Copy)]
-enum ValueCommand {
-    ByName(NameCommand),
-    ByNumber(NumberCommand),
-}
-
-/// With the value after the word. Refused where there is none, and where it is another one.
-fn command_with_value<S: CharSource>(
+/// A command that takes a name, with the value after its word. Refused where there is none, and where it is no name.
+#[tactic(auto, unfolding(desktop_definitions::specs::Commands::done_with_name), using(crate::proofs::CallLemmas::looks_set))]
+fn command_with_name<S: CharSource>(
     desk: &mut Desk,
-    command: ValueCommand,
+    command: NameCommand,
     call: Call,
     source: &mut S,
 ) -> StepResult
     requires { IsCall (S.characters source.old) (kept_desktop desk.old) call }
-    ensures { Does S.CharSource (λ d. done_with_value d command (value_of d call)) result
+    ensures { Does S.CharSource (λ d. given (name_of d call) (done_with_name d command)) result
         source.old source.new (kept_desktop desk.old) (kept_desktop desk.new) }
 {
     let value = value_of(desk, call, source)?;
-    match command {
-        ByName(command) => match as_name(value) {
-            Ok(name) => do_with_name(desk, command, &name, source),
-            Err(code) => Ok(Reply::No(code)),
+    match as_name(value) {
+        Ok(name) => match command {
+            OpenDocument => open_document(desk, &name, source),
+            OpenFile => open_file(desk, &name, source),
+            SetFont => set_look(desk, font_set(&name), source),
+            ChangeFont => change_look(desk, font_set(&name), source),
         },
-        ByNumber(command) => match as_number(value) {
-            Ok(number) => do_with_number(desk, command, number, source),
-            Err(code) => Ok(Reply::No(code)),
-        },
+        Err(code) => Ok(Reply::No(code)),
     }
 }
 
-/// What a command does with a name.
-#[tactic(auto, unfolding(desktop_definitions::specs::Commands::done_with_name), using(crate::proofs::CallLemmas::looks_set))]
-fn do_with_name<S: CharSource>(
+/// A command that takes a number, likewise.
+fn command_with_number<S: CharSource>(
     desk: &mut Desk,
-    command: NameCommand,
-    name: &Name,
+    command: NumberCommand,
+    call: Call,
     source: &mut S,
 ) -> StepResult
-    requires over { IsOver (S.characters source.old) (kept_desktop desk.old) }
-    ensures { Does S.CharSource (λ d. done_with_name d command name.now) result
-        source.old source.new (kept_desktop desk.old) (kept_desktop desk.new) }
+    requires { IsCall (S.characters source.old) (kept_desktop desk.old) call }
+    ensures { Does S.CharSource
+        (λ d. given (as_number (value_of d call)) (done_with_number d command))
+        result source.old source.new (kept_desktop desk.old) (kept_desktop desk.new) }
 {
-    match command {
-        OpenDocument => open_document(desk, name, source),
-        OpenFile => open_file(desk, name, source),
-        SetFont => set_look(desk, font_set(name), source),
-        ChangeFont => change_look(desk, font_set(name), source),
+    let value = value_of(desk, call, source)?;
+    match as_number(value) {
+        Ok(number) => do_with_number(desk, command, number, source),
+        Err(code) => Ok(Reply::No(code)),
     }
 }
 
@@ -230,7 +221,7 @@ fn delete_named_files<S: CharSource>(desk: &mut Desk, call: Call, source: &mut S
 // ---- what stands after the word
 
 /// The viewer that is seen at the marker. None where there is none.
-fn at_marker(desk: &Desk) -> Option<u16>
+pub(crate) fn at_marker(desk: &Desk) -> Option<u16>
     requires { IsKeptWhole (kept_desktop desk.now) }
     ensures viewer { result ≡ seen_at_marker (kept_desktop desk.now) }
     ensures placed { IfSome result (λ v. IsOnTop v (kept_desktop desk.now).columns) }

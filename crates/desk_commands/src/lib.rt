@@ -11,3 +11,4 @@ mod openings;
 mod rewriting;
 mod searches;
 mod stores;
+pub mod unstored;

@@ -14,7 +14,7 @@ use crate::openings::copy_of;
 use char_file::{CharSource, Fault};
 use command_table::{name_in, symbol_at};
 use desk_core::desk::Desk;
-use desk_core::files::{Files, has_room, length_of, put, size_of};
+use desk_core::files::{Files, put, room_for, size_of};
 use desk_core::stop::{NoMemory, StepResult};
 use desktop_definitions::{Reply, codes};
 use event_bytes::Name;
@@ -119,7 +119,11 @@ pub fn store<S: CharSource>(desk: &mut Desk, id: u16, source: &mut S) -> StepRes
 }
 
 /// The first symbol of a viewer's menu. None where it is no name. Fault: the source failed in this call.
-fn menu_name<S: CharSource>(desk: &Desk, id: u16, source: &mut S) -> Result<Option<Name>, Fault>
+pub(crate) fn menu_name<S: CharSource>(
+    desk: &Desk,
+    id: u16,
+    source: &mut S,
+) -> Result<Option<Name>, Fault>
     requires { IsViewerOnTop (S.characters source.old) (kept_desktop desk.now) id }
     ensures { TellsValue S.CharSource result (λ d. menu_name d id) source.old source.new
         (kept_desktop desk.now) }
@@ -137,13 +141,13 @@ fn store_as<S: CharSource>(desk: &mut Desk, id: u16, name: &Name, source: &mut S
         (Ok (stored_as d name.now (main_of d id)))) result
         source.old source.new (kept_desktop desk.old) (kept_desktop desk.new) }
 {
-    if !has_room(&desk.files, name) {
+    let Some(gone) = room_for(&desk.files, name) else {
         return Ok(Reply::No(codes::TOO_MANY_FILES));
-    }
+    };
     let text = desk.main_text(id);
     let line = storing_line(name, text.len());
     let more = text.len() as usize + line.len();
-    if !desk.fits_more(line.len(), more, length_of(&desk.files, name)) {
+    if !desk.fits_more(line.len(), more, gone) {
         return Ok(Reply::No(codes::FULL));
     }
     let copy = copy_of(desk.alloc, text)?;

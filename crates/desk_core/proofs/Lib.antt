@@ -13,3 +13,4 @@ pub mod ReadLemmas
 pub mod UnreadLemmas
 pub mod ArmLemmas
 pub mod Calm
+pub mod FileLemmas

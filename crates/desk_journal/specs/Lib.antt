@@ -12,3 +12,4 @@ pub mod Prefixes
 pub mod Files
 pub mod Undoing
 pub mod Scrolling
+pub mod Unstored

@@ -25,6 +25,7 @@ ghost use Rattle.desk_slots.specs.Words.{ListsUnread, shown_screen};
 
 mod bringing;
 mod scrolling;
+mod unstored;
 
 use command_table::{NEWEST, Version};
 use desk_slots::{
@@ -418,6 +419,15 @@ impl<D: Disk> Store<D> {
             events: self.events,
             written: self.desktop.written(),
         })
+    }
+
+    /// A law of a store in use: what it shows is what every crash leaves, and its journal is no longer than it may be.
+    pub fn shows_what_crashes_leave(&self)
+        ensures few { self.now.must_reopen ≡ false → self.now.events ≤ JOURNAL_EVENTS }
+        ensures durable { self.now.must_reopen ≡ false → IsDurable D.Disk self.now }
+    {
+        // What every store keeps is known once a part of it is read.
+        let _must_reopen = self.must_reopen;
     }
 
     /// Hands out the disk. It writes nothing, and works after any error.

@@ -40,8 +40,7 @@ fn post_each<D: Disk>(store: &mut Store<D>, alloc: Global, events: &[Event]) -> 
     ensures durable { IsDurable D.Disk store.old }
 {
     standing_law();
-    // What the store shows is what a crash would leave now.
-    let _ = store.info();
+    store.shows_what_crashes_leave();
     for event in events {
         let _ = store.post(alloc, event)?;
     }
@@ -91,8 +90,7 @@ pub fn undo_and_redo<D: Disk>(store: &mut Store<D>, alloc: Global, count: u32) -
     requires newest { store.old.layout ≡ LAYOUT }
     ensures { OnOk result (D.honest store.old.disk → store.new.desktop ≡ store.old.desktop) }
 {
-    // What the store shows is what a crash would leave now, and its journal has no more events than there may be.
-    let _ = store.info();
+    store.shows_what_crashes_leave();
     let undone = store.undo(alloc, count)?;
     post_all(store, alloc, undone.as_slice())
 }

@@ -2,8 +2,8 @@
 use Rattle.std.specs.Prelude.{ℕ, List}
 use Rattle.screen_pictures.specs.declared.cell.Cell.{Cell}
 use Rattle.desk_sitting.specs.declared.sitting.Sitting.{Sitting}
-use Rattle.desk_sitting.specs.Sayings.{line_of}
+use Rattle.desk_sitting.specs.Scenes.{sitting_line}
 
 -- where this is the screen
 abbrev pub page_line : List (List Cell) → Sitting → List ℕ
-page_line screen s = line_of screen s.hand.asked s.hand.armed s.saying
+page_line screen s = sitting_line screen s

@@ -3,7 +3,7 @@ ghost use Rattle.std.specs.Prelude.{◌≡◌, false, OnOk, IfOk, IfErr};
 ghost use Rattle.desk_journal.specs.Device.{IsSameDevice};
 ghost use Rattle.desk_journal.specs.View.{IsDurable};
 ghost use Rattle.sector_disk.specs.Faults.{FailsAs};
-ghost use Rattle.terminal_presses.specs.Presses.{parser_after, presses_heard};
+ghost use Rattle.terminal_keyboard.specs.Presses.{parser_after, presses_heard};
 ghost use Rattle.desk_sitting.specs.Doing.{Breaks, OfPresses};
 ghost use Rattle.desk_page.specs.Hearing.{Hears, heard_of};
 

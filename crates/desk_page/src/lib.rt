@@ -5,10 +5,20 @@
 //! brings and gives documents, and `close` hands out the disk.
 #![tactic(auto)]
 
+mod apart;
 mod documents;
 mod heard;
+mod held;
+mod kept;
+mod loading;
 mod page;
+mod scene;
+mod status;
 
 pub use documents::{bring, give};
 pub use heard::{hear, hearing};
+pub use held::{Held, put, take};
+pub use kept::{Kept, Made};
 pub use page::{Page, begin, begin_new, close, show};
+pub use scene::{HostPage, Scene};
+pub use status::NO_MEMORY;

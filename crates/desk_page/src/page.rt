@@ -1,5 +1,5 @@
 //! A page, from its beginning to its end, and what it shows.
-ghost use Rattle.std.specs.Prelude.{◌≡◌, ◌++◌, false, OnOk, IfOk, IfErr};
+ghost use Rattle.std.specs.Prelude.{◌≡◌, ◌++◌, true, false, OnOk, IfOk, IfErr};
 ghost use Rattle.desktop_definitions.specs.Desktop.{empty_desktop};
 ghost use Rattle.desktop_definitions.specs.Shown.{shown_screen};
 ghost use Rattle.desktop_definitions.specs.Step.{steps};
@@ -11,7 +11,8 @@ ghost use Rattle.desk_page.specs.Lines.{page_line};
 ghost use Rattle.desk_sitting.specs.Sittings.{looked, new_sitting};
 ghost use Rattle.first_desk.specs.FirstDesk.{furnishing};
 ghost use Rattle.screen_drawing.specs.Drawn.{drawing_of};
-ghost use Rattle.terminal_presses.specs.Presses.{at_rest};
+ghost use Rattle.terminal_keyboard.specs.Presses.{at_rest};
+ghost use Rattle.viewer_tracks.specs.declared.display.TheConstants.{COLUMNS};
 
 use desk_journal::{Error, Store};
 use desk_sitting::{Saying, Sitting};
@@ -21,7 +22,8 @@ use screen_drawing::draw;
 use sector_disk::Disk;
 use std::alloc::Global;
 use store_layout::showing_law;
-use terminal_presses::Parser;
+use terminal_keyboard::Parser;
+use viewer_tracks::COLUMNS;
 
 /// How many rows a page has, as a sitting counts them: those of the display, all of them in sight, and the line below.
 pub const HEIGHT: u16 = 33;
@@ -37,12 +39,12 @@ pub struct Page<D: Disk> {
 /// A page before a store, of which nothing was heard. The line below says the greeting.
 fn seated<D: Disk>(store: Store<D>) -> Page<D>
     ensures store { result.store ≡ store }
-    ensures sitting { result.sitting ≡ new_sitting HEIGHT Saying.Greeting }
+    ensures sitting { result.sitting ≡ new_sitting HEIGHT COLUMNS Saying.Greeting true }
     ensures parser { result.parser ≡ at_rest }
 {
     Page {
         store,
-        sitting: Sitting::new(HEIGHT, Saying::Greeting),
+        sitting: Sitting::new(HEIGHT, u16::from(COLUMNS), Saying::Greeting, true),
         parser: Parser::new(),
     }
 }
@@ -52,7 +54,8 @@ fn seated<D: Disk>(store: Store<D>) -> Page<D>
 /// Errors: those of `Store::open`.
 pub fn begin<D: Disk + Drop>(alloc: Global, disk: D) -> Result<Page<D>, Error>
     ensures opened { IfOk result (λ page. IsOpened D.Disk disk page.store) }
-    ensures sitting { IfOk result (λ page. page.sitting ≡ new_sitting HEIGHT Saying.Greeting) }
+    ensures sitting { IfOk result (λ page. page.sitting
+        ≡ new_sitting HEIGHT COLUMNS Saying.Greeting true) }
     ensures parser { IfOk result (λ page. page.parser ≡ at_rest) }
     ensures usable { IfOk result (λ page. page.store.must_reopen ≡ false) }
     ensures disk { IfOk result (λ page. IsOnlyRead D.Disk disk page.store.disk) }
@@ -73,7 +76,8 @@ pub fn begin_new<D: Disk + Drop>(alloc: Global, disk: D) -> Result<Page<D>, Erro
     ensures desktop { IfOk result (λ page. D.honest disk
         → page.store.desktop ≡ steps empty_desktop furnishing) }
     ensures durable { IfOk result (λ page. IsDurable D.Disk page.store) }
-    ensures sitting { IfOk result (λ page. page.sitting ≡ new_sitting HEIGHT Saying.Greeting) }
+    ensures sitting { IfOk result (λ page. page.sitting
+        ≡ new_sitting HEIGHT COLUMNS Saying.Greeting true) }
     ensures parser { IfOk result (λ page. page.parser ≡ at_rest) }
     ensures usable { IfOk result (λ page. page.store.must_reopen ≡ false) }
 {
@@ -83,7 +87,7 @@ pub fn begin_new<D: Disk + Drop>(alloc: Global, disk: D) -> Result<Page<D>, Erro
         Err((error, _)) => return Err(error),
     };
     furnish(alloc, &mut page.store)?;
-    let _ = page.store.info();
+    page.store.shows_what_crashes_leave();
     Ok(page)
 }
 

@@ -10,9 +10,9 @@ use Rattle.desk_journal.specs.View.{StoreView, IsDurable}
 use Rattle.terminal_presses.specs.declared.press.Heard.{Heard}
 use Rattle.terminal_presses.specs.declared.press.Press.{Press}
 use Rattle.terminal_presses.specs.declared.press.Presses.{Presses}
-use Rattle.terminal_presses.specs.declared.parser.Parser.{Parser}
-use Rattle.terminal_presses.specs.Presses.{heard_by, in_order, parser_after, presses_heard}
-use Rattle.terminal_presses.proofs.Pieces.{parser_of_both, pressed_of_both}
+use Rattle.terminal_keyboard.specs.declared.parser.Parser.{Parser}
+use Rattle.terminal_keyboard.specs.Presses.{heard_by, in_order, parser_after, presses_heard}
+use Rattle.terminal_keyboard.proofs.Pieces.{parser_of_both, pressed_of_both}
 use Rattle.desk_sitting.specs.declared.sitting.Sitting.{Sitting}
 use Rattle.desk_sitting.specs.Sittings.{accepted_of, after_press}
 use Rattle.desk_sitting.specs.Doing.{seat_of, OfPresses, DoesPress, DoesPresses, none, one_more, Breaks, DoesAllPresses}

@@ -1,5 +1,6 @@
 pub mod Accepted
 pub mod Between
+pub mod Carrying
 pub mod Done
 pub mod Pressed
 pub mod Sessions
@@ -7,7 +8,8 @@ pub mod Surviving
 pub mod Taking
 pub mod Turning
 pub mod Whole
+mod Found
 mod Asked
+mod Planning
 mod Questions
-mod Stretches
 mod Travelling

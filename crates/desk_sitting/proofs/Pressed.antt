@@ -1,8 +1,8 @@
 -- What a crash leaves of the events of a press, and what a press promises that has one event, or several.
-use Rattle.std.proofs.Common.{◌≡◌, ◌≤◌, ◌+◌, ◌<◌, ℕ, false, List, [], ◌∷◌, ◌++◌, length, get_or, take, drop, inl, inr}
+use Rattle.std.proofs.Common.{◌≡◌, ◌≤◌, ◌+◌, ◌<◌, ℕ, Bool, true, false, List, [], ◌∷◌, ◌++◌, length, get_or, take, drop, inl, inr}
 use Rattle.std.proofs.Common.{Ok, Err, refl, sym, ◌∙◌, ap, subst, append_assoc, append-nil, arith}
-use Rattle.std.specs.Prelude.{Option, Result, unwrap_or}
-use Rattle.std.proofs.lemmas.Bool.{false≢true}
+use Rattle.std.specs.Prelude.{◌&&◌, if◌then◌else◌, Result}
+use Rattle.std.proofs.lemmas.Bool.{cond-false, false≢true}
 use Rattle.std.proofs.lemmas.List.{take_more, take-append-drop}
 use Rattle.std.proofs.lemmas.Result.{on_ok_weaker, IfErr-weaker}
 use Rattle.sector_disk.specs.declared.disk.Disk.{Ghosts}
@@ -15,7 +15,7 @@ use Rattle.store_layout.specs.Meaning.{Means, MeansEither}
 use Rattle.desk_journal.specs.Device.{IsSameDevice}
 use Rattle.desk_journal.specs.Errors.{Error, Fault}
 use Rattle.desk_journal.specs.Looking.{OnlyLooks}
-use Rattle.desk_journal.specs.Session.{Session, session_of}
+use Rattle.desk_journal.specs.Session.{Session, session_of, taken}
 use Rattle.desk_journal.specs.Prefixes.{MeansPrefix}
 use Rattle.desk_journal.specs.View.{StoreView, IsDurable}
 use Rattle.desk_journal.proofs.Passing.{at_start, shows_means}
@@ -24,9 +24,9 @@ use Rattle.desk_journal.proofs.Prefixes.{prefix_behind}
 use Rattle.desk_sitting.specs.declared.sitting.Sitting.{Sitting}
 use Rattle.desk_sitting.specs.Doing.{ComesToSeat, DoesPress, GoesBy, IsDone, IsPressDone, IsPressUndone, IsUndone, OfPresses}
 use Rattle.desk_sitting.specs.Doing.{SittingSurvives, seat_of}
-use Rattle.desk_sitting.specs.Sittings.{Seat, accepted_by, after_post, after_posts}
+use Rattle.desk_sitting.specs.Sittings.{Seat, accepted_by, accepted_one, after_post, after_posts, does, does_all}
 use Rattle.desk_sitting.specs.Serving.{IsLookedAt}
-use Rattle.desk_sitting.proofs.Accepted.{accepted_both, one_steps, posted_both}
+use Rattle.desk_sitting.proofs.Accepted.{accepted_both, all_both, alone_accepted, alone_posted, one_steps, posted_both}
 use Rattle.desk_sitting.proofs.Taking.{of_look, takes_alone}
 use Rattle.desk_sitting.proofs.Turning.{looked_at, same_device}
 
@@ -325,13 +325,28 @@ module _ {D : Type 0} (d : Ghosts D) where
       → DoesPress d {T = Unit} [] (seat_of s store) (Ok tt) s store store
   none_posted s store usable = alone_press tt (seat_of s store) s store usable refl
 
+  -- what a call returns beside is nothing to it
+  pub press_told : {T U : Type 0} {x : U} (value : T) {events : List Event} {next : Seat} {s' : Sitting} {old new : StoreView D}
+      → DoesPress d events next (Ok x) s' old new → DoesPress d events next (Ok value) s' old new
+  press_told value press = record {
+    done = press.done;
+    undone = tt;
+    usable = press.usable;
+    faults = record {
+      rose = λ wrong. absurd (cc wrong);
+      calm = λ other. press.faults.calm (λ wrong. absurd (cc wrong));
+      errors = tt;
+    };
+    device = press.device;
+  }
+
   -- an event is one press of its own
-  event_press : {T : Type 0} (event : Event) (result : Result T Error) (s s' : Sitting) (old new : StoreView D)
+  pub event_press : {T : Type 0} (event : Event) (result : Result T Error) (s s' : Sitting) (old new : StoreView D)
       → ComesToSeat d (after_post event (seat_of s old)) result s' old new
-      → DoesPress d (accepted_by (session_of old) (event ∷ [])) (after_post event (seat_of s old)) result s' old new
+      → DoesPress d (accepted_one (session_of old) event) (after_post event (seat_of s old)) result s' old new
   event_press event result s s' old new takes =
       let steps_so = one_steps event (seat_of s old) in
-      one_press (accepted_by (session_of old) (event ∷ [])) steps_so.0 steps_so.1 result takes
+      one_press (accepted_one (session_of old) event) steps_so.0 steps_so.1 result takes
 
   -- an event more
   module _ (events : List Event) (i : ℕ) (filler event : Event) (room : i < length events)
@@ -339,34 +354,103 @@ module _ {D : Type 0} (d : Ghosts D) where
     split : take (i + 1) events ≡ take i events ++ event ∷ []
     split = take_more events i filler room ∙ ap (λ e. take i events ++ e ∷ []) (sym is)
 
-    pub next_posted : {T : Type 0} (s s' s'' : Sitting) (old mid new : StoreView D)
-        → DoesPress d {T = Unit} (accepted_by (session_of old) (take i events))
-        (after_posts (take i events) (seat_of s old)) (Ok tt) s' old mid
-        → (result : Result T Error) → ComesToSeat d (after_post event (seat_of s' mid)) result s'' mid new
-        → DoesPress d (accepted_by (session_of old) (take (i + 1) events))
-        (after_posts (take (i + 1) events) (seat_of s old)) result s'' old new
-    next_posted s s' s'' old mid new before result takes = press_same result (λ honest durable.
-        let seat : seat_of s' mid ≡ after_posts (take i events) (seat_of s old) = (before.done honest durable).seat in (
-          ap (λ (e : Seat). accepted_by (session_of old) (take i events) ++ accepted_by e.session (event ∷ [])) seat
-              ∙ sym (accepted_both (take i events) (event ∷ []) (seat_of s old))
-              ∙ ap (accepted_by (session_of old)) (sym split),
-          ap (after_post event) seat ∙ sym (posted_both (take i events) (event ∷ []) (seat_of s old))
-              ∙ ap (λ es. after_posts es (seat_of s old)) (sym split),
-        ))
-        (press_both before (event_press event result s' s'' mid new takes))
+    whole : take i events ++ event ∷ drop (i + 1) events ≡ events
+    whole = sym (append_assoc (take i events) (event ∷ []) (drop (i + 1) events))
+        ∙ ap (λ l. l ++ drop (i + 1) events) (sym split) ∙ take-append-drop (i + 1) events
 
-    -- it fails, and those behind it aren't posted
-    pub next_unposted : {T : Type 0} (s s' s'' : Sitting) (old mid new : StoreView D)
-        → DoesPress d {T = Unit} (accepted_by (session_of old) (take i events))
-        (after_posts (take i events) (seat_of s old)) (Ok tt) s' old mid
-        → (error : Error) → ComesToSeat d {T = T} (after_post event (seat_of s' mid)) (Err error) s'' mid new
-        → DoesPress d {T = T} (accepted_by (session_of old) events) (after_posts events (seat_of s old)) (Err error)
-        s'' old new
-    next_unposted {T = T} s s' s'' old mid new before error takes =
-        let first : List Event = take (i + 1) events in
-        let rest : List Event = drop (i + 1) events in
-        let then_on : Session = (after_posts first (seat_of s old)).session in
-        subst (λ es. DoesPress d {T = T} es (after_posts events (seat_of s old)) (Err error) s'' old new)
-        (sym (accepted_both first rest (seat_of s old))
-        ∙ ap (accepted_by (session_of old)) (take-append-drop (i + 1) events))
-        (press_short (accepted_by then_on rest) (after_posts events (seat_of s old)) (next_posted s s' s'' old mid new before (Err error) takes))
+    module _ (s s' s'' : Sitting) (old mid new : StoreView D)
+        (before : DoesPress d {T = Bool} (accepted_by (session_of old) (take i events))
+        (after_posts (take i events) (seat_of s old)) (Ok true) s' old mid)
+        (all : d.honest old.disk → IsDurable d old → does_all (session_of old) (take i events) ≡ true) where
+      abbrev front : List Event
+      front = take i events
+
+      abbrev behind : List Event
+      behind = drop (i + 1) events
+
+      abbrev start : Seat
+      start = seat_of s old
+
+      abbrev there : Seat
+      there = after_posts front start
+
+      same : d.honest old.disk → IsDurable d old → seat_of s' mid ≡ there
+      same honest durable = (before.done honest durable).seat
+
+      -- up to this one
+      pub next_posted : {T : Type 0} (result : Result T Error) → ComesToSeat d (after_post event (seat_of s' mid)) result s'' mid new
+          → DoesPress d (accepted_by (session_of old) (take (i + 1) events)) (after_posts (take (i + 1) events) start) result s''
+          old new
+      next_posted result takes = press_same result (λ honest durable. (
+        ap (λ (e : Seat). accepted_by (session_of old) front ++ accepted_one e.session event) (same honest durable)
+            ∙ ap (λ es. accepted_by (session_of old) front ++ es) (sym (alone_accepted event there.session))
+            ∙ sym (accepted_both front (event ∷ []) start (all honest durable))
+            ∙ ap (accepted_by (session_of old)) (sym split),
+        ap (after_post event) (same honest durable) ∙ sym (alone_posted event there)
+            ∙ sym (posted_both front (event ∷ []) start (all honest durable))
+            ∙ ap (λ es. after_posts es start) (sym split),
+      ))
+          (press_both before (event_press event result s' s'' mid new takes))
+
+      -- whether it is done, as it was told
+      told_so : (done : Bool) → (d.honest mid.disk → done ≡ does (session_of mid) event) → d.honest old.disk
+          → IsDurable d old → does there.session event ≡ done
+      told_so done told honest durable =
+          sym (ap (λ (e : Seat). does e.session event) (same honest durable))
+          ∙ sym (told (before.device.still honest))
+
+      -- it is done, as all before it
+      pub all_next : (done : Bool) → (d.honest mid.disk → done ≡ does (session_of mid) event) → done ≡ true
+          → d.honest old.disk → IsDurable d old → does_all (session_of old) (take (i + 1) events) ≡ true
+      all_next done told is honest durable =
+          ap (does_all (session_of old)) split
+          ∙ all_both front (event ∷ []) start (all honest durable)
+          ∙ ap (λ b. b && true) (told_so done told honest durable ∙ is)
+
+      -- it isn't done, and those behind it aren't posted
+      pub not_all : (done : Bool) → (d.honest mid.disk → done ≡ does (session_of mid) event) → done ≡ false
+          → d.honest old.disk → IsDurable d old → false ≡ does_all (session_of old) events
+      not_all done told is honest durable =
+          sym (ap (does_all (session_of old)) (sym whole)
+          ∙ all_both front (event ∷ behind) start (all honest durable)
+          ∙ ap (λ b. b && does_all (taken there.session event) behind) (told_so done told honest durable ∙ is))
+
+      pub stopped_at : (done value : Bool) → (d.honest mid.disk → done ≡ does (session_of mid) event) → done ≡ false
+          → ComesToSeat d (after_post event (seat_of s' mid)) (Ok done) s'' mid new
+          → DoesPress d (accepted_by (session_of old) events) (after_posts events start) (Ok value) s'' old new
+      stopped_at done value told is takes = press_same (Ok value) (λ honest durable.
+          let stops = told_so done told honest durable ∙ is in
+          let more : List Event = accepted_by (taken there.session event) behind in (
+            ap (accepted_by (session_of old)) split
+                ∙ accepted_both front (event ∷ []) start (all honest durable)
+                ∙ ap (λ es. accepted_by (session_of old) front ++ es) (alone_accepted event there.session
+                ∙ sym (append-nil (accepted_one there.session event))
+                ∙ sym (ap (λ es. accepted_one there.session event ++ es) (cond-false (does there.session event) more [] stops)))
+                ∙ sym (accepted_both front (event ∷ behind) start (all honest durable))
+                ∙ ap (accepted_by (session_of old)) whole,
+            ap (λ es. after_posts es start) split
+                ∙ posted_both front (event ∷ []) start (all honest durable)
+                ∙ alone_posted event there
+                ∙ sym (cond-false (does there.session event) (after_posts behind (after_post event there)) (after_post event there)
+                stops)
+                ∙ sym (posted_both front (event ∷ behind) start (all honest durable))
+                ∙ ap (λ es. after_posts es start) whole,
+          ))
+          (press_told value (next_posted (Ok done) takes))
+
+      -- it fails, and those behind it aren't posted
+      pub next_unposted : {T : Type 0} (error : Error) → ComesToSeat d {T = T} (after_post event (seat_of s' mid)) (Err error) s''
+          mid new
+          → DoesPress d {T = T} (accepted_by (session_of old) events) (after_posts events start) (Err error) s'' old new
+      next_unposted error takes =
+          let more : List Event = if does there.session event then accepted_by (taken there.session event) behind else [] in
+          press_same (Err error) (λ honest durable. (
+            ap (λ es. accepted_by (session_of old) es ++ more) split
+                ∙ ap (λ es. es ++ more) (accepted_both front (event ∷ []) start (all honest durable)
+                ∙ ap (λ es. accepted_by (session_of old) front ++ es) (alone_accepted event there.session))
+                ∙ append_assoc (accepted_by (session_of old) front) (accepted_one there.session event) more
+                ∙ sym (accepted_both front (event ∷ behind) start (all honest durable))
+                ∙ ap (accepted_by (session_of old)) whole,
+            refl,
+          ))
+          (press_short more (after_posts events start) (next_posted (Err error) takes))

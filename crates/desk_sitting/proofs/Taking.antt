@@ -1,6 +1,6 @@
 -- What a press takes a sitting and its store to.
 use Rattle.std.proofs.Common.{◌≡◌, ◌≢◌, inl, inr, true, false, refl, sym, ap, ◌∙◌, subst}
-use Rattle.std.specs.Prelude.{ℕ, Result, Ok, Err, OnOk, IfErr, IsErrOf, List, Option}
+use Rattle.std.specs.Prelude.{ℕ, Bool, not, ◌&&◌, Result, Ok, Err, OnOk, IfOk, IfErr, IsErrOf}
 use Rattle.std.proofs.lemmas.Bool.{cond-true, cond-false, false≢true}
 use Rattle.std.proofs.lemmas.Result.{on_ok_weaker, IfErr-weaker}
 use Rattle.sector_disk.specs.declared.disk.Disk.{Ghosts}
@@ -8,10 +8,8 @@ use Rattle.sector_disk.specs.Faults.{FailsAs}
 use Rattle.sector_disk.specs.Trail.{Content, now, Leaves, LeavesOnly}
 use Rattle.sector_disk.proofs.Touching.{weakened, chained, at_last}
 use Rattle.event_bytes.specs.declared.event.Event.{Event}
-use Rattle.screen_pictures.specs.declared.cell.Cell.{Cell}
 use Rattle.desktop_definitions.specs.Desktop.{Desktop}
 use Rattle.desktop_definitions.specs.declared.reply.Reply.{Reply}
-use Rattle.desktop_definitions.specs.Shown.{shown_screen}
 use Rattle.desktop_definitions.specs.Step.{step, Outcome}
 use Rattle.store_layout.specs.Meaning.{Means, MeansEither, Shows}
 use Rattle.desk_journal.specs.Device.{IsSameDevice}
@@ -23,15 +21,12 @@ use Rattle.desk_journal.specs.Session.{Session, session_of, is_worn, taken}
 use Rattle.desk_journal.specs.View.{StoreView, IsDurable}
 use Rattle.desk_journal.proofs.Passing.{at_start, shows_means}
 use Rattle.terminal_presses.specs.declared.action.Action.{Action}
-use Rattle.terminal_presses.specs.declared.action.Action.TheVariants as action
-use Rattle.terminal_presses.specs.declared.press.Arrow.{Arrow}
 use Rattle.terminal_presses.specs.declared.press.Press.{Press}
 use Rattle.terminal_presses.specs.Hands.{handled}
-use Rattle.desk_sitting.specs.declared.saying.Saying.TheVariants as saying
+use Rattle.desk_sayings.specs.declared.saying.Saying.TheVariants as saying
 use Rattle.desk_sitting.specs.declared.sitting.Sitting.{Sitting}
-use Rattle.desk_sitting.specs.Aims.{aimed}
 use Rattle.desk_sitting.specs.Doing.{OfPresses, ComesToSeat, seat_of}
-use Rattle.desk_sitting.specs.Sittings.{Seat, acted, after_press, after_click, after_post, done_by, replied, turned_away}
+use Rattle.desk_sitting.specs.Sittings.{Seat, acted, after_press, after_post, does, is_done, replied, turned_away}
 use Rattle.desk_sitting.specs.Sittings.{with_hand}
 use Rattle.desk_sitting.proofs.Sessions.{session_parts, is_it_worn, not_worn, taken_steps, is_taken}
 
@@ -153,6 +148,25 @@ module _ {D : Type 0} (d : Ghosts D) where
           };
           device = device;
         }
+
+    -- whether it is done is told
+    pub tells_done : (done : Bool) (reply : Reply) → IsAcknowledged d event reply old new → AnswersWorn (Ok reply) old new
+        → done ≡ is_done reply → d.honest old.disk → done ≡ does (session_of old) event
+    tells_done done reply acknowledged worn is honest =
+        let room : is_worn (session_of old) ≡ false = not_worn (session_of old)
+        (λ when. absurd (cc (worn.always ((usable, when.0), when.1)))) in
+        is ∙ ap (λ (p : Outcome). is_done p.reply) (stepped_newest d acknowledged honest)
+        ∙ sym (ap (λ b. not b && is_done (step old.desktop event).reply) room)
+
+    -- a worn store does none
+    pub tells_not_done : (error : Error) (result : Result Bool Error) → AnswersWorn (Err error) old new
+        → OnOk result ((error ≡ Worn) × (s' ≡ turned_away saying.Worn s)) → IfOk result (λ done. done ≡ false)
+        → IfOk result (λ done. d.honest old.disk → done ≡ does (session_of old) event)
+    tells_not_done error (Ok done) worn is never = λ honest.
+        let when = worn.only (ap (λ e. Err e) is.0) in
+        never ∙ sym (ap (λ b. not b && is_done (step old.desktop event).reply)
+        (is_it_worn (session_of old) when.0.1 when.1))
+    tells_not_done error (Err passed) worn is never = tt
 
     -- the store is worn, and nothing has changed
     takes_worn : {T : Type 0} (value : T) → AnswersWorn (Err Worn) old new → s' ≡ turned_away saying.Worn s
@@ -281,17 +295,6 @@ module _ {D : Type 0} (d : Ghosts D) where
         (looks.faults.calm (λ wrong. absurd (cc wrong))) takes.faults;
     device = joined_device old.disk mid.disk new.disk looks.disk.device takes.device;
   }
-
-  -- a click beside the caret that was seen is one beside the caret of the desktop
-  pub seen_step : {A : Type 0} (value : A) (arrow : Arrow) (at : Option (ℕ × ℕ)) (screen : List (List Cell))
-      (s : Sitting) (old mid : StoreView D) → OnlyLooks d (Ok value) old mid → at ≡ aimed arrow screen
-      → (d.honest old.disk → screen ≡ shown_screen old.desktop) → d.honest old.disk
-      → after_click at (seat_of s mid) ≡ done_by (action.Step arrow) (seat_of s old)
-  unfolding done_by
-  seen_step value arrow at screen s old mid looks is shown honest =
-      ap (λ place. after_click place (seat_of s mid)) (is ∙ ap (aimed arrow) (shown honest))
-      ∙ ap (λ session. after_click (aimed arrow (shown_screen old.desktop)) (record { sitting = s; session = session }))
-      (same_session looks honest)
 
 -- ---- a press
 

@@ -1,8 +1,8 @@
 -- What taking back and doing again come to.
 use Rattle.std.proofs.Common.{◌≡◌, ◌≢◌, inl, inr, ◌-◌, ℕ, List, length, false, refl, sym, ap, ◌∙◌, arith}
 use Rattle.std.proofs.Common.{Option, Some, None, subst}
-use Rattle.desk_past.specs.declared.again.NextEvent.{NextEvent}
-use Rattle.desk_past.specs.Past.{back_count}
+use Rattle.desk_presses.specs.declared.again.NextEvent.{NextEvent}
+use Rattle.desk_presses.specs.Past.{back_count}
 use Rattle.std.specs.Prelude.{Result, Ok, Err, OnOk, IfErr}
 use Rattle.std.proofs.lemmas.Bool.{false≢true}
 use Rattle.sector_disk.specs.declared.disk.Disk.{Ghosts}
@@ -17,11 +17,11 @@ use Rattle.desk_journal.specs.Posting.{AnswersMustReopen}
 use Rattle.desk_journal.specs.Undoing.{IsTakenBack, LeavesUndone, OfUndo}
 use Rattle.desk_journal.specs.View.{StoreView, IsDurable}
 use Rattle.desk_journal.proofs.Passing.{at_start, shows_means}
-use Rattle.desk_sitting.specs.declared.saying.Saying.TheVariants.{NothingAgain}
+use Rattle.desk_sayings.specs.declared.saying.Saying.TheVariants.{NothingAgain}
 use Rattle.desk_sitting.specs.declared.sitting.Sitting.{Sitting}
 use Rattle.desk_sitting.specs.declared.sitting.Travel.TheVariants.{Back, Again}
-use Rattle.desk_past.specs.Again.{next_event}
-use Rattle.desk_past.specs.declared.again.Place.{Place}
+use Rattle.desk_presses.specs.Again.{next_event}
+use Rattle.desk_presses.specs.declared.again.Place.{Place}
 use Rattle.desk_sitting.specs.Doing.{IsUndone, OfPresses, ComesToSeat, seat_of}
 use Rattle.desk_sitting.specs.Sittings.{after_post, refused}
 use Rattle.desk_sitting.specs.Travels.{Travelled, Travels, did_again, goes_again, store_place, settled, took_back}

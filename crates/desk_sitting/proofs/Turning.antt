@@ -14,7 +14,7 @@ use Rattle.sector_disk.specs.Faults.{FailsAs}
 use Rattle.terminal_keyboard.specs.declared.keyboard.KeyboardEnd.{KeyboardEnd}
 use Rattle.terminal_keyboard.specs.declared.keyboard.KeyboardEnd.TheVariants as keyboard
 use Rattle.terminal_presses.specs.declared.press.Heard.{Heard}
-use Rattle.terminal_presses.specs.Presses.{parser_after, presses_heard}
+use Rattle.terminal_keyboard.specs.Presses.{parser_after, presses_heard}
 use Rattle.desk_journal.specs.Device.{IsOnlyRead, IsSameDevice}
 use Rattle.desk_journal.specs.Errors.{Error, NotAStore, Damaged, TooSmall, Worn, NoMemory, MustReopen}
 use Rattle.desk_journal.specs.Errors.{Fault as DiskFault}

@@ -1,20 +1,25 @@
 -- Presses that are done over a store, one after another. `d` is what is known of a disk.
-use Rattle.std.specs.Prelude.{◌≡◌, ◌≤◌, false, List, [], ◌∷◌, ◌++◌, length, Result, OnOk, IfErr}
+use Rattle.std.specs.Prelude.{◌≡◌, ◌≤◌, false, List, [], ◌∷◌, ◌++◌, length, Bool, Result, OnOk, IfOk, IfErr}
 use Rattle.sector_disk.specs.declared.disk.Disk.{Ghosts}
 use Rattle.sector_disk.specs.Faults.{FailsAs, OneOf}
 use Rattle.sector_disk.specs.Trail.{now, Leaves, LeavesOnly}
 use Rattle.event_bytes.specs.declared.event.Event.{Event}
+use Rattle.desktop_definitions.specs.Desktop.{Desktop}
 use Rattle.desktop_definitions.specs.Step.{steps}
 use Rattle.store_layout.specs.Meaning.{Means, MeansEither}
 use Rattle.desk_journal.specs.Device.{IsSameDevice}
 use Rattle.desk_journal.specs.Errors.{Error, NoMemory, Fault}
+use Rattle.desk_journal.specs.Looking.{OnlyLooks}
 use Rattle.desk_journal.specs.Prefixes.{MeansPrefix}
 use Rattle.desk_journal.specs.View.{StoreView, IsDurable}
 use Rattle.terminal_presses.specs.declared.action.Action.{Action}
 use Rattle.terminal_presses.specs.declared.press.Press.{Press}
 use Rattle.desk_sitting.specs.declared.sitting.Sitting.{Sitting}
+use Rattle.desk_sitting.specs.declared.task.Plan.{Plan as MadePlan}
+use Rattle.desk_sitting.specs.declared.task.Task.{Task}
+use Rattle.desk_sitting.specs.Tasks.{plan_of, seen_plan}
 use Rattle.desk_journal.specs.Session.{session_of}
-use Rattle.desk_sitting.specs.Sittings.{Seat, accepted_by, accepted_of, after_press, done_by, posts}
+use Rattle.desk_sitting.specs.Sittings.{Seat, accepted_as, accepted_of, after_press, done_by, does}
 
 abbrev pub seat_of : {D : Type 0} → Sitting → StoreView D → Seat
 seat_of s store = record { sitting = s; session = session_of store }
@@ -54,6 +59,17 @@ module _ {D : Type 0} (d : Ghosts D) where
     pub usable : OnOk result (new.must_reopen ≡ false)
     pub faults : FailsAs Fault OfPresses result (d.failures old.disk) (d.failures new.disk)
     pub device : IsSameDevice d old.disk new.disk
+
+  -- whether an event was done
+  abbrev pub TellsDone : Event → Result Bool Error → StoreView D → Type 0
+  TellsDone event result old =
+      IfOk result (λ done. d.honest old.disk → done ≡ does (session_of old) event)
+
+  -- All that a call promises that is to make the plan of a task: it only looks at the store.
+  pub record Plans (task : Task) (result : Result MadePlan Error) (old new : StoreView D)
+      : Type 0 where
+    pub exact : IfOk result (λ plan. d.honest old.disk → seen_plan plan ≡ plan_of task old.desktop)
+    pub looks : OnlyLooks d result old new
 
   -- ---- the events of a press
 
@@ -103,10 +119,17 @@ module _ {D : Type 0} (d : Ghosts D) where
     pub faults : FailsAs Fault OfPresses result (d.failures old.disk) (d.failures new.disk)
     pub device : IsSameDevice d old.disk new.disk
 
+  -- and of one that only looks, and finds what is said of the desktop
+  pub record Finds {T : Type 0} (result : Result T Error) (said : Desktop → T) (s : Sitting)
+      (old new : StoreView D) : Type 0 where
+    pub told : IfOk result (λ found. d.honest old.disk → IsDurable d old
+        → found ≡ said old.desktop)
+    pub looks : DoesPress [] (seat_of s old) result s old new
+
   -- and of one that is to do what a press comes to
   abbrev pub DoesAction : {T : Type 0} → Action → Result T Error → Sitting → Sitting
       → StoreView D → StoreView D → Type 0
-  DoesAction a result s s' old new = DoesPress (accepted_by (session_of old) (posts a old.desktop))
+  DoesAction a result s s' old new = DoesPress (accepted_as a (seat_of s old))
       (done_by a (seat_of s old)) result s' old new
 
   -- ---- presses

@@ -6,7 +6,7 @@ use Rattle.std.specs.Str.{bytes_eq}
 use Rattle.viewer_tracks.specs.Display.{left_of, track_at}
 use Rattle.event_bytes.specs.declared.event.Event.{Event}
 use Rattle.event_bytes.specs.declared.event.Event.TheVariants.{Mark, Point}
-use Rattle.desk_past.specs.Deeds.{is_middle}
+use Rattle.desk_presses.specs.Deeds.{is_middle}
 use Rattle.desktop_definitions.specs.declared.entry.Entry.{Entry}
 use Rattle.desktop_definitions.specs.declared.entry.Entry.TheVariants.{File, Viewer, Over}
 use Rattle.first_desk.specs.declared.TheConstants.{TOOL_NAME}

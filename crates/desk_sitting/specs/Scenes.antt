@@ -1,28 +1,44 @@
 -- What a terminal is sent in a turn of a sitting.
-use Rattle.std.specs.Prelude.{◌≡◌, ◌+◌, ℕ, Bool, if◌then◌else◌, List, [], ◌∷◌, ◌++◌, Option}
+use Rattle.std.specs.Prelude.{◌≡◌, ◌+◌, ℕ, Bool, if◌then◌else◌, List, [], ◌∷◌, ◌++◌, Option, is_some}
 use Rattle.std.specs.Io.KnownBytes.{Appends}
 use Rattle.byte_streams.specs.Sent.{AppendsFront}
 use Rattle.viewer_tracks.specs.declared.display.TheConstants.{ROWS}
 use Rattle.screen_pictures.specs.declared.cell.Cell.{Cell}
+use Rattle.terminal_presses.specs.Sights.{columns_in_sight, first_column, terminal_place}
+use Rattle.terminal_presses.specs.Pointers.{pointer_cell}
+pub use Rattle.event_bytes.specs.Parts.{◌>>=◌}
 use Rattle.screen_drawing.specs.declared.face.Face.{Face}
 use Rattle.screen_drawing.specs.declared.scene.Scene.{Scene}
 use Rattle.screen_drawing.specs.declared.operation.Operation.TheVariants.{Ring}
 use Rattle.screen_drawing.specs.Scene.{scene_rows, line_height, text_below}
 use Rattle.screen_drawing.specs.Painting.{Paints, PaintsFront}
 use Rattle.screen_drawing.specs.Spelling.{operation_bytes}
+use Rattle.desk_sayings.specs.Sayings.{line_of, said_by_pointer}
 use Rattle.desk_sitting.specs.declared.sitting.Sitting.{Sitting}
-use Rattle.desk_sitting.specs.Sayings.{line_of}
 use Rattle.desk_sitting.specs.Sittings.{looked}
 use Rattle.desk_sitting.specs.declared.ending.SittingEnd.{SittingEnd}
 use Rattle.desk_sitting.specs.declared.ending.SittingEnd.TheVariants.{Left, Closed, Input, TooLong, Output, Fault, Memory}
 
--- the rows of the screen that are in sight, and the line below
+-- where in the terminal the pointer is that keys move, while it is shown
+abbrev pub pointer_of : Sitting → Option (ℕ × ℕ)
+pointer_of s = pointer_cell s.hand.pointer >>= terminal_place s.sight
+
+-- the line below a screen
+abbrev pub sitting_line : List (List Cell) → Sitting → List ℕ
+sitting_line screen s = line_of screen s.hand.asked s.hand.asks_line s.hand.armed
+    (said_by_pointer (is_some (pointer_cell s.hand.pointer)) s.saying)
+
+-- the part of the screen that is in sight, the pointer, and the line below
 pub record IsSceneOf (s : Sitting) (screen : List (List Cell)) (scene : Scene) : Type 0 where
   pub cells : scene.screen.now ≡ screen
   pub first : scene.first + s.sight.top + 1 ≡ ROWS
   pub rows : scene.rows ≡ s.sight.rows
+  pub left : scene.left ≡ first_column s.sight
+  pub columns : scene.columns ≡ columns_in_sight s.sight
+  pub width : scene.width ≡ s.sight.width
   pub has_line : line_height scene.below ≡ 1
-  pub line : text_below scene.below ≡ line_of screen s.hand.asked s.hand.armed s.saying
+  pub pointer : scene.pointer ≡ pointer_of s
+  pub line : text_below scene.below ≡ sitting_line screen s
 
 -- what is known of the terminal before the scene is painted
 abbrev pub known_by : Bool → List (List Face) → List (List Face)

@@ -12,10 +12,10 @@ use Rattle.desk_journal.specs.Errors.{Error, NoMemory, Fault as DiskFault}
 use Rattle.desk_journal.specs.Session.{session_of}
 use Rattle.desk_journal.specs.View.{StoreView, IsDurable}
 use Rattle.screen_drawing.specs.declared.face.Face.{Face}
-use Rattle.terminal_presses.specs.declared.parser.Parser.{Parser}
+use Rattle.terminal_keyboard.specs.declared.parser.Parser.{Parser}
 use Rattle.terminal_presses.specs.declared.press.Heard.{Heard}
-use Rattle.terminal_presses.specs.Presses.{at_rest, parser_after, presses_heard}
-use Rattle.desk_sitting.specs.declared.saying.Saying.{Saying}
+use Rattle.terminal_keyboard.specs.Presses.{at_rest, parser_after, presses_heard}
+use Rattle.desk_sayings.specs.declared.saying.Saying.{Saying}
 use Rattle.desk_sitting.specs.declared.sitting.Sitting.{Sitting}
 use Rattle.desk_sitting.specs.Doing.{Breaks, DoesPresses, seat_of}
 use Rattle.desk_sitting.specs.Sittings.{accepted_events, after_fetch, looked, new_sitting}
@@ -54,10 +54,11 @@ turn_state_of parser sitting store heard known held = record {
 }
 
 -- nothing was heard yet, and nothing is known of the terminal
-abbrev pub first_place : {D : Type 0} → ℕ → Saying → StoreView D → List Heard → Option (List ℕ)
-    → TurnState D
-first_place height greeting store heard held =
-    turn_state_of at_rest (new_sitting height greeting) store heard [] held
+abbrev pub first_place : {D : Type 0} → ℕ → ℕ → Saying → Bool → Bool → StoreView D → List Heard
+    → Option (List ℕ) → TurnState D
+first_place height width greeting questions fills store heard held =
+    turn_state_of at_rest
+    (record (new_sitting height width greeting questions) { fills = fills }) store heard [] held
 
 -- the keyboard was asked for the text of a host file, where one is wanted
 pub record IsFetched (old new : Sitting) : Type 0 where

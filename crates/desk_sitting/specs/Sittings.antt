@@ -1,37 +1,45 @@
 -- What presses come to, one after another: a sitting, and the session of the store before which it is.
-use Rattle.std.specs.Prelude.{◌≡◌, ℕ, ◌-◌, Bool, true, false, ◌==◌, ◌&&◌, not, if◌then◌else◌, List, [], ◌∷◌, ◌++◌}
+use Rattle.std.specs.Prelude.{◌≡◌, ℕ, zero, suc, ◌-◌, Bool, true, false, ◌==◌, ◌&&◌, ◌||◌, not, nat_lt, if◌then◌else◌, List, [], ◌∷◌, ◌++◌}
 use Rattle.std.specs.Prelude.{Option, Some, None, is_some, option_map, unwrap_or}
 use Rattle.event_bytes.specs.declared.event.Event.{Event}
 use Rattle.event_bytes.specs.declared.event.Event.TheVariants.{File, Point}
-use Rattle.event_bytes.specs.declared.keys.Keys.TheVariants.{Left}
+use Rattle.event_bytes.specs.declared.keys.Keys.TheVariants.{Middle}
 use Rattle.screen_pictures.specs.declared.cell.Cell.{Cell}
 use Rattle.desktop_definitions.specs.Desktop.{Desktop}
 use Rattle.desktop_definitions.specs.declared.reply.Reply.{Reply}
 use Rattle.desktop_definitions.specs.declared.reply.Reply.TheVariants.{Done, No}
-use Rattle.desktop_definitions.specs.Listing.{entries_of}
-use Rattle.desktop_definitions.specs.Shown.{shown_screen}
+use Rattle.desktop_definitions.specs.Limits.{no_file}
 use Rattle.desktop_definitions.specs.Step.{step, steps}
 use Rattle.terminal_presses.specs.declared.press.Press.{Press}
 use Rattle.terminal_presses.specs.declared.action.Action.{Action}
 use Rattle.terminal_presses.specs.declared.action.Action.TheVariants as action
 use Rattle.terminal_presses.specs.declared.hand.Hand.{Hand}
+use Rattle.terminal_presses.specs.Pointers.{pointer_cell}
 use Rattle.terminal_presses.specs.Hands.{dropping, handled, new_hand, pastes_text}
-use Rattle.viewer_tracks.specs.declared.display.TheConstants.{ROWS}
-use Rattle.desk_sitting.specs.declared.saying.Saying.{Saying}
-use Rattle.desk_sitting.specs.declared.saying.Saying.TheVariants.{NoKey, NoText, NoScroll, Refused, CutShort, Worn, Unread}
-use Rattle.desk_sitting.specs.declared.saying.Saying.TheVariants.{Unfinished, TooNarrow, TooLow, ToolFiled}
+use Rattle.viewer_tracks.specs.declared.display.TheConstants.{COLUMNS, ROWS}
+use Rattle.viewer_tracks.specs.declared.display.Track.TheVariants.{System}
+use Rattle.terminal_presses.specs.Sights.{Sight}
+use Rattle.desk_sayings.specs.declared.question.Question.{Question}
+use Rattle.desk_sayings.specs.declared.saying.Saying.{Saying}
+use Rattle.desk_sayings.specs.declared.saying.Saying.TheVariants.{NoKey, Refused, CutShort, Worn, Unread}
+use Rattle.desk_sayings.specs.declared.saying.Saying.TheVariants.{Unfinished, TooNarrow, TooLow, ToolFiled, OneSide, NoDocument, Fills, FillsNot}
 use Rattle.desk_sitting.specs.declared.sitting.Sitting.{Sitting}
 use Rattle.desk_sitting.specs.declared.sitting.Travel.TheVariants.{Back, Again}
-use Rattle.desk_past.specs.Again.{no_again}
-use Rattle.desk_past.specs.declared.deed.Deed.TheVariants.{Scroll as Scrolled}
-use Rattle.desk_past.specs.Deeds.{typed_more}
-use Rattle.desk_sitting.specs.Listed.{event_meant}
-use Rattle.desk_past.specs.Past.{past_after, named, no_past, with_refused}
-use Rattle.desk_sitting.specs.Questions.{questioned, comes_first, question_of, resting_of, unasked}
-use Rattle.desk_sitting.specs.Aims.{aimed, caret_cell}
-use Rattle.desk_sitting.specs.Scrolling.{scroll_presses}
+use Rattle.desk_presses.specs.Again.{no_again}
+use Rattle.desk_presses.specs.declared.deed.Deed.{Deed}
+use Rattle.desk_presses.specs.Deeds.{typed_more}
+use Rattle.desk_presses.specs.Past.{PastView, past_after, named, no_past, with_refused}
+use Rattle.desk_sitting.specs.Questions.{questioned, question_of, unasked}
+use Rattle.desk_sayings.specs.Question.{comes_first}
+use Rattle.desk_sayings.specs.Sayings.{resting_of}
+use Rattle.desk_presses.specs.Aims.{caret_cell, or_else}
+use Rattle.desk_sitting.specs.declared.task.Task.{Task}
+use Rattle.desk_sitting.specs.declared.task.TheConstants.{MOST_PLANS}
+use Rattle.desk_sitting.specs.Tasks.{Plan, deed_of_task, keeps_sight, plan_of, task_of}
+use Rattle.desk_sitting.specs.Tasks.{Events, Refused as NotDone}
 use Rattle.desk_journal.specs.Session.{Session, is_worn, taken}
-use Rattle.desk_sitting.specs.Windows.{fitted, following_sight, height_told, is_low, is_narrow, moved_sight}
+use Rattle.desk_presses.specs.Windows.{fitted, following_sight, height_told, is_low, is_narrow, moved_sight}
+use Rattle.desk_presses.specs.Windows.{width_told}
 
 -- a sitting, and the session of the store before which it is
 pub record Seat : Type 0 where
@@ -40,13 +48,23 @@ pub record Seat : Type 0 where
 
 -- ---- a sitting alone
 
--- in which nothing was pressed, at a terminal of so many rows
-abbrev pub new_sitting : ℕ → Saying → Sitting
-new_sitting height greeting = record {
+-- what a terminal shows first: where it has fewer columns than the display, the side of the tool text
+abbrev pub first_sight : ℕ → ℕ → Sight
+first_sight height width =
+    fitted height width (record { top = ROWS - 1; rows = ROWS; width = COLUMNS; side = System })
+
+-- and what its line says then
+abbrev pub first_saying : ℕ → Saying → Saying
+first_saying width greeting = if nat_lt width COLUMNS then OneSide else greeting
+
+-- in which nothing was pressed, at a terminal of so many rows and columns; it asks before something is lost, or not
+abbrev pub new_sitting : ℕ → ℕ → Saying → Bool → Sitting
+new_sitting height width greeting questions = record {
   hand = new_hand;
-  sight = fitted height (record { top = ROWS - 1; rows = ROWS });
-  saying = greeting;
+  sight = first_sight height width;
+  saying = first_saying width greeting;
   resting = resting_of greeting;
+  questions = questions;
   question = None;
   rings = false;
   follows = true;
@@ -59,6 +77,7 @@ new_sitting height greeting = record {
   again = no_again;
   past = no_past;
   joins = false;
+  fills = true;
 }
 
 -- the terminal rings, and the line below says why
@@ -87,6 +106,12 @@ abbrev pub done_saying : Event → Saying → Saying
 done_saying (File name bytes) rest = ToolFiled
 done_saying event rest = rest
 
+-- what it says of a refusal: where there is no document of a name, the word that was called has it
+abbrev pub refused_saying : Event → ℕ → Saying
+refused_saying (Point Middle x y _ _) code =
+    if code == no_file then NoDocument x y else Refused code
+refused_saying event code = Refused code
+
 -- after the reply to an event: what was done is followed by the rows in sight, and can be taken back
 unfoldable pub replied : Event → Reply → Sitting → Sitting
 replied event Done s = record s {
@@ -96,12 +121,17 @@ replied event Done s = record s {
   past = past_after s.joins event s.past;
   joins = true;
 }
-replied event (No code) s = turned_away (Refused code) (record s { past = with_refused s.past })
+replied event (No code) s =
+    turned_away (refused_saying event code) (record s { past = with_refused s.past })
 
--- after the screen was shown: the rows in sight have followed the caret, and what was to be done at once is done
+-- what the rows in sight follow: the pointer that keys move, where it is shown, and else the caret
+abbrev pub followed_cell : List (List Cell) → Hand → Option (ℕ × ℕ)
+followed_cell screen hand = or_else (pointer_cell hand.pointer) (caret_cell screen)
+
+-- after the screen was shown: the rows in sight have followed, and what was to be done at once is done
 unfoldable pub looked : List (List Cell) → Sitting → Sitting
 looked screen s = record s {
-  sight = if s.follows then following_sight (caret_cell screen) s.sight else s.sight;
+  sight = if s.follows then following_sight (followed_cell screen s.hand) s.sight else s.sight;
   follows = false;
   rings = false;
   forgets = false;
@@ -125,29 +155,76 @@ after_post event seat = record {
   session = taken seat.session event;
 }
 
--- a left click at a place, or a ring where there is none
-unfoldable pub after_click : Option (ℕ × ℕ) → Seat → Seat
-after_click None seat = record seat { sitting = refused NoText seat.sitting }
-after_click (Some place) seat = after_post (Point Left place.0 place.1 place.0 place.1) seat
+-- whether an event is done
+abbrev pub is_done : Reply → Bool
+is_done Done = true
+is_done (No code) = false
 
--- events that are posted, one after another
+abbrev pub does : Session → Event → Bool
+does session event = not (is_worn session) && is_done (step session.desktop event).reply
+
+-- Events are posted, one after another, each if the one before it was done.
 abbrev pub after_posts : List Event → Seat → Seat
 after_posts [] seat = seat
-after_posts (event ∷ events) seat = after_posts events (after_post event seat)
+after_posts (event ∷ events) seat =
+    if does seat.session event then after_posts events (after_post event seat)
+    else after_post event seat
 
--- A scroll is done: the rows in sight don't follow the caret for it, and what was done, if anything, is named so.
-abbrev pub scrolled : Bool → Sitting → Sitting
-scrolled follows s = record s {
-  follows = follows;
-  past = if s.joins then named Scrolled s.past else s.past;
+-- whether all of them are done
+abbrev pub does_all : Session → List Event → Bool
+does_all session [] = true
+does_all session (event ∷ events) = does session event && does_all (taken session event) events
+
+-- ---- a task
+
+-- what was done is named so, unless its first event names it
+abbrev pub named_if : Option Deed → PastView → PastView
+named_if None past = past
+named_if (Some deed) past = named deed past
+
+-- The events of a task are posted, before which the rows in sight were to follow the caret or not.
+abbrev pub went_on : Option Deed → Option Bool → Sitting → Sitting
+went_on deed follows s = record s {
+  follows = unwrap_or follows s.follows;
+  past = if s.joins then named_if deed s.past else s.past;
 }
 
--- the presses that scroll, or a ring where there are none
-unfoldable pub after_scroll : Option (List Event) → Seat → Seat
-after_scroll None seat = record seat { sitting = refused NoScroll seat.sitting }
-after_scroll (Some events) seat =
-    let next : Seat = after_posts events seat in
-    record next { sitting = scrolled seat.sitting.follows next.sitting }
+abbrev pub kept_follows : Task → Sitting → Option Bool
+kept_follows task s = if keeps_sight task then Some s.follows else None
+
+-- what is done by a plan: the terminal rings for the reason, or events are posted
+abbrev pub after_planned : Plan → Seat → Seat
+after_planned (NotDone why) seat = record seat { sitting = refused why seat.sitting }
+after_planned (Events events next) seat = after_posts events seat
+
+-- and by a task of which that is the plan
+abbrev pub after_plan : Task → Plan → Seat → Seat
+after_plan task plan seat =
+    let after : Seat = after_planned plan seat in
+    record after {
+      sitting =
+          went_on (deed_of_task task) (kept_follows task seat.sitting) after.sitting;
+    }
+
+-- what is left to do then: nothing, where an event wasn't done
+abbrev pub left_by : Plan → Session → Option Task
+left_by (NotDone why) session = None
+left_by (Events events next) session = if does_all session events then next else None
+
+-- what is left of a task goes one plan further
+abbrev pub task_left : Option Task → Session → Option Task
+task_left None session = None
+task_left (Some task) session = left_by (plan_of task session.desktop) session
+
+abbrev pub after_stage : Option Task → Seat → Seat
+after_stage None seat = seat
+after_stage (Some task) seat = after_plan task (plan_of task seat.session.desktop) seat
+
+-- and by so many plans at most
+abbrev pub after_task : ℕ → Option Task → Seat → Seat
+after_task zero left seat = seat
+after_task (suc n) left seat =
+    after_task n (task_left left seat.session) (after_stage left seat)
 
 -- what the line below says once the terminal has told its size: where that is too small, that
 abbrev pub is_too_small : Saying → Bool
@@ -164,6 +241,10 @@ fitted_saying narrow low rest saying =
 abbrev pub ring_reason : Sitting → Saying
 ring_reason s = if is_some s.hand.asked then s.resting else NoKey
 
+-- what the line below says of lines that are filled from now on, or no longer
+abbrev pub fill_saying : Bool → Saying
+fill_saying fills = if fills then Fills else FillsNot
+
 -- what a press comes to that posts nothing
 unfoldable pub acted_alone : Action → Sitting → Sitting
 acted_alone action.Ring s = refused (ring_reason s) s
@@ -174,40 +255,52 @@ acted_alone action.Redo s = record s { travels = Some Again }
 acted_alone (action.TypeFile name) s = record s { wanted = Some name }
 acted_alone (action.Move page) s = record s { sight = moved_sight page s.sight; follows = false }
 acted_alone (action.Fit rows columns) s = record s {
-  sight = fitted (height_told rows columns) s.sight;
+  sight = fitted (height_told rows columns) (width_told rows columns) s.sight;
   saying = fitted_saying (is_narrow rows columns) (is_low rows columns) s.resting s.saying;
   forgets = true;
 }
+acted_alone action.Fill s = record s { fills = not s.fills; saying = fill_saying (not s.fills) }
 acted_alone action.FileFailed s = refused Unfinished s
 acted_alone _ s = s
 
+-- what a press comes to: a task, or what is done alone
+abbrev pub done_so : Option Task → Action → Seat → Seat
+done_so None a seat = record seat { sitting = acted_alone a seat.sitting }
+done_so (Some task) a seat = after_task MOST_PLANS (Some task) seat
+
+-- whether what is typed may break a line: a paste breaks none
+abbrev pub is_filling : Sitting → Bool
+is_filling s = s.fills && not (is_some s.typed)
+
 unfoldable pub done_by : Action → Seat → Seat
-done_by (action.Post event) seat =
-    after_post (event_meant (entries_of seat.session.desktop) event) seat
-done_by (action.Step arrow) seat =
-    after_click (aimed arrow (shown_screen seat.session.desktop)) seat
-done_by (action.Scroll at scroll) seat =
-    after_scroll (scroll_presses at scroll seat.session.desktop) seat
-done_by alone seat = record seat { sitting = acted_alone alone seat.sitting }
+done_by a seat = done_so (task_of (is_filling seat.sitting) a) a seat
+
+-- what is asked about a press here
+abbrev pub question_at : Action → Seat → Option Question
+question_at a seat = question_of a seat.sitting seat.session.desktop
 
 -- whether a question is asked, and no more is done
-abbrev pub asks_first : Action → Sitting → Bool
-asks_first a s = comes_first s.question (question_of a s)
+abbrev pub asks_first : Action → Seat → Bool
+asks_first a seat = comes_first seat.sitting.question (question_at a seat)
+
+-- the question is asked
+abbrev pub with_question : Action → Seat → Seat
+with_question a seat = record seat { sitting = questioned (question_at a seat) seat.sitting }
 
 -- What would lose something is asked about first. What does anything else forgets the question.
 unfoldable pub acted : Action → Seat → Seat
 acted a seat =
-    if asks_first a seat.sitting then
-    record seat { sitting = questioned (question_of a seat.sitting) seat.sitting }
+    if asks_first a seat then with_question a seat
     else done_by a (record seat { sitting = unasked a seat.sitting })
 
 -- Once the hand has taken a press: where that is amid a text that is pasted, it is counted how many of its characters
--- are typed, and its events are those of one press.
+-- are typed, and its events are those of one press. The rows in sight follow a pointer that keys move.
 abbrev pub with_hand : Hand → Sitting → Sitting
 with_hand hand s = record s {
   hand = hand;
   typed = if pastes_text s.hand then Some (unwrap_or s.typed 0) else None;
   joins = pastes_text s.hand && s.joins;
+  follows = is_some (pointer_cell hand.pointer) || s.follows;
 }
 
 -- nothing is done after the person has left
@@ -222,30 +315,44 @@ after_presses (press ∷ presses) seat = after_presses presses (after_press pres
 
 -- ---- its events
 
-abbrev pub click_at : Option (ℕ × ℕ) → List Event
-click_at None = []
-click_at (Some place) = Point Left place.0 place.1 place.0 place.1 ∷ []
+-- which of these events are accepted: a worn store takes none, and one that isn't done is the last one
+abbrev pub accepted_one : Session → Event → List Event
+accepted_one session event = if is_worn session then [] else event ∷ []
 
-abbrev pub posts : Action → Desktop → List Event
-posts (action.Post event) d = event_meant (entries_of d) event ∷ []
-posts (action.Step arrow) d = click_at (aimed arrow (shown_screen d))
-posts (action.Scroll at scroll) d = unwrap_or (scroll_presses at scroll d) []
-posts _ d = []
-
--- a question posts none
-abbrev pub posts_unasked : Action → Seat → List Event
-posts_unasked a seat = if asks_first a seat.sitting then [] else posts a seat.session.desktop
-
--- which of these events are accepted, posted one after another: a worn store takes none
 abbrev pub accepted_by : Session → List Event → List Event
 accepted_by session [] = []
-accepted_by session (event ∷ events) =
-    (if is_worn session then [] else event ∷ []) ++ accepted_by (taken session event) events
+accepted_by session (event ∷ events) = accepted_one session event
+    ++ (if does session event then accepted_by (taken session event) events else [])
+
+-- the events of a plan
+abbrev pub planned : Plan → List Event
+planned (NotDone why) = []
+planned (Events events next) = events
+
+-- the events of a task that are accepted, by one plan, and by so many at most
+abbrev pub accepted_stage : Option Task → Seat → List Event
+accepted_stage None seat = []
+accepted_stage (Some task) seat =
+    accepted_by seat.session (planned (plan_of task seat.session.desktop))
+
+abbrev pub accepted_in : ℕ → Option Task → Seat → List Event
+accepted_in zero left seat = []
+accepted_in (suc n) left seat = accepted_stage left seat
+    ++ accepted_in n (task_left left seat.session) (after_stage left seat)
+
+-- and of what a press comes to; a question has none
+unfoldable pub accepted_as : Action → Seat → List Event
+accepted_as a seat = accepted_in MOST_PLANS (task_of (is_filling seat.sitting) a) seat
+
+abbrev pub accepted_unasked : Action → Seat → List Event
+accepted_unasked a seat = if asks_first a seat then []
+    else accepted_as a (record seat { sitting = unasked a seat.sitting })
 
 -- the events of a press that are accepted
 abbrev pub accepted_of : Press → Seat → List Event
-accepted_of press seat = if seat.sitting.leaves then [] else accepted_by seat.session
-    (posts_unasked (handled seat.sitting.sight press seat.sitting.hand).1 seat)
+accepted_of press seat = if seat.sitting.leaves then [] else
+    (let next = handled seat.sitting.sight press seat.sitting.hand in
+    accepted_unasked next.1 (record seat { sitting = with_hand next.0 seat.sitting }))
 
 abbrev pub accepted_events : List Press → Seat → List Event
 accepted_events [] seat = []
@@ -263,7 +370,7 @@ PressesAreSteps = (presses : List Press) (seat : Seat)
 -- a press asks a question
 abbrev pub asks_by : Press → Seat → Bool
 asks_by press seat = not seat.sitting.leaves
-    && asks_first (handled seat.sitting.sight press seat.sitting.hand).1 seat.sitting
+    && asks_first (handled seat.sitting.sight press seat.sitting.hand).1 seat
 
 -- A press that asks posts nothing, and leaves what it is asked about as it is.
 abbrev pub QuestionsPostNothing : Type 0
@@ -273,5 +380,5 @@ QuestionsPostNothing = (press : Press) (seat : Seat) → asks_by press seat ≡ 
 
 -- It is asked once: what would lose something does it where it comes right after its question.
 abbrev pub QuestionsComeOnce : Type 0
-QuestionsComeOnce = (a : Action) (s : Sitting) → asks_first a s ≡ true
-    → asks_first a (questioned (question_of a s) s) ≡ false
+QuestionsComeOnce = (a : Action) (seat : Seat) → asks_first a seat ≡ true
+    → asks_first a (with_question a seat) ≡ false

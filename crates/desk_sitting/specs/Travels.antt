@@ -10,15 +10,15 @@ use Rattle.desk_journal.specs.Device.{IsSameDevice}
 use Rattle.desk_journal.specs.Errors.{Error, Fault}
 use Rattle.desk_journal.specs.Undoing.{IsTakenBack, LeavesUndone}
 use Rattle.desk_journal.specs.View.{StoreView, IsDurable}
-use Rattle.desk_past.specs.declared.again.Place.{Place}
-use Rattle.desk_sitting.specs.declared.saying.Saying.TheVariants.{TookBack, DidAgain, NothingBack, NothingAgain}
+use Rattle.desk_presses.specs.declared.again.Place.{Place}
+use Rattle.desk_sayings.specs.declared.saying.Saying.TheVariants.{TookBack, DidAgain, NothingBack, NothingAgain}
 use Rattle.desk_sitting.specs.declared.sitting.Sitting.{Sitting}
 use Rattle.desk_sitting.specs.declared.sitting.Travel.TheVariants.{Back, Again}
-use Rattle.desk_past.specs.declared.again.NextEvent.{NextEvent}
-use Rattle.desk_past.specs.declared.deed.Deed.{Deed}
+use Rattle.desk_presses.specs.declared.again.NextEvent.{NextEvent}
+use Rattle.desk_presses.specs.declared.deed.Deed.{Deed}
 use Rattle.desk_sitting.specs.declared.sitting.Travel.{Travel}
-use Rattle.desk_past.specs.Again.{kept_at, next_event, rest_at, taken_press}
-use Rattle.desk_past.specs.Past.{back_count, back_deed, left_past, named}
+use Rattle.desk_presses.specs.Again.{kept_at, next_event, rest_at, taken_press}
+use Rattle.desk_presses.specs.Past.{back_count, back_deed, left_past, named}
 use Rattle.desk_sitting.specs.Doing.{IsUndone, OfPresses, seat_of}
 use Rattle.desk_sitting.specs.Sittings.{after_post, refused}
 
@@ -26,8 +26,8 @@ use Rattle.desk_sitting.specs.Sittings.{after_post, refused}
 abbrev pub store_place : {D : Type 0} → StoreView D → Place
 store_place store = record { epoch = store.epoch; events = store.events }
 
-abbrev pub is_same_place : Place → Place → Bool
-is_same_place from to = (from.epoch == to.epoch) && (from.events == to.events)
+abbrev pub is_unmoved : Place → Place → Bool
+is_unmoved from to = (from.epoch == to.epoch) && (from.events == to.events)
 
 -- nothing is asked for any more
 abbrev pub settled : Sitting → Sitting
@@ -57,7 +57,7 @@ goes_again place s = record s {
 -- The sitting after an event was done again, of a press that did this. Where the store took it, that is said, and known.
 abbrev pub did_again : Deed → Place → Place → Sitting → Sitting
 did_again deed from to s =
-    if is_same_place from to then s else record s {
+    if is_unmoved from to then s else record s {
       saying = DidAgain deed;
       rings = false;
       again = record s.again { place = to };

@@ -3,14 +3,15 @@ ghost use Rattle.std.specs.Prelude.{◌≡◌, false, [], ◌∷◌, OnOk, IfErr
 ghost use Rattle.desk_journal.specs.Device.{IsSameDevice};
 ghost use Rattle.desk_journal.specs.View.{IsDurable};
 ghost use Rattle.sector_disk.specs.Faults.{FailsAs};
-ghost use Rattle.terminal_presses.specs.Presses.{in_order, parser_after, presses_heard};
+ghost use Rattle.terminal_keyboard.specs.Presses.{in_order, parser_after, presses_heard};
 ghost use Rattle.desk_sitting.specs.Doing.{Breaks, DoesPresses, OfPresses, DoesAllPresses};
 
 use crate::sitting::Sitting;
 use desk_journal::{Error, Store};
 use sector_disk::Disk;
 use std::alloc::Global;
-use terminal_presses::{Heard, Parser, Press, Presses};
+use terminal_keyboard::Parser;
+use terminal_presses::{Heard, Press, Presses};
 
 /// Does what is pressed by all that was heard, one press after another, each event acknowledged before the next one.
 ///

@@ -2,8 +2,8 @@
 //!
 //! What is heard becomes presses (the crate `terminal_presses`), and each press an event that is posted, or something
 //! that the sitting does alone (`specs/Sittings.antt`). `do_presses` does presses one after another over a store
-//! (`specs/Doing.antt`). The rows in sight follow the caret (`window`), an arrow is a click beside it (`aim`), and the
-//! line below says what was refused (`saying`). What was done and taken back is known in `desk_past`.
+//! (`specs/Doing.antt`). Which cell an arrow means, which rows are in sight, and what was done and taken back is known in
+//! `desk_presses`, and what the line below says in `desk_sayings`.
 //!
 //! `serve` goes on turn by turn (`specs/Serving.antt`): a scene is shown (`specs/Scenes.antt`), something is heard, and
 //! what is pressed by it is done, each event acknowledged before the next scene. A whole sitting is `Sits` of
@@ -11,25 +11,20 @@
 //! `sittings_survive` is the theorem: what was shown is never lost.
 #![tactic(auto)]
 
-mod aim;
-mod along;
 mod doing;
 mod ending;
 mod laws;
 mod listed;
-mod question;
-mod saying;
 mod serving;
 mod serving_laws;
 mod sitting;
+mod task;
 mod travels;
-mod window;
 
+pub use desk_sayings::{Question, Saying, SayingLine};
 pub use doing::do_presses;
 pub use ending::SittingEnd;
 pub use laws::{presses_are_steps, questions_post_nothing};
-pub use question::Question;
-pub use saying::{Saying, SayingLine};
 pub use serving::{MOST_TURNS, serve};
 pub use serving_laws::{sittings_survive, sittings_survive_in_files};
 pub use sitting::{Sitting, Travel};

@@ -1,19 +1,19 @@
 //! A sitting over a store, turn by turn.
 ghost use Rattle.std.specs.Prelude.{◌≡◌, ◌≢◌, ℕ, Bool, false, OnOk, OnErr, IfErr, IfSome, List, Option};
-ghost use Rattle.terminal_presses.specs.declared.parser.Parser.{Parser as AParser};
+ghost use Rattle.terminal_keyboard.specs.declared.parser.Parser.{Parser as AParser};
 ghost use Rattle.terminal_presses.specs.declared.press.Heard.{Heard};
 ghost use Rattle.screen_drawing.specs.declared.face.Face.{Face};
 ghost use Rattle.byte_streams.specs.Counting.{CountsFault, RisesWhere};
 ghost use Rattle.byte_streams.specs.Sent.{Sends};
 ghost use Rattle.desk_journal.specs.Device.{IsSameDevice};
 ghost use Rattle.desk_journal.specs.View.{IsDurable};
-ghost use Rattle.desk_sitting.specs.Sayings.{line_of};
+ghost use Rattle.desk_sitting.specs.Scenes.{sitting_line};
 ghost use Rattle.desk_sitting.specs.Sittings.{after_fetch, looked};
 ghost use Rattle.desk_sitting.specs.declared.ending.SittingEnd.TheVariants.{Output as TakesNoMore};
 ghost use Rattle.screen_drawing.specs.Scene.{IsInSight};
 ghost use Rattle.desk_sitting.specs.Scenes.{IsSceneOf, IsHalfPainted, IsScenePainted, IsSceneShown, IsUnshown};
 ghost use Rattle.desk_sitting.specs.Endings.{EndsBy, IsOfNoKeyboard};
-ghost use Rattle.desk_sitting.specs.Scenes.{after_scene, bell_bytes, known_by, request, size_request};
+ghost use Rattle.desk_sitting.specs.Scenes.{pointer_of as pointer_at, after_scene, bell_bytes, known_by, request, size_request};
 ghost use Rattle.desk_sitting.specs.Serving.{CountsEnding, CountsOutput, CountsTurn, IsFetched, IsLookedAt, IsUsableAt};
 ghost use Rattle.desk_sitting.specs.Serving.{StaysInUse, TakesTurn, first_place, turn_state_of, store_screen};
 ghost use Rattle.desk_sitting.specs.Sitting.{Sits, TakesEitherTurn};
@@ -28,8 +28,7 @@ use screen_cells::Screen;
 use screen_drawing::{Painter, Scene, ring, send_bytes};
 use sector_disk::Disk;
 use std::alloc::Global;
-use terminal_keyboard::Keyboard;
-use terminal_presses::Parser;
+use terminal_keyboard::{Keyboard, Parser};
 use viewer_tracks::ROWS;
 
 /// How many turns a sitting has at most; after them it ends by `TooLong`.
@@ -38,8 +37,9 @@ pub const MOST_TURNS: u64 = u64::MAX;
 /// An escape byte and `[18t`, to which a terminal tells its size.
 const SIZE_REQUEST: [u8; 5] = [27, 91, 49, 56, 116];
 
-/// Serves the person at the keyboard: shows the screen in a terminal of `height` rows, and does what is pressed, until
-/// they leave or something fails. The line below begins with the greeting.
+/// Serves the person at the keyboard: shows the screen in a terminal of `height` rows and `width` columns, and does what is
+/// pressed, until they leave or something fails. The line below begins with the greeting. With questions it is asked
+/// before a press loses something. Lines are filled from the beginning on, or not.
 ///
 /// Each event is acknowledged before the next scene is sent, so that no crash takes away what was shown. The store must
 /// be one that needn't be opened again. It can be used on after the sitting, but after `Fault` and `Memory` it must be
@@ -51,11 +51,15 @@ pub fn serve<K: Keyboard, W: AnswerWriter, D: Disk>(
     writer: &mut W,
     store: &mut Store<D>,
     height: u16,
+    width: u16,
     greeting: Saying,
+    questions: bool,
+    fills: bool,
 ) -> SittingEnd
     requires { store.old.must_reopen ≡ false }
     ensures sat { D.honest store.old.disk → Sits D.Disk result
-        (first_place height greeting store.old (K.heard keyboard.old) (W.contents writer.old))
+        (first_place height width greeting questions fills store.old (K.heard keyboard.old)
+        (W.contents writer.old))
         store.new (K.heard keyboard.new) (W.contents writer.new) }
     ensures device { IsSameDevice D.Disk store.old.disk store.new.disk }
     ensures usable { IsUsableAt result store.new }
@@ -66,9 +70,9 @@ pub fn serve<K: Keyboard, W: AnswerWriter, D: Disk>(
 {
     // What a crash leaves of it.
     sittings_survive::<D>();
-    // What the store shows is what a crash would leave now.
-    let _ = store.info();
-    let mut sitting = Sitting::new(height, greeting);
+    store.shows_what_crashes_leave();
+    let mut sitting = Sitting::new(height, width, greeting, questions);
+    sitting.fills = fills;
     let mut parser = Parser::new();
     let mut painter = Painter::new();
     for _count in 0..MOST_TURNS {
@@ -238,10 +242,17 @@ fn paint<W: AnswerWriter>(
     Ok(painter.paint(writer, &scene)?)
 }
 
-/// The rows of the screen that are in sight, and the sitting's line below them.
+/// Where in the terminal the pointer is that keys move, while it is shown.
+fn pointer_of(sitting: &Sitting) -> Option<(u8, u8)>
+    ensures { result ≡ pointer_at sitting.now }
+{
+    let cell = sitting.hand.pointer()?;
+    sitting.sight.place(cell)
+}
+
+/// The part of the screen that is in sight, and the sitting's line below it.
 fn scene_of<'a>(sitting: &Sitting, screen: &'a Screen, line: &'a [u8]) -> Scene<'a>
-    requires { line.now ≡ line_of screen.now sitting.now.hand.asked sitting.now.hand.armed
-        sitting.now.saying }
+    requires { line.now ≡ sitting_line screen.now sitting.now }
     ensures scene { IsSceneOf sitting.now screen.now result }
     ensures in_sight { IsInSight result }
 {
@@ -249,6 +260,10 @@ fn scene_of<'a>(sitting: &Sitting, screen: &'a Screen, line: &'a [u8]) -> Scene<
         screen: screen.rows(),
         first: ROWS - 1 - sitting.sight.top(),
         rows: sitting.sight.rows(),
+        left: sitting.sight.first_column(),
+        columns: sitting.sight.columns(),
+        width: sitting.sight.width(),
+        pointer: pointer_of(sitting),
         below: Some(line),
     }
 }

@@ -1,30 +1,42 @@
 //! A person at a terminal, before a store.
-ghost use Rattle.std.specs.Prelude.{◌≡◌, ◌≢◌, false, OnOk, IfErr, [], option_map, unwrap_or};
+ghost use Rattle.std.specs.Prelude.{◌≡◌, ◌≢◌, [], false, Some, None, if◌then◌else◌, OnOk, IfOk, IfErr, IfSome, ◌<◌};
 ghost use Rattle.terminal_presses.specs.Hands.{handled};
 ghost use Rattle.desk_journal.specs.Session.{session_of};
-ghost use Rattle.desk_sitting.specs.Doing.{ComesToSeat, DoesAction, DoesPress, seat_of};
-ghost use Rattle.desk_sitting.specs.Sayings.{line_of};
-ghost use Rattle.desk_sitting.specs.Questions.{is_nothing, is_of_terminal, question_of, questioned, unasked};
-ghost use Rattle.desk_sitting.specs.Sittings.{acted, acted_alone, after_press, after_fetch, after_click, looked, new_sitting};
-ghost use Rattle.desk_sitting.specs.Sittings.{done_by, done_saying, ring_reason};
+ghost use Rattle.desk_sitting.specs.Doing.{ComesToSeat, DoesAction, DoesPress, Finds, TellsDone, seat_of};
+ghost use Rattle.desk_sitting.specs.Scenes.{sitting_line};
+ghost use Rattle.desk_sitting.specs.Questions.{is_close, is_leave, is_nothing, is_of_terminal, left_behind, lost_at, middle_cell};
+ghost use Rattle.desk_sitting.specs.Questions.{middle_click, question_of, questioned, unasked};
+ghost use Rattle.desk_sayings.specs.Question.{closing};
+ghost use Rattle.desk_journal.specs.Unstored.{unstored_at};
+ghost use Rattle.desktop_definitions.specs.Shown.{shown_screen};
+ghost use Rattle.desk_journal.specs.View.{IsDurable};
+ghost use Rattle.desk_sitting.specs.Sittings.{followed_cell, acted, acted_alone, after_press, after_fetch, looked, new_sitting};
+ghost use Rattle.desk_sitting.specs.Sittings.{done_saying, first_saying, is_done, refused_saying, ring_reason, is_filling, fill_saying};
 ghost use Rattle.desk_sitting.specs.Sittings.{came_to, fitted_saying, after_post, refused, replied, turned_away};
-ghost use Rattle.desk_sitting.specs.Sittings.{accepted_by, accepted_of, after_posts, after_scroll, posts_unasked, scrolled};
-ghost use Rattle.desk_sitting.specs.Sittings.{with_hand};
-ghost use Rattle.desk_sitting.specs.Scrolling.{cell_meant as cell_of_spot, wish_of as wish_of_scroll};
+ghost use Rattle.desk_sitting.specs.Sittings.{accepted_by, accepted_of, accepted_unasked, after_posts, does_all, went_on};
+ghost use Rattle.desk_sitting.specs.Sittings.{accepted_in, accepted_stage, after_planned, after_stage, after_task, kept_follows, left_by};
+ghost use Rattle.desk_sitting.specs.Sittings.{task_left};
+ghost use Rattle.desk_sitting.specs.Sittings.{planned, with_hand};
+ghost use Rattle.desk_sitting.specs.Tasks.{seen_plan};
 
-use crate::aim::{aimed, caret_of};
-use crate::listed::{event_meant, is_by_list};
-use crate::question::{Question, comes_first};
-use crate::saying::{Saying, SayingLine, is_in_memory, line_of, resting_of};
-use crate::window::{fitted, followed, height_told, is_low, is_narrow, moved};
-use desk_journal::{Error, Store, Wish};
-use desk_past::{Again, Deed, Past, typed_more};
+use crate::task::{MOST_PLANS, Plan, Task};
+use desk_journal::{Error, Store};
+use desk_presses::{
+    Again, Deed, Past, called_word, caret_of, fitted, followed, height_told, is_low, is_narrow,
+    moved, typed_more, width_told,
+};
+use desk_sayings::{
+    CLOSE_WORD, Question, Saying, SayingLine, asks_to_leave, closing, comes_first, is_in_memory,
+    line_of, resting_of, said_by_pointer,
+};
 use desktop_definitions::Reply;
+use desktop_definitions::codes::NO_FILE;
 use event_bytes::{Event, Keys};
 use screen_cells::Screen;
 use sector_disk::Disk;
 use std::alloc::Global;
-use terminal_presses::{Action, Arrow, Hand, HostName, Press, Scroll, Sight, Spot};
+use terminal_presses::{Action, Hand, HostName, Press, Sight};
+use viewer_tracks::{COLUMNS, ROWS, Track};
 
 /// What is asked for beside a press: to take the last one back, or to do again what was taken back last.
 #[derive(Clone, Copy, Debug, PartialEq, Eq)]
@@ -35,6 +47,9 @@ pub enum Travel {
 
 /// What doing a press comes to: it is done, or why it isn't.
 pub(crate) type Doing = Result<(), Error>;
+
+/// What is asked about a press.
+type Asking = Result<Option<Question>, Error>;
 
 /// What a sitting knows beside the store: the hand, the rows in sight, the line below, and what is to be done when the
 /// screen is shown next.
@@ -48,6 +63,8 @@ pub struct Sitting {
     pub saying: Saying,
     /// What it says where there is nothing else to be said.
     pub resting: Saying,
+    /// Before a press loses something it is asked about.
+    pub questions: bool,
     /// What was asked by the last press that did anything.
     pub question: Option<Question>,
     /// The terminal rings.
@@ -72,18 +89,23 @@ pub struct Sitting {
     pub past: Past,
     /// The next event that is done is one of the press that was done last, as amid a paste.
     pub joins: bool,
+    /// What is typed breaks a line that would pass the edge of its viewer.
+    pub fills: bool,
 }
 
 impl Sitting {
-    /// A sitting at a terminal of so many rows, in which nothing was pressed. The line below says the greeting.
-    pub fn new(height: u16, greeting: Saying) -> Sitting
-        ensures { result ≡ new_sitting height greeting }
+    /// A sitting at a terminal of so many rows and columns, in which nothing was pressed. The line below says the
+    /// greeting, or where one side of the display is in sight, how the other one comes into sight. With questions it asks
+    /// before a press loses something.
+    pub fn new(height: u16, width: u16, greeting: Saying, questions: bool) -> Sitting
+        ensures { result ≡ new_sitting height width greeting questions }
     {
         Sitting {
             hand: Hand::new(),
-            sight: fitted(height, Sight::whole()),
-            saying: greeting,
+            sight: fitted(height, width, Sight::whole().on(Track::System)),
+            saying: first_saying(width, greeting),
             resting: resting_of(greeting),
+            questions,
             question: None,
             rings: false,
             follows: true,
@@ -96,15 +118,22 @@ impl Sitting {
             again: Again::none(),
             past: Past::none(),
             joins: false,
+            fills: true,
         }
     }
 
     /// The line below this screen, of 80 characters at most.
     pub fn line(&self, screen: &Screen) -> SayingLine
-        ensures { result.items ≡ line_of screen.now self.now.hand.asked self.now.hand.armed
-            self.now.saying }
+        ensures { result.items ≡ sitting_line screen.now self.now }
     {
-        line_of(screen, self.hand.asked(), self.hand.armed(), self.saying)
+        let saying = said_by_pointer(self.hand.pointer().is_some(), self.saying);
+        line_of(
+            screen,
+            self.hand.asked(),
+            self.hand.asks_line,
+            self.hand.armed(),
+            saying,
+        )
     }
 
     /// An event is refused, or can't be made: the terminal rings, and the line below says why.
@@ -115,13 +144,24 @@ impl Sitting {
         self.rings = true;
     }
 
-    /// The screen is shown: the rows in sight follow the caret where an event was done.
+    /// What the rows in sight follow: the pointer that keys move, where it is shown, and else the caret.
+    fn followed_cell(&self, screen: &Screen) -> Option<(u8, u8)>
+        ensures value { result ≡ followed_cell screen.now self.now.hand }
+        ensures row { IfSome result (λ at. at.1 < ROWS) }
+    {
+        match self.hand.pointer() {
+            None => caret_of(screen),
+            shown => shown,
+        }
+    }
+
+    /// The screen is shown: the rows in sight follow the caret where an event was done, or a pointer.
     #[tactic(auto, unfolding(crate::specs::Sittings::looked))]
     pub fn look(&mut self, screen: &Screen)
         ensures { self.new ≡ looked screen.now self.old }
     {
         if self.follows {
-            self.sight = followed(caret_of(screen), self.sight);
+            self.sight = followed(self.followed_cell(screen), self.sight);
         }
         self.follows = false;
         self.rings = false;
@@ -158,10 +198,11 @@ impl Sitting {
         }
     }
 
-    /// What a reply says of the event.
+    /// What a reply says of the event: whether it is done.
     #[tactic(auto, unfolding(crate::specs::Sittings::replied))]
-    fn reply(&mut self, event: &Event, reply: Reply)
-        ensures { self.new ≡ replied event.now reply self.old }
+    fn reply(&mut self, event: &Event, reply: Reply) -> bool
+        ensures state { self.new ≡ replied event.now reply self.old }
+        ensures done { result ≡ is_done reply }
     {
         match reply {
             Reply::Done => {
@@ -172,10 +213,12 @@ impl Sitting {
                 if let Some(typed) = self.typed {
                     self.typed = Some(typed_more(event, typed));
                 }
+                true
             }
             Reply::No(code) => {
                 self.past.add_refused();
-                self.turn_away(Saying::Refused(code));
+                self.turn_away(refused_saying(event, code));
+                false
             }
         }
     }
@@ -215,17 +258,18 @@ impl Sitting {
             None
         };
         self.joins = pastes && self.joins;
-        self.hand.take(self.sight, press)
+        let action = self.hand.take(self.sight, press);
+        self.follows = self.hand.pointer().is_some() || self.follows;
+        action
     }
 
     /// Does what a press comes to, or asks first.
     fn act<D: Disk>(&mut self, alloc: Global, action: Action, store: &mut Store<D>) -> Doing
         requires { store.old.must_reopen ≡ false }
-        ensures { DoesPress D.Disk
-            (accepted_by (session_of store.old) (posts_unasked action (seat_of self.old store.old)))
+        ensures { DoesPress D.Disk (accepted_unasked action (seat_of self.old store.old))
             (acted action (seat_of self.old store.old)) result self.new store.old store.new }
     {
-        let question = self.question_of(&action);
+        let question = self.question_of(alloc, &action, store)?;
         if comes_first(self.question, question) {
             self.ask(question);
             return Ok(());
@@ -234,15 +278,70 @@ impl Sitting {
         self.do_action(alloc, action, store)
     }
 
-    /// What a press would lose.
-    #[tactic(auto, unfolding(crate::specs::Questions::question_of))]
-    fn question_of(&self, action: &Action) -> Option<Question>
-        ensures { result ≡ question_of action.now self.now }
+    /// What is asked about a press. It only looks at the store.
+    ///
+    /// Errors: `NoMemory`, where memory runs out; `Fault`, where the disk fails.
+    fn question_of<D: Disk>(&self, alloc: Global, action: &Action, store: &mut Store<D>) -> Asking
+        requires { store.old.must_reopen ≡ false }
+        ensures { Finds D.Disk result (question_of action.now self.now) self.now store.old
+            store.new }
     {
-        match action {
-            Action::Leave if is_in_memory(self.resting) => Some(Question::Leaving),
-            _ => None,
+        if !self.questions {
+            return Ok(None);
         }
+        if is_leave(action) {
+            return Ok(left_behind(is_in_memory(self.resting)));
+        }
+        self.lost_by(alloc, action, store)
+    }
+
+    /// The text that a press would lose. It only looks at the store.
+    ///
+    /// Errors: `NoMemory`; `Fault`.
+    fn lost_by<D: Disk>(&self, alloc: Global, action: &Action, store: &mut Store<D>) -> Asking
+        requires { store.old.must_reopen ≡ false }
+        ensures { Finds D.Disk result (lost_at (middle_cell action.now)) self.now store.old
+            store.new }
+    {
+        let Some((x, y)) = middle_cell(action) else {
+            return Ok(None);
+        };
+        let closes = self.is_close(alloc, x, y, store)?;
+        if closes {
+            return self.closing(x, y, store);
+        }
+        Ok(None)
+    }
+
+    /// Whether the word at a cell of the screen is the one that closes a viewer. It only looks at the store.
+    ///
+    /// Errors: `NoMemory`; `Fault`.
+    fn is_close<D: Disk>(
+        &self,
+        alloc: Global,
+        x: u8,
+        y: u8,
+        store: &mut Store<D>,
+    ) -> Result<bool, Error>
+        requires { store.old.must_reopen ≡ false }
+        ensures { Finds D.Disk result (λ d. is_close (shown_screen d) x y) self.now store.old
+            store.new }
+    {
+        let mut screen = Screen::new();
+        store.screen(alloc, &mut screen)?;
+        Ok(is_close(&screen, x, y))
+    }
+
+    /// The text that is lost where a viewer is closed by the word at a cell. It only looks at the store.
+    ///
+    /// Errors: `Fault`.
+    fn closing<D: Disk>(&self, x: u8, y: u8, store: &mut Store<D>) -> Asking
+        requires { store.old.must_reopen ≡ false }
+        ensures { Finds D.Disk result (λ d. closing (unstored_at d x y)) self.now store.old
+            store.new }
+    {
+        let cell = store.unstored_at((x, y))?;
+        Ok(closing(cell))
     }
 
     /// The question is asked: the terminal rings, and the line below says it.
@@ -260,7 +359,7 @@ impl Sitting {
     fn unask(&mut self, action: &Action)
         ensures { self.new ≡ unasked action.now self.old }
     {
-        if is_of_terminal(action) || is_nothing(action) && self.question.is_none() {
+        if is_of_terminal(action) || is_nothing(action) && !asks_to_leave(self.question) {
             return;
         }
         self.question = None;
@@ -278,16 +377,21 @@ impl Sitting {
         }
     }
 
+    /// Whether what is typed may break a line.
+    fn is_filling(&self) -> bool
+        ensures { result ≡ is_filling self.now }
+    {
+        self.fills && self.typed.is_none()
+    }
+
     /// Does what a press comes to.
     fn do_action<D: Disk>(&mut self, alloc: Global, action: Action, store: &mut Store<D>) -> Doing
         requires { store.old.must_reopen ≡ false }
         ensures { DoesAction D.Disk action result self.old self.new store.old store.new }
     {
-        match action {
-            Action::Post(event) => self.post_meant(alloc, event, store),
-            Action::Step(arrow) => self.step(alloc, arrow, store),
-            Action::Scroll(at, scroll) => self.scroll(alloc, at, scroll, store),
-            alone => {
+        match Task::of(action, self.is_filling()) {
+            Ok(task) => self.carry_out(alloc, task, store),
+            Err(alone) => {
                 self.act_alone(alone);
                 Ok(())
             }
@@ -300,12 +404,24 @@ impl Sitting {
         ensures { self.new ≡ acted_alone action self.old }
     {
         match action {
-            Action::Nothing | Action::Post(_) | Action::Step(_) | Action::Scroll(_, _) => {}
+            Action::Nothing
+            | Action::Post(_)
+            | Action::Step(_)
+            | Action::Scroll(_, _)
+            | Action::GoTo(_)
+            | Action::Delete
+            | Action::Search
+            | Action::Store
+            | Action::AtCaret(_) => {}
             Action::Ring => {
                 let reason = self.ring_reason();
                 self.refuse(reason);
             }
             Action::FileFailed => self.refuse(Saying::Unfinished),
+            Action::Fill => {
+                self.fills = !self.fills;
+                self.saying = fill_saying(self.fills);
+            }
             Action::TypeFile(name) => self.wanted = Some(name),
             Action::LookAnew => {
                 self.forgets = true;
@@ -319,7 +435,11 @@ impl Sitting {
                 self.follows = false;
             }
             Action::Fit(rows, columns) => {
-                self.sight = fitted(height_told(rows, columns), self.sight);
+                self.sight = fitted(
+                    height_told(rows, columns),
+                    width_told(rows, columns),
+                    self.sight,
+                );
                 self.saying = fitted_saying(
                     is_narrow(rows, columns),
                     is_low(rows, columns),
@@ -331,187 +451,181 @@ impl Sitting {
         }
     }
 
-    /// Posts what an event of the hand is at the desk, by the list of the desktop where that is asked for it.
-    fn post_meant<D: Disk>(&mut self, alloc: Global, event: Event, store: &mut Store<D>) -> Doing
+    /// Does a task, and what is left of it then.
+    fn carry_out<D: Disk>(&mut self, alloc: Global, task: Task, store: &mut Store<D>) -> Doing
         requires { store.old.must_reopen ≡ false }
-        ensures { ComesToSeat D.Disk (done_by (Action.Post event) (seat_of self.old store.old))
-            result self.new
-            store.old store.new }
-    {
-        if !is_by_list(&event) {
-            return self.post(alloc, &event, store);
-        }
-        let entries = store.list(alloc)?;
-        let event = event_meant(entries.as_slice(), event);
-        self.post(alloc, &event, store)
-    }
-
-    /// A left click beside the caret, as the screen has it, or a ring where no text is shown there.
-    fn step<D: Disk>(&mut self, alloc: Global, arrow: Arrow, store: &mut Store<D>) -> Doing
-        requires { store.old.must_reopen ≡ false }
-        ensures { ComesToSeat D.Disk (done_by (Action.Step arrow) (seat_of self.old store.old))
-            result self.new store.old
-            store.new }
-    {
-        let mut screen = Screen::new();
-        store.screen(alloc, &mut screen)?;
-        self.click(alloc, aimed(arrow, &screen), store)
-    }
-
-    /// A left click at a place, or a ring where there is none.
-    fn click<D: Disk>(
-        &mut self,
-        alloc: Global,
-        place: Option<(u8, u8)>,
-        store: &mut Store<D>,
-    ) -> Doing
-        requires { store.old.must_reopen ≡ false }
-        ensures { ComesToSeat D.Disk (after_click place (seat_of self.old store.old)) result
-            self.new store.old store.new }
-    {
-        match place {
-            None => {
-                self.refuse(Saying::NoText);
-                Ok(())
-            }
-            Some((x, y)) => {
-                let click = Event::Point {
-                    keys: Keys::Left,
-                    x0: x,
-                    y0: y,
-                    x1: x,
-                    y1: y,
-                };
-                self.post(alloc, &click, store)
-            }
-        }
-    }
-
-    /// Moves the text of the viewer at a spot, or where none is meant of that of the caret, by presses in its scroll bar.
-    fn scroll<D: Disk>(
-        &mut self,
-        alloc: Global,
-        at: Option<Spot>,
-        scroll: Scroll,
-        store: &mut Store<D>,
-    ) -> Doing
-        requires { store.old.must_reopen ≡ false }
-        ensures { DoesAction D.Disk (Action.Scroll at scroll) result self.old self.new
-            store.old store.new }
-    {
-        let presses = store.scroll(alloc, cell_meant(at), wish_of(scroll))?;
-        self.post_scroll(alloc, presses, store)
-    }
-
-    /// Posts the presses that scroll, or rings where there are none. The rows in sight don't follow the caret for it.
-    fn post_scroll<D: Disk>(
-        &mut self,
-        alloc: Global,
-        presses: Option<Vec<Event>>,
-        store: &mut Store<D>,
-    ) -> Doing
-        requires { store.old.must_reopen ≡ false }
-        ensures { DoesPress D.Disk (accepted_by (session_of store.old)
-            (unwrap_or (option_map (λ events. events.items) presses) []))
-            (after_scroll (option_map (λ events. events.items) presses)
-            (seat_of self.old store.old))
+        ensures { DoesPress D.Disk
+            (accepted_in MOST_PLANS (Some task) (seat_of self.old store.old))
+            (after_task MOST_PLANS (Some task) (seat_of self.old store.old))
             result self.new store.old store.new }
     {
-        match presses {
-            None => {
-                self.refuse(Saying::NoScroll);
-                Ok(())
-            }
-            Some(events) => {
-                let follows = self.follows;
-                self.post_all(alloc, events.as_slice(), store)?;
-                self.end_scroll(follows);
-                Ok(())
-            }
-        }
-    }
-
-    /// A scroll is done. What was done, if anything, is named so.
-    fn end_scroll(&mut self, follows: bool)
-        ensures { self.new ≡ scrolled follows self.old }
-    {
-        self.follows = follows;
-        if self.joins {
-            self.past.name(Deed::Scroll);
-        }
-    }
-
-    /// Posts events, one after another, each acknowledged before the next one.
-    fn post_all<D: Disk>(&mut self, alloc: Global, events: &[Event], store: &mut Store<D>) -> Doing
-        requires { store.old.must_reopen ≡ false }
-        ensures { DoesPress D.Disk (accepted_by (session_of store.old) events.now)
-            (after_posts events.now (seat_of self.old store.old)) result self.new store.old
-            store.new }
-    {
-        for event in events {
-            self.post(alloc, event, store)?;
+        let mut left = Some(task);
+        for _count in 0..MOST_PLANS {
+            left = self.go_on(alloc, left, store)?;
         }
         Ok(())
     }
 
-    /// Posts an event.
+    /// Does what is left of a task, as far as one plan goes, and returns what is left then.
+    fn go_on<D: Disk>(
+        &mut self,
+        alloc: Global,
+        left: Option<Task>,
+        store: &mut Store<D>,
+    ) -> Result<Option<Task>, Error>
+        requires { store.old.must_reopen ≡ false }
+        ensures does { DoesPress D.Disk (accepted_stage left (seat_of self.old store.old))
+            (after_stage left (seat_of self.old store.old)) result self.new store.old store.new }
+        ensures left { IfOk result (λ next. D.honest store.old.disk → IsDurable D.Disk store.old
+            → next ≡ task_left left (session_of store.old)) }
+    {
+        match left {
+            None => Ok(None),
+            Some(task) => self.advance(alloc, task, store),
+        }
+    }
+
+    /// Does a task as far as one plan goes, and returns what is left then.
+    fn advance<D: Disk>(
+        &mut self,
+        alloc: Global,
+        task: Task,
+        store: &mut Store<D>,
+    ) -> Result<Option<Task>, Error>
+        requires { store.old.must_reopen ≡ false }
+        ensures does { DoesPress D.Disk (accepted_stage (Some task) (seat_of self.old store.old))
+            (after_stage (Some task) (seat_of self.old store.old)) result self.new store.old
+            store.new }
+        ensures left { IfOk result (λ next. D.honest store.old.disk → IsDurable D.Disk store.old
+            → next ≡ task_left (Some task) (session_of store.old)) }
+    {
+        let deed = task.deed();
+        let follows = self.kept_follows(&task);
+        let plan = task.plan(alloc, store)?;
+        let next = self.post_planned(alloc, plan, store)?;
+        self.went_on(deed, follows);
+        Ok(next)
+    }
+
+    /// Whether the rows in sight were to follow the caret, where they don't for a task.
+    fn kept_follows(&self, task: &Task) -> Option<bool>
+        ensures { result ≡ kept_follows task.now self.now }
+    {
+        if task.keeps_sight() {
+            Some(self.follows)
+        } else {
+            None
+        }
+    }
+
+    /// Posts the events of a plan, or rings, and returns what is left to do.
+    fn post_planned<D: Disk>(
+        &mut self,
+        alloc: Global,
+        plan: Plan,
+        store: &mut Store<D>,
+    ) -> Result<Option<Task>, Error>
+        requires { store.old.must_reopen ≡ false }
+        ensures does { DoesPress D.Disk
+            (accepted_by (session_of store.old) (planned (seen_plan plan)))
+            (after_planned (seen_plan plan) (seat_of self.old store.old))
+            result self.new store.old store.new }
+        ensures left { IfOk result (λ next. D.honest store.old.disk → IsDurable D.Disk store.old
+            → next ≡ left_by (seen_plan plan) (session_of store.old)) }
+    {
+        match plan {
+            Plan::Refused(why) => {
+                self.refuse(why);
+                Ok(None)
+            }
+            Plan::Next(next) => Ok(next),
+            Plan::Event(event, next) => {
+                let done = self.post(alloc, &event, store)?;
+                Ok(left_if(done, next))
+            }
+            Plan::Events(events, next) => {
+                let all = self.post_all(alloc, events.as_slice(), store)?;
+                Ok(left_if(all, next))
+            }
+        }
+    }
+
+    /// Events of a task were posted. What was done, if anything, is named so.
+    fn went_on(&mut self, deed: Option<Deed>, follows: Option<bool>)
+        ensures { self.new ≡ went_on deed follows self.old }
+    {
+        self.follows = follows.unwrap_or(self.follows);
+        if let Some(deed) = deed
+            && self.joins
+        {
+            self.past.name(deed);
+        }
+    }
+
+    /// Posts events, one after another, each acknowledged before the next one. Where one isn't done, those behind it aren't
+    /// posted. Returns whether all are done.
+    fn post_all<D: Disk>(
+        &mut self,
+        alloc: Global,
+        events: &[Event],
+        store: &mut Store<D>,
+    ) -> Result<bool, Error>
+        requires { store.old.must_reopen ≡ false }
+        ensures does { DoesPress D.Disk (accepted_by (session_of store.old) events.now)
+            (after_posts events.now (seat_of self.old store.old)) result self.new store.old
+            store.new }
+        ensures done { IfOk result (λ done. D.honest store.old.disk → IsDurable D.Disk store.old
+            → done ≡ does_all (session_of store.old) events.now) }
+    {
+        for event in events {
+            let done = self.post(alloc, event, store)?;
+            if !done {
+                return Ok(false);
+            }
+        }
+        Ok(true)
+    }
+
+    /// Posts an event, and returns whether it is done.
     pub(crate) fn post<D: Disk>(
         &mut self,
         alloc: Global,
         event: &Event,
         store: &mut Store<D>,
-    ) -> Doing
+    ) -> Result<bool, Error>
         requires { store.old.must_reopen ≡ false }
-        ensures { ComesToSeat D.Disk (after_post event.now (seat_of self.old store.old)) result
-            self.new store.old store.new }
+        ensures comes { ComesToSeat D.Disk (after_post event.now (seat_of self.old store.old))
+            result self.new store.old store.new }
+        ensures done { TellsDone D.Disk event.now result store.old }
     {
         match store.post(alloc, event) {
-            Ok(reply) => {
-                self.reply(event, reply);
-                Ok(())
-            }
+            Ok(reply) => Ok(self.reply(event, reply)),
             Err(error) => self.turned_away(error),
         }
     }
 
-    /// What an error of a post comes to: a worn store rings, and any other error is passed on.
-    fn turned_away(&mut self, error: Error) -> Doing
+    /// What an error of a post comes to: a worn store rings, and the event isn't done; any other error is passed on.
+    fn turned_away(&mut self, error: Error) -> Result<bool, Error>
         ensures worn { OnOk result ((error ≡ Error.Worn)
             × (self.new ≡ turned_away Saying.Worn self.old)) }
+        ensures never { IfOk result (λ done. done ≡ false) }
         ensures other { IfErr result (λ passed. (error ≢ Error.Worn) × (passed ≡ error)) }
     {
         match error {
             Error::Worn => {
                 self.turn_away(Saying::Worn);
-                Ok(())
+                Ok(false)
             }
             other => Err(other),
         }
     }
 }
 
-/// What a scroll wishes of a viewer's text. The wheel moves it by three lines.
-fn wish_of(scroll: Scroll) -> Wish
-    ensures { result ≡ wish_of_scroll scroll }
+/// What is left to do where events are done, or one of them isn't.
+fn left_if(done: bool, next: Option<Task>) -> Option<Task>
+    ensures { result ≡ (if done then next else None) }
 {
-    match scroll {
-        Scroll::WheelUp => Wish::Up(3),
-        Scroll::WheelDown => Wish::Down(3),
-        Scroll::PageUp => Wish::PageUp,
-        Scroll::PageDown => Wish::PageDown,
-        Scroll::First => Wish::Line(0),
-        Scroll::Last => Wish::End,
-    }
-}
-
-/// The cell that is meant, as column and row.
-fn cell_meant(at: Option<Spot>) -> Option<(u8, u8)>
-    ensures { result ≡ cell_of_spot at }
-{
-    match at {
-        None => None,
-        Some(spot) => Some((spot.x, spot.y)),
-    }
+    if done { next } else { None }
 }
 
 /// Why a paste is cut short, and how far it came where any of it is typed.
@@ -521,6 +635,68 @@ fn came_to(typed: u32, why: Saying) -> Saying
     match why {
         Saying::Refused(code) if typed != 0 => Saying::CutShort { typed, code },
         other => other,
+    }
+}
+
+/// The cell of a click of the middle button.
+fn middle_click(event: &Event) -> Option<(u8, u8)>
+    ensures { result ≡ middle_click event.now }
+{
+    match event {
+        Event::Point {
+            keys: Keys::Middle,
+            x1,
+            y1,
+            ..
+        } => Some((*x1, *y1)),
+        _ => None,
+    }
+}
+
+/// The same of a press.
+fn middle_cell(action: &Action) -> Option<(u8, u8)>
+    ensures { result ≡ middle_cell action.now }
+{
+    match action {
+        Action::Post(event) => middle_click(event),
+        _ => None,
+    }
+}
+
+/// Whether the person leaves by a press.
+fn is_leave(action: &Action) -> bool
+    ensures { result ≡ is_leave action.now }
+{
+    matches!(action, Action::Leave)
+}
+
+/// What leaving would lose.
+fn left_behind(in_memory: bool) -> Option<Question>
+    ensures { result ≡ left_behind in_memory }
+{
+    if in_memory {
+        Some(Question::Leaving)
+    } else {
+        None
+    }
+}
+
+/// Whether the word at a cell of a screen is the one that closes a viewer.
+fn is_close(screen: &Screen, x: u8, y: u8) -> bool
+    ensures { result ≡ is_close screen.now x y }
+{
+    let word = called_word(screen, x, y);
+    word.as_slice() == CLOSE_WORD
+}
+
+/// What the line below says of lines that are filled from now on, or no longer.
+fn fill_saying(fills: bool) -> Saying
+    ensures { result ≡ fill_saying fills }
+{
+    if fills {
+        Saying::Fills
+    } else {
+        Saying::FillsNot
     }
 }
 
@@ -536,6 +712,32 @@ fn is_of_terminal(action: &Action) -> bool
     ensures { result ≡ is_of_terminal action.now }
 {
     matches!(action, Action::Fit(_, _) | Action::LookAnew)
+}
+
+/// What the line below says first: where one side of the display is in sight, how the other one comes into sight.
+fn first_saying(width: u16, greeting: Saying) -> Saying
+    ensures { result ≡ first_saying width greeting }
+{
+    if width < u16::from(COLUMNS) {
+        Saying::OneSide
+    } else {
+        greeting
+    }
+}
+
+/// What the line below says of a refusal. Where there is no document of a name, the word that was called has it.
+fn refused_saying(event: &Event, code: u8) -> Saying
+    ensures { result ≡ refused_saying event.now code }
+{
+    match event {
+        Event::Point {
+            keys: Keys::Middle,
+            x0,
+            y0,
+            ..
+        } if code == NO_FILE => Saying::NoDocument { x: *x0, y: *y0 },
+        _ => Saying::Refused(code),
+    }
 }
 
 /// What the line below says once an event is done.

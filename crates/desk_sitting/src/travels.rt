@@ -1,16 +1,16 @@
 //! Taking back and doing again.
 ghost use Rattle.std.specs.Prelude.{◌≡◌, ◌≢◌, false, Some, None, OnOk, IfErr, IfOk};
 ghost use Rattle.desk_sitting.specs.declared.sitting.Travel.TheVariants.{Back, Again as Forth};
-ghost use Rattle.desk_sitting.specs.declared.saying.Saying.TheVariants.{NotBack};
-ghost use Rattle.desk_past.specs.Again.{next_event};
+ghost use Rattle.desk_sayings.specs.declared.saying.Saying.TheVariants.{NotBack};
+ghost use Rattle.desk_presses.specs.Again.{next_event};
 ghost use Rattle.desk_sitting.specs.Doing.{OfPresses, ComesToSeat, seat_of};
 ghost use Rattle.desk_sitting.specs.Sittings.{after_post, refused};
 ghost use Rattle.desk_sitting.specs.Travels.{Travels, did_again, goes_again, on_to, store_place, settled, took_back};
 
-use crate::saying::Saying;
 use crate::sitting::{Doing, Sitting, Travel};
 use desk_journal::{Error, Store};
-use desk_past::{Deed, NextEvent, Place, TakenPress};
+use desk_presses::{Deed, NextEvent, Place, TakenPress};
+use desk_sayings::Saying;
 use event_bytes::Event;
 use sector_disk::Disk;
 use std::alloc::Global;

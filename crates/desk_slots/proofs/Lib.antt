@@ -4,7 +4,7 @@ pub mod Fronts
 pub mod Laying
 pub mod Loading
 pub mod NewSlot
-pub mod OneMore
+pub mod CharacterRead
 pub mod Recording
 pub mod TakingBack
 pub mod Renewing

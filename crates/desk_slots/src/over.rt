@@ -8,6 +8,7 @@ ghost use Rattle.desktop_definitions.specs.Stepped.{IsStep};
 ghost use Rattle.desk_bringing.specs.Bringing.{IsBringing};
 ghost use Rattle.screen_cells.specs.Lines.{AreLinesOf};
 ghost use Rattle.desk_input.specs.Scrolling.{Scrolls};
+ghost use Rattle.desk_commands.specs.Unstored.{unstored_at};
 ghost use Rattle.desk_slots.specs.Live.{CanReadThrough, CanStepThrough, ReadsThrough, LooksThrough, seen_through};
 ghost use Rattle.desk_slots.specs.Words.{Content, now, FailsAs, IsStop, entries_of, shown_screen};
 ghost use Rattle.desk_slots.specs.Words.{ListsUnread, AreWithin, contents, flat};
@@ -146,4 +147,21 @@ pub(crate) fn scroll_over<D: Disk>(
 {
     let mut source = Paged::over(disk, pages);
     desktop.scroll(alloc, at, wish, &mut source)
+}
+
+/// Where the menu begins of the viewer that a command means which is called at a cell, if its text would be lost.
+pub(crate) fn unstored_over<D: Disk>(
+    desktop: &Desktop,
+    at: (u8, u8),
+    disk: &mut D,
+    pages: &mut Pages,
+) -> Result<Option<(u8, u8)>, Stop>
+    requires { CanStepThrough D.Disk disk.old pages.old desktop.now }
+    ensures told { IfOk result (λ cell. D.honest disk.old → cell
+        ≡ unstored_at (seen_through D.Disk disk.old pages.old desktop.now) at.0 at.1) }
+    ensures looks { LooksThrough D.Disk disk.old disk.new pages.old pages.new }
+    ensures faults { FailsAs Stop.Fault IsStop result (D.failures disk.old) (D.failures disk.new) }
+{
+    let mut source = Paged::over(disk, pages);
+    desktop.unstored_at(at, &mut source)
 }

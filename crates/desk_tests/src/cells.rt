@@ -5,6 +5,7 @@ ghost use Rattle.piece_ring.specs.Flat.{flat};
 ghost use Rattle.piece_ring.specs.Text.{AreWithin};
 ghost use Rattle.screen_cells.specs.Lines.{HavePlaces};
 
+use byte_streams::OutputFault;
 use char_file::{CharFile, CharSource, NoMemory};
 use char_pages::{Paged, Pages};
 use piece_ring::DEFAULT_LOOK;
@@ -77,7 +78,7 @@ fn painted(alloc: Global, marker: Option<(u8, u8)>) -> Result<Screen, Fail> {
 }
 
 /// What is printed of a screen.
-fn text_of(alloc: Global, screen: &Screen) -> Result<Vec<u8>, Fault> {
+fn text_of(alloc: Global, screen: &Screen) -> Result<Vec<u8>, OutputFault> {
     let mut text = Vec::new(alloc);
     screen.print(&mut text)?;
     Ok(text)
@@ -163,7 +164,7 @@ fn paint_one<S: CharSource>(
         menu,
         menu_text: 2,
         main,
-        frame,
+        frame: *frame,
     }];
     screen.paint(tracks, &shown, marker, lines, source)?;
     Ok(screen)
@@ -186,7 +187,7 @@ fn printed(
     size: usize,
     room: usize,
     fails: bool,
-) -> (Result<(), Fault>, Vec<u8>) {
+) -> (Result<(), OutputFault>, Vec<u8>) {
     let mut writer = Narrow {
         taken: Vec::new(alloc),
         size,
@@ -217,7 +218,7 @@ fn write_faults(rt: HostRuntime) -> Result<(), Fail> {
     for room in 0..CORNER_LENGTH.min(whole.len()) {
         for (size, fails) in [(1, true), (1, false), (84, true), (84, false)] {
             let (end, taken) = printed(alloc, &screen, size, room, fails);
-            assert!(rt; end == Err(Fault) && taken.as_slice() == &whole[..room]);
+            assert!(rt; end == Err(OutputFault) && taken.as_slice() == &whole[..room]);
         }
     }
     Ok(())
@@ -229,7 +230,9 @@ fn flush_fault(rt: HostRuntime) -> Result<(), Fail> {
     let mut writer = Stuck {
         taken: Vec::new(rt.alloc()),
     };
-    assert!(rt; screen.print(&mut writer) == Err(Fault) && writer.taken.len() == CORNER_LENGTH);
+    assert!(rt;
+        screen.print(&mut writer) == Err(OutputFault) && writer.taken.len() == CORNER_LENGTH
+    );
     Ok(())
 }
 

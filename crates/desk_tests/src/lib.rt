@@ -18,6 +18,8 @@ mod drawings;
 #[cfg(test)]
 mod events;
 #[cfg(test)]
+mod paging;
+#[cfg(test)]
 mod paintings;
 #[cfg(test)]
 mod presses;

@@ -34,6 +34,10 @@ fn sent(
         screen: &screen(cells.0, cells.1),
         first: 0,
         rows: 1,
+        left: 0,
+        columns: 80,
+        width: 80,
+        pointer: None,
         below: Some(below),
     };
     painter.paint(&mut CountedWriter::new(&mut bytes), &scene)?;

@@ -5,12 +5,13 @@ use std::alloc::{AllocError, Global};
 use std::io::{self, ErrorKind, IsTerminal, Read};
 use std::test::Fail;
 use terminal_keyboard::{
-    KeySource, Keyboard, KeyboardEnd, MOST_HEARD, ScriptedKeyboard, TerminalInput,
+    KeySource, Keyboard, KeyboardEnd, MOST_HEARD, Parser, ScriptedKeyboard, TerminalInput,
 };
 use terminal_presses::{
-    Action, Arrow, Button, FunctionKey, Hand, Heard, MouseReport, Page, Parser, Press, Presses,
+    Action, Arrow, Button, Click, FunctionKey, Hand, Heard, MouseReport, Page, Press, Presses,
     Scroll, Sight, Spot, WheelReport,
 };
+use viewer_tracks::Track;
 
 /// What stands for a quiet while in the tables. No terminal sends this byte.
 const QUIET: u8 = 255;
@@ -76,7 +77,7 @@ fn wheel(is_up: bool, column: u16, row: u16) -> Press {
 
 #[test]
 fn bytes_press(rt: HostRuntime) -> Result<(), Fail> {
-    let table: [(&[u8], &[Press]); 20] = [
+    let table: [(&[u8], &[Press]); 22] = [
         (
             b"aZ ~",
             &[
@@ -101,8 +102,8 @@ fn bytes_press(rt: HostRuntime) -> Result<(), Fail> {
         ),
         (b"\x1b\xff", &[Press::Escape]),
         (
-            b"\x1bx\x1b\x1b\xff",
-            &[Press::Unknown, Press::Escape, Press::Escape],
+            b"\x1bx\x1b[3~\x1b\x1b\xff",
+            &[Press::Unknown, Press::Delete, Press::Escape, Press::Escape],
         ),
         (
             b"\x1b[A\x1bOB\x1b[C\x1bOD",
@@ -124,6 +125,16 @@ fn bytes_press(rt: HostRuntime) -> Result<(), Fail> {
             ],
         ),
         (
+            b"\x1b[23~\x1b \x1b[24~\x1b[1;2A\x1b[1;2F",
+            &[
+                Press::Function(FunctionKey::F11),
+                Press::Function(FunctionKey::F11),
+                Press::Function(FunctionKey::F12),
+                Press::Leap(Arrow::Up),
+                Press::Leap(Arrow::End),
+            ],
+        ),
+        (
             b"\x1b[5~\x1b[6\xff~",
             &[
                 Press::Scroll(Scroll::PageUp),
@@ -133,6 +144,10 @@ fn bytes_press(rt: HostRuntime) -> Result<(), Fail> {
         (
             b"\x1b[5;3~\x1b[6;3~",
             &[Press::Page(Page::Up), Press::Page(Page::Down)],
+        ),
+        (
+            b"\x1b[1;3D\x1b[1;3C",
+            &[Press::Page(Page::Left), Press::Page(Page::Right)],
         ),
         (
             b"\x1b[1;5H\x1b[1;5F\x1bz",
@@ -159,7 +174,7 @@ fn bytes_press(rt: HostRuntime) -> Result<(), Fail> {
                 Press::Arrow(Arrow::WordRight),
                 Press::Arrow(Arrow::WordLeft),
                 Press::Arrow(Arrow::Up),
-                Press::Arrow(Arrow::Right),
+                Press::Leap(Arrow::Right),
             ],
         ),
         // Alt with O and with [, and then a letter.
@@ -223,7 +238,16 @@ fn letter(action: &Action) -> Option<u8> {
         Action::Leave => Some(b'L'),
         Action::Move(Page::Up) => Some(b'U'),
         Action::Move(Page::Down) => Some(b'D'),
+        Action::Move(Page::Left) => Some(b'<'),
+        Action::Move(Page::Right) => Some(b'>'),
         Action::Step(_) => Some(b'S'),
+        Action::AtCaret(Click::Keys(_)) => Some(b'e'),
+        Action::AtCaret(Click::Mark) => Some(b'm'),
+        Action::Delete => Some(b'X'),
+        Action::Search => Some(b's'),
+        Action::Store => Some(b't'),
+        Action::Fill => Some(b'w'),
+        Action::GoTo(line) => Some((*line).min(255) as u8),
         Action::Undo => Some(b'Z'),
         Action::Redo => Some(b'Y'),
         Action::Fit(_, _) => Some(b'Z'),
@@ -284,14 +308,31 @@ fn acted(alloc: Global, bytes: &[u8], sight: Sight) -> Result<Vec<u8>, AllocErro
 
 #[test]
 fn presses_make_events(rt: HostRuntime) -> Result<(), Fail> {
-    let table: [(&[u8], &[u8]); 31] = [
+    let table: [(&[u8], &[u8]); 39] = [
         (b"a", b"\x01\x00\x01a"),
         (b"\n", b"\x01\x00\x01\x0d"),
         (b"\x08\x03\x18\x16", b"\x02\x00\x02\x01\x02\x03\x02\x02"),
-        (b"\x1b\xff\x07", b"\x02\x04\x02\x04"),
+        (b"\x1b\xff\x1b[3~", b"\x02\x04X"),
         // Escape after F2 calls that off, and does no more.
         (b"\x1bOQ\x1b\xff\x1b\xff", b"\x02\x04"),
         (b"\x0c\x11\x01", b"NLR"),
+        (b"\x05\x14", b"em"),
+        (b"\x06\x13\x17", b"stw"),
+        // A pointer that keys move: a left click, a call, a draw, and Escape, which puts it away and drops nothing.
+        (b"\x1b[23~\r", b"\x04\x00\x27\x0f\x27\x0f"),
+        (
+            b"\x1b[23~\x1b[H\x1b[1;2A\x1bOQ\r\x1b\xff\r",
+            b"\x04\x03\x00\x17\x00\x17\x01\x00\x01\x0d",
+        ),
+        (
+            b"\x1b \x1b[F\x1bOR\x1b[1;5D\x1b[B\x1bOR",
+            b"\x04\x06\x4f\x0f\x47\x0e",
+        ),
+        (
+            b"\x1b[<2;81;1M\x1b[<2;3;2m\x1b[23~\x1b[C\x1bOP\x1b[C\r",
+            b"\x03\x04\x1e",
+        ),
+        (b"\x1b[23~\x1bOQ\x1b\xff\x1b\xff\x1b\xff", b"\x02\x04"),
         (b"\x1b[5;3~\x1b[6;3~\x1b[A\x1b[8;24;80t", b"UDSZ"),
         (b"\x1bz\x1b[H\x1b[1;5D", b"YSS"),
         // The wheel over a cell, outside the display, and while a button is down.
@@ -309,7 +350,7 @@ fn presses_make_events(rt: HostRuntime) -> Result<(), Fail> {
             b"\x1b[5~\x1b[<0;3;2m\x1b[6~\x1b[1;5H\x1b[<64;81;2M\x1b[6~\x1b[1;5F",
             b"p\x02\x1eqfql",
         ),
-        (b"\x0f\x1b[5~\x1b[<64;1;1M\x1b[5;3~\x07\x1b[5~", b"RUp"),
+        (b"\x0f\x1b[5~\x1b[<64;1;1M\x1b[5;3~\x1b\xff\x1b[5~", b"RUp"),
         // A click, and a drag from a corner to beyond the opposite one.
         (b"\x1b[<0;2;2M\x1b[<0;2;2m", b"\x04\x00\x01\x1e\x01\x1e"),
         (b"\x1b[<2;1;1M\x1b[<2;200;99m", b"\x04\x06\x00\x1f\x4f\x00"),
@@ -346,6 +387,8 @@ fn presses_make_events(rt: HostRuntime) -> Result<(), Fail> {
         // The name of a host file, one with no byte, one that is called off, and what rings meanwhile.
         (b"\x0fa.tx~\x08t\r", b"Ta.txt"),
         (b"\x1b[19~\r\x08", b"\x02\x00"),
+        // A line that is asked for, by a number in which a letter rings, and one that is called off.
+        (b"\x0712\x080a\x07\r\x077\x1b\xffc", b"RR\x0a\x01\x00\x01c"),
         (b"\x0fab\x1b\xffc", b"\x01\x00\x01c"),
         (b"\x0f\x08\t\xc3\xa4\x1b[A\x1b[21~", b"RRRRL"),
         (
@@ -365,6 +408,20 @@ fn clicks_go_to_the_rows_in_sight(rt: HostRuntime) -> Result<(), Fail> {
     let sight = Sight::new(26, 23);
     let found = acted(rt.alloc(), b"\x1b[<0;1;1M\x1b[<0;1;30m", sight)?;
     assert!(rt; found.as_slice() == b"\x04\x00\x00\x1a\x00\x04".as_slice());
+    Ok(())
+}
+
+/// In a window of 60 columns that shows the right side a click at the first column is one at the display's column 50. One
+/// at the 31st is none, and a release there is one at the last column.
+#[test]
+fn clicks_go_to_the_columns_in_sight(rt: HostRuntime) -> Result<(), Fail> {
+    let sight = Sight::whole().with_width(60).on(Track::System);
+    let found = acted(
+        rt.alloc(),
+        b"\x1b[<0;1;1M\x1b[<0;31;1m\x1b[<0;31;1M\x1b[<0;1;1m",
+        sight,
+    )?;
+    assert!(rt; found.as_slice() == b"\x04\x00\x32\x1f\x4f\x1f".as_slice());
     Ok(())
 }
 

@@ -14,7 +14,6 @@ use Rattle.screen_pictures.specs.Picture.{picture, Painted}
 use Rattle.screen_pictures.specs.Screen.{screen_of}
 use Rattle.screen_cells.specs.Shown.{IsShowable, as_read}
 use Rattle.desktop_definitions.specs.declared.viewer.Viewer.{Viewer}
-use Rattle.desktop_definitions.specs.declared.viewer.Caret.{Caret}
 use Rattle.desktop_definitions.specs.declared.viewer.Selection.{Selection}
 use Rattle.desktop_definitions.proofs.TableLaws.{length_seen_text}
 use Rattle.desktop_definitions.specs.Desktop.{KeptDesktop}
@@ -27,8 +26,7 @@ use Rattle.desktop_definitions.specs.Shown.{ranked, selection_in, painted, shown
 use Rattle.desktop_definitions.specs.Sound.{AllWithin, IsViewer, IsKeptWhole}
 use Rattle.desktop_definitions.proofs.TextLaws.{text_there, text_in_seen, text_within}
 use Rattle.desktop_definitions.proofs.ViewLaws.{viewer_at_place}
-use Rattle.desk_views.specs.declared.views.View.{View}
-use Rattle.desk_views.specs.Views.{view_in, KeptView, kept_view, shown_view, AreThere}
+use Rattle.desk_views.specs.Views.{view_in, KeptView, kept_view, AreThere}
 
 -- a place with a character is before the end
 pub not_at_end : {X : Type 0} (item : Option X) (x : X) (p n : ℕ) → item ≡ Some x → (p ≡ n → IsNone item) → p ≤ n
@@ -81,10 +79,6 @@ pub record IsReadable (n : ℕ) (v : KeptView) : Type 0 where
   pub menu : AreWithin n (flat v.menu)
   pub main : AreWithin n (flat v.main)
 
--- the views of all viewers
-abbrev pub views : KeptDesktop → List View
-views d = map (view_in d.caret d.selections) d.viewers
-
 module _ (d : KeptDesktop) (whole : IsKeptWhole d) where
   stands : (i : ℕ) (e : ℕ × Viewer) → i < length d.viewers
       → IsViewer (seen_table [] d.texts) d.viewers (slice_index_or d.viewers i e).0 (slice_index_or d.viewers i e).1
@@ -93,16 +87,14 @@ module _ (d : KeptDesktop) (whole : IsKeptWhole d) where
       let viewers = (whole.sound []).shaped.viewers in
       viewers.each _ _ (viewer_at_place d.viewers i e viewers.ids low)
 
-  pub all_there : All (AreThere d.texts) (views d)
-  all_there = All-map (AreThere d.texts) (view_in d.caret d.selections) d.viewers
-      (λ i e low. (
-        text_there [] d.texts (slice_index_or d.viewers i e).1.menu (stands i e low).menu,
-        text_there [] d.texts (slice_index_or d.viewers i e).1.main (stands i e low).main,
-      ))
+  pub all_there : All (AreThere d) d.viewers
+  all_there = λ i e low. (
+    text_there [] d.texts (slice_index_or d.viewers i e).1.menu (stands i e low).menu,
+    text_there [] d.texts (slice_index_or d.viewers i e).1.main (stands i e low).main,
+  )
 
-  all_readable : (n : ℕ) → AllWithin n d.texts → All (λ v. IsReadable n (kept_view d.texts v)) (views d)
-  all_readable n within = All-map (λ v. IsReadable n (kept_view d.texts v)) (view_in d.caret d.selections) d.viewers
-      (λ i e low.
+  all_readable : (n : ℕ) → AllWithin n d.texts → All (λ e. IsReadable n (view_in d e)) d.viewers
+  all_readable n within = λ i e low.
       let main = (slice_index_or d.viewers i e).1.main in
       let same = ap length (text_in_seen [] d.texts main) in
       let long = length_seen_text [] (text_in d.texts main) in
@@ -111,73 +103,59 @@ module _ (d : KeptDesktop) (whole : IsKeptWhole d) where
         org = omega (arith, same, long, org);
         menu = text_within n d.texts (slice_index_or d.viewers i e).1.menu within;
         main = text_within n d.texts main within;
-      })
+      }
 
   -- the screen can read what it is handed
   pub all_showable : (n : ℕ) (shown : List Shown) → AllWithin n d.texts
-      → map shown_view shown ≡ map (kept_view d.texts) (views d) → All (IsShowable n) shown
+      → map kept_view shown ≡ map (view_in d) d.viewers → All (IsShowable n) shown
   all_showable n shown within is = λ i s low.
-      let all : All (IsReadable n) (map shown_view shown) = subst (All (IsReadable n)) (sym is)
-      (All-map (IsReadable n) (kept_view d.texts) (views d) (all_readable n within)) in
-      let here : IsReadable n (shown_view (slice_index_or shown i s)) =
-      subst (IsReadable n) (get_or-map shown_view shown i s (shown_view s) low)
-      (all i (shown_view s) (omega (arith, low, length-map {B = KeptView} shown shown_view))) in
+      let all : All (IsReadable n) (map kept_view shown) = subst (All (IsReadable n)) (sym is)
+      (All-map (IsReadable n) (view_in d) d.viewers (all_readable n within)) in
+      let here : IsReadable n (kept_view (slice_index_or shown i s)) =
+      subst (IsReadable n) (get_or-map kept_view shown i s (kept_view s) low)
+      (all i (kept_view s) (omega (arith, low, length-map {B = KeptView} shown kept_view))) in
       record { org = here.org; menu = here.menu; main = here.main }
 
 -- ---- by number
 
--- a view's texts are those of the numbers that it names
+-- a viewer's texts are those of the numbers that it names
 record IsNamed (characters : List ℕ) (d : KeptDesktop) (v : KeptView) : Type 0 where
   pub menu : text_of (seen characters d) v.menu_text ≡ contents characters (flat v.menu)
   pub main : text_of (seen characters d) v.frame.text ≡ contents characters (flat v.main)
 
-all_named : (characters : List ℕ) (d : KeptDesktop)
-    → All (λ v. IsNamed characters d (kept_view d.texts v)) (views d)
+all_named : (characters : List ℕ) (d : KeptDesktop) → All (λ e. IsNamed characters d (view_in d e)) d.viewers
 unfolding seen
-all_named characters d = All-map (λ v. IsNamed characters d (kept_view d.texts v)) (view_in d.caret d.selections)
-    d.viewers (λ i e low. record {
-      menu = text_in_seen characters d.texts (slice_index_or d.viewers i e).1.menu;
-      main = text_in_seen characters d.texts (slice_index_or d.viewers i e).1.main;
-    })
+all_named characters d = λ i e low. record {
+  menu = text_in_seen characters d.texts (slice_index_or d.viewers i e).1.menu;
+  main = text_in_seen characters d.texts (slice_index_or d.viewers i e).1.main;
+}
 
 -- and so are those of what the screen is handed
-all_numbered : (characters : List ℕ) (d : KeptDesktop) (shown : List Shown)
-    → map shown_view shown ≡ map (kept_view d.texts) (views d)
-    → All (IsNumbered (text_of (seen characters d)) characters) shown
-all_numbered characters d shown is = λ i s low.
-    let all : All (IsNamed characters d) (map shown_view shown) = subst (All (IsNamed characters d)) (sym is)
-    (All-map (IsNamed characters d) (kept_view d.texts) (views d) (all_named characters d)) in
-    let here : IsNamed characters d (shown_view (slice_index_or shown i s)) =
-    subst (IsNamed characters d) (get_or-map shown_view shown i s (shown_view s) low)
-    (all i (shown_view s) (omega (arith, low, length-map {B = KeptView} shown shown_view))) in
-    record { menu = here.menu; main = here.main }
-
-pub handed_numbered : (characters : List ℕ) (d : KeptDesktop) (handed : List View) (shown list : List Shown)
-    → handed ≡ views d → list ≡ shown → map shown_view shown ≡ map (kept_view d.texts) handed
+pub all_numbered : (characters : List ℕ) (d : KeptDesktop) (shown list : List Shown) → list ≡ shown
+    → map kept_view shown ≡ map (view_in d) d.viewers
     → All (IsNumbered (text_of (seen characters d)) characters) list
-handed_numbered characters d handed shown list all same is =
-    subst (All (IsNumbered (text_of (seen characters d)) characters)) (sym same)
-    (all_numbered characters d shown (is ∙ ap (map (kept_view d.texts)) all))
-
--- what is handed on is a view of each viewer
-pub viewed : (caret : Option Caret) {given chosen : List Selection} {there all : List (ℕ × Viewer)}
-    {handed made : List View} → handed ≡ made → made ≡ map (view_in caret given) there → given ≡ chosen → there ≡ all
-    → handed ≡ map (view_in caret chosen) all
-viewed caret handed made chosen all = handed ∙ made ∙ (λ k. map (view_in caret (chosen k)) (all k))
+all_numbered characters d shown list same is =
+    subst (All (IsNumbered (text_of (seen characters d)) characters)) (sym same) (λ i s low.
+    let all : All (IsNamed characters d) (map kept_view shown) = subst (All (IsNamed characters d)) (sym is)
+    (All-map (IsNamed characters d) (view_in d) d.viewers (all_named characters d)) in
+    let here : IsNamed characters d (kept_view (slice_index_or shown i s)) =
+    subst (IsNamed characters d) (get_or-map kept_view shown i s (kept_view s) low)
+    (all i (kept_view s) (omega (arith, low, length-map {B = KeptView} shown kept_view))) in
+    record { menu = here.menu; main = here.main })
 
 -- lines that painting keeps for what is handed on are lines of the desktop's texts
-pub lines_on : (characters : List ℕ) (d : KeptDesktop) {handed : List View} {shown list : List Shown}
-    {old ready new : KeptLines} → handed ≡ views d → list ≡ shown → map shown_view shown ≡ map (kept_view d.texts) handed
+pub lines_on : (characters : List ℕ) (d : KeptDesktop) {shown list : List Shown} {old ready new : KeptLines}
+    → list ≡ shown → map kept_view shown ≡ map (view_in d) d.viewers
     → ((texts : ℕ → Text ℕ) → AreLinesOf texts old → AreLinesOf texts ready)
     → ((texts : ℕ → Text ℕ) → All (IsNumbered texts characters) list → AreLinesOf texts ready → AreLinesOf texts new)
     → AreLinesOf (text_of (seen characters d)) old → AreLinesOf (text_of (seen characters d)) new
-lines_on characters d all same is prepare paint told =
+lines_on characters d same is prepare paint told =
     let texts = text_of (seen characters d) in
-    paint texts (handed_numbered characters d _ _ _ all same is) (prepare texts told)
+    paint texts (all_numbered characters d _ _ same is) (prepare texts told)
 
 -- ---- as they read
 
--- a view as it reads, over these characters
+-- a viewer as it reads, over these characters
 abbrev read_view : List ℕ → KeptView → Painted
 read_view characters v = record {
   id = v.id;
@@ -187,12 +165,12 @@ read_view characters v = record {
 }
 
 shown_read : (characters : List ℕ) (shown : List Shown)
-    → map (as_read characters) shown ≡ map (read_view characters) (map shown_view shown)
+    → map (as_read characters) shown ≡ map (read_view characters) (map kept_view shown)
 shown_read characters [] = refl
 shown_read characters (s ∷ ss) = ap (λ (vs : List Painted). as_read characters s ∷ vs) (shown_read characters ss)
 
 views_read : (characters : List ℕ) (d : KeptDesktop) (viewers : List (ℕ × Viewer))
-    → map (read_view characters) (map (kept_view d.texts) (map (view_in d.caret d.selections) viewers))
+    → map (read_view characters) (map (view_in d) viewers)
     ≡ map (painted (seen characters d)) viewers
 unfolding seen
 views_read characters d [] = refl
@@ -200,11 +178,11 @@ views_read characters d (e ∷ es) = λ k. (record {
   id = e.0;
   menu = sym (text_in_seen characters d.texts e.1.menu) k;
   main = sym (text_in_seen characters d.texts e.1.main) k;
-  frame = (view_in d.caret d.selections e).frame;
+  frame = (view_in d e).frame;
 }) ∷ views_read characters d es k
 
 pub painted_seen : (characters : List ℕ) (d : KeptDesktop) (shown : List Shown)
-    → map shown_view shown ≡ map (kept_view d.texts) (views d)
+    → map kept_view shown ≡ map (view_in d) d.viewers
     → screen_of (picture d.columns (map (as_read characters) shown) d.marker) ≡ shown_screen (seen characters d)
 unfolding shown_screen seen
 painted_seen characters d shown is =

@@ -12,14 +12,14 @@ ghost use Rattle.desktop_definitions.specs.Viewers.{text_of};
 ghost use Rattle.screen_cells.specs.Lines.{AreLinesOf};
 ghost use Rattle.desk_core.specs.Words.{FailsAs, OnlyReads, flat, AreWithin, DEPTH, IsPlaced, stack_of, seen, IsOver};
 ghost use Rattle.desk_core.specs.Words.{kept_desktop, IsStop};
-ghost use Rattle.desk_views.specs.Views.{view_in, kept_view, shown_view, AreThere};
+ghost use Rattle.desk_views.specs.Views.{view_in, kept_view, AreThere};
 
 use char_file::CharSource;
 use desk_core::desk::Desk;
 use desk_core::stop::{NoMemory, Stop};
-use desk_core::viewers::{Texts, viewer_or_none};
+use desk_core::viewers::viewer_or_none;
 use desk_core::views::{position_in, text_there};
-use desktop_definitions::{Caret, Entry, MenuName, Selection, Viewer};
+use desktop_definitions::{Entry, MenuName, Selection, Viewer};
 use readers_scanners::Reader;
 use screen_cells::{KeptLines, Screen, Shown};
 use std::alloc::Global;
@@ -27,17 +27,6 @@ use std::vec::Vec;
 use text_core::Text;
 use text_frames::{Frame, FrameSelection};
 use viewer_tracks::{Track, ViewerId};
-
-/// A viewer with the number of its menu text and its main frame.
-#[derive(Clone, Copy)]
-pub struct View {
-    /// The viewer's id.
-    pub id: u16,
-    /// The number of its menu text.
-    pub menu: u16,
-    /// The frame of its main text.
-    pub frame: Frame,
-}
 
 /// Paints what the desktop shows; rows whose line is kept aren't read. NoMemory where an allocation is refused. Fault:
 /// the source failed in this call, and the screen may show anything.
@@ -58,8 +47,7 @@ pub fn paint<S: CharSource>(
     ensures faults { FailsAs Stop.Fault IsStop result (S.failures source.old)
         (S.failures source.new) }
 {
-    let views = views_of(desk.alloc, &desk.viewers, desk.caret, &desk.selections)?;
-    let shown = shown_of(desk.alloc, &desk.texts, &views)?;
+    let shown = shown_of(desk, &desk.viewers)?;
     lines.prepare()?;
     screen.paint(&desk.tracks, &shown, desk.marker, lines, source)?;
     Ok(())
@@ -199,43 +187,6 @@ fn menu_name<S: CharSource>(alloc: Global, menu: &Text, source: &mut S) -> Resul
     Ok(MenuName::new(bytes))
 }
 
-/// The views of all viewers.
-fn views_of(
-    alloc: Global,
-    viewers: &[(u16, Viewer)],
-    caret: Option<Caret>,
-    selections: &[Selection],
-) -> Result<Vec<View>, NoMemory>
-    requires { length selections.now ≤ 255 }
-    ensures { IfOk result (λ views. views.items ≡ map (view_in caret selections.now) viewers.now) }
-{
-    let mut views = Vec::new(alloc);
-    for entry in viewers {
-        views.push(view_of(entry, caret, selections))?;
-    }
-    Ok(views)
-}
-
-/// The view of a viewer.
-fn view_of(entry: &(u16, Viewer), caret: Option<Caret>, selections: &[Selection]) -> View
-    requires { length selections.now ≤ 255 }
-    ensures { result ≡ view_in caret selections.now entry.now }
-{
-    let (id, viewer) = *entry;
-    let caret = position_in(id, caret);
-    let selection = selection_in(selections, id);
-    View {
-        id,
-        menu: viewer.menu,
-        frame: Frame {
-            text: viewer.main,
-            org: viewer.org,
-            caret,
-            selection,
-        },
-    }
-}
-
 /// What is selected in that viewer.
 fn selection_in(selections: &[Selection], id: u16) -> Option<FrameSelection>
     requires { length selections.now ≤ 255 }
@@ -254,33 +205,37 @@ fn selection_in(selections: &[Selection], id: u16) -> Option<FrameSelection>
     None
 }
 
-/// All views with their texts, as they are painted.
-fn shown_of<'a>(
-    alloc: Global,
-    texts: &'a Texts,
-    views: &'a [View],
-) -> Result<Vec<Shown<'a>>, NoMemory>
-    requires { All (AreThere texts.now.entries) views.now }
-    ensures { IfOk result (λ shown. map shown_view shown.items
-        ≡ map (kept_view texts.now.entries) views.now) }
+/// Viewers of a desk with their texts, as they are painted.
+fn shown_of<'a>(desk: &'a Desk, viewers: &[(u16, Viewer)]) -> Result<Vec<Shown<'a>>, NoMemory>
+    requires there { All (AreThere (kept_desktop desk.now)) viewers.now }
+    requires few { length (kept_desktop desk.now).selections ≤ 255 }
+    ensures { IfOk result (λ shown. map kept_view shown.items
+        ≡ map (view_in (kept_desktop desk.now)) viewers.now) }
 {
-    let mut shown = Vec::new(alloc);
-    for view in views {
-        shown.push(shown_as(texts, view))?;
+    let mut shown = Vec::new(desk.alloc);
+    for entry in viewers {
+        shown.push(shown_as(desk, entry))?;
     }
     Ok(shown)
 }
 
-/// A view with its texts.
-fn shown_as<'a>(texts: &'a Texts, view: &'a View) -> Shown<'a>
-    requires { AreThere texts.now.entries view.now }
-    ensures { shown_view result ≡ kept_view texts.now.entries view.now }
+/// A viewer with its texts, and its frame with what is marked there.
+fn shown_as<'a>(desk: &'a Desk, entry: &(u16, Viewer)) -> Shown<'a>
+    requires there { AreThere (kept_desktop desk.now) entry.now }
+    requires few { length (kept_desktop desk.now).selections ≤ 255 }
+    ensures { kept_view result ≡ view_in (kept_desktop desk.now) entry.now }
 {
+    let (id, viewer) = *entry;
     Shown {
-        id: ViewerId(view.id),
-        menu: text_there(texts, view.menu),
-        menu_text: view.menu,
-        main: text_there(texts, view.frame.text),
-        frame: &view.frame,
+        id: ViewerId(id),
+        menu: text_there(&desk.texts, viewer.menu),
+        menu_text: viewer.menu,
+        main: text_there(&desk.texts, viewer.main),
+        frame: Frame {
+            text: viewer.main,
+            org: viewer.org,
+            caret: position_in(id, desk.caret),
+            selection: selection_in(&desk.selections, id),
+        },
     }
 }

@@ -28,5 +28,7 @@ pub use limits::{
 pub use look_change::LookChange;
 pub use region::Region;
 pub use reply::Reply;
-pub use step_laws::{empty_is_sound, more_change_nothing, steps_keep_sound, steps_of_more};
+pub use step_laws::{
+    empty_is_sound, more_characters_change_no_view, steps_keep_sound, steps_of_more,
+};
 pub use viewer::{Caret, ClosedViewer, Selection, Viewer};

@@ -28,7 +28,7 @@ pub fn steps_of_more()
 {}
 
 /// A desktop over its characters is seen as before once there are more of them.
-pub fn more_change_nothing()
+pub fn more_characters_change_no_view()
     ensures { (characters more : List ℕ) (d : KeptDesktop) → IsOver characters d
         → seen (characters ++ more) d ≡ seen characters d }
 {}

@@ -191,7 +191,7 @@ fn word_from(bytes: &[u8]) -> Option<(u16, &[u8])>
 {
     let (high, rest) = byte_from(bytes)?;
     let (low, rest) = byte_from(rest)?;
-    Some((high as u16 * 256 + low as u16, rest))
+    Some((u16::from_be_bytes([high, low]), rest))
 }
 
 /// So many bytes, and the rest.

@@ -16,6 +16,7 @@ ghost use Rattle.desk_image.specs.Image.{Spells, image_of, image_bytes, IsSpella
 ghost use Rattle.desk_image.specs.Passing.{OnlyGets};
 ghost use Rattle.desktop_definitions.specs.Viewers.{text_of};
 ghost use Rattle.desk_input.specs.Scrolling.{Scrolls};
+ghost use Rattle.desk_commands.specs.Unstored.{unstored_at};
 ghost use Rattle.screen_cells.specs.Lines.{AreLinesOf};
 ghost use Rattle.desk_core.specs.Words.{FailsAs, OnlyReads, flat, AreWithin, seen, IsKeptWhole, IsOver, IsStop};
 
@@ -24,6 +25,7 @@ use crate::stale::{forget, stale_from, stale_of};
 use char_file::{CharSource, Fault};
 use command_table::Version;
 use desk_bringing::{Document, bring};
+use desk_commands::unstored::unstored_at;
 use desk_core::desk::{Desk, empty_desk};
 use desk_core::files::{entries, file_of};
 use desk_core::stop::{NoMemory, Stop};
@@ -258,6 +260,27 @@ impl Desktop {
     {
         self.desk.alloc = alloc;
         presses_to(&self.desk, at, wish, source)
+    }
+
+    /// Where the menu begins of the viewer that a command means which is called at a cell, each as column and row, if
+    /// closing that viewer would lose its main text: neither the document that its menu names nor another viewer has it.
+    /// None where no viewer is meant, and where nothing would be lost; so of the log, and of an empty text.
+    ///
+    /// It takes no memory. Fault where a character could not be read.
+    pub fn unstored_at<S: CharSource>(
+        &self,
+        at: (u8, u8),
+        source: &mut S,
+    ) -> Result<Option<(u8, u8)>, Stop>
+        requires { IsOver (S.characters source.old) self.now }
+        ensures told { IfOk result (λ cell. S.honest source.old
+            → cell ≡ unstored_at (seen (S.characters source.old) self.now) at.0 at.1) }
+        ensures reads { OnlyReads S.characters S.failures S.honest S.same_ground source.old
+            source.new }
+        ensures faults { FailsAs Stop.Fault IsStop result (S.failures source.old)
+            (S.failures source.new) }
+    {
+        Ok(unstored_at(&self.desk, at, source)?)
     }
 
     /// Puts the image of the desktop in the newest version, the bytes that say how it is kept, and returns how many

@@ -1,16 +1,17 @@
 //! What each kind of event does.
-ghost use Rattle.std.specs.Prelude.{◌≡◌, ◌+◌, ◌<◌, ◌≤◌, ◌^◌, ℕ, List, length, IsTrue};
+ghost use Rattle.std.specs.Prelude.{◌≡◌, ◌+◌, ◌<◌, ◌≤◌, ◌^◌, ℕ, List, [], length, IsTrue};
 ghost use Rattle.event_bytes.specs.declared.event.Event.TheVariants.{File};
 ghost use Rattle.command_table.specs.Versions.{version_number, newest_version};
+ghost use Rattle.desktop_definitions.specs.Tables.{file_put};
 ghost use Rattle.desktop_definitions.specs.Step.{fits, filed};
-ghost use Rattle.desk_core.specs.Words.{Text as AText, most_written, seen, IsKeptWhole, IsOver, kept_desktop};
+ghost use Rattle.desk_core.specs.Words.{Text as AText, most_written, lengths, seen, IsKeptWhole, IsOver, kept_desktop};
 ghost use Rattle.event_loop.specs.Doing.{DoesEvent};
 
 use crate::gestures::{Gesture, point};
 use char_file::CharSource;
 use command_table::Version;
 use desk_core::desk::Desk;
-use desk_core::files::{has_room, length_of, put};
+use desk_core::files::{put, room_for};
 use desk_core::held::within_limits;
 use desk_core::stop::StepResult;
 use desk_input::keys::{press, type_bytes};
@@ -65,10 +66,10 @@ fn put_file<S: CharSource>(
         source.old source.new (kept_desktop desk.old) (kept_desktop desk.new) }
 {
     let bytes = bytes.as_bytes();
-    if !has_room(&desk.files, name) {
+    let Some(gone) = room_for(&desk.files, name) else {
         return Ok(Reply::No(codes::TOO_MANY_FILES));
-    }
-    if !file_fits(desk, name, bytes.len()) {
+    };
+    if !file_fits(desk, bytes.len(), gone) {
         return Ok(Reply::No(codes::FULL));
     }
     let text = Text::of_run(desk.alloc, desk.written, bytes.len() as u32, DEFAULT_LOOK)?;
@@ -78,14 +79,17 @@ fn put_file<S: CharSource>(
     Ok(Reply::Done)
 }
 
-/// Whether the limits on characters hold once the file of that name becomes a text of so many new characters.
-fn file_fits(desk: &Desk, name: &Name, len: usize) -> bool
+/// Whether the limits on characters hold once a file becomes a text of so many new characters, and so many of it are
+/// gone.
+fn file_fits(desk: &Desk, len: usize, gone: usize) -> bool
     requires whole { IsKeptWhole (kept_desktop desk.now) }
     requires short { len < 2 ^ 32 }
+    requires gone { gone ≤ lengths (seen [] (kept_desktop desk.now)).files }
     ensures room { IsTrue result → desk.now.written + len ≤ most_written }
-    ensures fits { (characters : List ℕ) (text : AText ℕ) → length text ≡ len
-        → result ≡ fits (filed (seen characters (kept_desktop desk.now)) name.now text) }
+    ensures fits { (characters name : List ℕ) (text : AText ℕ) → length text ≡ len
+        → lengths (file_put (seen characters (kept_desktop desk.now)).files name text) + gone
+        ≡ lengths (seen characters (kept_desktop desk.now)).files + length text
+        → result ≡ fits (filed (seen characters (kept_desktop desk.now)) name text) }
 {
-    let gone = length_of(&desk.files, name);
     within_limits(desk.written as usize + len, desk.held() + len - gone)
 }

@@ -50,22 +50,22 @@ pub const HELP_NAME: &[u8] = b"Help";
 pub const HELP_TEXT: &[u8] = b"\
 Middle button: calls the word under it.\r\
 Left button: sets the caret. Right: selects.\r\
-No such buttons? F2, then a click, is the middle\r\
-one, and F3, then a draw, the right one.\r\
+No such buttons? F2 and a click, F3 and a draw.\r\
+No mouse? F11 shows a pointer; arrows move it.\r\
 In a menu: draw with the left button to move the\r\
 viewer's top. The last word there is Edit.Store.\r\
 F1, then a click: the marker. New viewers open\r\
 there; Edit.Store and the like mean its viewer.\r\
 Any text will do: type Edit.Open B.Text here, and\r\
 call its first word.\r\
-Edit.Store makes a document of what is seen.\r\
+Edit.Store, or Ctrl-S, makes it a document.\r\
 System.Close closes, System.Recall reopens.\r\
 System.Grow gives a viewer its column whole.\r\
 In the bar: left scrolls down, right goes to the\r\
-beginning, middle to that share of the text.\r\
+beginning. Ctrl-G goes to a line.\r\
 Ctrl-C, Ctrl-X, Ctrl-V: copy, cut, put in.\r\
 Ctrl-Z takes back what was last; Ctrl-Y redoes.\r\
-Ctrl-O types a file; Escape drops the caret.\r\
+Ctrl-F searches on; Ctrl-O types a file.\r\
 Colour 0 is white on white; 5, 13, 14 are faint.\r\
 Ctrl-Q leaves. All is in the store at once.\r\
 ";

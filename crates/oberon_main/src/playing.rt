@@ -142,8 +142,7 @@ fn play_lines<R: ScriptReader, W: AnswerWriter, D: Disk>(
     ensures faults { RisesWhere (result ≡ ends.Fault)
         (D.failures store.old.disk) (D.failures store.new.disk) }
 {
-    // What the store shows is what a crash would leave now.
-    let _ = store.info();
+    store.shows_what_crashes_leave();
     let mut script = Script::new(reads);
     let mut line = Line::new();
     let mut request = Request::Malformed;
@@ -213,8 +212,7 @@ fn play_line<W: AnswerWriter, D: Disk>(
 {
     line.ask(request);
     let answer = work_out(alloc, request, store)?;
-    // What the store shows is what a crash would leave now.
-    let _ = store.info();
+    store.shows_what_crashes_leave();
     send(writer, answer.as_bytes())?;
     Ok(())
 }

@@ -2,13 +2,13 @@
 use Rattle.std.specs.Prelude.{ℕ, List, [], Option, Some, None, if◌then◌else◌}
 use Rattle.sector_disk.specs.declared.disk.Disk.{Ghosts}
 use Rattle.recorded_disk.specs.Recording.{Recording}
-use Rattle.page_exports.specs.declared.kept.Kept.{Kept}
-use Rattle.page_exports.specs.Calls.{IsBegun, IsPressed, IsBrought, IsGiven, has_left, made_if, numbered}
+use Rattle.desk_page.specs.declared.kept.Kept.{Kept}
+use Rattle.desk_page.specs.Calls.{IsBegun, IsPressed, IsBrought, IsGiven, has_left, made_if, made_numbered, pointer_number}
 
 -- what the last call made, by its number
 abbrev pub handed : ℕ → Option Kept → List ℕ
 handed n None = []
-handed n (Some kept) = made_if kept (numbered n)
+handed n (Some kept) = made_if kept (made_numbered n)
 
 abbrev pub rings_of : Option Kept → ℕ
 rings_of None = 0
@@ -17,6 +17,10 @@ rings_of (Some kept) = if kept.scene.rings then 1 else 0
 abbrev pub leaves_of : Option Kept → ℕ
 leaves_of None = 0
 leaves_of (Some kept) = if has_left kept.page then 1 else 0
+
+abbrev pub pointer_told : Option Kept → ℕ
+pointer_told None = 0
+pointer_told (Some kept) = pointer_number kept.page
 
 -- each is said of what was kept and is kept, which is there
 abbrev pub Given : List ℕ → Option Kept → Option Kept → Type 0

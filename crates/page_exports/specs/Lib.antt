@@ -1,5 +1,1 @@
-pub mod Owning
-pub mod Loading
-pub mod Turns
-pub mod Calls
 pub mod Exports

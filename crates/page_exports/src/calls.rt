@@ -1,11 +1,9 @@
 //! The functions that the host calls. It lends one place to one call at a time, and calls nothing after a trap.
 ghost use Rattle.std.specs.Prelude.{◌≡◌, ◌++◌, length, take, drop, min};
-ghost use Rattle.page_exports.specs.Owning.{IsThere};
-ghost use Rattle.page_exports.specs.Exports.{Begun, Pressed, Brought, Given, handed, rings_of, leaves_of};
+ghost use Rattle.desk_page.specs.Owning.{IsThere};
+ghost use Rattle.page_exports.specs.Exports.{Begun, Pressed, Brought, Given, handed, rings_of, leaves_of, pointer_told};
 
-use crate::held::{Held, put, take};
-use crate::kept::{Kept, Made};
-use crate::status::NO_MEMORY;
+use desk_page::{Held, Kept, Made, NO_MEMORY, put, take};
 use recorded_disk::RecordedDisk;
 use sector_disk::Disk;
 use std::alloc::Global;
@@ -127,4 +125,18 @@ pub extern "C" fn page_leaves(alloc: Global, held: &mut Held) -> u32
     let leaves = if kept.leaves() { 1 } else { 0 };
     put(held, kept);
     leaves
+}
+
+/// Where a pointer is shown that keys move, by the number of its cell: 1 at the lower left, and one more for each cell to
+/// the right of it and in the rows above. 0 where none is shown.
+#[unsafe(no_mangle)]
+pub extern "C" fn page_pointer(alloc: Global, held: &mut Held) -> u32
+    requires { IsThere held.old.kept }
+    ensures same { held.new.kept ≡ held.old.kept }
+    ensures pointer { result ≡ pointer_told held.old.kept }
+{
+    let kept = take(alloc, held);
+    let pointer = kept.pointer();
+    put(held, kept);
+    pointer
 }

@@ -7,10 +7,4 @@
 //! status: then the host opens the store anew, from its medium.
 #![tactic(auto)]
 
-mod apart;
 mod calls;
-mod held;
-mod kept;
-mod loading;
-mod scene;
-mod status;

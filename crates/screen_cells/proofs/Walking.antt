@@ -15,7 +15,7 @@ module _ (honest later : Type 0) (characters rest : List ℕ) (already : later �
   pub walk_still : (walk : Walk) → IsWalk honest characters walk → IsWalk later rest walk
   walk_still walk is = record {
     showable = rw as_long is.showable;
-    rows = rows_still honest later characters rest (flat walk.shown.main.now) walk.shown.frame.now.org walk.rows already
+    rows = rows_still honest later characters rest (flat walk.shown.main.now) walk.shown.frame.org walk.rows already
         same is.rows;
   }
 
@@ -28,11 +28,11 @@ module _ (honest later : Type 0) (characters rest : List ℕ) (already : later �
 
 -- before the first row
 pub walk_first : (honest : Type 0) (characters : List ℕ) (walk : Walk) → IsShowable (length characters) walk.shown
-    → ((read : List ℕ) → AreRows ⊤ read (flat walk.shown.main.now) walk.shown.frame.now.org walk.rows)
+    → ((read : List ℕ) → AreRows ⊤ read (flat walk.shown.main.now) walk.shown.frame.org walk.rows)
     → IsWalk honest characters walk
 walk_first honest characters walk showable rows = record {
   showable = showable;
-  rows = rows_still ⊤ honest characters characters (flat walk.shown.main.now) walk.shown.frame.now.org walk.rows
+  rows = rows_still ⊤ honest characters characters (flat walk.shown.main.now) walk.shown.frame.org walk.rows
       (λ h. tt) (λ h. refl) (rows characters);
 }
 

@@ -48,7 +48,7 @@ pub record AreLinesOf (texts : ℕ → Text ℕ) (lines : KeptLines) : Type 0 wh
 -- the texts of a viewer are those of the numbers that it names
 pub record IsNumbered (texts : ℕ → Text ℕ) (characters : List ℕ) (s : Shown) : Type 0 where
   pub menu : texts s.menu_text ≡ contents characters (flat s.menu.now)
-  pub main : texts s.frame.now.text ≡ contents characters (flat s.main.now)
+  pub main : texts s.frame.text ≡ contents characters (flat s.main.now)
 
 -- ---- rows above a position
 

@@ -16,12 +16,12 @@ as_read characters s = record {
   id = s.id.0;
   menu = contents characters (flat s.menu.now);
   main = contents characters (flat s.main.now);
-  frame = s.frame.now;
+  frame = s.frame;
 }
 
 -- a viewer that can be read where there are so many characters: its frame begins within its text
 pub record IsShowable (written : ℕ) (s : Shown) : Type 0 where
-  pub org : s.frame.now.org ≤ length (flat s.main.now)
+  pub org : s.frame.org ≤ length (flat s.main.now)
   pub menu : AreWithin written (flat s.menu.now)
   pub main : AreWithin written (flat s.main.now)
 

@@ -1,6 +1,7 @@
 -- What is known of viewers that are painted from the upper row on.
 use Rattle.std.specs.Prelude.{◌≡◌, ◌≤◌, ◌<◌, ◌-◌, ℕ, List, length, Some, slice_get, IfSome}
 use Rattle.piece_ring.specs.Flat.{flat}
+use Rattle.text_frames.specs.declared.row.TheConstants.{MOST_COLUMNS}
 use Rattle.text_frames.specs.Rows.{AreRows}
 use Rattle.viewer_tracks.specs.declared.display.TheConstants.{ROWS}
 use Rattle.screen_cells.specs.declared.shown.Shown.{Shown}
@@ -11,18 +12,18 @@ use Rattle.screen_cells.specs.Shown.{IsShowable}
 -- The rows are those of the viewer's frame.
 pub record IsWalk (honest : Type 0) (characters : List ℕ) (walk : Walk) : Type 0 where
   pub showable : IsShowable (length characters) walk.shown
-  pub rows : AreRows honest characters (flat walk.shown.main.now) walk.shown.frame.now.org walk.rows
+  pub rows : AreRows honest characters (flat walk.shown.main.now) walk.shown.frame.org walk.rows
 
 -- A row of its frame, which is so wide.
 pub record IsRowOf (w row : ℕ) (walk : Walk) : Type 0 where
-  pub columns : w ≤ 50
+  pub columns : w ≤ MOST_COLUMNS
   pub rows : walk.h ≤ 31
   pub within : row < walk.h
 
 -- A row of the display in which a viewer stands, which is so wide, and begins and ends there.
 pub record IsViewerRow (width bottom top y : ℕ) (walk : Walk) : Type 0 where
   pub some : 0 < width
-  pub fits : width ≤ 50
+  pub fits : width ≤ MOST_COLUMNS
   pub display : top ≤ ROWS
   pub from : bottom ≤ y
   pub before : y < top

@@ -12,7 +12,6 @@ mod lines;
 mod print;
 mod putting;
 mod screen;
-mod sending;
 mod shown;
 mod strip;
 mod walk;

@@ -1,6 +1,7 @@
 //! Lines that are kept from one screen to the next.
 ghost use Rattle.std.specs.Prelude.{◌≡◌, ◌==◌, ◌&&◌, ◌≤◌, ◌<◌, nat_lt, ℕ, List, length, take, All, Some};
 ghost use Rattle.std.specs.Prelude.{IfOk, IfSome, IfNone, OnOk, true, false};
+ghost use Rattle.text_frames.specs.declared.row.TheConstants.{MOST_COLUMNS};
 ghost use Rattle.piece_ring.specs.Flat.{flat};
 ghost use Rattle.piece_ring.specs.Text.{Text as AText};
 ghost use Rattle.readers_scanners.specs.Words.{CountsFault, OnlyReads};
@@ -240,7 +241,7 @@ pub(crate) fn keep_menu<S: CharSource>(
     slot: &mut Slot,
     source: &mut S,
 ) -> Result<(), Fault>
-    requires fits { width ≤ 50 }
+    requires fits { width ≤ MOST_COLUMNS }
     requires showable { IsShowable (length (S.characters source.old)) shown.now }
     ensures cells { OnOk result (S.honest source.old → (texts : ℕ → AText ℕ)
         → IsNumbered texts (S.characters source.old) shown.now → IsSlotOf texts slot.old
@@ -328,7 +329,7 @@ pub(crate) fn caret_cell<S: CharSource>(
     caret: &mut Option<KeptCaret>,
     source: &mut S,
 ) -> Result<Option<(u8, u8)>, Fault>
-    requires columns { w ≤ 50 }
+    requires columns { w ≤ MOST_COLUMNS }
     requires rows { h ≤ 31 }
     requires showable { IsShowable (length (S.characters source.old)) shown.now }
     ensures cell { IfOk result (λ cell. S.honest source.old → (texts : ℕ → AText ℕ)
@@ -370,7 +371,7 @@ fn cell_at<S: CharSource>(
     position: u32,
     source: &mut S,
 ) -> Result<Option<(u8, u8)>, Fault>
-    requires columns { w ≤ 50 }
+    requires columns { w ≤ MOST_COLUMNS }
     requires rows { h ≤ 31 }
     requires showable { IsShowable (length (S.characters source.old)) shown.now }
     ensures cell { IfOk result (λ cell. S.honest source.old

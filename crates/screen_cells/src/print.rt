@@ -4,8 +4,7 @@ ghost use Rattle.screen_pictures.specs.Printed.{printed, character_lines, mark_l
 
 use crate::line::{character_line, has_mark_line, mark_line};
 use crate::screen::Screen;
-use crate::sending::{flush, send};
-use sector_disk::Fault;
+use byte_streams::{OutputFault, flush, send};
 use std::io::Write;
 use viewer_tracks::ROWS;
 
@@ -13,9 +12,9 @@ impl Screen {
     /// Writes the characters of the screen, a line for each row from the top, then its marks and `end`, and flushes the
     /// writer.
     ///
-    /// It returns `Fault` where a write or the flush fails, and where a write takes no byte; the writer may then have
+    /// It returns `OutputFault` where a write or the flush fails, and where a write takes no byte; the writer may then have
     /// taken a prefix of the text. It takes no memory.
-    pub fn print<W: Write>(&self, writer: &mut W) -> Result<(), Fault>
+    pub fn print<W: Write>(&self, writer: &mut W) -> Result<(), OutputFault>
         ensures { Sends result (W.contents writer.old) (W.contents writer.new) (printed self.now) }
     {
         self.print_characters(writer)?;
@@ -26,7 +25,7 @@ impl Screen {
     }
 
     /// Writes the line of each row's characters, from the top.
-    fn print_characters<W: Write>(&self, writer: &mut W) -> Result<(), Fault>
+    fn print_characters<W: Write>(&self, writer: &mut W) -> Result<(), OutputFault>
         ensures { Sends result (W.contents writer.old) (W.contents writer.new)
             (character_lines self.now) }
     {
@@ -38,7 +37,7 @@ impl Screen {
     }
 
     /// Writes the line of each row that has a mark line, from the top.
-    fn print_marks<W: Write>(&self, writer: &mut W) -> Result<(), Fault>
+    fn print_marks<W: Write>(&self, writer: &mut W) -> Result<(), OutputFault>
         ensures { Sends result (W.contents writer.old) (W.contents writer.new)
             (mark_lines self.now) }
     {

@@ -1,5 +1,6 @@
 //! Puts what a track shows in a row into its cells.
 ghost use Rattle.std.specs.Prelude.{◌≡◌, ◌<◌, ◌≤◌, ℕ, None, false, true, length, slice_get};
+ghost use Rattle.text_frames.specs.declared.row.TheConstants.{MOST_COLUMNS};
 ghost use Rattle.screen_pictures.specs.Bytes.{shown_byte};
 ghost use Rattle.screen_pictures.specs.Picture.{cell_with, is_at, is_selected, text_cell};
 ghost use Rattle.screen_pictures.specs.Mark.{mark_of};
@@ -15,7 +16,7 @@ impl Strip {
     /// Puts it into the cells of its track in a row.
     pub(crate) fn put(self, line: &[Filled], cells: &mut [Cell])
         requires some { 0 < length cells.old }
-        requires fits { length cells.old ≤ 50 }
+        requires fits { length cells.old ≤ MOST_COLUMNS }
         ensures { cells.new ≡ values (length cells.old) (strip_cell self line.now) }
     {
         match self {
@@ -29,7 +30,7 @@ impl Strip {
 /// Puts a row of a main frame, its bar at the left.
 fn put_row(cells: &mut [Cell], line: &[Filled], row: FrameRow)
     requires some { 0 < length cells.old }
-    requires fits { length cells.old ≤ 50 }
+    requires fits { length cells.old ≤ MOST_COLUMNS }
     ensures { cells.new ≡ values (length cells.old) (strip_cell (Strip.Frame row) line.now) }
 {
     let (bar, text) = cells.split_at_mut(1);
@@ -39,7 +40,7 @@ fn put_row(cells: &mut [Cell], line: &[Filled], row: FrameRow)
 
 /// Puts a row of a main frame beside its bar: in one go where neither the caret nor a selected character is in it.
 fn put_text(cells: &mut [Cell], line: &[Filled], row: FrameRow)
-    requires { length cells.old ≤ 50 }
+    requires { length cells.old ≤ MOST_COLUMNS }
     ensures { cells.new ≡ values (length cells.old)
         (λ x. text_cell line.now row.caret row.selection x row.row) }
 {
@@ -52,7 +53,7 @@ fn put_text(cells: &mut [Cell], line: &[Filled], row: FrameRow)
 
 /// Puts a row of a main frame beside its bar, each cell with its own mark.
 fn put_each(cells: &mut [Cell], line: &[Filled], row: FrameRow)
-    requires { length cells.old ≤ 50 }
+    requires { length cells.old ≤ MOST_COLUMNS }
     ensures { cells.new ≡ values (length cells.old)
         (λ x. text_cell line.now row.caret row.selection x row.row) }
 {

@@ -14,5 +14,5 @@ pub struct Shown<'a> {
     /// The text in the rows below.
     pub main: &'a Text,
     /// The part of the main text that is shown, its caret and its selection.
-    pub frame: &'a Frame,
+    pub frame: Frame,
 }

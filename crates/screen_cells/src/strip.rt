@@ -2,6 +2,7 @@
 ghost use Rattle.std.specs.Prelude.{◌≡◌, ◌+◌, ◌<◌, ◌≤◌, ◌-◌, ◌==◌, ℕ, List, length, map, All};
 ghost use Rattle.std.specs.Prelude.{IfOk, OnOk, IfSome};
 ghost use Rattle.std.specs.List.{position_or_len};
+ghost use Rattle.text_frames.specs.declared.row.TheConstants.{MOST_COLUMNS};
 ghost use Rattle.readers_scanners.specs.Words.{CountsFault, OnlyReads, ReadsOrFails};
 ghost use Rattle.viewer_tracks.specs.Display.{left_of};
 ghost use Rattle.viewer_tracks.specs.Viewers.{viewer_at, id_number};
@@ -17,14 +18,14 @@ use crate::shown::Shown;
 use crate::walk::{Walk, walk_of};
 use arrayvec::ArrayVec;
 use piece_ring::Look;
-use text_frames::{CharSource, Fault, FrameSelection};
+use text_frames::{CharSource, Fault, FrameSelection, MOST_COLUMNS};
 use viewer_tracks::{COLUMNS, ROWS, SYSTEM_LEFT, Track, Tracks, ViewerId};
 
 /// What fills a cell of a line: a character's byte and look, and its position in the text.
 pub(crate) type Filled = (u8, Look, u32);
 
 /// The filled cells of a line, from the left.
-pub(crate) type StripLine = ArrayVec<Filled, 50>;
+pub(crate) type StripLine = ArrayVec<Filled, MOST_COLUMNS>;
 
 /// What a track shows in a row, beside the line that is kept of it.
 #[derive(Clone, Copy)]
@@ -76,7 +77,7 @@ fn menu_strip<S: CharSource>(
     slot: &mut Slot,
     source: &mut S,
 ) -> Result<Strip, Fault>
-    requires fits { width ≤ 50 }
+    requires fits { width ≤ MOST_COLUMNS }
     requires showable { IsShowable (length (S.characters source.old)) shown.now }
     ensures strip { IfOk result (λ strip. S.honest source.old → (texts : ℕ → AText ℕ)
         → IsNumbered texts (S.characters source.old) shown.now → IsSlotOf texts slot.old
@@ -141,7 +142,7 @@ fn viewer_strip<S: CharSource>(
 fn width(track: Track) -> u8
     ensures value { result ≡ width_of track }
     ensures some { 0 < result }
-    ensures fits { result ≤ 50 }
+    ensures fits { result ≤ MOST_COLUMNS }
 {
     match track {
         Track::User => SYSTEM_LEFT,

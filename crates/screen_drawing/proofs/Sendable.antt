@@ -5,7 +5,7 @@ use Rattle.std.specs.Prelude.{nat_lt}
 use Rattle.std.specs.List.{list_all, range_with_len}
 use Rattle.std.proofs.lemmas.Bool.Decides.{nat_tests}
 use Rattle.std.proofs.lemmas.List.FromFn.{length-map-range_with_len}
-use Rattle.viewer_tracks.specs.declared.display.TheConstants.{COLUMNS}
+use Rattle.screen_pictures.specs.declared.cell.Cell.{Cell}
 use Rattle.screen_pictures.specs.Screen.{column_at, values}
 use Rattle.screen_drawing.specs.declared.pen.Pen.{Pen}
 use Rattle.screen_drawing.specs.declared.pen.TheConstants.{WHITE}
@@ -15,8 +15,8 @@ use Rattle.screen_drawing.specs.declared.operation.Operation.{Operation}
 use Rattle.screen_drawing.specs.declared.operation.Operation.TheVariants.{Go, Take, Put, Clear}
 use Rattle.screen_drawing.specs.declared.changes.Brush.{Brush}
 use Rattle.screen_drawing.specs.Changes.{brush_at, changes, is_blank_face, operations_to_reach, strokes}
-use Rattle.screen_drawing.specs.Scene.{scene_row, letter_face, row_of_cells, row_of_text, seen_row, text_below}
-use Rattle.screen_drawing.specs.Pen.{face_of, plain_pen, same_face, same_pen, sent_byte}
+use Rattle.screen_drawing.specs.Scene.{scene_row, letter_face, seen_cells, seen_face, seen_row, seen_letters, text_below}
+use Rattle.screen_drawing.specs.Pen.{blank_face, face_of, plain_pen, same_face, same_pen, sent_byte}
 use Rattle.screen_drawing.specs.Spelling.{AreSendable}
 use Rattle.screen_drawing.proofs.Showing.{by_cases}
 
@@ -47,21 +47,27 @@ values_long : (f : ℕ → Face) (n : ℕ) → length (values n f) ≡ n
 unfolding values
 values_long f n = length-map-range_with_len f 0 n
 
+face_printable : (scene : Scene) (cells : List Cell) (x : ℕ) → IsPrintable (seen_face scene cells x)
+face_printable scene cells x =
+    by_cases (λ b. IsPrintable (cond b (face_of (scene.left + x) (column_at cells (scene.left + x))) (blank_face WHITE)))
+    (nat_lt x scene.columns) (λ _. (at_least _, at_most _)) (λ _. (omega arith, omega arith))
+
 pub row_printable : (scene : Scene) (y : ℕ) → ArePrintable (scene_row scene y)
 unfolding scene_row
 row_printable scene y =
-    by_cases (λ b. ArePrintable (cond b (row_of_cells (seen_row scene y)) (row_of_text (text_below scene.below))))
+    by_cases (λ b. ArePrintable (cond b (seen_cells scene (seen_row scene y)) (seen_letters scene (text_below scene.below))))
     (nat_lt y scene.rows)
-    (λ _. printable_values (λ x. face_of x (column_at (seen_row scene y) x)) COLUMNS (λ x. (at_least _, at_most _)))
-    (λ _. printable_values (letter_face (text_below scene.below)) COLUMNS (λ x. (at_least _, at_most _)))
+    (λ _. printable_values (seen_face scene (seen_row scene y)) scene.width (face_printable scene (seen_row scene y)))
+    (λ _. printable_values (letter_face (text_below scene.below)) scene.width (λ x. (at_least _, at_most _)))
 
-pub row_long : (scene : Scene) (y : ℕ) → length (scene_row scene y) ≡ COLUMNS
+pub row_long : (scene : Scene) (y : ℕ) → length (scene_row scene y) ≡ scene.width
 unfolding scene_row
 row_long scene y =
-    by_cases (λ b. length (cond b (row_of_cells (seen_row scene y)) (row_of_text (text_below scene.below))) ≡ COLUMNS)
+    by_cases (λ b. length (cond b (seen_cells scene (seen_row scene y)) (seen_letters scene (text_below scene.below)))
+    ≡ scene.width)
     (nat_lt y scene.rows)
-    (λ _. values_long (λ x. face_of x (column_at (seen_row scene y) x)) COLUMNS)
-    (λ _. values_long (letter_face (text_below scene.below)) COLUMNS)
+    (λ _. values_long (seen_face scene (seen_row scene y)) scene.width)
+    (λ _. values_long (letter_face (text_below scene.below)) scene.width)
 
 pub both_sendable : (a b : List Operation) → AreSendable a → AreSendable b → AreSendable (a ++ b)
 both_sendable [] b first second = second

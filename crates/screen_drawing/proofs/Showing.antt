@@ -31,7 +31,7 @@ pair_false true true h = absurd (cc (h refl))
 pair_false true false h = refl
 pair_false false b h = refl
 
-both : (a b : Bool) → a && b ≡ true → (a ≡ true) × (b ≡ true)
+pub both : (a b : Bool) → a && b ≡ true → (a ≡ true) × (b ≡ true)
 both true b h = (refl, h)
 both false b h = absurd cc
 

@@ -1,5 +1,5 @@
--- What a terminal is to show: rows of a screen that are in sight, and a line of text below them.
-use Rattle.std.specs.Prelude.{◌≡◌, ℕ, ◌+◌, ◌-◌, ◌<◌, ◌≤◌, nat_lt, if◌then◌else◌, List, [], Option, Some, None}
+-- What a terminal is to show: the part of a screen that is in sight, and a line of text below it.
+use Rattle.std.specs.Prelude.{◌≡◌, ℕ, ◌+◌, ◌-◌, ◌<◌, ◌≤◌, ◌&&◌, nat_lt, if◌then◌else◌, List, [], Option, Some, None}
 use Rattle.std.specs.Prelude.{slice_get, unwrap_or}
 use denote.Bor.{Bor}
 use Rattle.viewer_tracks.specs.declared.display.TheConstants.{COLUMNS, ROWS}
@@ -10,11 +10,14 @@ use Rattle.screen_pictures.specs.Screen.{column_at, row_at, values}
 use Rattle.screen_drawing.specs.declared.face.Face.{Face}
 use Rattle.screen_drawing.specs.declared.scene.Scene.{Scene}
 use Rattle.screen_drawing.specs.declared.pen.TheConstants.{WHITE}
-use Rattle.screen_drawing.specs.Pen.{face_of, plain_pen, sent_byte}
+use Rattle.screen_drawing.specs.Pen.{blank_face, face_of, plain_pen, sent_byte}
 
--- the rows in sight are rows of the screen
-abbrev pub IsInSight : Scene → Type 0
-IsInSight scene = scene.first + scene.rows ≤ ROWS
+-- the rows in sight are rows of the screen, the columns are columns of it, and they fit into the terminal
+pub record IsInSight (scene : Scene) : Type 0 where
+  pub high : scene.first + scene.rows ≤ ROWS
+  pub wide : scene.left + scene.columns ≤ COLUMNS
+  pub fits : scene.columns ≤ scene.width
+  pub most : scene.width ≤ COLUMNS
 
 -- the text of the line below, and how many rows it takes
 abbrev pub text_below : Option (Bor (List ℕ)) → List ℕ
@@ -39,27 +42,54 @@ letter_face text x = record {
   pen = plain_pen WHITE;
 }
 
--- a row of cells, and a text, as a terminal shows them
+-- a whole row of cells as a terminal shows it
 abbrev pub row_of_cells : List Cell → List Face
 row_of_cells cells = values COLUMNS (λ x. face_of x (column_at cells x))
 
-abbrev pub row_of_text : List ℕ → List Face
-row_of_text text = values COLUMNS (letter_face text)
+-- what a terminal shows of a row of cells at a column: those in sight, and beside them nothing
+abbrev pub seen_face : Scene → List Cell → ℕ → Face
+seen_face scene cells x =
+    if nat_lt x scene.columns then face_of (scene.left + x) (column_at cells (scene.left + x))
+    else blank_face WHITE
+
+-- a row of cells, and a text, as far as a terminal shows them
+abbrev pub seen_cells : Scene → List Cell → List Face
+seen_cells scene cells = values scene.width (seen_face scene cells)
+
+abbrev pub seen_letters : Scene → List ℕ → List Face
+seen_letters scene text = values scene.width (letter_face text)
 
 -- its rows, from the top
 unfoldable pub scene_row : Scene → ℕ → List Face
 scene_row scene y =
-    if nat_lt y scene.rows then row_of_cells (seen_row scene y)
-    else row_of_text (text_below scene.below)
+    if nat_lt y scene.rows then seen_cells scene (seen_row scene y)
+    else seen_letters scene (text_below scene.below)
 
 unfoldable pub scene_rows : Scene → List (List Face)
 scene_rows scene = values (height_of scene) (scene_row scene)
 
--- a cell in sight at which a caret stands, or none where there is none
+-- a cell in sight at which a caret stands, by its column and row of the terminal, or none where there is none
 abbrev pub HasCaretAt : Scene → ℕ → ℕ → Type 0
-HasCaretAt scene x y = (column_at (seen_row scene y) x).mark ≡ Caret
+HasCaretAt scene x y = (column_at (seen_row scene y) (scene.left + x)).mark ≡ Caret
 
 abbrev pub IsCaretCell : Scene → Option (ℕ × ℕ) → Type 0
-IsCaretCell scene None = (x y : ℕ) → x < COLUMNS → y < scene.rows → HasCaretAt scene x y → ⊥
-IsCaretCell scene (Some place) = (place.0 < COLUMNS) × (place.1 < scene.rows)
+IsCaretCell scene None = (x y : ℕ) → x < scene.columns → y < scene.rows → HasCaretAt scene x y → ⊥
+IsCaretCell scene (Some place) = (place.0 < scene.columns) × (place.1 < scene.rows)
     × HasCaretAt scene place.0 place.1
+
+-- the pointer that keys move, where that is in sight
+unfoldable pub pointer_in : ℕ → ℕ → Option (ℕ × ℕ) → Option (ℕ × ℕ)
+pointer_in columns rows None = None
+pointer_in columns rows (Some at) =
+    if nat_lt at.0 columns && nat_lt at.1 rows then Some at else None
+
+abbrev pub seen_pointer : Scene → Option (ℕ × ℕ)
+seen_pointer scene = pointer_in scene.columns scene.rows scene.pointer
+
+-- a cell in sight at which the cursor is to be seen: that of the pointer, or else one at which a caret stands
+abbrev pub IsCursorBy : Option (ℕ × ℕ) → Scene → Option (ℕ × ℕ) → Type 0
+IsCursorBy None scene place = IsCaretCell scene place
+IsCursorBy (Some at) scene place = place ≡ Some at
+
+abbrev pub IsCursorCell : Scene → Option (ℕ × ℕ) → Type 0
+IsCursorCell scene place = IsCursorBy (seen_pointer scene) scene place

@@ -5,11 +5,10 @@ ghost use Rattle.arrayvec.specs.ArrayVec.{array_vec_len};
 ghost use Rattle.viewer_tracks.specs.declared.display.TheConstants.{COLUMNS as columns};
 ghost use Rattle.screen_drawing.specs.Changes.{changes, is_blank_face, operations_to_reach};
 
-use crate::face::{Face, WIDTH};
+use crate::face::Face;
 use crate::operation::Operation;
 use crate::pen::{Pen, WHITE};
 use arrayvec::ArrayVec;
-use viewer_tracks::COLUMNS;
 
 /// The number of operations that change a row, at most: each cell with its place and its pen.
 pub(crate) const MOST: usize = 240;
@@ -25,14 +24,14 @@ pub(crate) struct Brush {
 }
 
 /// What changes a row that shows `olds` to one that shows `news`.
-pub fn row_changes(row: u8, olds: &[Face; WIDTH], news: &[Face; WIDTH]) -> Changes
-    ensures value { result.items ≡ changes row olds.now news.now }
-    ensures olds { length olds.now ≡ columns }
-    ensures news { length news.now ≡ columns }
+pub fn row_changes(row: u8, olds: &[Face], news: &[Face]) -> Changes
+    requires same { length olds.now ≡ length news.now }
+    requires few { length news.now ≤ columns }
+    ensures { result.items ≡ changes row olds.now news.now }
 {
     let mut operations = Changes::new();
     let mut brush = None;
-    for x in 0..COLUMNS {
+    for x in 0..news.len() as u8 {
         let at = usize::from(x);
         let column = x + 1;
         let face = news[at];

@@ -12,7 +12,7 @@ ghost use Rattle.screen_drawing.specs.Strokes.{caret_width, cell_height, cell_wi
 use crate::pieces::{Drawing, send_all};
 use crate::shapes::{Area, paper_cells, rectangle, text_cells};
 use crate::spelling::{CARET_WIDTH, CELL_HEIGHT, CELL_WIDTH, digits};
-use crate::{BLACK, Face, Pen, Row, Rule, WHITE, row_of_cells};
+use crate::{BLACK, Face, Pen, Rule, WHITE, row_of_cells};
 use byte_streams::{OutputFault, flush, send};
 use screen_pictures::{Cell, Mark};
 use std::io::Write;
@@ -108,7 +108,12 @@ fn draw_row<W: Write>(writer: &mut W, y: u8, screen: &Rows) -> Drawing
 }
 
 /// Draws the cells of a row, from the left.
-fn draw_cells<W: Write>(writer: &mut W, y: u8, cells: &[Cell; COLUMN_COUNT], row: &Row) -> Drawing
+fn draw_cells<W: Write>(
+    writer: &mut W,
+    y: u8,
+    cells: &[Cell; COLUMN_COUNT],
+    row: &[Face; COLUMN_COUNT],
+) -> Drawing
     ensures { Sends result (W.contents writer.old) (W.contents writer.new)
         (drawn_cells y cells.now row.now) }
 {
@@ -123,7 +128,7 @@ fn draw_column<W: Write>(
     writer: &mut W,
     place: (u8, u8),
     cells: &[Cell; COLUMN_COUNT],
-    row: &Row,
+    row: &[Face; COLUMN_COUNT],
 ) -> Drawing
     requires { place.0 < columns }
     ensures { Sends result (W.contents writer.old) (W.contents writer.new)
@@ -142,7 +147,7 @@ fn mark_at(cells: &[Cell; COLUMN_COUNT], x: u8) -> Mark
 }
 
 /// Draws the stretch of cells in one pen that begins at a column, if one does.
-fn draw_start<W: Write>(writer: &mut W, place: (u8, u8), row: &Row) -> Drawing
+fn draw_start<W: Write>(writer: &mut W, place: (u8, u8), row: &[Face; COLUMN_COUNT]) -> Drawing
     requires { place.0 < columns }
     ensures { Sends result (W.contents writer.old) (W.contents writer.new)
         (drawn_start place.1 row.now place.0) }
@@ -159,7 +164,7 @@ fn draw_start<W: Write>(writer: &mut W, place: (u8, u8), row: &Row) -> Drawing
 }
 
 /// The pen at a column.
-fn pen_at(row: &Row, x: u8) -> Pen
+fn pen_at(row: &[Face; COLUMN_COUNT], x: u8) -> Pen
     requires { x < columns }
     ensures { result ≡ pen_at row.now x }
 {
@@ -167,7 +172,7 @@ fn pen_at(row: &Row, x: u8) -> Pen
 }
 
 /// Whether a stretch of cells in one pen begins at a column.
-fn is_start(row: &Row, x: u8) -> bool
+fn is_start(row: &[Face; COLUMN_COUNT], x: u8) -> bool
     requires { x < columns }
     ensures { result ≡ is_start row.now x }
 {
@@ -175,7 +180,7 @@ fn is_start(row: &Row, x: u8) -> bool
 }
 
 /// The cells from a column on that are in one pen.
-fn stretch_at(row: &Row, x: u8) -> &[Face]
+fn stretch_at(row: &[Face; COLUMN_COUNT], x: u8) -> &[Face]
     requires { x < columns }
     ensures value { result.now ≡ stretch_at row.now x }
     ensures few { length result.now ≤ 80 }

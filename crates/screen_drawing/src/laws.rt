@@ -1,15 +1,15 @@
 //! What holds of all operations and grids.
-ghost use Rattle.std.specs.Prelude.{◌≡◌, ◌++◌, ◌<◌, ◌≤◌, ◌+◌, ℕ, List, [], Option, Some, length};
+ghost use Rattle.std.specs.Prelude.{◌≡◌, ◌++◌, ◌<◌, ◌≤◌, ◌+◌, ℕ, List, [], Option, Some, length, true};
 ghost use Rattle.screen_drawing.specs.declared.face.Face.{Face as AFace};
+ghost use Rattle.screen_drawing.specs.declared.pen.TheConstants.{WHITE};
 ghost use Rattle.screen_drawing.specs.declared.scene.Scene.{Scene as AScene};
 ghost use Rattle.screen_drawing.specs.declared.operation.Operation.{Operation as AnOperation};
 ghost use Rattle.screen_pictures.specs.Screen.{column_at};
-ghost use Rattle.viewer_tracks.specs.declared.display.TheConstants.{COLUMNS as columns};
 ghost use Rattle.screen_drawing.specs.Changes.{changes};
 ghost use Rattle.screen_drawing.specs.Grid.{Grid, done};
 ghost use Rattle.screen_drawing.specs.Scene.{scene_rows, height_of, letter_face, seen_row, text_below};
-ghost use Rattle.screen_drawing.specs.Painting.{HasGridRoom, painting};
-ghost use Rattle.screen_drawing.specs.Pen.{face_of};
+ghost use Rattle.screen_drawing.specs.Painting.{HasGridRoom, are_of_size, painting};
+ghost use Rattle.screen_drawing.specs.Pen.{blank_face, face_of};
 ghost use Rattle.screen_drawing.specs.Shows.{ShowsRows, ShowsFrom};
 ghost use Rattle.screen_drawing.specs.Spelling.{AreSendable, IsSendable, operation_bytes, spelled_all, operation_told};
 
@@ -45,17 +45,23 @@ pub fn same_rows_change_nothing()
 pub fn rest_is_kept()
     ensures { (known : List (List AFace)) (scene : AScene) (caret : Option (ℕ
         × ℕ)) (g : Grid) (x y : ℕ)
-        → HasGridRoom (height_of scene) g → length known ≡ height_of scene → height_of scene < y
+        → HasGridRoom scene.width (height_of scene) g
+        → are_of_size scene.width (height_of scene) known ≡ true → height_of scene < y
         → (done (painting known scene caret) g).cells x y ≡ g.cells x y }
 {}
 
-/// A grid that shows the rows of a scene shows each cell in sight, and the text of the line below.
+/// A grid that shows the rows of a scene shows each cell in sight, beside them nothing of the screen, and the text of the
+/// line below.
 pub fn cells_are_shown()
     ensures cells { (scene : AScene) (g : Grid) (x y : ℕ) → ShowsRows (scene_rows scene) g
-        → x < columns → y < scene.rows
-        → g.cells (x + 1) (y + 1) ≡ face_of x (column_at (seen_row scene y) x) }
+        → x < scene.width → x < scene.columns → y < scene.rows
+        → g.cells (x + 1) (y + 1)
+        ≡ face_of (scene.left + x) (column_at (seen_row scene y) (scene.left + x)) }
+    ensures beside { (scene : AScene) (g : Grid) (x y : ℕ) → ShowsRows (scene_rows scene) g
+        → x < scene.width → scene.columns ≤ x → y < scene.rows
+        → g.cells (x + 1) (y + 1) ≡ blank_face WHITE }
     ensures below { (scene : AScene) (g : Grid) (x : ℕ) → ShowsRows (scene_rows scene) g
-        → x < columns
+        → x < scene.width
         → scene.rows < height_of scene
         → g.cells (x + 1) (scene.rows + 1) ≡ letter_face (text_below scene.below) x }
 {}

@@ -1,8 +1,8 @@
 //! A screen as it is shown: what is sent to a terminal so that it shows one, and the screen as a drawing.
 //!
 //! A terminal is a grid of cells that does operations (`specs/Grid.antt`), and each operation has one spelling
-//! (`specs/Spelling.antt`). A `Scene` is what is to be shown: rows of a screen that are in sight, and a line of text
-//! below them. A `Painter` knows what the terminal shows and sends what changes it to the next scene
+//! (`specs/Spelling.antt`). A `Scene` is what is to be shown: the part of a screen that is in sight, and a line of
+//! text below it. A `Painter` knows what the terminal shows and sends what changes it to the next scene
 //! (`specs/Painting.antt`).
 //!
 //! The drawing is an SVG that a browser shows, with the looks of all characters, which are those of a terminal
@@ -17,6 +17,7 @@ mod operation;
 mod painter;
 mod pen;
 mod pieces;
+mod row;
 mod scene;
 mod sending;
 mod shapes;
@@ -33,5 +34,6 @@ pub use laws::{
 pub use operation::Operation;
 pub use painter::{Painter, ring};
 pub use pen::{BLACK, Pen, Rule, WHITE, Weight};
-pub use scene::{Row, Scene, row_of_cells};
+pub use row::Row;
+pub use scene::{Scene, row_of_cells};
 pub use sending::send_bytes;

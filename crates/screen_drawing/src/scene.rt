@@ -1,24 +1,22 @@
-//! What a terminal is to show: some rows of a screen, and a line below them.
+//! What a terminal is to show: a part of a screen, and a line below it.
 ghost use Rattle.std.specs.Prelude.{◌≡◌, ◌+◌, ◌-◌, ◌<◌, ◌≤◌, ◌≢◌, ℕ, IfSome, None};
 ghost use Rattle.viewer_tracks.specs.declared.display.TheConstants.{COLUMNS as columns, ROWS as rows};
 ghost use Rattle.screen_pictures.specs.declared.cell.Mark.{Mark as AMark};
 ghost use Rattle.screen_pictures.specs.Screen.{column_at};
-ghost use Rattle.screen_drawing.specs.Scene.{IsCaretCell, scene_row, height_of, IsInSight};
-ghost use Rattle.screen_drawing.specs.Scene.{row_of_cells, row_of_text, text_below};
+ghost use Rattle.screen_drawing.specs.Scene.{IsCaretCell, IsCursorCell, seen_pointer, scene_row, height_of, IsInSight};
+ghost use Rattle.screen_drawing.specs.Scene.{row_of_cells, seen_cells, seen_face, seen_letters, text_below};
 ghost use Rattle.screen_drawing.specs.Scene.{letter_face};
 
 use crate::face::{Face, WIDTH, sent_byte};
 use crate::pen::{Pen, WHITE};
+use crate::row::Row;
 use screen_pictures::{Cell, Mark};
 use viewer_tracks::{COLUMNS, ROWS};
 
 const HEIGHT: usize = ROWS as usize;
 
-/// A row of a terminal, from the left.
-pub type Row = [Face; WIDTH];
-
-/// What a terminal is to show, from the top: the rows of a screen that are in sight, and below them a line of text
-/// where there is room for it.
+/// What a terminal is to show, from the top: the part of a screen that is in sight, and below it a line of text where
+/// there is room for it.
 #[derive(Clone, Copy)]
 pub struct Scene<'a> {
     /// The rows of the screen, from the bottom up.
@@ -27,7 +25,16 @@ pub struct Scene<'a> {
     pub first: u8,
     /// The number of rows of the screen in sight.
     pub rows: u8,
-    /// The text of the line below, of which the first 80 bytes are shown.
+    /// The number of columns of the screen to the left of those in sight.
+    pub left: u8,
+    /// The number of columns of the screen in sight.
+    pub columns: u8,
+    /// The number of columns of the terminal, as far as the screen has them. Beside the columns in sight it is blank.
+    pub width: u8,
+    /// The column and the row of the terminal, from its upper left, of a pointer that keys move. One that isn't in sight
+    /// counts for nothing.
+    pub pointer: Option<(u8, u8)>,
+    /// The text of the line below, of which as many bytes are shown as the terminal has columns.
     pub below: Option<&'a [u8]>,
 }
 
@@ -52,9 +59,46 @@ impl Scene<'_> {
         ensures value { result ≡ scene_row self.now y }
     {
         if y < self.rows {
-            return row_of_cells(&self.screen[usize::from(ROWS - 1 - self.first - y)]);
+            return self.cells(&self.screen[usize::from(ROWS - 1 - self.first - y)]);
         }
-        row_of_text(self.text())
+        self.letters(self.text())
+    }
+
+    /// What is shown of a row of cells.
+    fn cells(&self, cells: &[Cell; WIDTH]) -> Row
+        requires { IsInSight self.now }
+        ensures { result ≡ seen_cells self.now cells.now }
+    {
+        let mut row = Row::new();
+        for x in 0..self.width {
+            row.add(self.face(cells, x));
+        }
+        row
+    }
+
+    /// What is shown of a row of cells at a column of the terminal.
+    fn face(&self, cells: &[Cell; WIDTH], x: u8) -> Face
+        requires { IsInSight self.now }
+        ensures { result ≡ seen_face self.now cells.now x }
+    {
+        if x < self.columns {
+            let column = self.left + x;
+            Face::of(&cells[usize::from(column)], column)
+        } else {
+            Face::blank(WHITE)
+        }
+    }
+
+    /// What is shown of a text, cut off at the right edge.
+    fn letters(&self, text: &[u8]) -> Row
+        requires { IsInSight self.now }
+        ensures { result ≡ seen_letters self.now text.now }
+    {
+        let mut row = Row::new();
+        for x in 0..self.width {
+            row.add(letter_face(text, x));
+        }
+        row
     }
 
     /// The text of the line below.
@@ -67,15 +111,41 @@ impl Scene<'_> {
         }
     }
 
-    /// The column and the row, from the top, of a caret in sight.
-    pub(crate) fn caret(&self) -> Option<(u8, u8)>
+    /// The column and the row of the terminal, from its upper left, at which the cursor is to be seen: those of the
+    /// pointer, or else of a caret in sight.
+    pub(crate) fn cursor(&self) -> Option<(u8, u8)>
+        requires { IsInSight self.now }
+        ensures stands { IsCursorCell self.now result }
+        ensures within { IfSome result (λ place. (place.0 < columns) × (place.1 < rows)) }
+    {
+        match self.seen_pointer() {
+            None => self.caret(),
+            seen => seen,
+        }
+    }
+
+    /// The pointer, where that is in sight.
+    #[tactic(auto, unfolding(crate::specs::Scene::pointer_in))]
+    fn seen_pointer(&self) -> Option<(u8, u8)>
+        requires { IsInSight self.now }
+        ensures value { result ≡ seen_pointer self.now }
+        ensures within { IfSome result (λ place. (place.0 < columns) × (place.1 < rows)) }
+    {
+        match self.pointer {
+            Some((x, y)) if x < self.columns && y < self.rows => Some((x, y)),
+            _ => None,
+        }
+    }
+
+    /// The column and the row of the terminal, from its upper left, of a caret in sight.
+    fn caret(&self) -> Option<(u8, u8)>
         requires { IsInSight self.now }
         ensures stands { IsCaretCell self.now result }
         ensures within { IfSome result (λ place. (place.0 < columns) × (place.1 < rows)) }
     {
         for y in 0..self.rows {
             let cells = &self.screen[usize::from(ROWS - 1 - self.first - y)];
-            if let Some(x) = caret_in(cells) {
+            if let Some(x) = caret_in(cells, self.left, self.columns) {
                 return Some((x, y));
             }
         }
@@ -83,24 +153,13 @@ impl Scene<'_> {
     }
 }
 
-/// What is shown for a row of cells.
-pub fn row_of_cells(cells: &[Cell; WIDTH]) -> Row
+/// What a terminal shows for a whole row of cells.
+pub fn row_of_cells(cells: &[Cell; WIDTH]) -> [Face; WIDTH]
     ensures { result ≡ row_of_cells cells.now }
 {
     let mut row = [Face::blank(WHITE); WIDTH];
     for x in 0..COLUMNS {
         row[usize::from(x)] = Face::of(&cells[usize::from(x)], x);
-    }
-    row
-}
-
-/// What is shown for a text, cut off at the right edge.
-fn row_of_text(text: &[u8]) -> Row
-    ensures { result ≡ row_of_text text.now }
-{
-    let mut row = [Face::blank(WHITE); WIDTH];
-    for x in 0..COLUMNS {
-        row[usize::from(x)] = letter_face(text, x);
     }
     row
 }
@@ -115,15 +174,16 @@ fn letter_face(text: &[u8], x: u8) -> Face
     }
 }
 
-/// The column of the first caret in a row.
-fn caret_in(cells: &[Cell; WIDTH]) -> Option<u8>
-    ensures there { IfSome result (λ x. x < columns) }
-    ensures caret { IfSome result (λ x. (column_at cells.now x).mark ≡ AMark.Caret) }
-    ensures nowhere { result ≡ None → (x : ℕ) → x < columns
-        → (column_at cells.now x).mark ≢ AMark.Caret }
+/// The column of the first caret in so many columns of a row, counted from `left`.
+fn caret_in(cells: &[Cell; WIDTH], left: u8, count: u8) -> Option<u8>
+    requires { left + count ≤ columns }
+    ensures there { IfSome result (λ x. x < count) }
+    ensures caret { IfSome result (λ x. (column_at cells.now (left + x)).mark ≡ AMark.Caret) }
+    ensures nowhere { result ≡ None → (x : ℕ) → x < count
+        → (column_at cells.now (left + x)).mark ≢ AMark.Caret }
 {
-    for x in 0..COLUMNS {
-        if cells[usize::from(x)].mark == Mark::Caret {
+    for x in 0..count {
+        if cells[usize::from(left + x)].mark == Mark::Caret {
             return Some(x);
         }
     }

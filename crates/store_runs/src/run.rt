@@ -64,8 +64,7 @@ pub fn serve_all<D: Disk>(
     ensures refused { IsErr result → store.new ≡ store.old }
 {
     let mut answers = Vec::with_capacity(alloc, calls.len())?;
-    // What the store shows is what a crash would leave now.
-    let _ = store.info();
+    store.shows_what_crashes_leave();
     runs_survive::<D>();
     for call in calls {
         let answer = serve(alloc, store, call);
@@ -99,8 +98,7 @@ pub fn serve_and_reopen<D: Disk>(
         (λ reopened. reopened.disk) result)) }
 {
     let mut store = store;
-    // What the store shows is what a crash would leave now.
-    let _ = store.info();
+    store.shows_what_crashes_leave();
     for call in calls {
         if let Err(error) = serve(alloc, &mut store, call) {
             return Err((error, store.close()));

@@ -6,7 +6,7 @@ use Rattle.std.proofs.lemmas.List.{take_more, take_more_set, length-take}
 use Rattle.std.proofs.Math.ListN.{set}
 use Rattle.terminal_presses.specs.declared.press.Heard.{Heard}
 use Rattle.terminal_presses.specs.declared.press.Heard.TheVariants.{Byte, Quiet}
-use Rattle.terminal_presses.specs.Spelling.{bytes_heard}
+use Rattle.terminal_keyboard.specs.Spelling.{bytes_heard}
 use Rattle.terminal_keyboard.specs.Hearings.{heard_bytes, is_quiet, is_line_end, is_escape, line_from}
 
 bytes_more : (xs : List ℕ) (b : ℕ) → bytes_heard (xs ++ b ∷ []) ≡ bytes_heard xs ++ Byte b ∷ []

@@ -4,7 +4,7 @@ use Rattle.std.specs.Io.KnownBytes.{Consumes}
 use Rattle.std.proofs.KnownBytes.{Consumes-nil}
 use Rattle.std.proofs.lemmas.List.{length-take-le}
 use Rattle.terminal_presses.specs.declared.press.Heard.{Heard}
-use Rattle.terminal_presses.specs.Spelling.{bytes_heard}
+use Rattle.terminal_keyboard.specs.Spelling.{bytes_heard}
 use Rattle.terminal_keyboard.specs.declared.paste.Stage.{Stage}
 use Rattle.terminal_keyboard.specs.declared.paste.Stage.TheVariants.{Begins, GoesOn, Ended, Broken}
 use Rattle.terminal_keyboard.specs.HostPastes.{TellsText, begins, goes_on, ends, breaks, TakesText, harmless}

@@ -7,8 +7,8 @@ use Rattle.std.specs.List.{list_all}
 use Rattle.std.proofs.lemmas.List.{append-nil, append_assoc, map-append, length-append}
 use Rattle.terminal_presses.specs.declared.press.Heard.{Heard}
 use Rattle.terminal_presses.specs.declared.press.Heard.TheVariants.{Byte}
-use Rattle.terminal_presses.specs.Spelling.{bytes_heard}
-use Rattle.terminal_presses.specs.Runs.{pasted}
+use Rattle.terminal_keyboard.specs.Spelling.{bytes_heard}
+use Rattle.terminal_keyboard.specs.Spelling.{pasted}
 use Rattle.terminal_keyboard.specs.declared.paste.Stage.{Stage}
 use Rattle.terminal_keyboard.specs.declared.paste.Stage.TheVariants.{Begins, GoesOn, Ended, Broken}
 use Rattle.terminal_keyboard.specs.HostPastes.{TellsText, begins, goes_on, ends, breaks, AreTold, nothing, one_more, harmless}

@@ -2,7 +2,7 @@
 use Rattle.std.specs.Prelude.{ℕ, ◌+◌, ◌==◌, if◌then◌else◌, List, [], ◌∷◌, ◌++◌, map, length, Option}
 use Rattle.std.specs.Io.KnownBytes.{Consumes}
 use Rattle.terminal_presses.specs.declared.press.Heard.{Heard}
-use Rattle.terminal_presses.specs.Spelling.{bytes_heard}
+use Rattle.terminal_keyboard.specs.Spelling.{bytes_heard}
 use Rattle.terminal_keyboard.specs.declared.paste.Stage.{Stage}
 use Rattle.terminal_keyboard.specs.declared.paste.Stage.TheVariants.{Begins, GoesOn, Ended, Broken}
 

@@ -1,5 +1,7 @@
-//! Keyboards: where bytes come from as a person presses keys.
+//! Keyboards: where bytes come from as a person presses keys, and the presses that they spell.
 //!
+//! A `Parser` hears a terminal byte by byte, with the quiet whiles between, and says what is pressed (`parser`,
+//! `sequence`).
 //! A `KeySource` tells what is heard piece by piece, and a piece is a `Hearing`: bytes one after another, to the end of
 //! a line at most, or a quiet while. What was heard so far is what the hearings told, in order. A `Keyboard` brings in
 //! texts of host files beside that (`keyboard`). A terminal is a source (`terminal`), and for tests a script is a
@@ -11,14 +13,20 @@ mod desk_keyboard;
 mod hearing;
 mod keyboard;
 mod laws;
+mod parser;
 mod paste;
+mod place;
 mod script;
+mod sequence;
 mod terminal;
 
 pub use desk_keyboard::{DeskKeyboard, MOST_BROUGHT};
 pub use ghost_traces::{Count, Trace};
 pub use hearing::{Hearing, MOST_HEARD};
 pub use keyboard::{KeySource, Keyboard, KeyboardEnd};
-pub use laws::texts_are_typed;
+pub use laws::{
+    pastes_are_heard, pieces_do_not_matter, spelled_presses_are_found, texts_are_typed,
+};
+pub use parser::Parser;
 pub use script::ScriptedKeyboard;
 pub use terminal::{StandardInput, TerminalInput};

@@ -1,6 +1,7 @@
 pub mod Clicks
-pub mod Found
+pub mod Keyed
 pub mod Names
 pub mod Pieces
 pub mod Spots
+pub mod Tests
 pub mod Typing

@@ -17,10 +17,9 @@ use Rattle.terminal_presses.specs.HostNames.{is_host_byte, is_host_name}
 use Rattle.terminal_presses.specs.Asking.{entered, lengthened, name_after_byte, answered, pasted_name}
 use Rattle.terminal_presses.specs.Hands.{idle, asking, answering, pasting_name, by_question, handled}
 use Rattle.terminal_presses.specs.Pastes.{new_paste}
-use Rattle.terminal_presses.specs.Presses.{single}
+use Rattle.terminal_presses.specs.Singles.{single}
 use Rattle.terminal_presses.specs.Runs.{events_of_action, hand_after, posted_events, MakesEvents, name_byte, name_with, paste_of}
-use Rattle.terminal_presses.proofs.Found.{both}
-use Rattle.terminal_presses.proofs.Typing.{by_test}
+use Rattle.terminal_presses.proofs.Tests.{both, by_test}
 
 no_return : (b : ℕ) → is_host_byte b ≡ true → nat_eq b 13 ≡ false
 no_return b is = grind (arith, nat_tests)
@@ -74,7 +73,7 @@ name_called_off sight hand name = refl
 
 -- the hand while the name is pasted
 abbrev naming : List ℕ → Hand → Hand
-naming name hand = record hand { paste = Some new_paste; asked = Some name }
+naming name hand = record hand { paste = Some new_paste; asked = Some name; asks_line = false }
 
 abbrev in_some : Option Press → List Press
 in_some None = []

@@ -11,27 +11,21 @@ use Rattle.event_bytes.specs.Bytes.{lies_within, is_text_byte}
 use Rattle.event_bytes.specs.declared.event.Event.{Event}
 use Rattle.event_bytes.specs.declared.event.Event.TheVariants.{Typed}
 use Rattle.terminal_presses.specs.declared.press.Press.{Press}
-use Rattle.terminal_presses.specs.declared.press.Press.TheVariants.{Character, Foreign, Control, Back, Escape, Arrow}
+use Rattle.terminal_presses.specs.declared.press.Press.TheVariants.{Character, Foreign, Control, Back, Delete, Escape, Arrow}
 use Rattle.terminal_presses.specs.declared.press.Press.TheVariants.{Page, Function, Mouse, PasteBegins, PasteEnds, Size}
-use Rattle.terminal_presses.specs.declared.press.Press.TheVariants.{Scroll, Wheel, FileFails, Unknown}
+use Rattle.terminal_presses.specs.declared.press.Press.TheVariants.{Leap, Scroll, Wheel, FileFails, Unknown}
 use Rattle.terminal_presses.specs.Sights.{Sight}
 use Rattle.terminal_presses.specs.declared.action.Action.{Action}
 use Rattle.terminal_presses.specs.declared.action.Action.TheVariants.{Nothing, Post}
 use Rattle.terminal_presses.specs.declared.paste.Paste.{Paste}
 use Rattle.terminal_presses.specs.declared.hand.Hand.{Hand}
-use Rattle.terminal_presses.specs.Presses.{single, at_rest, parser_after, presses_heard}
+use Rattle.terminal_presses.specs.Singles.{single}
 use Rattle.terminal_presses.specs.Pastes.{typing_action, added, in_profile, pasted_byte, with_byte, after_line_feed, pasted_more}
 use Rattle.terminal_presses.specs.Pastes.{pasted_if_any, pasted_on}
 use Rattle.terminal_presses.specs.Hands.{idle, ends_paste, pasting, fresh, by_question, handled}
-use Rattle.terminal_presses.specs.Spelling.{bytes_heard, key_sequence}
 use Rattle.terminal_presses.specs.Runs.{events_of_action, hand_after, posted_events, MakesEvents, typed_byte, line_ends, pasted_text}
-use Rattle.terminal_presses.specs.Runs.{pasted, paste_of, Types}
-use Rattle.terminal_presses.proofs.Pieces.{parser_of_both, pressed_of_both}
-use Rattle.terminal_presses.proofs.Found.{both, is_not, bytes_found, paste_found}
-
-pub by_test : {P : Type 0} (b : Bool) → (b ≡ true → P) → (b ≡ false → P) → P
-by_test true held failed = held refl
-by_test false held failed = failed refl
+use Rattle.terminal_presses.specs.Runs.{paste_of, Types}
+use Rattle.terminal_presses.proofs.Tests.{both, is_not, by_test}
 
 -- ---- bytes that wait for an event
 
@@ -203,7 +197,7 @@ typed_types (c ∷ cs) after_return waiting waits =
 -- ---- presses while a paste goes on
 
 abbrev amid : Hand → Paste → Hand
-amid hand p = record hand { paste = Some p; asked = None }
+amid hand p = record hand { paste = Some p; asked = None; asks_line = false }
 
 -- the terminal's size doesn't count, where nothing is dropped
 record GoesOn (press : Press) (p : Paste) : Type 0 where
@@ -216,8 +210,10 @@ goes_on_with (Character b) p is = record { paste_is = rw is refl; events_are = r
 goes_on_with Foreign p is = record { paste_is = rw is refl; events_are = rw is refl }
 goes_on_with (Control b) p is = record { paste_is = rw is refl; events_are = rw is refl }
 goes_on_with Back p is = record { paste_is = rw is refl; events_are = rw is refl }
+goes_on_with Delete p is = record { paste_is = rw is refl; events_are = rw is refl }
 goes_on_with Escape p is = record { paste_is = rw is refl; events_are = rw is refl }
 goes_on_with (Arrow arrow) p is = record { paste_is = rw is refl; events_are = rw is refl }
+goes_on_with (Leap arrow) p is = record { paste_is = rw is refl; events_are = rw is refl }
 goes_on_with (Scroll scroll) p is = record { paste_is = rw is refl; events_are = rw is refl }
 goes_on_with (Page page) p is = record { paste_is = rw is refl; events_are = rw is refl }
 goes_on_with (Function key) p is = record { paste_is = rw is refl; events_are = rw is refl }
@@ -428,29 +424,3 @@ pub paste_leaves : (sight : Sight) (hand : Hand) (text : List ℕ)
 unfolding handled by_question fresh
 paste_leaves sight hand text =
     (presses_make sight (idle hand) (paste false []) (filter_map single text) refl (text_is text).1).hand_is
-
-pub paste_pressed : (text : List ℕ) → list_all (λ b. not (b == 27)) text ≡ true
-    → (parser_after at_rest (pasted text) ≡ at_rest) × (presses_heard at_rest (pasted text) ≡ paste_of text)
-paste_pressed text all =
-    let begin = bytes_heard (key_sequence (50 ∷ 48 ∷ 48 ∷ 126 ∷ [])) in
-    let end = bytes_heard (key_sequence (50 ∷ 48 ∷ 49 ∷ 126 ∷ [])) in
-    let (first, last) = paste_found in
-    let (parser, presses) = bytes_found text all in (
-      parser_of_both at_rest begin (bytes_heard text ++ end)
-          ∙ ap (λ p. parser_after p (bytes_heard text ++ end)) first.0
-          ∙ parser_of_both at_rest (bytes_heard text) end
-          ∙ ap (λ p. parser_after p end) parser ∙ last.0,
-      pressed_of_both at_rest begin (bytes_heard text ++ end)
-          ∙ ap (λ p. presses_heard at_rest begin ++ presses_heard p (bytes_heard text ++ end)) first.0
-          ∙ ap (λ l. l ++ presses_heard at_rest (bytes_heard text ++ end)) first.1
-          ∙ ap (λ l. PasteBegins ∷ l) (pressed_of_both at_rest (bytes_heard text) end
-          ∙ ap (λ p. presses_heard at_rest (bytes_heard text) ++ presses_heard p end) parser
-          ∙ ap (λ l. l ++ presses_heard at_rest end) presses
-          ∙ ap (λ l. filter_map single text ++ l) last.1),
-    )
-
-pub pasted_typed : (sight : Sight) (hand : Hand) (text : List ℕ) → list_all (λ b. not (b == 27)) text ≡ true
-    → Types (posted_events sight (idle hand) (presses_heard at_rest (pasted text))) (pasted_text text)
-pasted_typed sight hand text all =
-    subst (λ l. Types (posted_events sight (idle hand) l) (pasted_text text)) (sym (paste_pressed text all).1)
-    (paste_typed sight hand text)

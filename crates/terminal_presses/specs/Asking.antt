@@ -1,15 +1,17 @@
--- The name of a host file, as it is asked for and typed.
-use Rattle.std.specs.Prelude.{ℕ, ◌==◌, ◌&&◌, nat_lt, if◌then◌else◌, List, [], ◌∷◌, ◌++◌, length, Option, Some, None}
+-- The name of a host file, or the number of a line, as it is asked for and typed.
+use Rattle.std.specs.Prelude.{ℕ, ◌+◌, ◌-◌, ◌*◌, ◌^◌, Bool, false, ◌==◌, ◌&&◌, ◌||◌, not, nat_lt, if◌then◌else◌, min, fold}
+use Rattle.std.specs.Prelude.{List, [], ◌∷◌, ◌++◌, length, Option, Some, None}
+use Rattle.event_bytes.specs.Bytes.{is_digit}
 use Rattle.terminal_presses.specs.declared.press.FunctionKey.{FunctionKey}
 use Rattle.terminal_presses.specs.declared.press.FunctionKey.TheVariants.{F9, F10}
 use Rattle.terminal_presses.specs.declared.press.Press.{Press}
-use Rattle.terminal_presses.specs.declared.press.Press.TheVariants.{Character, Foreign, Control, Back, Escape, Arrow}
+use Rattle.terminal_presses.specs.declared.press.Press.TheVariants.{Character, Foreign, Control, Back, Delete, Escape, Arrow}
 use Rattle.terminal_presses.specs.declared.press.Press.TheVariants.{Page, Function, Mouse, PasteBegins, PasteEnds, Size}
-use Rattle.terminal_presses.specs.declared.press.Press.TheVariants.{Scroll, Wheel, FileFails, Unknown}
+use Rattle.terminal_presses.specs.declared.press.Press.TheVariants.{Leap, Scroll, Wheel, FileFails, Unknown}
 use Rattle.terminal_presses.specs.declared.action.Action.{Action}
 use Rattle.terminal_presses.specs.declared.action.Action.TheVariants.{Nothing, Ring, LookAnew}
-use Rattle.terminal_presses.specs.declared.action.Action.TheVariants.{Leave, TypeFile, Move, Fit}
-use Rattle.terminal_presses.specs.declared.hand.TheConstants.{CONTROL_G, CONTROL_L, CONTROL_Q}
+use Rattle.terminal_presses.specs.declared.action.Action.TheVariants.{Leave, TypeFile, GoTo, Move, Fit}
+use Rattle.terminal_presses.specs.declared.hand.TheConstants.{CONTROL_L, CONTROL_Q}
 use Rattle.terminal_presses.specs.HostNames.{is_host_byte, but_last}
 use Rattle.terminal_presses.specs.Pastes.{line_feed, return}
 
@@ -37,13 +39,12 @@ unfoldable pub shortened_name : List ℕ → Asked
 shortened_name [] = (Some [], Ring)
 shortened_name (b ∷ name) = (Some (but_last (b ∷ name)), Nothing)
 
--- what Ctrl comes to with G, J, L and Q; another letter rings
+-- what Ctrl comes to with J, L and Q; another letter rings
 unfoldable pub controlled_name : ℕ → List ℕ → Asked
 controlled_name b name =
-    if b == CONTROL_G then (None, Nothing) else
-    (if b == line_feed then entered name else
+    if b == line_feed then entered name else
     (if b == CONTROL_L then (Some name, LookAnew) else
-    (if b == CONTROL_Q then (Some name, Leave) else (Some name, Ring))))
+    (if b == CONTROL_Q then (Some name, Leave) else (Some name, Ring)))
 
 unfoldable pub by_function_amid : FunctionKey → Action
 by_function_amid F9 = LookAnew
@@ -56,8 +57,10 @@ answered (Character b) name = name_after_byte b name
 answered Foreign name = (Some name, Ring)
 answered (Control b) name = controlled_name b name
 answered Back name = shortened_name name
+answered Delete name = (Some name, Ring)
 answered Escape name = (None, Nothing)
 answered (Arrow arrow) name = (Some name, Ring)
+answered (Leap arrow) name = (Some name, Ring)
 answered (Scroll scroll) name = (Some name, Ring)
 answered (Page page) name = (Some name, Move page)
 answered (Function key) name = (Some name, by_function_amid key)
@@ -76,8 +79,10 @@ pasted_name (Character b) name = lengthened b name
 pasted_name Foreign name = (Some name, Ring)
 pasted_name (Control b) name = (Some name, Ring)
 pasted_name Back name = (Some name, Ring)
+pasted_name Delete name = (Some name, Ring)
 pasted_name Escape name = (Some name, Ring)
 pasted_name (Arrow arrow) name = (Some name, Ring)
+pasted_name (Leap arrow) name = (Some name, Ring)
 pasted_name (Scroll scroll) name = (Some name, Ring)
 pasted_name (Page page) name = (Some name, Ring)
 pasted_name (Function key) name = (Some name, Ring)
@@ -88,3 +93,22 @@ pasted_name PasteEnds name = (Some name, Nothing)
 pasted_name (Size rows columns) name = (Some name, Fit rows columns)
 pasted_name FileFails name = (Some name, Nothing)
 pasted_name Unknown name = (Some name, Nothing)
+
+-- ---- a line
+
+-- The number that digits make of one in front of them, as far as it is counted.
+abbrev pub longer_line : ℕ → ℕ → ℕ
+longer_line n b = min (n * 10 + (b - 48)) (2 ^ 32 - 1)
+
+abbrev pub line_number : List ℕ → ℕ
+line_number digits = fold longer_line 0 digits
+
+-- what is entered as a name where a line is asked for is its number
+abbrev pub line_meant : Action → Action
+line_meant (TypeFile digits) = GoTo (line_number digits)
+line_meant a = a
+
+-- a byte that neither stands in a number nor ends one
+abbrev pub is_no_digit : Press → Bool
+is_no_digit (Character b) = not (is_digit b || (b == return))
+is_no_digit _ = false

@@ -7,99 +7,155 @@ use Rattle.event_bytes.specs.declared.keys.Keys.TheVariants as keys
 use Rattle.terminal_presses.specs.declared.press.Button.{Button}
 use Rattle.terminal_presses.specs.declared.press.Button.TheVariants.{Left, Middle, Right}
 use Rattle.terminal_presses.specs.declared.press.FunctionKey.{FunctionKey}
-use Rattle.terminal_presses.specs.declared.press.FunctionKey.TheVariants.{F1, F2, F3, F4, F5, F6, F7, F8, F9, F10}
+use Rattle.terminal_presses.specs.declared.press.FunctionKey.TheVariants.{F1, F2, F3, F4, F5, F6, F7, F8, F9, F10, F11, F12}
+use Rattle.event_bytes.specs.Keys.{keys_number}
+use Rattle.terminal_presses.specs.declared.press.Arrow.{Arrow as ArrowKey}
 use Rattle.terminal_presses.specs.declared.press.Scroll.{Scroll as ScrollKey}
 use Rattle.terminal_presses.specs.declared.press.Scroll.TheVariants.{WheelUp, WheelDown, PageUp, PageDown, First, Last}
 use Rattle.terminal_presses.specs.declared.press.MouseReport.{MouseReport}
 use Rattle.terminal_presses.specs.declared.press.WheelReport.{WheelReport}
 use Rattle.terminal_presses.specs.declared.press.Press.{Press}
-use Rattle.terminal_presses.specs.declared.press.Press.TheVariants.{Character, Foreign, Control, Back, Escape, Arrow}
+use Rattle.terminal_presses.specs.declared.press.Press.TheVariants.{Character, Foreign, Control, Back, Delete, Escape, Arrow}
 use Rattle.terminal_presses.specs.declared.press.Press.TheVariants.{Page, Function, Mouse, PasteBegins, PasteEnds, Size}
-use Rattle.terminal_presses.specs.declared.press.Press.TheVariants.{Scroll, Wheel, FileFails, Unknown}
+use Rattle.terminal_presses.specs.declared.press.Press.TheVariants.{Leap, Scroll, Wheel, FileFails, Unknown}
 use Rattle.terminal_presses.specs.Sights.{Sight, cell_shown, is_in_sight, spot_in}
 use Rattle.terminal_presses.specs.declared.spot.Spot.{Spot}
 use Rattle.terminal_presses.specs.declared.action.Click.{Click}
 use Rattle.terminal_presses.specs.declared.action.Click.TheVariants.{Mark, Keys}
+use Rattle.terminal_presses.specs.declared.pointer.Pointer.{Pointer}
+use Rattle.terminal_presses.specs.declared.pointer.TheConstants.{LEAP}
 use Rattle.terminal_presses.specs.declared.action.Action.{Action}
 use Rattle.terminal_presses.specs.declared.action.Action.TheVariants.{Nothing, Post, Ring, LookAnew, Leave, Undo, Redo}
-use Rattle.terminal_presses.specs.declared.action.Action.TheVariants.{Move, Step, Fit, FileFailed}
+use Rattle.terminal_presses.specs.declared.action.Action.TheVariants.{Search, Store, Fill}
+use Rattle.terminal_presses.specs.declared.action.Action.TheVariants.{Move, Step, AtCaret, Fit, FileFailed}
 use Rattle.terminal_presses.specs.declared.action.Action.TheVariants as action
 use Rattle.terminal_presses.specs.declared.gesture.Gesture.{Gesture}
 use Rattle.terminal_presses.specs.declared.paste.Paste.{Paste}
 use Rattle.terminal_presses.specs.declared.hand.Hand.{Hand}
-use Rattle.terminal_presses.specs.declared.hand.TheConstants.{CONTROL_C, CONTROL_G, CONTROL_L, CONTROL_O, CONTROL_Q}
-use Rattle.terminal_presses.specs.declared.hand.TheConstants.{CONTROL_V, CONTROL_X, CONTROL_Y, CONTROL_Z}
+use Rattle.terminal_presses.specs.declared.hand.TheConstants.{CONTROL_C, CONTROL_E, CONTROL_F, CONTROL_G, CONTROL_L, CONTROL_O, CONTROL_Q}
+use Rattle.terminal_presses.specs.declared.hand.TheConstants.{CONTROL_S, CONTROL_T, CONTROL_V, CONTROL_W, CONTROL_X, CONTROL_Y, CONTROL_Z}
 use Rattle.terminal_presses.specs.Gestures.{no_buttons, is_none_down, is_down, with_button, pressed_more, released}
 use Rattle.terminal_presses.specs.Gestures.{released_at}
-use Rattle.terminal_presses.specs.Asking.{Asked, answered, pasted_name}
+use Rattle.terminal_presses.specs.Pointers.{nowhere, moved_to, laid_aside, toggled, started, spot_moved, begins_at, pointed_cell}
+use Rattle.terminal_presses.specs.Asking.{Asked, answered, is_no_digit, line_meant, pasted_name}
 use Rattle.terminal_presses.specs.Pastes.{line_feed, return, typing_action, new_paste, dropped, pasted_on}
 
--- a hand with which nothing is under way, and where the pointer of the mouse is then
-abbrev pub resting : Option Spot → Hand
+-- a hand with which nothing is under way, and where it points
+abbrev pub resting : Pointer → Hand
 resting pointer = record {
   armed = None;
   gesture = None;
   paste = None;
   asked = None;
+  asks_line = false;
   pointer = pointer;
 }
 
 -- the hand that has pressed nothing
 abbrev pub new_hand : Hand
-new_hand = resting None
+new_hand = resting nowhere
 
--- a hand that isn't amid a paste, nor amid the name of a host file
+-- a hand that isn't amid a paste, nor amid an answer
 abbrev pub idle : Hand → Hand
-idle hand = record hand { paste = None; asked = None }
+idle hand = record hand { paste = None; asked = None; asks_line = false }
 
 -- a hand of which a name is asked for, as far as it is typed
 abbrev pub asking : List ℕ → Hand → Hand
-asking name hand = record hand { paste = None; asked = Some name }
+asking name hand = record hand { paste = None; asked = Some name; asks_line = false }
 
 -- ---- keys
 
--- what Ctrl comes to with C, J, L, Q, V, X, Y and Z; another letter rings
+-- what Ctrl comes to with C, E, F, J, L, Q, S, T, V, W, X, Y and Z; another letter rings
 unfoldable pub control : ℕ → Action
 control b =
     if b == CONTROL_C then Post (Key key.Copy) else
+    (if b == CONTROL_E then AtCaret (Keys keys.Middle) else
+    (if b == CONTROL_F then Search else
     (if b == line_feed then typing_action (return ∷ []) else
     (if b == CONTROL_L then LookAnew else
     (if b == CONTROL_Q then Leave else
+    (if b == CONTROL_S then Store else
+    (if b == CONTROL_T then AtCaret Mark else
     (if b == CONTROL_V then Post (Key key.Paste) else
+    (if b == CONTROL_W then Fill else
     (if b == CONTROL_X then Post (Key key.Cut) else
     (if b == CONTROL_Y then Redo else
-    (if b == CONTROL_Z then Undo else Ring)))))))
+    (if b == CONTROL_Z then Undo else Ring))))))))))))
 
--- Where a function key has said what the next click is, the click is what it says by itself again, and no more.
+-- Where a function key has said what the next click is, the click is what it says by itself again, and no more. Else a
+-- pointer that is shown is put away, and no more.
 unfoldable pub hand_after_escape : Hand → Hand × Action
 hand_after_escape hand =
-    if is_some hand.armed then (record hand { armed = None }, Nothing)
-    else (hand, Post (Key key.Escape))
+    if is_some hand.armed then (record hand { armed = None }, Nothing) else
+    (if is_some hand.pointer.shown then (record hand { pointer = laid_aside hand.pointer }, Nothing)
+    else (hand, Post (Key key.Escape)))
 
--- the name of a host file is asked for
-abbrev pub asks : Hand → Hand × Action
-asks hand = (record hand { asked = Some [] }, Nothing)
+-- the name of a host file is asked for, or a line
+abbrev pub asks : Bool → Hand → Hand × Action
+asks line hand = (record hand { asked = Some []; asks_line = line }, Nothing)
 
--- Ctrl-G is Escape too, and Ctrl-O asks for a name
+-- Ctrl-G asks for a line, and Ctrl-O for a name
 unfoldable pub controlled : ℕ → Hand → Hand × Action
-controlled b hand = if b == CONTROL_G then hand_after_escape hand
-    else (if b == CONTROL_O then asks hand else (hand, control b))
+controlled b hand = if b == CONTROL_G then asks true hand
+    else (if b == CONTROL_O then asks false hand else (hand, control b))
 
-abbrev pub armed_with : Click → Hand → Hand × Action
-armed_with click hand = (record hand { armed = Some click }, Nothing)
+-- what a click is that a key makes: what a function key has said, and else that of the left button
+abbrev pub click_by_key : Option Click → Click
+click_by_key armed = unwrap_or armed (Keys keys.Left)
 
--- F1 to F7 say what the next click is, and F8 asks for a name
-unfoldable pub by_function : FunctionKey → Hand → Hand × Action
-by_function F1 hand = armed_with Mark hand
-by_function F2 hand = armed_with (Keys keys.Middle) hand
-by_function F3 hand = armed_with (Keys keys.Right) hand
-by_function F4 hand = armed_with (Keys keys.LeftMiddle) hand
-by_function F5 hand = armed_with (Keys keys.LeftRight) hand
-by_function F6 hand = armed_with (Keys keys.RightLeft) hand
-by_function F7 hand = armed_with (Keys keys.RightMiddle) hand
-by_function F8 hand = asks hand
-by_function F9 hand = (hand, LookAnew)
-by_function F10 hand = (hand, Leave)
+-- the click at the cell of the pointer that is shown
+abbrev pub clicked : Spot → Hand → Hand × Action
+clicked at hand = (
+  record hand { armed = None },
+  released_at (Some (click_by_key hand.armed)) (begins_at hand.armed hand.pointer.start at) at,
+)
+
+-- Return is that click where the pointer is shown
+unfoldable pub hand_after_byte : ℕ → Option Spot → Hand → Hand × Action
+hand_after_byte b None hand = (hand, typing_action (b ∷ []))
+hand_after_byte b (Some at) hand =
+    if b == return then clicked at hand else (hand, typing_action (b ∷ []))
+
+-- an arrow moves the pointer where that is shown, and is else a click beside the caret
+unfoldable pub hand_after_arrow : ℕ → ArrowKey → Option Spot → Hand → Hand × Action
+hand_after_arrow n arrow None hand = (hand, Step arrow)
+hand_after_arrow n arrow (Some at) hand =
+    (record hand { pointer = moved_to (spot_moved n arrow at) hand.pointer }, Nothing)
+
+unfoldable pub is_same_click : Click → Click → Bool
+is_same_click Mark Mark = true
+is_same_click Mark (Keys others) = false
+is_same_click (Keys some) Mark = false
+is_same_click (Keys some) (Keys others) = keys_number some == keys_number others
+
+unfoldable pub is_armed_with : Click → Option Click → Bool
+is_armed_with click None = false
+is_armed_with click (Some armed) = is_same_click click armed
+
+-- a function key says what the next click is, and a draw begins where the pointer is shown
+abbrev pub arming : Click → Hand → Hand × Action
+arming click hand = (record hand { armed = Some click; pointer = started hand.pointer }, Nothing)
+
+-- the same key again is the click where the pointer is shown
+unfoldable pub armed_with : Click → Option Spot → Hand → Hand × Action
+armed_with click None hand = arming click hand
+armed_with click (Some at) hand =
+    if is_armed_with click hand.armed then clicked at hand else arming click hand
+
+-- F1 to F7 and F12 say what the next click is, F8 asks for a name, and F11 shows the pointer or puts it away
+unfoldable pub by_function : Sight → FunctionKey → Hand → Hand × Action
+by_function sight F1 hand = armed_with Mark hand.pointer.shown hand
+by_function sight F2 hand = armed_with (Keys keys.Middle) hand.pointer.shown hand
+by_function sight F3 hand = armed_with (Keys keys.Right) hand.pointer.shown hand
+by_function sight F4 hand = armed_with (Keys keys.LeftMiddle) hand.pointer.shown hand
+by_function sight F5 hand = armed_with (Keys keys.LeftRight) hand.pointer.shown hand
+by_function sight F6 hand = armed_with (Keys keys.RightLeft) hand.pointer.shown hand
+by_function sight F7 hand = armed_with (Keys keys.RightMiddle) hand.pointer.shown hand
+by_function sight F8 hand = asks false hand
+by_function sight F9 hand = (hand, LookAnew)
+by_function sight F10 hand = (hand, Leave)
+by_function sight F11 hand = (record hand { pointer = toggled sight hand.pointer }, Nothing)
+by_function sight F12 hand = armed_with (Keys keys.Left) hand.pointer.shown hand
 
 -- ---- the mouse
 
@@ -155,9 +211,11 @@ hand_after_button sight report hand =
     if report.is_down then (gone_down hand.gesture sight report hand, Nothing) else
     gone_up hand.gesture report.button (spot_of sight report) hand
 
--- the pointer is where a report has told it last; outside the display it is nowhere
+-- the mouse points where a report has told it last; outside the display it points nowhere
 abbrev pub pointed_at : Sight → ℕ → ℕ → Hand → Hand
-pointed_at sight column row hand = record hand { pointer = cell_shown sight column row }
+pointed_at sight column row hand = record hand {
+  pointer = record hand.pointer { mouse = cell_shown sight column row };
+}
 
 abbrev pub hand_after_report : Sight → MouseReport → Hand → Hand × Action
 hand_after_report sight report hand =
@@ -168,7 +226,7 @@ hand_after_report sight report hand =
 abbrev pub wheel_scroll : Bool → ScrollKey
 wheel_scroll is_up = if is_up then WheelUp else WheelDown
 
--- the wheel moves the text of the viewer under the pointer, and does nothing while a gesture is under way
+-- the wheel moves the text of the viewer at which the mouse points, and does nothing while a gesture is under way
 unfoldable pub wheel_action : Bool → Bool → Option Spot → Action
 wheel_action is_up is_amid None = Nothing
 wheel_action is_up is_amid (Some spot) =
@@ -176,13 +234,13 @@ wheel_action is_up is_amid (Some spot) =
 
 abbrev pub turned_wheel : WheelReport → Hand → Hand × Action
 turned_wheel report hand =
-    (hand, wheel_action report.is_up (is_some hand.gesture) hand.pointer)
+    (hand, wheel_action report.is_up (is_some hand.gesture) hand.pointer.mouse)
 
 abbrev pub hand_after_wheel : Sight → WheelReport → Hand → Hand × Action
 hand_after_wheel sight report hand =
     turned_wheel report (pointed_at sight report.column report.row hand)
 
--- A key that goes a page further moves the text of the viewer under the pointer. Where that is nowhere it is the viewer
+-- A key that goes a page further moves the text of the viewer that is pointed at. Where none is, it is the viewer
 -- of the caret, as for the ends of a text.
 unfoldable pub scroll_place : ScrollKey → Option Spot → Option Spot
 scroll_place PageUp pointer = pointer
@@ -196,15 +254,18 @@ scroll_place Last pointer = None
 
 -- what a press comes to while nothing is pasted
 unfoldable pub fresh : Sight → Press → Hand → Hand × Action
-fresh sight (Character b) hand = (hand, typing_action (b ∷ []))
+fresh sight (Character b) hand = hand_after_byte b hand.pointer.shown hand
 fresh sight Foreign hand = (hand, Ring)
 fresh sight (Control b) hand = controlled b hand
 fresh sight Back hand = (hand, Post (Key key.Back))
+fresh sight Delete hand = (hand, action.Delete)
 fresh sight Escape hand = hand_after_escape hand
-fresh sight (Arrow arrow) hand = (hand, Step arrow)
-fresh sight (Scroll scroll) hand = (hand, action.Scroll (scroll_place scroll hand.pointer) scroll)
+fresh sight (Arrow arrow) hand = hand_after_arrow 1 arrow hand.pointer.shown hand
+fresh sight (Leap arrow) hand = hand_after_arrow LEAP arrow hand.pointer.shown hand
+fresh sight (Scroll scroll) hand =
+    (hand, action.Scroll (scroll_place scroll (pointed_cell hand.pointer)) scroll)
 fresh sight (Page page) hand = (hand, Move page)
-fresh sight (Function function) hand = by_function function hand
+fresh sight (Function function) hand = by_function sight function hand
 fresh sight (Mouse report) hand = hand_after_report sight report hand
 fresh sight (Wheel report) hand = hand_after_wheel sight report hand
 fresh sight PasteBegins hand = (record hand { paste = Some new_paste }, Nothing)
@@ -254,12 +315,25 @@ pasting_name name press hand =
     if ends_paste press then (after_paste hand, Nothing)
     else with_asked (pasted_name press name) hand
 
--- where no name is asked for, a paste is a text; where one is, it is the name
+-- what a press comes to while an answer is asked for
+abbrev pub answered_on : List ℕ → Press → Hand → Hand × Action
+answered_on name press hand =
+    if is_pasting hand.paste then pasting_name name press hand else answering name press hand
+
+abbrev pub meant_as_line : Hand × Action → Hand × Action
+meant_as_line next = (next.0, line_meant next.1)
+
+-- and while that is a line: a name of digits, and the number that it spells
+unfoldable pub numbered : List ℕ → Press → Hand → Hand × Action
+numbered name press hand = if is_no_digit press then (hand, Ring) else
+    meant_as_line (answered_on name press hand)
+
+-- where nothing is asked for, a paste is a text; where it is, it is the answer
 unfoldable pub by_question : Sight → Option (List ℕ) → Press → Hand → Hand × Action
 by_question sight None press hand =
     if is_pasting hand.paste then pasting hand.paste press hand else fresh sight press hand
 by_question sight (Some name) press hand =
-    if is_pasting hand.paste then pasting_name name press hand else answering name press hand
+    if hand.asks_line then numbered name press hand else answered_on name press hand
 
 -- a hand and a press give a hand and an action, where this part of the display is in sight
 unfoldable pub handled : Sight → Press → Hand → Hand × Action

@@ -1,10 +1,10 @@
-pub mod Outcomes
 pub mod Asking
 pub mod Gestures
 pub mod Hands
 pub mod HostNames
+pub mod Outcomes
 pub mod Pastes
-pub mod Presses
+pub mod Pointers
 pub mod Runs
 pub mod Sights
-pub mod Spelling
+pub mod Singles

@@ -6,9 +6,9 @@ use Rattle.event_bytes.specs.Bytes.{is_text_byte, is_typed_bytes}
 pub use Rattle.event_bytes.specs.Bytes.{line_feed, question_mark}
 use Rattle.event_bytes.specs.declared.event.Event.TheVariants.{Typed}
 use Rattle.terminal_presses.specs.declared.press.Press.{Press}
-use Rattle.terminal_presses.specs.declared.press.Press.TheVariants.{Character, Foreign, Control, Back, Escape, Arrow}
+use Rattle.terminal_presses.specs.declared.press.Press.TheVariants.{Character, Foreign, Control, Back, Delete, Escape, Arrow}
 use Rattle.terminal_presses.specs.declared.press.Press.TheVariants.{Page, Function, Mouse, PasteBegins, PasteEnds, Size}
-use Rattle.terminal_presses.specs.declared.press.Press.TheVariants.{Scroll, Wheel, FileFails, Unknown}
+use Rattle.terminal_presses.specs.declared.press.Press.TheVariants.{Leap, Scroll, Wheel, FileFails, Unknown}
 use Rattle.terminal_presses.specs.declared.action.Action.{Action}
 use Rattle.terminal_presses.specs.declared.action.Action.TheVariants.{Nothing, Post, Fit}
 use Rattle.terminal_presses.specs.declared.paste.Paste.{Paste}
@@ -37,8 +37,10 @@ pasted_byte (Character b) = Some b
 pasted_byte Foreign = Some question_mark
 pasted_byte (Control b) = Some b
 pasted_byte Back = Some question_mark
+pasted_byte Delete = None
 pasted_byte Escape = Some question_mark
 pasted_byte (Arrow arrow) = None
+pasted_byte (Leap arrow) = None
 pasted_byte (Scroll scroll) = None
 pasted_byte (Page page) = None
 pasted_byte (Function key) = None

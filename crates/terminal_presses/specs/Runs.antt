@@ -1,6 +1,6 @@
 -- Presses one after another, and the events that they make.
-use Rattle.std.specs.Prelude.{◌≡◌, ℕ, ◌≤◌, Bool, true, false, ◌==◌, ◌&&◌, ◌||◌, nat_lt, if◌then◌else◌, List, [], ◌∷◌}
-use Rattle.std.specs.Prelude.{◌++◌, length, Option, Some, None}
+use Rattle.std.specs.Prelude.{◌≡◌, ℕ, ◌-◌, ◌<◌, ◌≤◌, Bool, true, false, ◌==◌, ◌&&◌, ◌||◌, nat_lt, if◌then◌else◌, List, [], ◌∷◌}
+use Rattle.std.specs.Prelude.{◌++◌, length, replicate, Option, Some, None}
 use Rattle.std.specs.List.{filter_map}
 use Rattle.event_bytes.specs.Bytes.{lies_within, is_text_byte}
 use Rattle.event_bytes.specs.declared.event.Event.{Event}
@@ -8,14 +8,17 @@ use Rattle.event_bytes.specs.declared.event.Event.TheVariants.{Typed, Mark as Ma
 use Rattle.event_bytes.specs.declared.keys.Keys.{Keys as MouseKeys}
 use Rattle.event_bytes.specs.declared.keys.Keys.TheVariants.{Left, LeftMiddle, LeftRight, Middle, MiddleLeft}
 use Rattle.event_bytes.specs.declared.keys.Keys.TheVariants.{MiddleRight, Right, RightLeft, RightMiddle}
-use Rattle.terminal_presses.specs.declared.press.Heard.{Heard}
 use Rattle.terminal_presses.specs.declared.press.Button.{Button}
 use Rattle.terminal_presses.specs.declared.press.Button.TheVariants as button
 use Rattle.terminal_presses.specs.declared.press.FunctionKey.{FunctionKey}
-use Rattle.terminal_presses.specs.declared.press.FunctionKey.TheVariants.{F1, F2, F3, F4, F5, F6, F7, F8, F9, F10}
+use Rattle.terminal_presses.specs.declared.press.FunctionKey.TheVariants.{F1, F2, F3, F4, F5, F6, F7, F8, F9, F10, F11, F12}
 use Rattle.terminal_presses.specs.declared.press.MouseReport.{MouseReport}
 use Rattle.terminal_presses.specs.declared.press.Press.{Press}
-use Rattle.terminal_presses.specs.declared.press.Press.TheVariants.{Mouse, PasteBegins, PasteEnds}
+use Rattle.terminal_presses.specs.declared.press.Arrow.{Arrow as ArrowKey}
+use Rattle.terminal_presses.specs.declared.press.Arrow.TheVariants as arrow
+use Rattle.terminal_presses.specs.declared.press.Press.TheVariants.{Arrow, Function, Mouse, PasteBegins, PasteEnds}
+use Rattle.viewer_tracks.specs.declared.display.TheConstants.{COLUMNS, ROWS}
+use Rattle.terminal_presses.specs.Pointers.{appears}
 use Rattle.terminal_presses.specs.Sights.{Sight, cell_shown, is_in_sight, spot_in}
 use Rattle.terminal_presses.specs.declared.action.Click.{Click}
 use Rattle.terminal_presses.specs.declared.action.Click.TheVariants.{Mark, Keys}
@@ -23,10 +26,10 @@ use Rattle.terminal_presses.specs.declared.action.Action.{Action}
 use Rattle.terminal_presses.specs.declared.action.Action.TheVariants.{Post}
 use Rattle.terminal_presses.specs.declared.hand.Hand.{Hand}
 use Rattle.terminal_presses.specs.declared.spot.Spot.{Spot}
-use Rattle.terminal_presses.specs.Presses.{single}
+use Rattle.terminal_presses.specs.declared.pointer.Pointer.{Pointer}
+use Rattle.terminal_presses.specs.Singles.{single}
 use Rattle.terminal_presses.specs.Hands.{handled}
 use Rattle.terminal_presses.specs.HostNames.{is_host_byte}
-use Rattle.terminal_presses.specs.Spelling.{key_sequence, bytes_heard}
 
 -- ---- runs of presses
 
@@ -66,6 +69,10 @@ is_seen sight at = is_in_sight sight at.column at.row
 -- that cell, where they show one
 abbrev pub seen_spot : Sight → Corner → Option Spot
 seen_spot sight at = cell_shown sight at.column at.row
+
+-- what is pointed at once the mouse has told them
+abbrev pub mouse_at : Sight → Corner → Pointer → Pointer
+mouse_at sight at pointer = record pointer { mouse = seen_spot sight at }
 
 -- the cell of the display that they mean
 abbrev pub spot_at : Sight → Corner → Spot
@@ -130,6 +137,44 @@ says F7 = Some (Keys RightMiddle)
 says F8 = None
 says F9 = None
 says F10 = None
+says F11 = None
+says F12 = Some (Keys Left)
+
+-- ---- keys that point
+
+-- a cell of the display
+pub record IsOnDisplay (at : Spot) : Type 0 where
+  pub column : at.x < COLUMNS
+  pub row : at.y < ROWS
+
+-- an arrow, so many arrow_times
+abbrev pub arrow_times : ℕ → ArrowKey → List Press
+arrow_times n key = replicate n (Arrow key)
+
+-- the arrows that lead from a cell to another one
+abbrev pub keys_to : Spot → Spot → List Press
+keys_to from to =
+    arrow_times (to.x - from.x) arrow.Right
+    ++ (arrow_times (from.x - to.x) arrow.Left
+    ++ (arrow_times (to.y - from.y) arrow.Up ++ arrow_times (from.y - to.y) arrow.Down))
+
+-- the pointer is shown, where it isn't, and goes to a cell
+abbrev pub pointing_to : Sight → Pointer → Spot → List Press
+pointing_to sight pointer at = Function F11 ∷ keys_to (appears sight pointer) at
+
+-- and then from there to another one, with a function key before, and a last press
+abbrev pub drawing_by : FunctionKey → Press → Sight → Pointer → Spot → Spot → List Press
+drawing_by key last sight pointer start end =
+    pointing_to sight pointer start ++ Function key ∷ (keys_to start end ++ last ∷ [])
+
+-- the event of a click from a cell to another one; the marker is set at the last
+abbrev pub drawn_event : Click → Spot → Spot → Event
+drawn_event Mark start end = MarkAt end.x end.y
+drawn_event (Keys keys) start end = Point keys start.x start.y end.x end.y
+
+-- what is pointed at then
+abbrev pub drawn_pointer : Spot → Spot → Pointer → Pointer
+drawn_pointer start end pointer = record pointer { shown = Some end; start = Some start }
 
 -- three buttons, in some order
 pub record AreThree (a b c : Button) : Type 0 where
@@ -156,11 +201,6 @@ line_ends after_return (b ∷ bs) =
 -- what is typed of a text that is pasted
 abbrev pub pasted_text : List ℕ → List ℕ
 pasted_text text = line_ends false (filter_map typed_byte text)
-
--- what is heard of it
-abbrev pub pasted : List ℕ → List Heard
-pasted text = bytes_heard (key_sequence (50 ∷ 48 ∷ 48 ∷ 126 ∷ []))
-    ++ (bytes_heard text ++ bytes_heard (key_sequence (50 ∷ 48 ∷ 49 ∷ 126 ∷ [])))
 
 -- what is pressed for it: each of its bytes as it is by itself
 abbrev pub paste_of : List ℕ → List Press

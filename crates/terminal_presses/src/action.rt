@@ -33,12 +33,24 @@ pub enum Action {
     Redo,
     /// The text of the host file of that name, which has at least one byte, is typed at the caret.
     TypeFile(HostName),
-    /// Other rows of the display come into sight.
+    /// Other rows of the display come into sight, or the columns of a side.
     Move(Page),
     /// The text of the viewer at that cell moves. None: of the viewer of the caret.
     Scroll(Option<Spot>, Scroll),
+    /// The text of the viewer of the caret moves to that line, counted from 1.
+    GoTo(u32),
+    /// The pattern is searched on in the viewer of the caret.
+    Search,
+    /// The text of the viewer of the caret becomes a document.
+    Store,
+    /// Lines are broken while they are typed, or are no longer.
+    Fill,
     /// A click beside the caret, as the screen has it.
     Step(Arrow),
+    /// The character after the caret is deleted.
+    Delete,
+    /// That click at the cell of the caret, as the screen has it.
+    AtCaret(Click),
     /// The terminal has so many rows, and so many columns.
     Fit(u16, u16),
     /// The host file whose text was typed could be read no further.

@@ -1,5 +1,5 @@
 //! The events that presses make.
-ghost use Rattle.std.specs.Prelude.{◌≡◌, ◌↔◌, Some, None, IsNone, IfSome};
+ghost use Rattle.std.specs.Prelude.{◌≡◌, ◌<◌, ◌↔◌, Some, None, IsNone, IfSome};
 ghost use Rattle.terminal_presses.specs.Hands.{new_hand, handled, pasting as pasting_by, fresh, hand_after_escape as escaped_by};
 ghost use Rattle.terminal_presses.specs.Hands.{answering as answering_by, pasting_name as pasting_name_by, dropping};
 ghost use Rattle.terminal_presses.specs.Hands.{by_question as question_says, pastes_text};
@@ -8,21 +8,30 @@ ghost use Rattle.terminal_presses.specs.Hands.{hand_after_report as reported_by,
 ghost use Rattle.terminal_presses.specs.Hands.{gone_down, gone_up, begun};
 ghost use Rattle.terminal_presses.specs.Hands.{click_meant as click_meant, with_asked, asks};
 ghost use Rattle.terminal_presses.specs.Hands.{pointed_at, wheel_action, scroll_place as place_of_scroll};
+ghost use Rattle.terminal_presses.specs.Hands.{hand_after_byte, hand_after_arrow, clicked, armed_with, arming, is_armed_with, is_same_click as are_same};
+ghost use Rattle.terminal_presses.specs.Pointers.{pointer_cell};
 ghost use Rattle.terminal_presses.specs.Asking.{answered, entered, lengthened, name_after_byte, shortened_name, controlled_name};
-ghost use Rattle.terminal_presses.specs.Asking.{by_function_amid, pasted_name};
+ghost use Rattle.terminal_presses.specs.Asking.{by_function_amid, is_no_digit, line_meant, pasted_name};
+ghost use Rattle.terminal_presses.specs.Hands.{is_pasting, numbered as numbered_by};
 ghost use Rattle.terminal_presses.specs.Outcomes.{ComesTo};
 
 use crate::action::{Action, Click};
 use crate::gesture::{Buttons, Gesture};
 use crate::host_name::{HostName, is_host_byte};
 use crate::paste::{LINE_FEED, Paste, typed};
-use crate::press::{Button, FunctionKey, MouseReport, Press, Scroll, WheelReport};
+use crate::pointer::{LEAP, Pointer};
+use crate::press::{Arrow, Button, FunctionKey, MouseReport, Press, Scroll, WheelReport};
 use crate::sight::Sight;
 use crate::spot::Spot;
-use event_bytes::{CARRIAGE_RETURN, Event, Key, Keys};
+use event_bytes::{CARRIAGE_RETURN, Event, Key, Keys, is_digit};
+use viewer_tracks::{COLUMNS, ROWS};
 
 /// The byte of Ctrl-C.
 pub(crate) const CONTROL_C: u8 = 3;
+/// The byte of Ctrl-E.
+pub(crate) const CONTROL_E: u8 = 5;
+/// The byte of Ctrl-F.
+pub(crate) const CONTROL_F: u8 = 6;
 /// The byte of Ctrl-G.
 pub(crate) const CONTROL_G: u8 = 7;
 /// The byte of Ctrl-L.
@@ -31,12 +40,18 @@ pub(crate) const CONTROL_L: u8 = 12;
 pub(crate) const CONTROL_O: u8 = 15;
 /// The byte of Ctrl-Q.
 pub(crate) const CONTROL_Q: u8 = 17;
+/// The byte of Ctrl-S.
+pub(crate) const CONTROL_S: u8 = 19;
+/// The byte of Ctrl-T.
+pub(crate) const CONTROL_T: u8 = 20;
 /// The byte of Ctrl-V.
 pub(crate) const CONTROL_V: u8 = 22;
+/// The byte of Ctrl-W.
+pub(crate) const CONTROL_W: u8 = 23;
 /// The byte of Ctrl-X.
 pub(crate) const CONTROL_X: u8 = 24;
 /// The byte of Ctrl-Y.
-pub(crate) const CONTROL_Y: u8 = 25;
+pub const CONTROL_Y: u8 = 25;
 /// The byte of Ctrl-Z.
 pub(crate) const CONTROL_Z: u8 = 26;
 
@@ -47,9 +62,9 @@ pub struct Hand {
     gesture: Option<Gesture>,
     paste: Option<Paste>,
     asked: Option<HostName>,
-    /// The cell that the last report of the mouse has told, where it was within the display. A report that is heard
-    /// amid a paste or a name counts for nothing.
-    pointer: Option<Spot>,
+    /// What is asked for, if anything, is a line, and not the name of a host file.
+    pub asks_line: bool,
+    pointer: Pointer,
 }
 
 impl Hand {
@@ -62,7 +77,8 @@ impl Hand {
             gesture: None,
             paste: None,
             asked: None,
-            pointer: None,
+            asks_line: false,
+            pointer: Pointer::nowhere(),
         }
     }
 
@@ -73,7 +89,17 @@ impl Hand {
         self.armed
     }
 
-    /// The name of a host file as far as it is typed, where one is asked for.
+    /// The column and the row of the display at which a pointer is shown that keys move, both counted from 0 at the lower
+    /// left.
+    pub fn pointer(&self) -> Option<(u8, u8)>
+        ensures value { result ≡ pointer_cell self.now.pointer }
+        ensures column { IfSome result (λ at. at.0 < COLUMNS) }
+        ensures row { IfSome result (λ at. at.1 < ROWS) }
+    {
+        self.pointer.cell()
+    }
+
+    /// The name of a host file, or the number of a line, as far as it is typed, where one is asked for.
     pub fn asked(&self) -> Option<&[u8]>
         ensures none { IsNone result ↔ (self.now.asked ≡ None) }
         ensures name { IfSome result (λ name. self.now.asked ≡ Some name.now) }
@@ -108,9 +134,36 @@ impl Hand {
         match (self.asked.take(), self.paste.is_some()) {
             (None, false) => self.fresh(sight, press),
             (None, true) => self.pasting(press),
-            (Some(name), false) => self.answering(name, press),
-            (Some(name), true) => self.pasting_name(name, press),
+            (Some(name), pastes) => {
+                if self.asks_line {
+                    self.numbered(name, pastes, press)
+                } else if pastes {
+                    self.pasting_name(name, press)
+                } else {
+                    self.answering(name, press)
+                }
+            }
         }
+    }
+
+    /// What a press comes to while a line is asked for.
+    #[tactic(auto, unfolding(crate::specs::Hands::numbered))]
+    fn numbered(&mut self, name: HostName, pastes: bool, press: Press) -> Action
+        requires { pastes ≡ is_pasting self.old.paste }
+        ensures { ComesTo (numbered_by name press (record self.old {
+          asked =
+              Some name;
+        })) self.new result }
+    {
+        if is_no_digit(press) {
+            return self.keep(name, Action::Ring);
+        }
+        let action = if pastes {
+            self.pasting_name(name, press)
+        } else {
+            self.answering(name, press)
+        };
+        line_meant(action)
     }
 
     /// What a press comes to while a name is asked for that is typed as far as this, and none is pasted.
@@ -150,14 +203,10 @@ impl Hand {
     {
         match press {
             Press::Character(byte) => self.lengthen(name, byte),
-            Press::Foreign | Press::Control(_) | Press::Back | Press::Escape => self.keep(
-                name,
-                Action::Ring,
-            ),
-            Press::Arrow(_) | Press::Scroll(_) | Press::Page(_) | Press::Function(_) => self.keep(
-                name,
-                Action::Ring,
-            ),
+            Press::Foreign | Press::Control(_) | Press::Back | Press::Delete | Press::Escape =>
+                self.keep(name, Action::Ring),
+            Press::Arrow(_) | Press::Leap(_) | Press::Scroll(_) => self.keep(name, Action::Ring),
+            Press::Page(_) | Press::Function(_) => self.keep(name, Action::Ring),
             Press::Size(rows, columns) => self.keep(name, Action::Fit(rows, columns)),
             Press::Mouse(_) | Press::Wheel(_) | Press::PasteBegins | Press::PasteEnds => self.keep(
                 name,
@@ -180,7 +229,8 @@ impl Hand {
                 self.asked = None;
                 Action::Nothing
             }
-            Press::Foreign | Press::Arrow(_) | Press::Scroll(_) => self.keep(name, Action::Ring),
+            Press::Foreign | Press::Delete | Press::Arrow(_) | Press::Leap(_) | Press::Scroll(_) =>
+                self.keep(name, Action::Ring),
             Press::Page(page) => self.keep(name, Action::Move(page)),
             Press::Function(key) => self.keep(name, function_amid(key)),
             Press::Mouse(_) | Press::Wheel(_) | Press::PasteBegins | Press::PasteEnds => self.keep(
@@ -231,10 +281,7 @@ impl Hand {
     fn controlled_name(&mut self, name: HostName, byte: u8) -> Action
         ensures { ComesTo (with_asked (controlled_name byte name) self.old) self.new result }
     {
-        if byte == CONTROL_G {
-            self.asked = None;
-            Action::Nothing
-        } else if byte == LINE_FEED {
+        if byte == LINE_FEED {
             self.entered(name)
         } else if byte == CONTROL_L {
             self.keep(name, Action::LookAnew)
@@ -271,11 +318,12 @@ impl Hand {
         self.keep(name, Action::Nothing)
     }
 
-    /// The name of a host file is asked for.
-    fn ask(&mut self) -> Action
-        ensures { ComesTo (asks self.old) self.new result }
+    /// The name of a host file is asked for, or a line.
+    fn ask(&mut self, asks_line: bool) -> Action
+        ensures { ComesTo (asks asks_line self.old) self.new result }
     {
         self.asked = Some(HostName::none());
+        self.asks_line = asks_line;
         Action::Nothing
     }
 
@@ -301,15 +349,20 @@ impl Hand {
         ensures { ComesTo (fresh sight press self.old) self.new result }
     {
         match press {
-            Press::Character(byte) => typed(&[byte]),
+            Press::Character(byte) => self.character(byte),
             Press::Foreign => Action::Ring,
             Press::Control(byte) => self.controlled(byte),
             Press::Back => Action::Post(Event::Key(Key::Back)),
+            Press::Delete => Action::Delete,
             Press::Escape => self.escaped(),
-            Press::Arrow(arrow) => Action::Step(arrow),
-            Press::Scroll(scroll) => Action::Scroll(scroll_place(scroll, self.pointer), scroll),
+            Press::Arrow(arrow) => self.arrow(1, arrow),
+            Press::Leap(arrow) => self.arrow(LEAP, arrow),
+            Press::Scroll(scroll) => Action::Scroll(
+                scroll_place(scroll, self.pointer.place()),
+                scroll,
+            ),
             Press::Page(page) => Action::Move(page),
-            Press::Function(key) => self.function(key),
+            Press::Function(key) => self.function(sight, key),
             Press::Mouse(report) => self.reported(sight, report),
             Press::Wheel(report) => self.wheeled(sight, report),
             Press::PasteBegins => {
@@ -322,13 +375,77 @@ impl Hand {
         }
     }
 
-    /// The key Escape. Where a function key has said what the next click is, it does no more than call that off.
+    /// A byte that can be typed. Return is a click where the pointer is shown.
+    #[tactic(auto, unfolding(crate::specs::Hands::hand_after_byte))]
+    fn character(&mut self, byte: u8) -> Action
+        ensures { ComesTo (hand_after_byte byte self.old.pointer.shown self.old) self.new result }
+    {
+        match self.pointer.shown {
+            Some(at) if byte == CARRIAGE_RETURN => self.click(at),
+            _ => typed(&[byte]),
+        }
+    }
+
+    /// An arrow, which moves the pointer by so many cells where that is shown.
+    #[tactic(auto, unfolding(crate::specs::Hands::hand_after_arrow))]
+    fn arrow(&mut self, cells: u8, arrow: Arrow) -> Action
+        ensures { ComesTo (hand_after_arrow cells arrow self.old.pointer.shown self.old) self.new
+            result }
+    {
+        match self.pointer.shown {
+            None => Action::Step(arrow),
+            Some(at) => {
+                self.pointer = self.pointer.moved_to(at.moved(cells, arrow));
+                Action::Nothing
+            }
+        }
+    }
+
+    /// The click at the cell of the pointer that is shown.
+    fn click(&mut self, at: Spot) -> Action
+        ensures { ComesTo (clicked at self.old) self.new result }
+    {
+        let armed = self.armed.take();
+        let gesture = Gesture {
+            click: Some(armed.unwrap_or(Click::Keys(Keys::Left))),
+            start: self.pointer.begins_at(armed, at),
+            down: Buttons::none(),
+        };
+        gesture.ended_at(at)
+    }
+
+    /// A function key says what the next click is. The same key again is the click where the pointer is shown.
+    #[tactic(auto, unfolding(crate::specs::Hands::armed_with))]
+    fn arm(&mut self, click: Click) -> Action
+        ensures { ComesTo (armed_with click self.old.pointer.shown self.old) self.new result }
+    {
+        match self.pointer.shown {
+            Some(at) if is_armed_with(click, self.armed) => self.click(at),
+            _ => self.begin_click(click),
+        }
+    }
+
+    /// The next click is that, and a draw begins where the pointer is shown.
+    fn begin_click(&mut self, click: Click) -> Action
+        ensures { ComesTo (arming click self.old) self.new result }
+    {
+        self.armed = Some(click);
+        self.pointer = self.pointer.started();
+        Action::Nothing
+    }
+
+    /// The key Escape. Where a function key has said what the next click is, it does no more than call that off, and else
+    /// no more than put a pointer away that is shown.
     #[tactic(auto, unfolding(crate::specs::Hands::hand_after_escape))]
     fn escaped(&mut self) -> Action
         ensures { ComesTo (escaped_by self.old) self.new result }
     {
         if self.armed.is_some() {
             self.armed = None;
+            return Action::Nothing;
+        }
+        if self.pointer.shown.is_some() {
+            self.pointer = self.pointer.put_away();
             return Action::Nothing;
         }
         Action::Post(Event::Key(Key::Escape))
@@ -340,9 +457,9 @@ impl Hand {
         ensures { ComesTo (controlled_by byte self.old) self.new result }
     {
         if byte == CONTROL_G {
-            self.escaped()
+            self.ask(true)
         } else if byte == CONTROL_O {
-            self.ask()
+            self.ask(false)
         } else {
             control(byte)
         }
@@ -350,30 +467,33 @@ impl Hand {
 
     /// What a function key comes to.
     #[tactic(auto, unfolding(crate::specs::Hands::by_function))]
-    fn function(&mut self, key: FunctionKey) -> Action
-        ensures { ComesTo (by_function key self.old) self.new result }
+    fn function(&mut self, sight: Sight, key: FunctionKey) -> Action
+        ensures { ComesTo (by_function sight key self.old) self.new result }
     {
-        let click = match key {
-            FunctionKey::F1 => Click::Mark,
-            FunctionKey::F2 => Click::Keys(Keys::Middle),
-            FunctionKey::F3 => Click::Keys(Keys::Right),
-            FunctionKey::F4 => Click::Keys(Keys::LeftMiddle),
-            FunctionKey::F5 => Click::Keys(Keys::LeftRight),
-            FunctionKey::F6 => Click::Keys(Keys::RightLeft),
-            FunctionKey::F7 => Click::Keys(Keys::RightMiddle),
-            FunctionKey::F8 => return self.ask(),
-            FunctionKey::F9 => return Action::LookAnew,
-            FunctionKey::F10 => return Action::Leave,
-        };
-        self.armed = Some(click);
-        Action::Nothing
+        match key {
+            FunctionKey::F1 => self.arm(Click::Mark),
+            FunctionKey::F2 => self.arm(Click::Keys(Keys::Middle)),
+            FunctionKey::F3 => self.arm(Click::Keys(Keys::Right)),
+            FunctionKey::F4 => self.arm(Click::Keys(Keys::LeftMiddle)),
+            FunctionKey::F5 => self.arm(Click::Keys(Keys::LeftRight)),
+            FunctionKey::F6 => self.arm(Click::Keys(Keys::RightLeft)),
+            FunctionKey::F7 => self.arm(Click::Keys(Keys::RightMiddle)),
+            FunctionKey::F8 => self.ask(false),
+            FunctionKey::F9 => Action::LookAnew,
+            FunctionKey::F10 => Action::Leave,
+            FunctionKey::F11 => {
+                self.pointer = self.pointer.toggled(sight);
+                Action::Nothing
+            }
+            FunctionKey::F12 => self.arm(Click::Keys(Keys::Left)),
+        }
     }
 
-    /// The pointer of the mouse is there.
+    /// The mouse points there.
     fn point(&mut self, sight: Sight, column: u16, row: u16)
         ensures { self.new ≡ pointed_at sight column row self.old }
     {
-        self.pointer = Spot::shown(sight, column, row);
+        self.pointer.mouse = Spot::shown(sight, column, row);
     }
 
     /// What a report of the wheel comes to.
@@ -381,7 +501,7 @@ impl Hand {
         ensures { ComesTo (wheeled_by sight report self.old) self.new result }
     {
         self.point(sight, report.column, report.row);
-        wheel(report.is_up, self.gesture.is_some(), self.pointer)
+        wheel(report.is_up, self.gesture.is_some(), self.pointer.mouse)
     }
 
     /// What a report of the mouse comes to.
@@ -509,6 +629,49 @@ fn meant(armed: Option<Click>, report: MouseReport) -> Click
     }
 }
 
+/// Whether a function key has said that the next click is that one.
+#[tactic(auto, unfolding(crate::specs::Hands::is_armed_with))]
+fn is_armed_with(click: Click, armed: Option<Click>) -> bool
+    ensures { result ≡ is_armed_with click armed }
+{
+    match armed {
+        None => false,
+        Some(armed) => is_same(click, armed),
+    }
+}
+
+/// Whether two clicks are the same.
+#[tactic(auto, unfolding(crate::specs::Hands::is_same_click))]
+fn is_same(one: Click, other: Click) -> bool
+    ensures { result ≡ are_same one other }
+{
+    match (one, other) {
+        (Click::Mark, Click::Mark) => true,
+        (Click::Mark, Click::Keys(_)) | (Click::Keys(_), Click::Mark) => false,
+        (Click::Keys(some), Click::Keys(others)) => some as u8 == others as u8,
+    }
+}
+
+/// Whether a press is a byte that neither stands in a number nor ends one.
+fn is_no_digit(press: Press) -> bool
+    ensures { result ≡ is_no_digit press }
+{
+    match press {
+        Press::Character(byte) => !(is_digit(byte) || byte == CARRIAGE_RETURN),
+        _ => false,
+    }
+}
+
+/// What is entered as a name, where a line is asked for: its number.
+fn line_meant(action: Action) -> Action
+    ensures { result ≡ line_meant action }
+{
+    match action {
+        Action::TypeFile(digits) => Action::GoTo(digits.number()),
+        other => other,
+    }
+}
+
 /// What the key Ctrl comes to with a letter that says nothing to the hand itself.
 #[tactic(auto, unfolding(crate::specs::Hands::control))]
 fn control(byte: u8) -> Action
@@ -516,10 +679,15 @@ fn control(byte: u8) -> Action
 {
     match byte {
         CONTROL_C => Action::Post(Event::Key(Key::Copy)),
+        CONTROL_E => Action::AtCaret(Click::Keys(Keys::Middle)),
+        CONTROL_F => Action::Search,
         LINE_FEED => typed(&[CARRIAGE_RETURN]),
         CONTROL_L => Action::LookAnew,
         CONTROL_Q => Action::Leave,
+        CONTROL_S => Action::Store,
+        CONTROL_T => Action::AtCaret(Click::Mark),
         CONTROL_V => Action::Post(Event::Key(Key::Paste)),
+        CONTROL_W => Action::Fill,
         CONTROL_X => Action::Post(Event::Key(Key::Cut)),
         CONTROL_Y => Action::Redo,
         CONTROL_Z => Action::Undo,
@@ -542,6 +710,8 @@ fn function_amid(key: FunctionKey) -> Action
         | FunctionKey::F5
         | FunctionKey::F6
         | FunctionKey::F7
-        | FunctionKey::F8 => Action::Ring,
+        | FunctionKey::F8
+        | FunctionKey::F11
+        | FunctionKey::F12 => Action::Ring,
     }
 }

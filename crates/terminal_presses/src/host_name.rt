@@ -1,6 +1,7 @@
 //! The name of a host file, as it is asked for and typed.
 ghost use Rattle.std.specs.Prelude.{◌≡◌, ◌<◌, ◌∷◌, ◌++◌, [], IsTrue, length, nat_lt};
 ghost use Rattle.terminal_presses.specs.HostNames.{is_host_byte as host_byte, is_host_name, but_last};
+ghost use Rattle.terminal_presses.specs.Asking.{line_number, longer_line};
 
 use arrayvec::ArrayVec;
 use std::marker::Model;
@@ -47,6 +48,17 @@ impl HostName {
         self.bytes.as_slice()
     }
 
+    /// The number that it spells, where its bytes are digits, as far as that is counted.
+    pub(crate) fn number(&self) -> u32
+        ensures { result ≡ line_number self.now }
+    {
+        let mut number = 0;
+        for byte in self.as_bytes() {
+            number = longer_line(number, *byte);
+        }
+        number
+    }
+
     /// Whether it has room for a byte more.
     pub(crate) fn has_room(&self) -> bool
         ensures { result ≡ nat_lt (length self.now) 255 }
@@ -69,6 +81,15 @@ impl HostName {
     {
         self.bytes.pop();
     }
+}
+
+/// A number with a digit more, as far as it is counted.
+fn longer_line(number: u32, digit: u8) -> u32
+    ensures { result ≡ longer_line number digit }
+{
+    number
+        .saturating_mul(10)
+        .saturating_add(u32::from(digit.saturating_sub(b'0')))
 }
 
 /// Whether a byte can stand in a name.

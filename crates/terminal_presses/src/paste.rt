@@ -195,7 +195,8 @@ fn byte_of(press: Press) -> Option<u8>
     match press {
         Press::Character(byte) | Press::Control(byte) => Some(byte),
         Press::Foreign | Press::Back | Press::Escape => Some(b'?'),
-        Press::Arrow(_) | Press::Scroll(_) | Press::Page(_) | Press::Function(_) => None,
+        Press::Delete | Press::Arrow(_) | Press::Leap(_) | Press::Scroll(_) => None,
+        Press::Page(_) | Press::Function(_) => None,
         Press::Mouse(_) | Press::Wheel(_) => None,
         Press::PasteBegins | Press::PasteEnds | Press::Size(_, _) => None,
         Press::FileFails | Press::Unknown => None,

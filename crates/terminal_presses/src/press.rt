@@ -34,11 +34,13 @@ pub enum Arrow {
     WordLeft,
 }
 
-/// A key that goes many rows further.
+/// A key that brings another part of the display into sight: rows further up or down, or the columns of a side.
 #[derive(Clone, Copy, Debug, PartialEq, Eq)]
 pub enum Page {
     Up,
     Down,
+    Left,
+    Right,
 }
 
 /// How a person wishes a viewer's text to move.
@@ -71,6 +73,8 @@ pub enum FunctionKey {
     F8,
     F9,
     F10,
+    F11,
+    F12,
 }
 
 /// What a terminal reports of the mouse: a button goes down, or goes up.
@@ -113,13 +117,17 @@ pub enum Press {
     Control(u8),
     /// The key that deletes backward.
     Back,
+    /// The key that deletes forward.
+    Delete,
     /// The key Escape.
     Escape,
     /// An arrow, or another key that moves the caret.
     Arrow(Arrow),
+    /// An arrow, Home or End with Shift.
+    Leap(Arrow),
     /// A key that moves the text of a viewer.
     Scroll(Scroll),
-    /// A key that goes many rows of the display further: PageUp or PageDown with Alt.
+    /// A key that brings another part of the display into sight: PageUp, PageDown, or the arrow to a side, with Alt.
     Page(Page),
     /// A function key.
     Function(FunctionKey),

@@ -1,17 +1,17 @@
 //! What a byte says that stands by itself.
 ghost use Rattle.std.specs.Prelude.{◌≡◌};
-ghost use Rattle.terminal_presses.specs.Presses.{single};
+ghost use Rattle.terminal_presses.specs.Singles.{single};
 
 use crate::press::Press;
 use event_bytes::is_text_byte;
 
 /// The byte that begins most spellings of keys, and is the key Escape by itself.
-pub(crate) const ESCAPE: u8 = 27;
+pub const ESCAPE: u8 = 27;
 
 impl Press {
     /// What a byte says that stands by itself. None for one from 128 to 191, which goes on with a character of several
     /// bytes that its first byte has told.
-    #[tactic(auto, unfolding(crate::specs::Presses::single))]
+    #[tactic(auto, unfolding(crate::specs::Singles::single))]
     pub fn of_byte(byte: u8) -> Option<Press>
         ensures { result ≡ single byte }
     {

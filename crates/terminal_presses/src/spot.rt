@@ -3,7 +3,6 @@ ghost use Rattle.std.specs.Prelude.{◌≡◌};
 ghost use Rattle.terminal_presses.specs.Sights.{cell_shown, spot_in};
 
 use crate::sight::Sight;
-use viewer_tracks::COLUMNS;
 
 /// A cell of the display, by its column and its row, both counted from 0 at the lower left.
 #[derive(Clone, Copy, Debug, PartialEq, Eq)]
@@ -18,10 +17,10 @@ impl Spot {
     pub fn nearest(sight: Sight, column: u16, row: u16) -> Spot
         ensures { result ≡ spot_in sight column row }
     {
-        let right = column.saturating_sub(1).min(COLUMNS as u16 - 1);
+        let right = column.saturating_sub(1).min(sight.columns() as u16 - 1);
         let down = row.saturating_sub(1).min(sight.rows() as u16 - 1);
         Spot {
-            x: right as u8,
+            x: sight.first_column() + right as u8,
             y: sight.top() - down as u8,
         }
     }

@@ -3,6 +3,7 @@ ghost use Rattle.std.specs.Prelude.{◌≡◌, ◌⊎◌, ◌+◌, ◌<◌, ◌�
 ghost use Rattle.readers_scanners.specs.Words.{ReadsOrFails, flat, AreWithin, bytes_of_text};
 ghost use Rattle.text_frames.specs.Cells.{IsPositionAt, IsCellOf};
 ghost use Rattle.text_frames.specs.Rules.{moved_position, changed_org, shown_org, IsFollowed, IsScrolledTo};
+ghost use Rattle.text_frames.specs.declared.row.TheConstants.{MOST_COLUMNS};
 ghost use Rattle.text_frames.specs.Row.{AreRowCells};
 
 use crate::lines::{ends_between, line_above, line_start};
@@ -129,7 +130,7 @@ impl Frame {
         row: u8,
         source: &mut S,
     ) -> Result<RowCells, Fault>
-        requires columns { w ≤ 50 }
+        requires columns { w ≤ MOST_COLUMNS }
         requires org { self.now.org ≤ length (flat text.now) }
         requires offsets { AreWithin (length (S.characters source.old)) (flat text.now) }
         ensures cells { IfOk result (λ line. AreRowCells (S.honest source.old)
@@ -174,7 +175,7 @@ impl Frame {
         p: u32,
         source: &mut S,
     ) -> Result<Option<(u8, u8)>, Fault>
-        requires columns { w ≤ 50 }
+        requires columns { w ≤ MOST_COLUMNS }
         requires rows { h ≤ 31 }
         requires place { p ≤ length (flat text.now) }
         requires offsets { AreWithin (length (S.characters source.old)) (flat text.now) }

@@ -1,6 +1,7 @@
 //! The rows of a frame, read one after another.
 ghost use Rattle.std.specs.Prelude.{◌≡◌, ◌≤◌, ◌<◌, ℕ, List, ⊤, length, IfOk, OnOk};
 ghost use Rattle.readers_scanners.specs.Words.{ReadsOrFails, flat, AreWithin};
+ghost use Rattle.text_frames.specs.declared.row.TheConstants.{MOST_COLUMNS};
 ghost use Rattle.text_frames.specs.Row.{AreRowCells};
 ghost use Rattle.text_frames.specs.Rows.{AreRows};
 
@@ -46,7 +47,7 @@ impl Frame {
         rows: &mut FrameRows<'_>,
         source: &mut S,
     ) -> Result<RowCells, Fault>
-        requires columns { w ≤ 50 }
+        requires columns { w ≤ MOST_COLUMNS }
         requires row { (row < h) × (h ≤ 31) }
         requires org { self.now.org ≤ length (flat text.now) }
         requires offsets { AreWithin (length (S.characters source.old)) (flat text.now) }

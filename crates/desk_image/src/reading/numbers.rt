@@ -38,15 +38,21 @@ pub(crate) fn byte_from<S: ByteSource>(source: &mut S) -> Read<u8>
 pub(crate) fn word_from<S: ByteSource>(source: &mut S) -> Read<u16>
     ensures reads { Reads S.ByteSource (λ number. number) result pair_at source.old source.new }
 {
-    Ok(byte_from(source)? as u16 * 256 + byte_from(source)? as u16)
+    Ok(u16::from_be_bytes([byte_from(source)?, byte_from(source)?]))
 }
 
 /// A number of four bytes.
-#[tactic(auto, unfolding(crate::specs::Reading::long_at))]
+#[tactic(auto, unfolding(crate::specs::Reading::long_at, event_bytes::specs::Parts::pair_at))]
 pub(crate) fn long_from<S: ByteSource>(source: &mut S) -> Read<u32>
     ensures reads { Reads S.ByteSource (λ number. number) result long_at source.old source.new }
 {
-    Ok(word_from(source)? as u32 * 65_536 + word_from(source)? as u32)
+    let bytes = [
+        byte_from(source)?,
+        byte_from(source)?,
+        byte_from(source)?,
+        byte_from(source)?,
+    ];
+    Ok(u32::from_be_bytes(bytes))
 }
 
 /// The end of the source. `Damaged`: a byte is still to come.

@@ -1,4 +1,4 @@
-use Rattle.std.specs.Prelude.{⊤}
+use Rattle.std.specs.Prelude.{⊤, is_some}
 use Rattle.std.proofs.Common.{rules, ◌≡◌, ◌∙◌, ◌+◌, length, [], ap, sym, arith}
 use Rattle.piece_ring.specs.Flat.{flat}
 use Rattle.desktop_definitions.specs.Viewers.{main_of, kept_main}
@@ -12,14 +12,14 @@ use Rattle.desk_core.specs.Kept.{kept_desktop}
 use Rattle.desk_commands.proofs.StoringLemmas.{copy_stands, copy_short, copy_answered}
 use Rattle.desk_commands.proofs.stores.store_as.Goals as goal
 
-pub returns-then-not-has_room : goal.returns-then-not-has_room
-returns-then-not-has_room g c = record {
+pub returns-in_default : goal.returns-in_default
+returns-in_default g c = record {
   answered =
       let s = g.S.CharSource in
       let old = s.characters c.args.source.now in
       let d = kept_desktop c.args.desk.now in
       storing_refused (s.honest c.args.source.now) old d c.requires.over c.args.name.now (main_of (seen old d) c.args.id)
-      (sym (c.has_room.ensures old) ∙ c.if-not-has_room.true);
+      (c.room_for.ensures.room old ∙ ap is_some c.in_default.is);
   uses = search (rules, g.met.S.CharSource.ground_self, g.met.S.CharSource.ground_through);
 }
 
@@ -35,7 +35,7 @@ pub fits_more-requires-clause-fewer : goal.fits_more-requires-clause-fewer
 unfolding seen
 fits_more-requires-clause-fewer g c =
     let small = files_small (seen [] (kept_desktop c.args.desk.now)) (c.requires.over.whole.sound []) in
-    let sum = c.length_of.ensures [] [] in
+    let sum = c.in-Some.ensures.gone [] [] in
     omega (arith, small, sum)
 
 pub returns-then-not-fits_more : goal.returns-then-not-fits_more
@@ -45,14 +45,14 @@ returns-then-not-fits_more g c = record {
       let old = s.characters c.args.source.now in
       let d = kept_desktop c.args.desk.now in
       let all = c.len-2.result + c.len-3.result in
-      let gone = c.length_of.result in
+      let gone = c.in-Some.gone in
       storing_full (s.honest c.args.source.now) old d c.requires.over c.args.name.now (main_of (seen old d) c.args.id)
       c.storing_line-line.result.items c.len.result gone all
-      (sym (c.has_room.ensures old) ∙ c.if-not-has_room.false)
+      (c.in-Some.ensures.room old)
       (c.len.ensures ∙ ap (λ pieces. length (flat pieces)) c.main_text-text.ensures
       ∙ sym (kept_main_long old d c.args.id))
       c.storing_line-line.ensures
-      (omega (arith, c.len.ensures, c.len-2.ensures, c.len-3.ensures.value)) c.length_of.ensures
+      (omega (arith, c.len.ensures, c.len-2.ensures, c.len-3.ensures.value)) c.in-Some.ensures.gone
       (ap (λ n. has_space (seen old d) n all gone) (sym c.len-4.ensures.value)
       ∙ sym (c.fits_more.ensures old) ∙ c.if-not-fits_more.true);
   uses = search (rules, g.met.S.CharSource.ground_self, g.met.S.CharSource.ground_through);
@@ -64,26 +64,26 @@ log_line-requires g c = record {
   stands =
       let old = g.S.CharSource.characters c.args.source.now in
       copy_stands ⊤ old (kept_desktop c.args.desk.now) c.requires.over c.args.name.now c.args.id c.storing_line-line.result.items
-      c.len.result c.length_of.result (c.len-2.result + c.len-3.result)
-      (sym (c.has_room.ensures old) ∙ c.if-not-has_room.false)
+      c.len.result c.in-Some.gone (c.len-2.result + c.len-3.result)
+      (c.in-Some.ensures.room old)
       (c.len.ensures ∙ ap (λ pieces. length (flat pieces)) c.main_text-text.ensures) c.storing_line-line.ensures
-      (omega (arith, c.len.ensures, c.len-2.ensures, c.len-3.ensures.value)) c.length_of.ensures
+      (omega (arith, c.len.ensures, c.len-2.ensures, c.len-3.ensures.value)) c.in-Some.ensures.gone
       c.put.new.files.entries c.in_ok-copy.copy c.in_ok-put.ensures.put c.in_ok-put.ensures.valid
       (c.in_ok-copy.ensures ∙ ap flat c.main_text-text.ensures);
   room =
       let low = space_written (seen [] (kept_desktop c.args.desk.now)) c.len-4.result (c.len-2.result + c.len-3.result)
-      c.length_of.result (sym (c.fits_more.ensures []) ∙ c.if-not-fits_more.false) in
+      c.in-Some.gone (sym (c.fits_more.ensures []) ∙ c.if-not-fits_more.false) in
       let long = ap length c.as_slice.ensures.value in
       omega (arith, low, long, c.len-4.ensures.value);
   short =
       let old = g.S.CharSource.characters c.args.source.now in
       let d = kept_desktop c.args.desk.now in
       let all = c.len-2.result + c.len-3.result in
-      let gone = c.length_of.result in
+      let gone = c.in-Some.gone in
       let low = copy_short ⊤ old d c.requires.over c.args.name.now c.args.id c.storing_line-line.result.items
-      c.len.result gone all (sym (c.has_room.ensures old) ∙ c.if-not-has_room.false)
+      c.len.result gone all (c.in-Some.ensures.room old)
       (c.len.ensures ∙ ap (λ pieces. length (flat pieces)) c.main_text-text.ensures) c.storing_line-line.ensures
-      (omega (arith, c.len.ensures, c.len-2.ensures, c.len-3.ensures.value)) c.length_of.ensures
+      (omega (arith, c.len.ensures, c.len-2.ensures, c.len-3.ensures.value)) c.in-Some.ensures.gone
       c.put.new.files.entries c.in_ok-copy.copy c.in_ok-put.ensures.put c.in_ok-put.ensures.valid
       (c.in_ok-copy.ensures ∙ ap flat c.main_text-text.ensures)
       (ap (λ n. has_space (seen [] d) n all gone) (sym c.len-4.ensures.value)
@@ -99,15 +99,15 @@ returns g c = record {
       let old = s.characters c.args.source.now in
       let d = kept_desktop c.args.desk.now in
       let all = c.len-2.result + c.len-3.result in
-      let gone = c.length_of.result in
+      let gone = c.in-Some.gone in
       let line = c.as_slice.result.now in
       let long = ap length c.as_slice.ensures.value in
       let made : length line ≡ c.len-4.result = long ∙ sym c.len-4.ensures.value in
       copy_answered (s.honest c.args.source.now) old d c.requires.over c.args.name.now c.args.id line c.len.result gone
-      all (sym (c.has_room.ensures old) ∙ c.if-not-has_room.false)
+      all (c.in-Some.ensures.room old)
       (c.len.ensures ∙ ap (λ pieces. length (flat pieces)) c.main_text-text.ensures)
       (c.as_slice.ensures.value ∙ c.storing_line-line.ensures)
-      (omega (arith, long, c.len.ensures, c.len-2.ensures, c.len-3.ensures.value)) c.length_of.ensures
+      (omega (arith, long, c.len.ensures, c.len-2.ensures, c.len-3.ensures.value)) c.in-Some.ensures.gone
       c.put.new.files.entries c.in_ok-copy.copy c.in_ok-put.ensures.put c.in_ok-put.ensures.valid
       (c.in_ok-copy.ensures ∙ ap flat c.main_text-text.ensures) (s.characters c.log_line.new.source)
       (kept_desktop c.log_line.new.desk) c.in_ok-log_line.ensures.logged

@@ -6,7 +6,7 @@ use Rattle.desk_journal.proofs.undone.post_each.Goals as goal
 
 pub loop-event-init : goal.loop-event-init
 loop-event-init g c = record {
-  behind = none_behind g.D.Disk c.args.store.now c.standing_law.ensures (c.info.ensures.durable c.requires.usable)
+  behind = none_behind g.D.Disk c.args.store.now c.standing_law.ensures (c.shows_what_crashes_leave.ensures.durable c.requires.usable)
       c.requires.newest;
 }
 

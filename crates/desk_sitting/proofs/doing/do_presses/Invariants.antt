@@ -1,5 +1,5 @@
 use Rattle.std.proofs.Common.{◌≡◌, take, Ok}
-use Rattle.terminal_presses.specs.Presses.{parser_after, presses_heard}
+use Rattle.terminal_keyboard.specs.Presses.{parser_after, presses_heard}
 use Rattle.desk_sitting.specs.Doing.{DoesAllPresses}
 use Rattle.desk_sitting.proofs.doing.do_presses.Given as goal
 

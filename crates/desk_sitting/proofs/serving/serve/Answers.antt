@@ -7,7 +7,7 @@ use Rattle.desk_sitting.proofs.serving.serve.Goals as goal
 pub loop-count-init : goal.loop-count-init
 loop-count-init g c = record {
   come = rw (c.new-parser.ensures, c.new-sitting.ensures, c.new-painter.ensures)
-      (come_none g.D.Disk (c.info.ensures.durable c.requires) c.requires);
+      (come_none g.D.Disk (c.shows_what_crashes_leave.ensures.durable c.requires) c.requires);
   calm = refl;
 }
 

@@ -6,7 +6,7 @@ use Rattle.desk_sitting.proofs.serving.serve.Given as goal
 abbrev pub invariant-loop-count : goal.invariant-loop-count
 invariant-loop-count g l = record {
   come : HasCome g.D.Disk
-      (first_place l.fn.height l.fn.greeting l.fn.store (g.K.Keyboard.heard l.fn.keyboard)
+      (first_place l.fn.height l.fn.width l.fn.greeting l.fn.questions l.fn.fills l.fn.store (g.K.Keyboard.heard l.fn.keyboard)
       (g.W.AnswerWriter.contents l.fn.writer)) l._count
       (turn_state_of l.parser l.sitting l.store (g.K.Keyboard.heard l.keyboard) l.painter
       (g.W.AnswerWriter.contents l.writer));

@@ -11,8 +11,8 @@ returns-in-None g c = nothing_again g.D.Disk tt c.args.store.now c.place-from.re
 pub returns-in_ok-post-in-Some : goal.returns-in_ok-post-in-Some
 returns-in_ok-post-in-Some g c = goes_on g.D.Disk c.args.sitting.now c.post.new.self c.args.store.now c.post.new.store
     c.requires.asked c.in-Some.event c.place-from.result c.next_again.new.self c.next_again.result c.place-from.ensures
-    c.next_again.ensures.event c.in-Some.is c.next_again.ensures.sitting tt tt c.place.result
-    c.place.ensures c.in_ok-post-in-Some.ensures c.did_again.ensures
+    c.next_again.ensures.event c.in-Some.is c.next_again.ensures.sitting tt _ c.place.result
+    c.place.ensures c.in_ok-post-in-Some.ensures.comes c.did_again.ensures
 
 pub returns-in_err-post-in-Some : goal.returns-in_err-post-in-Some
 returns-in_err-post-in-Some g c =
@@ -20,4 +20,4 @@ returns-in_err-post-in-Some g c =
     goes_wrong g.D.Disk c.args.sitting.now c.post.new.self c.args.store.now c.post.new.store c.requires.asked
     c.in-Some.event c.place-from.result c.next_again.new.self c.next_again.result c.place-from.ensures
     c.next_again.ensures.event c.in-Some.is c.next_again.ensures.sitting c.from_residual.result
-    c.in_err-post-in-Some.field-0.0 (p.1 ∙ ap (λ e. Err e) p.2) c.in_err-post-in-Some.ensures
+    c.in_err-post-in-Some.field-0.0 (p.1 ∙ ap (λ e. Err e) p.2) c.in_err-post-in-Some.ensures.comes

@@ -1,6 +1,6 @@
 use Rattle.std.proofs.Common.{◌∙◌}
 use Rattle.char_file.proofs.Reading.{read_on}
-use Rattle.desk_slots.proofs.OneMore.{one_read_more}
+use Rattle.desk_slots.proofs.CharacterRead.{one_read_more}
 use Rattle.desk_slots.proofs.reading.read_all.Goals as goal
 
 pub loop-characters-preserved : goal.loop-characters-preserved

@@ -1,7 +1,9 @@
 use Rattle.std.proofs.Common.{◌≡◌, map, take}
-use Rattle.desk_views.specs.Views.{kept_view, shown_view}
+use Rattle.desk_core.specs.Kept.{kept_desktop}
+use Rattle.desk_views.specs.Views.{view_in, kept_view}
 use Rattle.desk_views.proofs.views.shown_of.Given as goal
 
--- the views so far, with their texts
-abbrev pub invariant-loop-view : goal.invariant-loop-view
-invariant-loop-view l = map shown_view l.shown.items ≡ map (kept_view l.texts.entries) (take l.view-index l.views)
+-- the viewers so far, with their texts
+abbrev pub invariant-loop-entry : goal.invariant-loop-entry
+invariant-loop-entry l =
+    map kept_view l.shown.items ≡ map (view_in (kept_desktop l.desk)) (take l.entry-index l.viewers)

@@ -10,19 +10,17 @@ pub overflow_add-held : goal.overflow_add-held
 overflow_add-held c = omega (arith, c.held.ensures.few, c.requires.short)
 
 pub overflow_sub-held : goal.overflow_sub-held
-unfolding seen
 overflow_sub-held c = omega
-    (arith, c.length_of-gone.ensures [] [], files_held (seen [] (kept_desktop c.args.desk.now)), c.held.ensures.held [])
+    (arith, c.requires.gone, files_held (seen [] (kept_desktop c.args.desk.now)), c.held.ensures.held [])
 
 pub returns-clause-fits : goal.returns-clause-fits
 unfolding filed seen
-returns-clause-fits c = λ characters text long.
+returns-clause-fits c = λ characters name text long gone.
     let x = seen characters (kept_desktop c.args.desk.now) in
-    let sum : characters_held (filed x c.args.name.now text) + c.length_of-gone.result
-    ≡ characters_held x + length text = held_filed x c.args.name.now text c.length_of-gone.result
-    (c.length_of-gone.ensures characters text) in
+    let sum : characters_held (filed x name text) + c.args.gone ≡ characters_held x + length text =
+    held_filed x name text c.args.gone gone in
     let before = c.held.ensures.held characters in
-    let after : c.held.result + c.args.len - c.length_of-gone.result
-    ≡ characters_held (filed x c.args.name.now text) = omega (arith, sum, before, long) in
+    let after : c.held.result + c.args.len - c.args.gone ≡ characters_held (filed x name text) =
+    omega (arith, sum, before, long) in
     c.within_limits.ensures
-    ∙ fits_by (filed x c.args.name.now text) _ _ (ap (λ n. c.args.desk.now.written + n) (sym long)) after
+    ∙ fits_by (filed x name text) _ _ (ap (λ n. c.args.desk.now.written + n) (sym long)) after

@@ -22,7 +22,7 @@ returns-in_err-send-clause-by_lines g c =
     let made = c.in_ok-answer.ensures in
     rw (p.1, p.2) (λ durable honest bytes holds. cut_short
     (line_served g.D.Disk c.args.line.now c.ask.new.request c.args.store.now c.work_out.new.store
-    c.ask.ensures made.worked_out.session (c.info.ensures.durable made.worked_out.usable)
+    c.ask.ensures made.worked_out.session (c.shows_what_crashes_leave.ensures.durable made.worked_out.usable)
     made.worked_out.premise.1 made.crash durable honest bytes holds)
     (subst (AppendsFront _ _)
     (c.as_bytes.ensures ∙ made.worked_out.bytes honest
@@ -33,7 +33,7 @@ returns-clause-by_lines g c =
     let made = c.in_ok-answer.ensures in
     λ durable honest bytes holds. record {
       serves = line_served g.D.Disk c.args.line.now c.ask.new.request c.args.store.now c.work_out.new.store
-          c.ask.ensures made.worked_out.session (c.info.ensures.durable made.worked_out.usable)
+          c.ask.ensures made.worked_out.session (c.shows_what_crashes_leave.ensures.durable made.worked_out.usable)
           made.worked_out.premise.1 made.crash durable honest bytes holds;
       written = subst (Appends _ _)
           (c.as_bytes.ensures ∙ made.worked_out.bytes honest
@@ -41,4 +41,4 @@ returns-clause-by_lines g c =
     }
 
 pub returns-clause-durable : goal.returns-clause-durable
-returns-clause-durable g c = c.info.ensures.durable c.in_ok-answer.ensures.worked_out.usable
+returns-clause-durable g c = c.shows_what_crashes_leave.ensures.durable c.in_ok-answer.ensures.worked_out.usable

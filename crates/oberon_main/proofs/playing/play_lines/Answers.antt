@@ -7,7 +7,7 @@ use Rattle.oberon_main.proofs.playing.play_lines.Goals as goal
 
 pub loop-line-init : goal.loop-line-init
 loop-line-init g c =
-    let durable = c.info.ensures.durable c.requires in
+    let durable = c.shows_what_crashes_leave.ensures.durable c.requires in
     record {
       played = played_none g.D.Disk _ _ _ _ _ c.new-script.ensures.pending c.new-script.ensures.reads;
       usable = c.requires;

@@ -11,14 +11,14 @@ returns-in-Some-caret_kept-clause-cell g c = λ h texts numbered told.
     let main = contents (g.S.CharSource.characters c.args.source.now) (flat s.main.now) in
     caret_same texts c.args.caret.now c.in-Some-caret_kept.kept
     (record {
-      frame = record { text = s.frame.now.text; org = s.frame.now.org; width = c.args.w };
+      frame = record { text = s.frame.text; org = s.frame.org; width = c.args.w };
       rows = c.args.h;
       position = c.in-Some.position;
     }) main c.in-Some-caret_kept.ensures.some.0 c.in-Some-caret_kept.ensures.some.1 numbered.main told
-    ∙ ap (caret_at c.args.w c.args.h main s.frame.now.org) (sym c.in-Some.is)
+    ∙ ap (caret_at c.args.w c.args.h main s.frame.org) (sym c.in-Some.is)
 
 pub returns-clause-caret : goal.returns-clause-caret
 returns-clause-caret g c = λ h texts numbered told.
     c.in_ok-cell.ensures.cell h
-    ∙ ap (λ text. caret_at c.args.w c.args.h text c.args.shown.now.frame.now.org (Some c.in-Some.position))
+    ∙ ap (λ text. caret_at c.args.w c.args.h text c.args.shown.now.frame.org (Some c.in-Some.position))
     (sym numbered.main)

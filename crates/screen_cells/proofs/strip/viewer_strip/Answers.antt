@@ -26,13 +26,13 @@ returns-clause-strip g c = λ h texts numbered line_told caret_told column.
     let reads = c.in_ok-cell.ensures.reads in
     let under : c.args.y + 1 < c.args.top = search rules in
     frame_shown (as_read characters walk.shown) c.args.width c.args.bottom c.args.top c.args.y column
-    (c.args.top - 2 - c.args.y) (kept_cells c.keep_row.new.slot) c.in_ok-cell.cell walk.shown.frame.now.selection
+    (c.args.top - 2 - c.args.y) (kept_cells c.keep_row.new.slot) c.in_ok-cell.cell walk.shown.frame.selection
     under refl
     (c.in_ok-keep_row.ensures.cells (reads.still h) texts (numbered_still texts _ _ walk.shown (reads.same h) numbered)
     line_told
-    ∙ ap (λ (read : List ℕ). row_cells (c.args.width - 1) (as_read read walk.shown).main walk.shown.frame.now.org
+    ∙ ap (λ (read : List ℕ). row_cells (c.args.width - 1) (as_read read walk.shown).main walk.shown.frame.org
     (c.args.top - 2 - c.args.y)) (reads.same h))
     (c.in_ok-cell.ensures.cell h texts numbered caret_told
     ∙ ap (λ rows. caret_at (c.args.width - 1) rows (as_read characters walk.shown).main
-    walk.shown.frame.now.org walk.shown.frame.now.caret) c.requires.at.rows)
+    walk.shown.frame.org walk.shown.frame.caret) c.requires.at.rows)
     refl

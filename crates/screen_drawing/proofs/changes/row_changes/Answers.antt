@@ -28,21 +28,21 @@ loop-x-preserved c =
       done = put_step _ _ c.loop-x.x c.from-at.result c.args.olds.now c.args.news.now _ _ _ c.loop-x.invariant.done
           (omega arith) (omega arith) (omega arith) (sym c.is_same.ensures ∙ c.if-is_same.false) _ _
           (ap (λ (l : List Face). list_all is_blank_face l)
-          (sym (between_to_end c.args.news.now c.from-at.result 80 (omega arith)))
+          (sym (between_to_end c.args.news.now c.from-at.result (length c.args.news.now) (omega arith)))
           ∙ sym c.is_blank.ensures ∙ c.if-is_blank.false)
           c.reach-in-loop-x.ensures.value c.push-in-loop-x.ensures.items;
       few = room;
     }
 
-pub returns-then-is_blank-clause-value : goal.returns-then-is_blank-clause-value
-returns-then-is_blank-clause-value c =
+pub returns-then-is_blank : goal.returns-then-is_blank
+returns-then-is_blank c =
     cleared_step _ _ c.loop-x.x c.from-at.result c.args.olds.now c.args.news.now _ _ _ c.loop-x.invariant.done
     (omega arith) (omega arith) (omega arith) (sym c.is_same.ensures ∙ c.if-is_same.false) _ _ _
     (ap (λ (l : List Face). list_all is_blank_face l)
-    (sym (between_to_end c.args.news.now c.from-at.result 80 (omega arith)))
+    (sym (between_to_end c.args.news.now c.from-at.result (length c.args.news.now) (omega arith)))
     ∙ sym c.is_blank.ensures ∙ c.if-is_blank.true)
     c.plain.ensures c.reach.ensures.value c.push.ensures.items
 
-pub returns-clause-value : goal.returns-clause-value
-returns-clause-value c =
+pub returns : goal.returns
+returns c =
     all_done _ _ c.loop-x.x c.args.olds.now c.args.news.now _ _ c.loop-x.invariant.done (omega arith)

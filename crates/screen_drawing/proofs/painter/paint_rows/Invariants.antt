@@ -9,7 +9,7 @@ abbrev pub invariant-loop-y : goal.invariant-loop-y
 invariant-loop-y g l = record {
   rows : l.rows.items ≡ values l.y (scene_row l.scene);
   led : Leads (rows_changes l.y (λ k. get_or l.olds k []) (scene_row l.scene)) (g.W.AnswerWriter.contents l.fn.writer)
-      (g.W.AnswerWriter.contents l.writer) (IsShown (height_of l.scene) l.olds)
-      (IsBetween (height_of l.scene) l.y (scene_row l.scene) (λ k. get_or l.olds k []));
+      (g.W.AnswerWriter.contents l.writer) (IsShown l.scene.width (height_of l.scene) l.olds)
+      (IsBetween l.scene.width (height_of l.scene) l.y (scene_row l.scene) (λ k. get_or l.olds k []));
   calm : g.W.AnswerWriter.failures l.writer ≡ g.W.AnswerWriter.failures l.fn.writer;
 }

@@ -40,4 +40,4 @@ loop-call-preserved g c =
 
 pub returns-clause-any_moment : goal.returns-clause-any_moment
 returns-clause-any_moment g c = c.runs_survive.ensures _ _ _ c.loop-call.invariant.run c.requires
-    (c.info.ensures.durable c.requires)
+    (c.shows_what_crashes_leave.ensures.durable c.requires)

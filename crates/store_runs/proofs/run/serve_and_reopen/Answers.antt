@@ -14,7 +14,7 @@ use Rattle.store_runs.proofs.run.serve_and_reopen.Goals as goal
 pub loop-call-init : goal.loop-call-init
 loop-call-init g c =
     let store = c.args.store in
-    let durable = c.info.ensures.durable c.requires in
+    let durable = c.shows_what_crashes_leave.ensures.durable c.requires in
     record {
       within = omega arith;
       usable = c.requires;

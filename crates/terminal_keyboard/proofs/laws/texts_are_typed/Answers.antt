@@ -1,5 +1,5 @@
 use Rattle.std.proofs.Common.{subst, sym, map}
-use Rattle.terminal_presses.specs.Presses.{at_rest, presses_heard}
+use Rattle.terminal_keyboard.specs.Presses.{at_rest, presses_heard}
 use Rattle.terminal_presses.specs.Hands.{idle}
 use Rattle.terminal_presses.specs.Runs.{Types, posted_events, pasted_text}
 use Rattle.terminal_keyboard.specs.HostPastes.{harmless}
@@ -11,7 +11,7 @@ returns-clause-pasted c = whole_is_pasted
 
 pub returns-clause-typed : goal.returns-clause-typed
 returns-clause-typed c most left text told sight hand all =
-    let types = c.pastes_are_typed.ensures.paste sight hand (map harmless text) (none_escapes text) in
+    let types = c.pastes_are_heard.ensures.typed sight hand (map harmless text) (none_escapes text) in
     subst (λ heard. Types (posted_events sight (idle hand) (presses_heard at_rest heard)) (pasted_text (map harmless text)))
     (sym (whole_is_pasted most left text told all)) types
 

@@ -1,5 +1,5 @@
 use Rattle.std.proofs.Common.{◌≡◌, length, take}
-use Rattle.terminal_presses.specs.Spelling.{bytes_heard}
+use Rattle.terminal_keyboard.specs.Spelling.{bytes_heard}
 use Rattle.terminal_keyboard.proofs.hearing.Hearing.of_bytes.Given as goal
 
 abbrev pub invariant-loop-i : goal.invariant-loop-i

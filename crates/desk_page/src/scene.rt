@@ -1,0 +1,193 @@
+//! What a host is handed of a page, and what a call does to a page.
+ghost use Rattle.std.specs.Prelude.{◌≡◌, is_none, true, false, IfOk, IsOk, OnOk};
+ghost use Rattle.recorded_disk.specs.Spelling.{spelling_of_calls};
+ghost use Rattle.desk_journal.specs.Opening.{IsOpened};
+ghost use Rattle.desk_journal.specs.View.{IsDurable};
+ghost use Rattle.desk_page.specs.Turns.{AreTravelled, Begins, Presses, Brings, IsOpenedAnew, IsHanded};
+
+use crate::documents::bring;
+use crate::heard::{hear, hearing};
+use crate::loading::disk_of;
+use crate::page::{Page, begin, begin_new, show};
+use desk_bringing::Document;
+use desk_journal::{Error, Store};
+use desk_sitting::{MOST_TURNS, Sitting, travel};
+use desktop_definitions::Reply;
+use recorded_disk::RecordedDisk;
+use sector_disk::{Disk, FILE_SECTORS};
+use std::alloc::Global;
+use store_layout::showing_law;
+use terminal_keyboard::Parser;
+
+/// A page over the disk whose calls the host repeats.
+pub type HostPage = Page<RecordedDisk>;
+
+/// What a host is handed of a page: the drawing, the line below it, the calls of the disk that it hasn't been told, and
+/// whether the page rings.
+#[derive(Drop)]
+pub struct Scene {
+    pub drawing: Vec<u8>,
+    pub line: Vec<u8>,
+    pub calls: Vec<u8>,
+    pub rings: bool,
+}
+
+/// A page and what the host is handed of it.
+pub(crate) type Turn = Result<(HostPage, Scene), Error>;
+
+/// A page before the store that these bytes are, a sector after another, or before a new one where there are none.
+///
+/// Errors: those of `begin` and of `begin_new`.
+pub(crate) fn begun(alloc: Global, bytes: &[u8]) -> Result<HostPage, Error>
+    ensures { IfOk result (Begins ⟦<RecordedDisk as Disk>⟧ bytes.now) }
+{
+    if bytes.is_empty() {
+        let Ok(disk) = RecordedDisk::new(alloc, FILE_SECTORS) else {
+            return Err(Error::NoMemory);
+        };
+        begin_new(alloc, disk)
+    } else {
+        let Ok(disk) = disk_of(alloc, bytes) else {
+            return Err(Error::NoMemory);
+        };
+        begin(alloc, disk)
+    }
+}
+
+/// The page after what is pressed by these bytes of a terminal and a quiet while, and what is asked for by that.
+///
+/// Errors: those of `hear` and of `travel`; `MustReopen`.
+pub(crate) fn pressed(alloc: Global, page: HostPage, bytes: &[u8]) -> Turn
+    ensures { IfOk result (λ both. Presses ⟦<RecordedDisk as Disk>⟧ bytes.now page both.0 both.1) }
+{
+    let mut page = page;
+    usable(&page.store)?;
+    let Ok(heard) = hearing(alloc, bytes) else {
+        return Err(Error::NoMemory);
+    };
+    hear(alloc, &mut page, heard.as_slice())?;
+    usable(&page.store)?;
+    travel_on(alloc, &mut page.sitting, &mut page.store)?;
+    settled(alloc, page)
+}
+
+/// Does what is asked for beside the presses, step after step, until nothing is asked for.
+///
+/// Errors: those of `travel`; `MustReopen` after `MOST_TURNS` steps.
+fn travel_on(
+    alloc: Global,
+    sitting: &mut Sitting,
+    store: &mut Store<RecordedDisk>,
+) -> Result<(), Error>
+    requires usable { store.old.must_reopen ≡ false }
+    requires durable { IsDurable ⟦<RecordedDisk as Disk>⟧ store.old }
+    ensures travelled { OnOk result (AreTravelled ⟦<RecordedDisk as Disk>⟧
+        sitting.old sitting.new store.old store.new) }
+    ensures rests { OnOk result (is_none sitting.new.travels ≡ true) }
+{
+    for _count in 0..MOST_TURNS {
+        if sitting.travels.is_none() {
+            return Ok(());
+        }
+        travel(alloc, sitting, store)?;
+    }
+    Err(Error::MustReopen)
+}
+
+/// The page after a document was brought, or refused.
+///
+/// Errors: those of `bring`.
+pub(crate) fn brought(
+    alloc: Global,
+    page: HostPage,
+    document: Document,
+) -> Result<(HostPage, Scene, Reply), Error>
+    ensures { IfOk result (λ all. Brings ⟦<RecordedDisk as Disk>⟧ document all.2 page all.0 all.1) }
+{
+    let mut page = page;
+    let reply = bring(alloc, &mut page, document)?;
+    let (page, scene) = settled(alloc, page)?;
+    Ok((page, scene, reply))
+}
+
+/// Draws a page, and tells the calls of its disk.
+///
+/// Errors: `NoMemory`; `Fault`; `MustReopen`.
+#[tactic(auto, using(crate::proofs::Turning::handed_over))]
+pub(crate) fn settled(alloc: Global, page: HostPage) -> Turn
+    ensures { IfOk result (λ both. IsHanded page both.0 both.1) }
+{
+    let rings = page.sitting.rings;
+    let (page, calls) = told(alloc, page)?;
+    let mut page = page;
+    let mut drawing = Vec::new(alloc);
+    let mut line = Vec::new(alloc);
+    show(alloc, &mut page, &mut drawing, &mut line)?;
+    Ok((
+        page,
+        Scene {
+            drawing,
+            line,
+            calls,
+            rings,
+        },
+    ))
+}
+
+/// The calls of a page's disk, which then forgets them: the store is closed, and opened again.
+///
+/// Errors: those of `Store::open`; `MustReopen`.
+fn told(alloc: Global, page: HostPage) -> Result<(HostPage, Vec<u8>), Error>
+    ensures page { IfOk result (λ both. IsOpenedAnew ⟦<RecordedDisk as Disk>⟧ page both.0) }
+    ensures calls { IfOk result (λ both. both.1.items ≡ spelling_of_calls page.store.disk.since) }
+{
+    usable(&page.store)?;
+    showing_law();
+    let Page {
+        store,
+        sitting,
+        parser,
+    } = page;
+    let mut calls = Vec::new(alloc);
+    let mut disk = store.close();
+    if calls.extend_from_slice(disk.spelled()).is_err() {
+        return Err(Error::NoMemory);
+    }
+    disk.forget();
+    let page = opened(alloc, disk, sitting, parser)?;
+    Ok((page, calls))
+}
+
+/// A page before the store on the disk, with that sitting and that parser.
+fn opened(
+    alloc: Global,
+    disk: RecordedDisk,
+    sitting: Sitting,
+    parser: Parser,
+) -> Result<HostPage, Error>
+    ensures opened { IfOk result (λ page. IsOpened ⟦<RecordedDisk as Disk>⟧ disk page.store) }
+    ensures sitting { IfOk result (λ page. page.sitting ≡ sitting) }
+    ensures parser { IfOk result (λ page. page.parser ≡ parser) }
+{
+    match Store::open(alloc, disk) {
+        Ok(store) => Ok(Page {
+            store,
+            sitting,
+            parser,
+        }),
+        Err((error, _)) => Err(error),
+    }
+}
+
+/// Whether the store needn't be opened again: what it shows is then what every crash leaves.
+///
+/// Error: `MustReopen`.
+fn usable(store: &Store<RecordedDisk>) -> Result<(), Error>
+    ensures usable { IsOk result → store.now.must_reopen ≡ false }
+    ensures durable { IsOk result → IsDurable ⟦<RecordedDisk as Disk>⟧ store.now }
+{
+    match store.info() {
+        Ok(_) => Ok(()),
+        Err(error) => Err(error),
+    }
+}

@@ -1,4 +1,0 @@
-pub mod Again
-pub mod Called
-pub mod Deeds
-pub mod Past

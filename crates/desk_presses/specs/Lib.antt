@@ -1,0 +1,10 @@
+pub mod Again
+pub mod Aims
+pub mod Along
+pub mod Called
+pub mod Deeds
+pub mod Filling
+pub mod Frames
+pub mod Menus
+pub mod Past
+pub mod Windows

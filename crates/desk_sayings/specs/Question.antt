@@ -1,0 +1,27 @@
+-- What is asked about before a press is done.
+use Rattle.std.specs.Prelude.{ℕ, Bool, true, false, not, ◌==◌, ◌&&◌, Option, Some, None}
+use Rattle.desk_sayings.specs.declared.question.Question.{Question}
+use Rattle.desk_sayings.specs.declared.question.Question.TheVariants.{Leaving, Closing}
+
+-- a text that closing would lose, by the first cell of its viewer's menu
+abbrev pub closing : Option (ℕ × ℕ) → Option Question
+closing None = None
+closing (Some cell) = Some (Closing cell.0 cell.1)
+
+abbrev pub is_same_question : Question → Question → Bool
+is_same_question Leaving Leaving = true
+is_same_question (Closing x y) (Closing u v) = (x == u) && (y == v)
+is_same_question _ _ = false
+
+abbrev pub is_asked : Option Question → Question → Bool
+is_asked None question = false
+is_asked (Some last) question = is_same_question last question
+
+-- a question comes first, unless the last press has asked it
+abbrev pub comes_first : Option Question → Option Question → Bool
+comes_first last None = false
+comes_first last (Some question) = not (is_asked last question)
+
+abbrev pub asks_to_leave : Option Question → Bool
+asks_to_leave (Some Leaving) = true
+asks_to_leave _ = false

@@ -1,0 +1,187 @@
+-- What the line below the screen says.
+use Rattle.std.specs.Prelude.{ℕ, ◌-◌, ◌==◌, if◌then◌else◌, List, [], ◌∷◌, ◌++◌, Option, Some, None, codes, drop, length, slice_get}
+use Rattle.desktop_definitions.specs.Limits.{no_file}
+use Rattle.std.specs.Prelude.{Bool, true, false, unwrap_or}
+use Rattle.std.specs.Fmt.{decimal}
+use Rattle.event_bytes.specs.declared.keys.Keys.{Keys as MouseKeys}
+use Rattle.event_bytes.specs.declared.keys.Keys.TheVariants.{Left, LeftMiddle, LeftRight, Middle, MiddleLeft}
+use Rattle.event_bytes.specs.declared.keys.Keys.TheVariants.{MiddleRight, Right, RightLeft, RightMiddle}
+use Rattle.terminal_presses.specs.declared.action.Click.{Click}
+use Rattle.terminal_presses.specs.declared.action.Click.TheVariants.{Mark, Keys}
+use Rattle.desk_sayings.specs.declared.saying.Saying.{Saying}
+use Rattle.desk_sayings.specs.declared.saying.Saying.TheVariants.{Greeting, Unproved, InMemory, Keys as ForKeys, Pointing, Asks, NoKey, NoText, NoScroll}
+use Rattle.desk_sayings.specs.declared.saying.Saying.TheVariants.{NothingAfter, NoWord, Fills, FillsNot, ToolFiled, Refused, CutShort, OneSide, NoDocument}
+use Rattle.desk_sayings.specs.declared.saying.Saying.TheVariants.{Worn, Unread, Unfinished, TooNarrow, TooLow, TookBack, DidAgain}
+use Rattle.desk_sayings.specs.declared.saying.Saying.TheVariants.{NothingBack, NothingAgain, NotBack}
+use Rattle.desk_sayings.specs.declared.question.Question.{Question}
+use Rattle.desk_sayings.specs.declared.question.Question.TheVariants.{Leaving, Closing}
+use Rattle.desk_presses.specs.declared.deed.Deed.{Deed}
+use Rattle.desk_presses.specs.declared.deed.Deed.TheVariants as deed
+use Rattle.screen_pictures.specs.declared.cell.Cell.{Cell}
+use Rattle.desk_presses.specs.Called.{called_word, parameter_word}
+use Rattle.desk_presses.specs.Deeds.{deed_words}
+
+-- why an event is refused, by the code of the refusal from 0 on
+abbrev pub reasons : List (List ℕ)
+reasons =
+    codes "refused" ∷
+    codes "refused (1): no viewer has the caret; a left click in a text sets it" ∷
+    codes "refused (2): nothing is selected; right button or F3, drawn over a text, selects" ∷
+    codes "refused (3): behind the word a name or number is missing, or is of another kind" ∷
+    codes "refused (4): the word there is no command's; System.Tool has all commands" ∷
+    codes "refused (5): no document of that name, or named twice: see System.Directory" ∷
+    codes "refused (6): 262,144 held (close, delete) or 4,194,304 written (System.Collect)" ∷
+    codes "refused (7): no viewer is at the marker (F1 and a click set it), or none closed" ∷
+    codes "refused (8): there are 256 documents; System.DeleteFiles makes room" ∷
+    codes "refused (9): the cell lies outside the display" ∷
+    codes "refused (10): not found from the caret on; a click at the beginning starts over" ∷
+    codes "refused (11): fonts are 0 to 4, colours 0 to 15, and offsets -64 to 63" ∷
+    codes "refused (12): the column has eight tracks over one another; close one first" ∷
+    codes "refused (13): a viewer of one row can't be parted" ∷ []
+
+abbrev pub reason : ℕ → List ℕ
+reason code = unwrap_or (slice_get reasons code) (codes "refused")
+
+-- There is no document of a name, or it is named twice: the name, or the first of several, is that behind the word that
+-- was called, as far as it is seen.
+unfoldable pub no_document : List ℕ → List ℕ
+no_document [] = reason no_file
+no_document (b ∷ name) =
+    codes "refused (5) from " ++ b ∷ name ++ codes " on: no document, or named twice"
+
+-- the same in short
+abbrev pub short_reason : ℕ → List ℕ
+short_reason code =
+    if code == 1 then codes "refused (1): no caret" else
+    (if code == 6 then codes "refused (6): no room" else codes "refused")
+
+-- how far a paste or a host file came that was cut short, and why
+abbrev pub cut_short : ℕ → ℕ → List ℕ
+cut_short typed code =
+    decimal typed ++ codes " characters typed, the rest dropped: " ++ short_reason code
+
+-- with which keys the next click is
+abbrev pub keys_words : MouseKeys → List ℕ
+keys_words Left = codes "the next click sets the caret; Escape calls it off"
+keys_words LeftMiddle = codes "the next click copies the selection there; Escape calls it off"
+keys_words LeftRight =
+    codes "the next click gives the selection the look there; Escape calls it off"
+keys_words Middle = codes "the next click calls the word there; Escape calls it off"
+keys_words MiddleLeft = codes "the next click: middle and left; Escape calls it off"
+keys_words MiddleRight = codes "the next click: middle and right; Escape calls it off"
+keys_words Right = codes "what is drawn over next is selected; Escape calls it off"
+keys_words RightLeft = codes "what is drawn over next is deleted; Escape calls it off"
+keys_words RightMiddle = codes "what is drawn over next is copied to the caret; Escape calls it off"
+
+-- what the next click is, where a function key has said so
+abbrev pub click_words : Click → List ℕ
+click_words Mark = codes "the next click sets the marker in the viewer there; Escape calls it off"
+click_words (Keys keys) = keys_words keys
+
+-- of what was typed it is said how many characters these were
+abbrev pub typed_count : Deed → List ℕ
+typed_count (deed.Typed count) = codes "typed " ++ decimal count
+typed_count _ = []
+
+-- what was taken back, or done again
+unfoldable pub told : List ℕ → Deed → List ℕ
+told before what = before ++ typed_count what ++ deed_words what
+
+-- of a command its word, where that is seen
+unfoldable pub called : List ℕ → Deed → List ℕ
+called [] what = told (codes "took back: ") what
+called (b ∷ word) what = codes "took back: " ++ b ∷ word
+
+-- what was taken back: the screen is as it was before, and so shows the word that was called
+unfoldable pub told_back : List (List Cell) → Deed → List ℕ
+told_back screen (deed.Call x y) = called (called_word screen x y) (deed.Call x y)
+told_back screen what = told (codes "took back: ") what
+
+-- that a text isn't stored, by the name in its menu, where one is seen
+unfoldable pub closing_words : List ℕ → List ℕ
+closing_words [] = codes "This text isn't stored: press again closes it"
+closing_words (b ∷ name) = b ∷ name ++ codes " isn't stored: press again closes it"
+
+-- what is asked, where this is the screen
+abbrev pub question_words : List (List Cell) → Question → List ℕ
+question_words screen Leaving =
+    codes "This desktop is in memory: Ctrl-Q again leaves, and then it is gone."
+question_words screen (Closing x y) = closing_words (called_word screen x y)
+
+-- where this is the screen
+unfoldable pub words : List (List Cell) → Saying → List ℕ
+words screen Greeting =
+    codes "Middle button, or F2 and then a click, calls the word there; Ctrl-Q leaves"
+words screen Unproved =
+    codes "Compiled, not proved yet: ./prove does it. F2+click calls a word; Ctrl-Q leaves"
+words screen OneSide =
+    codes "Alt-Left, Alt-Right: the other side. F2 and a click calls a word; Ctrl-Q leaves"
+words screen InMemory = codes "This desktop is in memory: when you leave (Ctrl-Q) it is gone."
+words screen ForKeys =
+    codes "F2 calls, Ctrl-Z undo, Ctrl-Q leaves, F3 selects, F1 marker, Ctrl-O file"
+words screen Pointing =
+    codes "Arrows move the pointer, Return clicks, F2 calls, F3 selects, Escape ends it"
+words screen (Asks question) = question_words screen question
+words screen NoKey = codes "That key means nothing here."
+words screen NoText = codes "There is no text on that side of the caret, or no caret in sight."
+words screen NothingAfter = codes "There is no character after the caret, or no caret in sight."
+words screen NoScroll = codes "Nothing moves there: no viewer, no caret, or too few rows of a text."
+words screen NoWord =
+    codes "No caret, or no such word, is in sight: System.Tool shows the commands."
+words screen Fills = codes "A line is broken at its last blank where it would pass the edge."
+words screen FillsNot = codes "Lines aren't broken while you type, and may pass the edge."
+words screen ToolFiled =
+    codes "System.Tool was gone, and is a document again: the same click opens it."
+words screen (Refused code) = reason code
+words screen (NoDocument x y) = no_document (parameter_word screen x y)
+words screen (CutShort typed code) = cut_short typed code
+words screen Worn = codes "This store takes no more events: its epochs are used up."
+words screen Unread = codes "The host's file can't be read, and nothing was typed."
+words screen Unfinished =
+    codes "The host's file can't be read to its end; what came of it is typed."
+words screen TooNarrow = codes "This window is too narrow: it has fewer than 45 columns."
+words screen TooLow = codes "This window is too low: it has fewer than 12 rows."
+words screen (TookBack what) = told_back screen what
+words screen (DidAgain what) = told (codes "did again: ") what
+words screen NothingBack = codes "There is nothing to take back."
+words screen NothingAgain = codes "There is nothing to do again."
+words screen NotBack = codes "What was before can't be read, and nothing was taken back."
+
+-- the name of a host file or the number of a line, as far as it is typed, of which the end is seen
+abbrev pub asked_words : Bool → List ℕ
+asked_words line = if line then codes "Line? " else codes "Type which file? "
+
+abbrev pub question : Bool → List ℕ → List ℕ
+question line name = asked_words line ++ drop (length name - 63) name
+
+-- what is said while a pointer is shown that keys move: how to use it, where nothing else is to be said
+unfoldable pub said_by_pointer : Bool → Saying → Saying
+said_by_pointer false saying = saying
+said_by_pointer true Greeting = Pointing
+said_by_pointer true Unproved = Pointing
+said_by_pointer true OneSide = Pointing
+said_by_pointer true InMemory = Pointing
+said_by_pointer true ForKeys = Pointing
+said_by_pointer true saying = saying
+
+-- the line between two presses: a name that is asked for, or else what the next click does, or what is said
+abbrev pub line_by_hand : List (List Cell) → Option (List ℕ) → Bool → Option Click → Saying
+    → List ℕ
+line_by_hand screen (Some name) line armed saying = question line name
+line_by_hand screen None line (Some click) saying = click_words click
+line_by_hand screen None line None saying = words screen saying
+
+-- the line below a screen: a question goes before all else
+unfoldable pub line_of : List (List Cell) → Option (List ℕ) → Bool → Option Click → Saying
+    → List ℕ
+line_of screen asked line armed (Asks question) = question_words screen question
+line_of screen asked line armed saying = line_by_hand screen asked line armed saying
+
+abbrev pub is_in_memory : Saying → Bool
+is_in_memory InMemory = true
+is_in_memory _ = false
+
+-- what the line below says where nothing else is to be said: of a desktop in memory, that it is in memory, and else the
+-- keys
+abbrev pub resting_of : Saying → Saying
+resting_of greeting = if is_in_memory greeting then InMemory else ForKeys

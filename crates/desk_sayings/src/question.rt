@@ -1,0 +1,59 @@
+//! Questions: what a press would lose is asked about first.
+ghost use Rattle.std.specs.Prelude.{◌≡◌};
+ghost use Rattle.desk_sayings.specs.Question.{asks_to_leave, closing, comes_first, is_same_question};
+
+/// The word of the command that closes a viewer.
+pub const CLOSE_WORD: &[u8] = b"System.Close";
+
+/// What a press would lose.
+#[derive(Clone, Copy, Debug, PartialEq, Eq)]
+pub enum Question {
+    /// The desktop in memory: the person leaves.
+    Leaving,
+    /// A text that no document has: its viewer is closed.
+    Closing {
+        /// The column of the first cell of the viewer's menu.
+        x: u8,
+        /// Its row.
+        y: u8,
+    },
+}
+
+/// Whether two questions are the same.
+fn is_same(last: Question, question: Question) -> bool
+    ensures { result ≡ is_same_question last question }
+{
+    match (last, question) {
+        (Question::Leaving, Question::Leaving) => true,
+        (Question::Closing { x, y }, Question::Closing { x: u, y: v }) => x == u && y == v,
+        _ => false,
+    }
+}
+
+/// What closing would lose, by the first cell of the viewer's menu.
+pub fn closing(cell: Option<(u8, u8)>) -> Option<Question>
+    ensures { result ≡ closing cell }
+{
+    match cell {
+        None => None,
+        Some((x, y)) => Some(Question::Closing { x, y }),
+    }
+}
+
+/// Whether the question is whether the person leaves.
+pub fn asks_to_leave(question: Option<Question>) -> bool
+    ensures { result ≡ asks_to_leave question }
+{
+    matches!(question, Some(Question::Leaving))
+}
+
+/// Whether a question is asked before its press is done: unless the last press has asked it.
+pub fn comes_first(last: Option<Question>, question: Option<Question>) -> bool
+    ensures { result ≡ comes_first last question }
+{
+    match (last, question) {
+        (_, None) => false,
+        (None, Some(_)) => true,
+        (Some(last), Some(question)) => !is_same(last, question),
+    }
+}

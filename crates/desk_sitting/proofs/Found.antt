@@ -1,0 +1,253 @@
+-- What is found by looking at a store before a press is done.
+use Rattle.std.proofs.Common.{◌≡◌, [], Ok, Err, refl, sym, ◌∙◌, ap, subst}
+use Rattle.std.specs.Prelude.{ℕ, Bool, true, false, List, Option, Some, None, Result, IfOk, if◌then◌else◌}
+use Rattle.std.proofs.lemmas.Bool.{cond-true, cond-false}
+use Rattle.std.proofs.lemmas.Result.{IfOk-weaker}
+use Rattle.sector_disk.specs.declared.disk.Disk.{Ghosts}
+use Rattle.event_bytes.specs.declared.event.Event.{Event}
+use Rattle.desktop_definitions.specs.Desktop.{Desktop}
+use Rattle.desktop_definitions.specs.Shown.{shown_screen}
+use Rattle.terminal_presses.specs.declared.action.Action.{Action}
+use Rattle.desk_journal.specs.Errors.{Error}
+use Rattle.desk_journal.specs.Looking.{OnlyLooks}
+use Rattle.desk_journal.specs.Session.{Session, session_of}
+use Rattle.desk_journal.specs.View.{StoreView, IsDurable}
+use Rattle.desk_journal.specs.Unstored.{unstored_at}
+use Rattle.desk_sayings.specs.declared.question.Question.{Question}
+use Rattle.desk_sitting.specs.declared.sitting.Sitting.{Sitting}
+use Rattle.desk_sitting.specs.Doing.{DoesAction, DoesPress, Finds, IsPressDone, seat_of}
+use Rattle.desk_sitting.specs.Questions.{middle_cell, is_close, is_leave, left_behind}
+use Rattle.desk_sayings.specs.Question.{closing, comes_first}
+use Rattle.desk_sayings.specs.Sayings.{is_in_memory}
+use Rattle.desk_sitting.specs.Questions.{loss_of, lost_at, question_of, questioned, unasked}
+use Rattle.desk_sitting.specs.Sittings.{Seat, accepted_as, accepted_unasked, acted, asks_first, done_by, question_at}
+use Rattle.desk_sitting.proofs.Pressed.{alone_press, look_press, press_both, press_same, press_short, unseen_press}
+use Rattle.desk_sitting.proofs.Taking.{same_session}
+
+module _ {D : Type 0} (d : Ghosts D) where
+  -- ---- looking
+
+  -- nothing is looked at
+  pub found_alone : {T : Type 0} (said : Desktop → T) (found : T) (s : Sitting) (store : StoreView D)
+      → store.must_reopen ≡ false → found ≡ said store.desktop → Finds d (Ok found) said s store store
+  found_alone said found s store usable is = record {
+    told = λ honest durable. is;
+    looks = alone_press d found (seat_of s store) s store usable refl;
+  }
+
+  -- one look, and what follows from it
+  pub found_look : {A T : Type 0} (said : Desktop → T) (value : A) (found : T) (s : Sitting) (old mid : StoreView D)
+      → old.must_reopen ≡ false → OnlyLooks d (Ok value) old mid → (d.honest old.disk → found ≡ said old.desktop)
+      → Finds d (Ok found) said s old mid
+  found_look said value found s old mid usable looks is = record {
+    told = λ honest durable. is honest;
+    looks =
+        let press = look_press d usable value s looks in
+        record {
+          done = λ honest durable.
+              let before = press.done honest durable in
+              record {
+                seat = ap (λ (session : Session). let e : Seat = record { sitting = s; session = session } in e)
+                    (same_session d looks honest);
+                goes = before.goes;
+              };
+          undone = tt;
+          usable = press.usable;
+          faults = record {
+            rose = λ wrong. absurd (cc wrong);
+            calm = λ other. press.faults.calm (λ wrong. absurd (cc wrong));
+            errors = tt;
+          };
+          device = press.device;
+        };
+  }
+
+  -- that fails
+  pub found_unseen : {A T : Type 0} (said : Desktop → T) (error : Error) (s : Sitting) (old mid : StoreView D)
+      → old.must_reopen ≡ false → OnlyLooks {T = A} d (Err error) old mid → Finds d {T = T} (Err error) said s old mid
+  found_unseen said error s old mid usable looks = record {
+    told = tt;
+    looks = unseen_press d usable error [] (seat_of s old) s looks;
+  }
+
+  -- ---- one look after another
+
+  module _ {A : Type 0} (asked : Desktop → A) (answer : A) (s : Sitting) {old mid new : StoreView D}
+      (first : Finds d (Ok answer) asked s old mid) where
+    pub then_found : {T : Type 0} (said : Desktop → T) (there : Desktop → T) (result : Result T Error)
+        → (answer ≡ asked old.desktop → there old.desktop ≡ said old.desktop)
+        → Finds d result there s mid new → Finds d result said s old new
+    then_found said there result same second = record {
+      told = IfOk-weaker result _ _ (λ found is honest durable.
+          let before = first.looks.done honest durable in
+          is (first.looks.device.still honest) before.goes.durable ∙ ap there before.goes.shows
+          ∙ same (first.told honest durable)) second.told;
+      looks = press_same d result (λ honest durable. (refl, (first.looks.done honest durable).seat))
+          (press_both d first.looks second.looks);
+    }
+
+  -- a look that failed, where more was to be found
+  pub found_no_more : {A T : Type 0} (asked : Desktop → A) (said : Desktop → T) (error : Error) (s : Sitting)
+      (old mid : StoreView D) → Finds d {T = A} (Err error) asked s old mid → Finds d {T = T} (Err error) said s old mid
+  found_no_more asked said error s old mid first = record {
+    told = tt;
+    looks = record {
+      done = tt;
+      undone = first.looks.undone;
+      usable = tt;
+      faults = record {
+        rose = λ fault. first.looks.faults.rose (cc fault);
+        calm = λ fine. first.looks.faults.calm (λ fault. fine (cc fault));
+        errors = first.looks.faults.errors;
+      };
+      device = first.looks.device;
+    };
+  }
+
+  -- what was found is all
+  pub found_so : {A T : Type 0} (asked : Desktop → A) (said : Desktop → T) (answer : A) (found : T) (s : Sitting)
+      (old mid : StoreView D) → (answer ≡ asked old.desktop → found ≡ said old.desktop)
+      → Finds d (Ok answer) asked s old mid → Finds d (Ok found) said s old mid
+  found_so asked said answer found s old mid same first = record {
+    told = λ honest durable. same (first.told honest durable);
+    looks = record {
+      done = first.looks.done;
+      undone = tt;
+      usable = first.looks.usable;
+      faults = record {
+        rose = λ wrong. absurd (cc wrong);
+        calm = λ other. first.looks.faults.calm (λ wrong. absurd (cc wrong));
+        errors = tt;
+      };
+      device = first.looks.device;
+    };
+  }
+
+-- ---- what is asked
+
+-- what is found is also what is said otherwise
+pub found_as : {D T : Type 0} (d : Ghosts D) (said other : Desktop → T) (result : Result T Error) (s : Sitting)
+    (old new : StoreView D) → ((desktop : Desktop) → said desktop ≡ other desktop) → Finds d result said s old new
+    → Finds d result other s old new
+found_as d said other result s old new same finds = record {
+  told = IfOk-weaker result _ _ (λ found is honest durable. is honest durable ∙ same old.desktop) finds.told;
+  looks = finds.looks;
+}
+
+module _ (a : Action) (s : Sitting) (desktop : Desktop) where
+  pub asks_nothing : s.questions ≡ false → None ≡ question_of a s desktop
+  asks_nothing silent = sym (cond-false s.questions (loss_of a (is_in_memory s.resting) desktop) None silent)
+
+  pub asks_leave : (found : Option Question) (in_memory : Bool) → s.questions ≡ true → is_leave a ≡ true
+      → in_memory ≡ is_in_memory s.resting → found ≡ left_behind in_memory → found ≡ question_of a s desktop
+  asks_leave found in_memory asks leaves memory is =
+      is ∙ ap left_behind memory
+      ∙ sym (cond-true s.questions (loss_of a (is_in_memory s.resting) desktop) None asks
+      ∙ cond-true (is_leave a) (left_behind (is_in_memory s.resting)) (lost_at (middle_cell a) desktop) leaves)
+
+  pub asks_click : s.questions ≡ true → is_leave a ≡ false → lost_at (middle_cell a) desktop ≡ question_of a s desktop
+  asks_click asks stays =
+      sym (cond-true s.questions (loss_of a (is_in_memory s.resting) desktop) None asks
+      ∙ cond-false (is_leave a) (left_behind (is_in_memory s.resting)) (lost_at (middle_cell a) desktop) stays)
+
+module _ (click : Option (ℕ × ℕ)) (desktop : Desktop) where
+  pub lost_nowhere : click ≡ None → None ≡ lost_at click desktop
+  lost_nowhere is = sym (ap (λ (o : Option (ℕ × ℕ)). lost_at o desktop) is)
+
+  module _ (x y : ℕ) (is : click ≡ Some (x, y)) (closes : Bool) (word : closes ≡ is_close (shown_screen desktop) x y) where
+    there : lost_at (Some (x, y)) desktop ≡ lost_at click desktop
+    there = sym (ap (λ (o : Option (ℕ × ℕ)). lost_at o desktop) is)
+
+    pub lost_there : closes ≡ true → closing (unstored_at desktop x y) ≡ lost_at click desktop
+    lost_there so = sym (cond-true (is_close (shown_screen desktop) x y) (closing (unstored_at desktop x y)) None
+        (sym word ∙ so)) ∙ there
+
+    pub lost_not : closes ≡ false → None ≡ lost_at click desktop
+    lost_not other = sym (cond-false (is_close (shown_screen desktop) x y) (closing (unstored_at desktop x y)) None
+        (sym word ∙ other)) ∙ there
+
+-- ---- what a press comes to
+
+module _ (a : Action) (d : Seat) (s : Sitting) where
+  asking_seat : asks_first a d ≡ true → s ≡ questioned (question_at a d) d.sitting
+      → record d { sitting = s } ≡ acted a d
+  unfolding acted
+  asking_seat asks is = ap (λ (t : Sitting). record d { sitting = t }) is
+      ∙ sym (cond-true (asks_first a d) _ _ asks)
+
+  done_seat : asks_first a d ≡ false → s ≡ unasked a d.sitting → done_by a (record d { sitting = s }) ≡ acted a d
+  unfolding acted
+  done_seat plain is = ap (λ (t : Sitting). done_by a (record d { sitting = t })) is
+      ∙ sym (cond-false (asks_first a d) _ _ plain)
+
+module _ {D : Type 0} (d : Ghosts D) (a : Action) (s : Sitting) (old mid : StoreView D) where
+  abbrev Seeks : Result (Option Question) Error → Type 0
+  Seeks result = Finds d result (question_of a s) s old mid
+
+  -- a question was looked for, and that fails
+  pub unsought_press : (s' : Sitting) (error : Error) → Seeks (Err error)
+      → DoesPress d {T = Unit} (accepted_unasked a (seat_of s old)) (acted a (seat_of s old)) (Err error) s' old mid
+  unsought_press s' error seeks =
+      press_short d {T = Unit} (accepted_unasked a (seat_of s old)) {error = error} {events = []} {seat = seat_of s old}
+      (acted a (seat_of s old)) {s' = s'} {old = old} {new = mid} (record {
+        done = tt;
+        undone = seeks.looks.undone;
+        usable = tt;
+        faults = record {
+          rose = λ fault. seeks.looks.faults.rose (cc fault);
+          calm = λ fine. seeks.looks.faults.calm (λ fault. fine (cc fault));
+          errors = seeks.looks.faults.errors;
+        };
+        device = seeks.looks.device;
+      })
+
+  module _ (found : Option Question) (seeks : Seeks (Ok found)) where
+    -- what was found is what is asked about the press
+    asks_so : (b : Bool) → comes_first s.question found ≡ b → d.honest old.disk → IsDurable d old
+        → asks_first a (seat_of s old) ≡ b
+    asks_so b is honest durable = ap (comes_first s.question) (sym (seeks.told honest durable)) ∙ is
+
+    -- a look leaves another sitting where it was
+    other_press : (s' : Sitting) → DoesPress d {T = Unit} [] (seat_of s' old) (Ok tt) s' old mid
+    other_press s' = record {
+      done = λ honest durable.
+          let before = seeks.looks.done honest durable in
+          record {
+            seat = ap (λ (e : Seat). let f : Seat = record e { sitting = s' } in f) before.seat;
+            goes = before.goes;
+          };
+      undone = tt;
+      usable = seeks.looks.usable;
+      faults = record {
+        rose = λ wrong. absurd (cc wrong);
+        calm = λ other. seeks.looks.faults.calm (λ wrong. absurd (cc wrong));
+        errors = tt;
+      };
+      device = seeks.looks.device;
+    }
+
+    -- a question posts none
+    pub asking_press : (s' : Sitting) → comes_first s.question found ≡ true → s' ≡ questioned found s
+        → DoesPress d {T = Unit} (accepted_unasked a (seat_of s old)) (acted a (seat_of s old)) (Ok tt) s' old mid
+    asking_press s' asks is =
+        press_same d (Ok tt) (λ honest durable.
+        let first = asks_so true asks honest durable in (
+          sym (cond-true (asks_first a (seat_of s old)) [] _ first),
+          asking_seat a (seat_of s old) s' first
+              (is ∙ ap (λ (o : Option Question). questioned o s) (seeks.told honest durable)),
+        )) (other_press s')
+
+    -- and what asks none is done
+    pub plain_press : {T : Type 0} (result : Result T Error) (next s' : Sitting) (new : StoreView D)
+        → comes_first s.question found ≡ false → next ≡ unasked a s → DoesAction d a result next s' mid new
+        → DoesPress d (accepted_unasked a (seat_of s old)) (acted a (seat_of s old)) result s' old new
+    plain_press result next s' new plain is does =
+        press_same d result (λ honest durable.
+        let first = asks_so false plain honest durable in
+        let seat : seat_of s mid ≡ seat_of s old = (seeks.looks.done honest durable).seat in (
+          ap (λ (e : Seat). accepted_as a (record e { sitting = next })) seat
+              ∙ ap (λ (t : Sitting). accepted_as a (seat_of t old)) is
+              ∙ sym (cond-false (asks_first a (seat_of s old)) [] _ first),
+          ap (λ (e : Seat). done_by a (record e { sitting = next })) seat
+              ∙ done_seat a (seat_of s old) next first is,
+        )) (press_both d (other_press next) does)

@@ -1,0 +1,228 @@
+-- Presses that post events: the task of each, and what a task becomes over a desktop.
+use Rattle.std.specs.Prelude.{ℕ, ◌+◌, ◌-◌, Bool, true, false, if◌then◌else◌, List, [], ◌∷◌, Option, Some, None, option_map}
+use Rattle.event_bytes.specs.declared.event.Event.{Event}
+use Rattle.event_bytes.specs.declared.event.Event.TheVariants as event
+use Rattle.event_bytes.specs.declared.keys.Keys.TheVariants as keys
+use Rattle.event_bytes.specs.declared.keys.Key.TheVariants as key
+use Rattle.screen_pictures.specs.declared.cell.Cell.{Cell}
+use Rattle.desktop_definitions.specs.Desktop.{Desktop}
+use Rattle.desktop_definitions.specs.Listing.{entries_of}
+use Rattle.desktop_definitions.specs.Shown.{shown_screen}
+use Rattle.desk_journal.specs.Scrolling.{Wish, presses_to}
+use Rattle.desk_journal.specs.Scrolling as wish
+use Rattle.terminal_presses.specs.declared.action.Action.{Action}
+use Rattle.terminal_presses.specs.declared.action.Action.TheVariants as action
+use Rattle.terminal_presses.specs.declared.action.Click.{Click as AClick}
+use Rattle.terminal_presses.specs.declared.action.Click.TheVariants.{Mark, Keys}
+use Rattle.terminal_presses.specs.declared.press.Arrow.{Arrow}
+use Rattle.terminal_presses.specs.declared.press.Arrow.TheVariants as arrow
+use Rattle.terminal_presses.specs.declared.press.Scroll.{Scroll as ScrollKey}
+use Rattle.terminal_presses.specs.declared.press.Scroll.TheVariants.{WheelUp, WheelDown, PageUp, PageDown, First, Last}
+use Rattle.terminal_presses.specs.declared.spot.Spot.{Spot}
+use Rattle.desk_presses.specs.declared.deed.Deed.{Deed}
+use Rattle.desk_presses.specs.declared.deed.Deed.TheVariants as deed
+use Rattle.desk_presses.specs.Deeds.{deed_of}
+use Rattle.desk_presses.specs.Filling.{filling, line_end}
+use Rattle.desk_presses.specs.declared.filling.Filling.{Filling}
+use Rattle.desk_presses.specs.declared.filling.Filling.TheVariants.{Plain, Ended, Broken}
+use Rattle.desk_presses.specs.declared.menus.MenuWord.TheVariants as word
+use Rattle.desk_presses.specs.declared.menus.WordCall.{WordCall}
+use Rattle.desk_presses.specs.Menus.{word_call}
+use Rattle.desk_presses.specs.Aims.{aimed, caret_cell, edge_of, further, is_caret_at, row_below}
+use Rattle.desk_sayings.specs.declared.saying.Saying.{Saying}
+use Rattle.desk_sayings.specs.declared.saying.Saying.TheVariants.{NoText, NoScroll, NothingAfter, NoWord}
+use Rattle.desk_sitting.specs.declared.task.Task.{Task}
+use Rattle.desk_sitting.specs.declared.task.Task.TheVariants.{Post, Scroll, Step, AtCaret, Click, Delete, Pass, Below, Shift, Reach, Rub}
+use Rattle.desk_sitting.specs.declared.task.Task.TheVariants.{Compose, Break, Rejoin, Call}
+use Rattle.desk_sitting.specs.declared.task.Plan.{Plan as MadePlan}
+use Rattle.desk_sitting.specs.declared.task.Plan.TheVariants as made
+use Rattle.desk_sitting.specs.Listed.{event_meant}
+
+-- What a task becomes over a desktop: it can't be done, for a reason, or it has these events, and then this is left to
+-- do, if anything.
+pub data Plan : Type 0 where
+  Refused : Saying → Plan
+  Events : List Event → Option Task → Plan
+
+-- a plan as it is kept
+abbrev pub seen_plan : MadePlan → Plan
+seen_plan (made.Refused why) = Refused why
+seen_plan (made.Next next) = Events [] next
+seen_plan (made.Event event next) = Events (event ∷ []) next
+seen_plan (made.Events events next) = Events events.items next
+
+-- ---- the task of a press
+
+-- the wheel moves a text by three lines
+abbrev pub wish_of : ScrollKey → Wish
+wish_of WheelUp = wish.Up 3
+wish_of WheelDown = wish.Down 3
+wish_of PageUp = wish.PageUp
+wish_of PageDown = wish.PageDown
+wish_of First = wish.Line 0
+wish_of Last = wish.End
+
+abbrev pub cell_meant : Option Spot → Option (ℕ × ℕ)
+cell_meant at = option_map (λ spot. (spot.x, spot.y)) at
+
+-- an event of the hand: what is typed may break a line, where lines are filled
+abbrev pub posting : Bool → Event → Task
+posting fills (event.Typed bytes) =
+    if fills then Compose (event.Typed bytes) else Post (event.Typed bytes)
+posting fills event = Post event
+
+-- of what posts no event there is none
+unfoldable pub task_of : Bool → Action → Option Task
+task_of fills (action.Post event) = Some (posting fills event)
+task_of fills (action.Scroll at scroll) = Some (Scroll (cell_meant at) (wish_of scroll))
+task_of fills (action.GoTo line) = Some (Scroll None (wish.Line (line - 1)))
+task_of fills (action.Step arrow) = Some (Step arrow)
+task_of fills action.Delete = Some Delete
+task_of fills (action.AtCaret click) = Some (AtCaret click)
+task_of fills action.Search = Some (Call word.Search)
+task_of fills action.Store = Some (Call word.Store)
+task_of fills _ = None
+
+-- what a press did by a task; of what the hand posts, what the event did
+abbrev pub deed_of_task : Task → Option Deed
+deed_of_task (Post event) = None
+deed_of_task (Compose event) = Some (deed_of event)
+deed_of_task (Break event next) = Some (deed_of event)
+deed_of_task (Rejoin event next) = Some (deed_of event)
+deed_of_task (Call word) = Some (deed.Click keys.Middle)
+deed_of_task (Scroll at wish) = Some deed.Scroll
+deed_of_task (AtCaret click) = None
+deed_of_task Rub = Some (deed.Key key.Back)
+deed_of_task _ = Some (deed.Click keys.Left)
+
+-- whether the rows in sight don't follow the caret for it
+abbrev pub keeps_sight : Task → Bool
+keeps_sight (Scroll at wish) = true
+keeps_sight _ = false
+
+-- ---- its plan
+
+abbrev pub click_of : ℕ × ℕ → Event
+click_of place = event.Point keys.Left place.0 place.1 place.0 place.1
+
+-- the click at a cell, and what it is at the desk
+abbrev pub caret_event : AClick → ℕ × ℕ → Event
+caret_event Mark place = event.Mark place.0 place.1
+caret_event (Keys keys) place = event.Point keys place.0 place.1 place.0 place.1
+
+unfoldable pub at_caret_plan : AClick → Option (ℕ × ℕ) → Plan
+at_caret_plan click None = Refused NoText
+at_caret_plan click (Some place) = Events [] (Some (Post (caret_event click place)))
+
+-- why nothing is done, by whether something was to be deleted
+abbrev pub why_not : Bool → Saying
+why_not deletes = if deletes then NothingAfter else NoText
+
+-- the presses that scroll, where there is a way
+abbrev pub scroll_plan : Option (List Event) → Plan
+scroll_plan None = Refused NoScroll
+scroll_plan (Some events) = Events events None
+
+-- Right may have to pass the cells of a tabulator: the caret is before it after a click in any of them
+unfoldable pub passing : Arrow → List (List Cell) → Option Task
+passing arrow.Right screen =
+    option_map (λ (at : ℕ × ℕ). Pass at (at.0 + 2) false) (caret_cell screen)
+passing _ screen = None
+
+-- at an edge of a viewer its text moves
+unfoldable pub at_edge : Arrow → Option (ℕ × ℕ) → Plan
+at_edge arrow.Up (Some at) = Events [] (Some (Shift at (wish.Up 1) false))
+at_edge arrow.Down (Some at) = Events [] (Some (Below at false))
+at_edge _ _ = Refused NoText
+
+abbrev pub step_to : Arrow → Option (ℕ × ℕ) → List (List Cell) → Plan
+step_to arrow None screen = at_edge arrow (edge_of arrow screen)
+step_to arrow (Some place) screen = Events (click_of place ∷ []) (passing arrow screen)
+
+-- a click where an arrow leads
+unfoldable pub step_plan : Arrow → List (List Cell) → Plan
+step_plan arrow screen = step_to arrow (aimed arrow screen) screen
+
+-- a click beside the caret
+abbrev pub beside : Option (ℕ × ℕ) → Option (ℕ × ℕ) → Plan
+beside (Some from) (Some place) = Events (click_of place ∷ []) (Some (Pass from (from.0 + 2) true))
+beside _ _ = Refused NothingAfter
+
+unfoldable pub delete_plan : List (List Cell) → Plan
+delete_plan screen = beside (caret_cell screen) (aimed arrow.Right screen)
+
+-- The character that was passed is deleted. Where none was, the line ends there, and the next one is to be reached.
+abbrev pub to_next_line : ℕ × ℕ → Option (ℕ × ℕ) → Plan
+to_next_line from (Some place) = Events (click_of place ∷ []) (Some (Reach from))
+to_next_line from None = Events [] (Some (Below from true))
+
+unfoldable pub rest_of_pass : ℕ × ℕ → List (List Cell) → Plan
+rest_of_pass from screen =
+    if is_caret_at from screen then to_next_line from (row_below screen) else Events [] (Some Rub)
+
+-- a click further, where the caret stands before a tabulator still
+abbrev pub passed_to : ℕ × ℕ → Bool → Option (ℕ × ℕ) → List (List Cell) → Plan
+passed_to from deletes (Some place) screen =
+    Events (click_of place ∷ []) (Some (Pass from (place.0 + 1) deletes))
+passed_to from deletes None screen =
+    if deletes then rest_of_pass from screen else Events [] None
+
+unfoldable pub pass_plan : ℕ × ℕ → ℕ → Bool → List (List Cell) → Plan
+pass_plan from column deletes screen = passed_to from deletes (further from column screen) screen
+
+-- the end of a line is deleted, where the caret has reached the next one
+unfoldable pub reach_plan : ℕ × ℕ → List (List Cell) → Plan
+reach_plan from screen =
+    if is_caret_at from screen then Refused NothingAfter else Events [] (Some Rub)
+
+-- The text is to move by a line, unless it shows its last line already, to which it goes by these presses.
+abbrev pub below_plan : ℕ × ℕ → Bool → Option (List Event) → Plan
+below_plan at deletes (Some []) = Refused (why_not deletes)
+below_plan at deletes _ = Events [] (Some (Shift at (wish.Down 1) deletes))
+
+-- It moves, and the caret goes to the line that came into sight, or the deletion begins anew.
+abbrev pub shift_plan : ℕ × ℕ → Bool → Option (List Event) → Plan
+shift_plan at deletes (Some (event ∷ events)) =
+    Events (event ∷ events) (Some (if deletes then Delete else Click at))
+shift_plan at deletes _ = Refused (why_not deletes)
+
+-- What is typed: a blank at the edge ends its line. Another character there goes to a new line, with the word before it:
+-- a click behind the last blank, an end of line, a click where the caret was, and then what is typed.
+unfoldable pub type_plan : Event → Filling → Plan
+type_plan event Plain = Events (event ∷ []) None
+type_plan event Ended = Events (event ∷ []) (Some (Post line_end))
+type_plan event (Broken at) =
+    Events (click_of (at.x, at.y) ∷ []) (Some (Break event (at.next_x, at.next_y)))
+
+-- A command is called on the viewer of the caret by a click on a word of it that is in sight, if it isn't the menu's after
+-- the marker is set there.
+abbrev pub call_marked : Option (ℕ × ℕ) → Event → Plan
+call_marked None click = Events (click ∷ []) None
+call_marked (Some at) click = Events (event.Mark at.0 at.1 ∷ []) (Some (Post click))
+
+unfoldable pub call_plan : Option WordCall → Plan
+call_plan None = Refused NoWord
+call_plan (Some call) =
+    call_marked call.marker (event.Point keys.Middle call.x call.y call.x call.y)
+
+-- what a task becomes by what the screen shows
+unfoldable pub plan_on : Task → List (List Cell) → Plan
+plan_on (Compose event) screen = type_plan event (filling event screen)
+plan_on (Break event next) screen = Events (line_end ∷ []) (Some (Rejoin event next))
+plan_on (Rejoin event next) screen = Events (click_of next ∷ []) (Some (Post event))
+plan_on (Call word) screen = call_plan (word_call word screen)
+plan_on (Step arrow) screen = step_plan arrow screen
+plan_on (AtCaret click) screen = at_caret_plan click (caret_cell screen)
+plan_on (Click place) screen = Events (click_of place ∷ []) None
+plan_on Delete screen = delete_plan screen
+plan_on (Pass from column deletes) screen = pass_plan from column deletes screen
+plan_on (Reach from) screen = reach_plan from screen
+plan_on Rub screen = Events (event.Key key.Back ∷ []) None
+plan_on _ screen = Events [] None
+
+unfoldable pub plan_of : Task → Desktop → Plan
+plan_of (Post event) d = Events (event_meant (entries_of d) event ∷ []) None
+plan_of (Scroll at wish) d = scroll_plan (presses_to d at wish)
+plan_of (Below at deletes) d = below_plan at deletes (presses_to d None wish.End)
+plan_of (Shift at wish deletes) d = shift_plan at deletes (presses_to d None wish)
+plan_of task d = plan_on task (shown_screen d)

@@ -1,5 +1,0 @@
-use Rattle.desktop_definitions.proofs.SeenLaws.{seen_longer, within_counted}
-use Rattle.desktop_definitions.proofs.step_laws.more_change_nothing.Goals as goal
-
-pub returns : goal.returns
-returns c = λ characters more d over. seen_longer characters more d (within_counted characters d over)

@@ -1,9 +1,0 @@
-use Rattle.std.proofs.Common.{◌≡◌, false}
-use Rattle.recorded_disk.specs.contracts.disk.RecordedDiskDisk.TheImpl.{ghosts}
-use Rattle.desk_journal.specs.View.{IsDurable}
-use Rattle.page_exports.specs.Turns.{AreTravelled}
-use Rattle.page_exports.proofs.scene.travel_on.Given as goal
-
-abbrev pub invariant-loop-count : goal.invariant-loop-count
-invariant-loop-count l = AreTravelled ghosts l.fn.sitting l.sitting l.fn.store l.store
-    × IsDurable ghosts l.store × (l.store.must_reopen ≡ false)
