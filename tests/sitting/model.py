@@ -17,8 +17,18 @@ NO_TEXT = 'There is no text on that side of the caret, or no caret in sight.'
 NOTHING_AFTER = 'There is no character after the caret, or no caret in sight.'
 NO_SCROLL = 'Nothing moves there: no viewer, no caret, or too few rows of a text.'
 NO_WORD = 'No caret, or no such word, is in sight: System.Tool shows the commands.'
+NO_COMMAND = "No command's whole word is in sight: System.Tool shows the commands."
+NO_FIND = 'Ctrl-R puts what you typed after the last Ctrl-F: press Ctrl-F first'
+NO_REPLACEMENT = 'Nothing was typed after the last Ctrl-F'
 FILLS = 'A line is broken at its last blank where it would pass the edge.'
 FILLS_NOT = "Lines aren't broken while you type, and may pass the edge."
+# What ends the menu of a viewer that opens, the words that open one, and those of all commands.
+MENU = ' | System.Close System.Copy Edit.Search Edit.Store'
+OPENING = ('Edit.Open', 'System.Open', 'System.OpenLog', 'System.Recall', 'System.Copy', 'System.Grow')
+COMMANDS = {*OPENING, 'System.Close', 'System.Clear', 'System.Directory', 'System.Collect', 'System.DeleteFiles', 'System.SetFont',
+            'System.SetColor', 'System.SetOffset', 'Edit.ChangeFont', 'Edit.ChangeColor', 'Edit.ChangeOffset', 'Edit.Store',
+            'Edit.Search', 'Edit.Recall'}
+MOST_KEPT = 64  # Backspaces, or bytes, of a replacement
 # What stands in a menu before a word that a key calls.
 FRONTS = {'Edit.Search': ' System.Copy ', 'Edit.Store': ' Edit.Search '}
 TOO_LOW = 'This window is too low: it has fewer than 12 rows.'
@@ -46,6 +56,26 @@ def is_in_word(character):
     return character.isascii() and character.isalnum() or character == '.'
 
 
+def called_word(screen, x, y):
+    """The letters, digits and periods around a cell."""
+    row = screen.rows[ROWS - 1 - y].ljust(COLUMNS)
+    start, end = x, x
+    while start > 0 and is_in_word(row[start - 1]):
+        start -= 1
+    while end < len(row) and is_in_word(row[end]):
+        end += 1
+    return row[start:end][:31]
+
+
+def command_columns(row):
+    """Where in a row the words of commands begin that are seen whole."""
+    for x in range(COLUMNS):
+        if is_in_word(row[x]) and (x in WIDTHS or not is_in_word(row[x - 1])):
+            end = next((end for end in range(x, COLUMNS) if not is_in_word(row[end])), COLUMNS)
+            if row[x:end] in COMMANDS and end < (50 if x < 50 else COLUMNS):
+                yield x
+
+
 class Screen:
     """What `screen` prints: the characters, and the marks that it tells of, from the top row down."""
 
@@ -71,12 +101,76 @@ class Screen:
         return self.place('c')
 
 
+class Replacing:
+    """What was typed since the last Ctrl-F, so many Backspaces and then bytes, where nothing else was done; and what Ctrl-R
+    types, which is what was typed the time before."""
+
+    def __init__(self):
+        self.typed, self.kept = None, None
+
+    def note(self, meaning, is_done):
+        """A press was done, or refused."""
+        kind, *rest = meaning
+        is_search = (kind, *rest) == ('call', 'Edit.Search')
+        if is_search and self.typed and self.typed != (0, ''):
+            self.kept = self.typed
+        if not is_done:
+            self.typed = None
+        elif is_search:
+            self.typed = (0, '')
+        elif kind == 'replace':
+            self.typed = self.kept
+        elif self.typed:
+            self.typed = self.grown(kind, rest)
+
+    def grown(self, kind, rest):
+        back, text = self.typed
+        if kind == 'type':
+            text += rest[0]
+        elif kind in ('paste', 'file'):
+            text += ''.join(rest[0] if kind == 'paste' else told(FILES[rest[0]]))
+        elif (kind, *rest) == ('key', 'back'):
+            back, text = (back, text[:-1]) if text else (back + 1, text)
+        else:
+            return None
+        return (back, text) if max(back, len(text)) <= MOST_KEPT else None
+
+
+class Listing:
+    """What `list` prints: how long each document is, the tracks of each column, each a list of its viewers, and how many
+    characters count as written."""
+
+    def __init__(self, lines):
+        self.files, self.tracks, self.written = {}, {left: [[]] for left in WIDTHS}, 0
+        for line in lines:
+            kind, *words = line.split(' ')
+            if kind == 'file':
+                self.files[words[0]] = int(words[1])
+            elif kind == 'over':
+                self.tracks[int(words[0])].append([])
+            elif kind == 'viewer':
+                left, bottom, top, name, _ = words
+                self.tracks[int(left)][-1].append((int(left), int(bottom), int(top), name))
+            elif kind == 'written':
+                self.written = int(words[0])
+
+    def opened_since(self, before):
+        """The viewer that stands now and not before, by the places; None where there is none."""
+        for left, tracks in self.tracks.items():
+            if len(tracks) > len(before.tracks[left]):
+                return tracks[-1][0]
+            if len(tracks) == len(before.tracks[left]) and len(tracks[-1]) > len(before.tracks[left][-1]):
+                return next(viewer for viewer in tracks[-1] if viewer[:3] not in [old[:3] for old in before.tracks[left][-1]])
+        return None
+
+
 class Model:
     """A desktop, the part of it that is in sight in a window of so many rows and columns, and what the line below says."""
 
     def __init__(self, oberon, store, window, columns=COLUMNS):
         self.oberon, self.store = oberon, store
         self.pointer, self.put_away = None, None
+        self.replacing = Replacing()
         self.play = subprocess.Popen([oberon, 'play', store], stdin=subprocess.PIPE, stdout=subprocess.PIPE)
         self.top, self.rows = ROWS - 1, ROWS
         self.side = 50
@@ -191,54 +285,62 @@ class Model:
             if looks:
                 self.look()
             if not self.post('type ' + spelled(text)):
-                return
+                return False
+        return True
 
     def take(self, meaning):
+        """A press, and what is noted of it for Ctrl-R, but where it posts nothing by itself."""
+        is_done = self.taken(meaning)
+        if is_done is not None:
+            self.replacing.note(meaning, is_done)
+
+    def taken(self, meaning):
+        """Whether it was done; None where it posts nothing by itself."""
         kind, *rest = meaning
         if kind == 'type':
-            self.type(rest[0])
-        elif kind == 'call':
-            self.call(rest[0])
-        elif kind == 'fill':
+            return self.type(rest[0])
+        if kind == 'call':
+            return self.call(rest[0])
+        if kind == 'replace':
+            return self.replace()
+        if kind == 'paste':
+            return self.paste(rest[0])
+        if kind == 'key':
+            return self.post('key ' + rest[0])
+        if kind == 'mark':
+            return self.click('mark', None, self.spot(*rest))
+        if kind == 'point':
+            return self.point(rest[0], self.spot(*rest[1:3]), self.spot(*rest[3:])) if self.shown(*rest[1:3]) else None
+        if kind == 'wheel':
+            self.pointer = self.shown(*rest[1:])
+            return self.scroll(self.viewer_at(*self.pointer), ('wheel', rest[0])) if self.pointer else None
+        if kind == 'text page':
+            return self.scroll(self.viewer_at(*self.pointer) if self.pointer else self.viewer_of_caret(), ('page', rest[0]))
+        if kind == 'text end':
+            return self.scroll(self.viewer_of_caret(), rest[0])
+        if kind == 'line':
+            return self.scroll(self.viewer_of_caret(), ('number', max(rest[0] - 1, 0)))
+        if kind in ('arrow', 'delete'):
+            (self.step if kind == 'arrow' else self.delete)(*rest)
+            return True
+        if kind == 'keyed':
+            return self.keyed(rest[0])
+        if kind == 'at caret':
+            place = self.screen().caret()
+            self.saying = self.saying if place else NO_TEXT
+            return self.click(rest[0], place, place) if place else False
+        if kind == 'file':
+            return self.bring(rest[0])
+        self.look_otherwise(kind, rest)
+        return None
+
+    def look_otherwise(self, kind, rest):
+        """What a press does to the window, the line below and what is noted of the mouse."""
+        if kind == 'fill':
             self.fills = not self.fills
             self.saying = FILLS if self.fills else FILLS_NOT
-        elif kind == 'paste':
-            self.paste(rest[0])
-        elif kind == 'key':
-            self.post('key ' + rest[0])
-        elif kind == 'mark':
-            x, y = self.spot(*rest)
-            self.post(f'mark {x} {self.middle(x, y)}')
-        elif kind == 'point' and not self.shown(*rest[1:3]):
-            pass  # (it begins outside the display)
-        elif kind == 'point':
-            self.post('point %s %d %d %d %d' % (rest[0], *self.spot(*rest[1:3]), *self.spot(*rest[3:])))
         elif kind == 'pointer':
             self.pointer = self.shown(*rest)
-        elif kind == 'wheel':
-            self.pointer = self.shown(*rest[1:])
-            if self.pointer:
-                self.scroll(self.viewer_at(*self.pointer), ('wheel', rest[0]))
-        elif kind == 'text page':
-            self.scroll(self.viewer_at(*self.pointer) if self.pointer else self.viewer_of_caret(), ('page', rest[0]))
-        elif kind == 'text end':
-            self.scroll(self.viewer_of_caret(), rest[0])
-        elif kind == 'line':
-            self.scroll(self.viewer_of_caret(), ('number', max(rest[0] - 1, 0)))
-        elif kind == 'arrow':
-            self.step(rest[0])
-        elif kind == 'keyed':
-            self.keyed(rest[0])
-        elif kind == 'at caret':
-            place = self.screen().caret()
-            if place:
-                self.click(rest[0], place, place)
-            else:
-                self.saying = NO_TEXT
-        elif kind == 'delete':
-            self.delete()
-        elif kind == 'file':
-            self.bring(rest[0])
         elif kind == 'fit':
             self.fit(*rest)
             if rest[1] < 45:
@@ -255,25 +357,97 @@ class Model:
 
     def click(self, keys, start, end):
         if keys == 'mark':
-            self.post(f'mark {end[0]} {self.middle(*end)}')
-        else:
-            self.post('point %s %d %d %d %d' % (keys, *start, *end))
+            return self.post(f'mark {end[0]} {self.middle(*end)}')
+        return self.point(keys, start, end)
+
+    def point(self, keys, start, end):
+        """A press of these buttons. Where the middle one is done the caret goes into a viewer that opened, or the line below
+        says the last line of the log, if that has more."""
+        event = 'point %s %d %d %d %d' % (keys, *start, *end)
+        if keys != 'm':
+            return self.post(event)
+        before, screen = Listing(self.lines('list')), self.screen()
+        if not self.post(event):
+            return False
+        left = 0 if start[0] < 50 else 50
+        end = min(max(end[0], left), left + WIDTHS[left] - 1), end[1]
+        after, word = Listing(self.lines('list')), called_word(screen, *end)
+        viewer = after.opened_since(before) or self.replaced(before, after, screen, word)
+        if viewer:
+            return self.enter(viewer)
+        line = self.logged(before, after, end, word)
+        if line:
+            self.saying = line[:80]
+        return True
+
+    def replaced(self, before, after, screen, word):
+        """The viewer that opened over the whole place of another one, where the word of such a command was called."""
+        if not word or not any(one.startswith(word) for one in OPENING):
+            return None
+        is_new = after.written - before.written > len(MENU)
+        marker = screen.place('m') if is_new else None
+        for left, tracks in after.tracks.items():
+            for viewer, old in zip(tracks[-1], before.tracks[left][-1]):
+                is_marked = marker and self.viewer_at(*marker) == viewer
+                if viewer != old or is_marked:
+                    return viewer
+        return None
+
+    def enter(self, viewer):
+        """The caret goes to the first cell of a viewer's text, where it has one, and the marker away."""
+        left, bottom, top, _ = viewer
+        if top - 2 < bottom:
+            return True
+        marked = ['key escape'] if self.screen().place('m') else []
+        return self.post_all([*marked, 'point l %d %d %d %d' % (left + 1, top - 2, left + 1, top - 2)])
+
+    def logged(self, before, after, place, word):
+        """The last line that a command has put into the log; None where it has put in none."""
+        deleted = [name for name in before.files if name not in after.files]
+        if deleted:
+            return f'System.DeleteFiles {deleted[-1]}'
+        if word.startswith('System.D') and after.files:
+            return '%s %d' % list(after.files.items())[-1]
+        for name, length in after.files.items():
+            line = f'Edit.Store {name} {length}'
+            if len(line) + 1 == after.written - before.written and self.is_stored_from(name, place):
+                return line
+        return None
+
+    def is_stored_from(self, name, place):
+        """Whether the viewer of that menu, or that at the marker, has this name."""
+        marker = self.screen().place('m')
+        viewers = [self.viewer_at(*place), marker and self.viewer_at(*marker)]
+        return any(viewer and viewer[3][:31].startswith(name) for viewer in viewers)
 
     def keyed(self, steps):
-        """What a pointer that keys move is used for, from where it is shown until it is put away."""
+        """What a pointer that keys move is used for, from where it is shown until it is put away. Whether all its clicks were
+        done; None where there was none."""
         at, start = self.pointer or self.put_away or self.spot(COLUMNS // 2, self.rows // 2 + 1), None
+        is_done = None
         for kind, *rest in steps:
             if kind == 'move':
                 at = min(max(at[0] + rest[0], 0), COLUMNS - 1), min(max(at[1] + rest[1], 0), ROWS - 1)
+            elif kind == 'tab':
+                at = self.next_command(at)
             elif kind == 'begin':
                 start = at
             elif kind == 'off':
                 start = None
             else:
                 self.begin_press()
-                self.click(rest[0], start or at, at)
+                is_done = self.click(rest[0], start or at, at) and is_done is not False
                 start = None
         self.put_away = at
+        return is_done
+
+    def next_command(self, at):
+        """The first cell behind this one in reading order, or else from the first one on, in which a command's word begins."""
+        rows = self.screen().rows
+        places = [(x, ROWS - 1 - row) for row, text in enumerate(rows) for x in command_columns(text.ljust(COLUMNS))]
+        self.saying = KEYS if places else NO_COMMAND
+        behind = [place for place in places if (-place[1], place[0]) > (-at[1], at[0])]
+        return (behind or places or [at])[0]
 
     def begin_press(self):
         """What comes now is of a press of its own."""
@@ -286,8 +460,20 @@ class Model:
         """A character is typed, and breaks its line where the caret is in the last column of its viewer."""
         screen, letter = self.screen(), 'type ' + spelled(character)
         lines = self.filled(screen, character, letter) if self.fills else [letter]
-        if self.post_all(lines) and len(lines) > 1:
+        is_done = self.post_all(lines)
+        if is_done and len(lines) > 1:
             self.name_press('typed 2 characters')
+        return is_done
+
+    def replace(self):
+        """What was found is replaced by what was typed the time before. None where nothing is typed."""
+        typed, kept = self.replacing.typed, self.replacing.kept
+        if typed != (0, '') or not kept:
+            self.saying = NO_REPLACEMENT if typed == (0, '') else NO_FIND
+            return None
+        is_done = self.post_all(['key back'] * kept[0]) and all(self.type(character) for character in kept[1])
+        self.name_press('a replacement')
+        return is_done
 
     def filled(self, screen, character, letter):
         x, y = screen.caret() or (0, 0)
@@ -308,17 +494,16 @@ class Model:
         screen = self.screen()
         place, self.saying = screen.caret(), NO_WORD
         if not place:
-            return
+            return False
         left, bottom, top, _ = self.viewer_at(*place)
         menu = screen.rows[ROWS - top].ljust(COLUMNS)[left:left + WIDTHS[left]]
         column = menu.find(FRONTS[word]) + len(FRONTS[word])
         if FRONTS[word] in menu and column < len(menu):
-            self.post(f'point m {left + column} {top - 1} {left + column} {top - 1}')
-        else:
-            at = self.word_in_texts(screen, word)
-            if at:
-                self.post_all([f'mark {left} {(bottom + top - 1) // 2}', 'point m %d %d %d %d' % (*at, *at)])
+            return self.point('m', (left + column, top - 1), (left + column, top - 1))
+        at = self.word_in_texts(screen, word)
+        is_done = bool(at) and self.post(f'mark {left} {(bottom + top - 1) // 2}') and self.point('m', at, at)
         self.name_press('a command')
+        return is_done
 
     def word_in_texts(self, screen, word):
         """The lowest row in which a text shows the word whole, and the first column there."""
@@ -338,9 +523,9 @@ class Model:
         """A file of the host's is typed, each event of it heard by itself."""
         if name not in FILES:
             self.saying = UNREAD
-            return
+            return None
         self.saying = KEYS
-        self.paste(told(FILES[name]), looks=True)
+        return self.paste(told(FILES[name]), looks=True)
 
     def scroll(self, viewer, wish):
         """The text of a viewer moves. The rows in sight don't follow the caret for it."""
@@ -348,12 +533,13 @@ class Model:
         lines = viewer and scrolling.presses(self.oberon, self.store, viewer, wish)
         if lines is None:
             self.saying = NO_SCROLL
-            return
+            return False
         follows = self.follows
         for line in lines:
             self.post(line)
         self.follows = follows
         self.name_press('a scroll')
+        return True
 
     def name_press(self, words):
         """What is said of the events of this press, if it has any, where they are taken back."""

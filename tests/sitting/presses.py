@@ -1,6 +1,6 @@
 """Random presses: the bytes that a terminal sends for them, and what they mean.
 
-A meaning is a tuple: ('type', text), ('call', word), ('fill',), ('paste', texts), ('key', word), ('mark', column, row), ('point', keys, column, row, column, row),
+A meaning is a tuple: ('type', text), ('call', word), ('replace',), ('fill',), ('paste', texts), ('key', word), ('mark', column, row), ('point', keys, column, row, column, row),
 ('arrow', word), ('delete',), ('line', number), ('page', word), ('wheel', word, column, row), ('text page', word), ('text end', word), ('pointer', column, row),
 ('fit', rows, columns), ('file', name), ('keyed', steps), ('at caret', keys), ('ring',) or ('ring at a name',). Columns and rows are those of the terminal, from 1 at the
 upper left."""
@@ -13,7 +13,7 @@ ARROWS = {'up': [b'[A', b'OA'], 'down': [b'[B', b'OB'], 'right': [b'[C', b'OC'],
           'home': [b'[H', b'OH', b'[1~', b'[7~'], 'end': [b'[F', b'OF', b'[4~', b'[8~'],
           'word right': [b'[1;5C'], 'word left': [b'[1;5D']}
 # What a byte below the space is, where it is a key.
-CONTROLS = {3: ('key', 'copy'), 6: ('call', 'Edit.Search'), 10: ('type', '\r'), 19: ('call', 'Edit.Store'),
+CONTROLS = {3: ('key', 'copy'), 6: ('call', 'Edit.Search'), 10: ('type', '\r'), 18: ('replace',), 19: ('call', 'Edit.Store'),
             22: ('key', 'paste'), 23: ('fill',), 24: ('key', 'cut')}
 # The clicks that a function key says, by its spellings.
 FUNCTIONS = {'m': [b'\x1bOQ', b'\x1b[Q', b'\x1b[12~', b'\x1b[[B', b'\x1b2'], 'r': [b'\x1bOR', b'\x1b[13~', b'\x1b[[C', b'\x1b3'],
@@ -112,7 +112,7 @@ def line_asked(random):
 def press(random, rows, is_whole):
     """One press, or a few that belong together, in a window of so many rows. Where the whole display is in sight a
     paste may be of several events, and elsewhere the window may get another size."""
-    kind = random.randrange(29)
+    kind = random.randrange(30)
     if kind < 6:
         character = random.choice(PRINTED + ['\r', '\t', 'e', 'a', ' '])
         return character.encode(), [('type', character)]
@@ -130,6 +130,8 @@ def press(random, rows, is_whole):
     if kind == 12 or kind == 13 and not is_whole:
         return random.choice([(b'\x1b[5;3~', [('page', 'up')]), (b'\x1b[6;3~', [('page', 'down')]),
                               (b'\x1b[1;3D', [('page', 'left')]), (b'\x1b[1;3C', [('page', 'right')])])
+    if kind == 29:
+        return sought(random, rows)
     if kind == 26:
         return b'\x1b[3~', [('delete',)]
     if kind == 27:
@@ -158,9 +160,28 @@ def press(random, rows, is_whole):
     return data, meanings + [('pointer', int(column), int(row))]
 
 
+def sought(random, rows):
+    """A letter or a few are selected, sought from the first line in sight on, and replaced; then they are sought again, and
+    Ctrl-R replaces them. Now and then something is left out, or comes between."""
+    row = random.randrange(2, min(rows, 5))
+    column = random.randrange(2, 12)
+    end = column + random.randrange(0, 2)
+    typed = '\x7f' * (end - column + 1) + random.choice(['', 'q', 'Zz', ' ', '.'])
+    data, meanings = b'', []
+    for piece, found in ((drag(random, 'r', (column, row), (end, row)), [('point', 'r', column, row, end, row), ('pointer', end, row)]),
+                         (drag(random, 'l', (2, 2), (2, 2)), [('point', 'l', 2, 2, 2, 2), ('pointer', 2, 2)]),
+                         (b'\x06', [('call', 'Edit.Search')]),
+                         (typed.encode(), [('key', 'back') if letter == '\x7f' else ('type', letter) for letter in typed]),
+                         (b'\x06', [('call', 'Edit.Search')]), (b'\x12', [('replace',)]), (b'\x06', [('call', 'Edit.Search')]),
+                         (b'\x1b[D', [('arrow', 'left')]), (b'\x12', [('replace',)])):
+        if random.random() < (0.3 if piece == b'\x1b[D' else 0.9) and len(data + piece) < 64:
+            data, meanings = data + piece, meanings + found
+    return data, meanings
+
+
 def keyed(random):
     """Clicks of a pointer that keys move: it is shown, and put away again. A step is ('move', across, up), in cells, or the
-    columns themselves for the ends of a row; or ('click', keys), from where it begins by ('begin',), unless
+    columns themselves for the ends of a row; ('tab',), to the next command; or ('click', keys), from where it begins by ('begin',), unless
     that is called off by ('off',), or at one cell."""
     data, steps = random.choice([b'\x1b[23~', b'\x1b ']), []
     for _ in range(random.randrange(1, 4)):
@@ -173,8 +194,8 @@ def keyed(random):
             steps.append(('begin',))
             data += random.choice(spellings) + moves(random, steps)
             if random.random() < 0.2:
-                data += b'\x1b'  # (more escape bytes and Returns follow)
-                steps.append(('off',))
+                data += b'\x1b\x1b[D'  # (with a Tab behind it the escape byte would be another key)
+                steps += [('off',), ('move', -1, 0)]
                 continue
             data += random.choice([b'\r', random.choice(spellings)])
         steps.append(('click', keys))
@@ -186,7 +207,11 @@ def moves(random, steps):
     ways = {'A': (0, 1), 'B': (0, -1), 'C': (1, 0), 'D': (-1, 0)}
     data = b''
     for _ in range(random.randrange(0, 12)):
-        letter = random.choice('ABCDABCDHF')
+        letter = random.choice('ABCDABCDHFT')
+        if letter == 'T':
+            data += b'\t'
+            steps.append(('tab',))
+            continue
         if letter in 'HF':
             data += b'\x1b[' + random.choice([b'', b'1;2']) + letter.encode()
             steps.append(('move', -COLUMNS if letter == 'H' else COLUMNS, 0))

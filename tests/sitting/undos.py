@@ -8,7 +8,7 @@ import sys
 import tempfile
 
 from main import begin, characters
-from model import COLUMNS, Model, is_in_word
+from model import Model, called_word
 from presses import FILES, drag, press
 from sitting import MODES, Ended, Sitting, TooSlow
 
@@ -62,18 +62,7 @@ class Deed:
         """In the words of the line below. The screen as it was before the press shows the word that it called."""
         if self.typed is not None:
             return f'typed {self.typed} character' + ('s' if self.typed != 1 else '')
-        return screen and self.cell and word_at(screen, *self.cell) or self.words
-
-
-def word_at(screen, x, y):
-    """The letters, digits and periods around a cell."""
-    row = screen.rows[-1 - y].ljust(COLUMNS)
-    start, end = x, x
-    while start > 0 and is_in_word(row[start - 1]):
-        start -= 1
-    while end < len(row) and is_in_word(row[end]):
-        end += 1
-    return row[start:end][:31]
+        return screen and self.cell and called_word(screen, *self.cell) or self.words
 
 
 class History:
@@ -157,6 +146,7 @@ class Undoing(Model):
 
     def undo(self):
         """The last press is taken back, of this sitting."""
+        self.replacing.typed = None
         lines = self.history.take_back(self.presses[-1][0] if self.presses else self.refused + 1)
         if not lines:
             self.saying = 'There is nothing to take back.'
@@ -185,6 +175,7 @@ class Undoing(Model):
         return press[1]
 
     def redo(self):
+        self.replacing.typed = None
         if not self.undone:
             self.saying = 'There is nothing to do again.'
             return
@@ -262,15 +253,16 @@ def click(key, column, row):
     return drag(random.Random(0), key, (column, row), (column, row))
 
 
-# What a person does, an event each: types, pastes, deletes a paragraph (the right button is drawn over it, and the left one
-# pressed meanwhile), has the document stored (the marker, and then the command), closes the viewer and deletes the document.
-DEEDS = [click('m', 52, 2), click('l', 2, 2), *(b'A letter\r'[k:k + 1] for k in range(9)),
-         b'\x1b[200~a paragraph to go\ranother one\r\x1b[201~', drag(random.Random(0), 'rl', (2, 3), (19, 3)),
-         b'\x1bOP' + click('l', 5, 5), click('m', 52, 27), b'\x03', click('m', 15, 1), click('m', 52, 8)]
+# What a person does, and how many events that is: opens a document, types, pastes, deletes a paragraph (the right button is
+# drawn over it, and the left one pressed meanwhile), has the document stored (the marker, and then the command, once more
+# since another viewer has the name), closes the viewer and deletes the document.
+DEEDS = [(click('m', 52, 2), 2), (click('l', 2, 2), 1), *((b'A letter\r'[k:k + 1], 1) for k in range(9)),
+         (b'\x1b[200~a paragraph to go\ranother one\r\x1b[201~', 1), (drag(random.Random(0), 'rl', (2, 3), (19, 3)), 1),
+         (b'\x1bOP' + click('l', 5, 5), 1), (click('m', 52, 27) * 2, 1), (b'\x03', 1), (click('m', 15, 1), 1), (click('m', 52, 8), 1)]
 
 
 def kills(seed, desk, oberon, folder, tool):
-    """The program is killed by signal 9 after these deeds; at a new start each Ctrl-Z shows what was seen before."""
+    """The program is killed by signal 9 after these deeds; at a new start Ctrl-Z, for each event, shows what was seen before."""
     store = f'{folder}/store'
     begin(oberon, store, tool)
     words = [desk, store]
@@ -281,7 +273,7 @@ def kills(seed, desk, oberon, folder, tool):
         if not sitting.wait(lambda: sitting.terminal.scenes > 0):
             return ['no scene came']
         seen.append(characters(sitting.terminal.cells, ROWS - 1))
-        for data in DEEDS:
+        for data, _ in DEEDS:
             sitting.press(data)
             sitting.hear_long(b'')
             seen.append(characters(sitting.terminal.cells, ROWS - 1))
@@ -297,7 +289,7 @@ def kills(seed, desk, oberon, folder, tool):
             if characters(sitting.terminal.cells, ROWS - 1) != seen[at]:
                 wrong.append(f'another screen than that after {at} deeds')
             if at:
-                sitting.press(b'\x1a')
+                sitting.press(b'\x1a' * DEEDS[at - 1][1])
                 sitting.hear_long(b'')
         sitting.press(b'\x11')
         sitting.end()

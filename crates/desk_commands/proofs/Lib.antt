@@ -5,5 +5,3 @@ pub mod StoringLemmas
 pub mod RewritingLemmas
 pub mod CallLemmas
 pub mod LogLemmas
-pub mod Comparing
-pub mod LosingLemmas

@@ -2,4 +2,3 @@ pub mod Calls
 pub mod Lines
 pub mod Rewriting
 pub mod Words
-pub mod Unstored

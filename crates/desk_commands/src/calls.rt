@@ -221,7 +221,7 @@ fn delete_named_files<S: CharSource>(desk: &mut Desk, call: Call, source: &mut S
 // ---- what stands after the word
 
 /// The viewer that is seen at the marker. None where there is none.
-pub(crate) fn at_marker(desk: &Desk) -> Option<u16>
+fn at_marker(desk: &Desk) -> Option<u16>
     requires { IsKeptWhole (kept_desktop desk.now) }
     ensures viewer { result ≡ seen_at_marker (kept_desktop desk.now) }
     ensures placed { IfSome result (λ v. IsOnTop v (kept_desktop desk.now).columns) }
@@ -232,7 +232,7 @@ pub(crate) fn at_marker(desk: &Desk) -> Option<u16>
 }
 
 /// The viewer in whose menu the word stands, or else the one at the marker. None where there is none.
-fn meant(desk: &Desk, call: Call) -> Option<u16>
+pub fn meant(desk: &Desk, call: Call) -> Option<u16>
     requires whole { IsKeptWhole (kept_desktop desk.now) }
     requires placed { IsOnTop call.viewer (kept_desktop desk.now).columns }
     ensures viewer { result ≡ target_viewer (kept_desktop desk.now) call }

@@ -11,4 +11,3 @@ mod openings;
 mod rewriting;
 mod searches;
 mod stores;
-pub mod unstored;

@@ -119,11 +119,7 @@ pub fn store<S: CharSource>(desk: &mut Desk, id: u16, source: &mut S) -> StepRes
 }
 
 /// The first symbol of a viewer's menu. None where it is no name. Fault: the source failed in this call.
-pub(crate) fn menu_name<S: CharSource>(
-    desk: &Desk,
-    id: u16,
-    source: &mut S,
-) -> Result<Option<Name>, Fault>
+fn menu_name<S: CharSource>(desk: &Desk, id: u16, source: &mut S) -> Result<Option<Name>, Fault>
     requires { IsViewerOnTop (S.characters source.old) (kept_desktop desk.now) id }
     ensures { TellsValue S.CharSource result (λ d. menu_name d id) source.old source.new
         (kept_desktop desk.now) }

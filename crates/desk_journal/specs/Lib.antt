@@ -12,4 +12,5 @@ pub mod Prefixes
 pub mod Files
 pub mod Undoing
 pub mod Scrolling
-pub mod Unstored
+pub mod Losses
+pub mod Views

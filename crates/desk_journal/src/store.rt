@@ -25,7 +25,7 @@ ghost use Rattle.desk_slots.specs.Words.{ListsUnread, shown_screen};
 
 mod bringing;
 mod scrolling;
-mod unstored;
+mod views;
 
 use command_table::{NEWEST, Version};
 use desk_slots::{

@@ -31,6 +31,18 @@ word_in (Some row) x = row_word row x
 unfoldable pub called_word : List (List Cell) → ℕ → ℕ → List ℕ
 called_word screen x y = if nat_lt x COLUMNS then word_in (slice_get screen y) x else []
 
+-- the word that begins at a column of a row, whatever stands before it
+abbrev pub row_word_from : List Cell → ℕ → List ℕ
+row_word_from row x = word_between row x (end_of Name row x)
+
+abbrev pub word_from_in : Option (List Cell) → ℕ → List ℕ
+word_from_in None x = []
+word_from_in (Some row) x = row_word_from row x
+
+-- the word that begins at column x and row y; no byte where none does
+unfoldable pub word_from : List (List Cell) → ℕ → ℕ → List ℕ
+word_from screen x y = if nat_lt x COLUMNS then word_from_in (slice_get screen y) x else []
+
 -- where what stands behind the word around a column begins
 abbrev pub begin_behind : List Cell → ℕ → ℕ
 begin_behind row x = end_of Blank row (end_of Name row x)

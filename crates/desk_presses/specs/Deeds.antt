@@ -8,7 +8,7 @@ use Rattle.event_bytes.specs.declared.keys.Keys.{Keys as MouseKeys}
 use Rattle.event_bytes.specs.declared.keys.Keys.TheVariants.{Left, LeftMiddle, LeftRight, Middle, MiddleLeft}
 use Rattle.event_bytes.specs.declared.keys.Keys.TheVariants.{MiddleRight, Right, RightLeft, RightMiddle}
 use Rattle.desk_presses.specs.declared.deed.Deed.{Deed}
-use Rattle.desk_presses.specs.declared.deed.Deed.TheVariants.{Typed, Key, Mark, Click, Call, Scroll, File, Part}
+use Rattle.desk_presses.specs.declared.deed.Deed.TheVariants.{Typed, Key, Mark, Click, Call, Scroll, File, Replacement, Part}
 
 abbrev pub is_middle : MouseKeys → Bool
 is_middle Middle = true
@@ -69,4 +69,5 @@ deed_words (Click keys) = keys_deed keys
 deed_words (Call x y) = codes "a command"
 deed_words Scroll = codes "a scroll"
 deed_words File = codes "a file"
+deed_words Replacement = codes "a replacement"
 deed_words Part = codes "a part of it, and the rest can't be"

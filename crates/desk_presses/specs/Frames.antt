@@ -1,9 +1,10 @@
 -- The viewer that is seen around a cell, by the marks of the screen.
 use Rattle.std.specs.Prelude.{ℕ, ◌+◌, ◌-◌, Bool, true, false, ◌||◌, not, nat_lt, if◌then◌else◌, List}
-use Rattle.std.specs.Prelude.{Option, option_map, position, unwrap_or}
+use Rattle.std.specs.Prelude.{Option, Some, None, option_map, position, unwrap_or}
 use Rattle.std.specs.List.{range_with_len}
 use Rattle.viewer_tracks.specs.declared.display.TheConstants.{COLUMNS, ROWS, SYSTEM_LEFT}
 use Rattle.viewer_tracks.specs.Display.{left_of, track_at}
+use Rattle.viewer_tracks.specs.declared.tracks.Place.{Place}
 use Rattle.screen_pictures.specs.declared.cell.Cell.{Cell}
 use Rattle.screen_pictures.specs.declared.cell.Mark.{Mark}
 use Rattle.screen_pictures.specs.declared.cell.Mark.TheVariants.{Bar, Caret, Selected, Text}
@@ -51,3 +52,9 @@ rows_below left y screen =
 
 abbrev pub lowest_row : ℕ → ℕ → List (List Cell) → ℕ
 lowest_row left y screen = y - rows_below left y screen
+
+-- the first cell of the text of a viewer that stands there, where it has a row of text: right of its bar, and below its
+-- menu
+unfoldable pub text_start : Place → Option (ℕ × ℕ)
+text_start place = if nat_lt place.bottom (place.top - 1)
+    then Some (left_at place.x + 1, place.top - 2) else None

@@ -2,9 +2,11 @@ pub mod Again
 pub mod Aims
 pub mod Along
 pub mod Called
+pub mod CommandWords
 pub mod Deeds
 pub mod Filling
 pub mod Frames
 pub mod Menus
 pub mod Past
+pub mod Replacing
 pub mod Windows

@@ -1,7 +1,7 @@
 //! The word that is seen at a cell, and the one behind it.
 ghost use Rattle.std.specs.Prelude.{◌≡◌, ◌<◌, ◌≤◌, length};
 ghost use Rattle.viewer_tracks.specs.declared.display.TheConstants.{COLUMNS};
-ghost use Rattle.desk_presses.specs.Called.{bytes_seen, called_word, parameter_word, row_word, word_behind};
+ghost use Rattle.desk_presses.specs.Called.{bytes_seen, called_word, parameter_word, row_word, row_word_from, word_behind, word_from};
 
 use crate::along::{Kind, Row, begin_of, end_of, last_of};
 use arrayvec::ArrayVec;
@@ -33,6 +33,26 @@ fn row_word(row: &Row, x: usize) -> ArrayVec<u8, MOST_WORD>
     bytes_seen(&row[begin..end])
 }
 
+/// The word that begins at the cell in that column and row, whatever stands before it; no byte where none does.
+#[tactic(auto, unfolding(crate::specs::Called::word_from))]
+pub fn word_from(screen: &Screen, x: u8, y: u8) -> ArrayVec<u8, MOST_WORD>
+    ensures { result.items ≡ word_from screen.now x y }
+{
+    match screen.rows().get(usize::from(y)) {
+        Some(row) if x < COLUMNS => row_word_from(row, usize::from(x)),
+        _ => ArrayVec::new(),
+    }
+}
+
+/// The word that begins at a column of a row.
+fn row_word_from(row: &Row, x: usize) -> ArrayVec<u8, MOST_WORD>
+    requires { x < COLUMNS }
+    ensures { result.items ≡ row_word_from row.now x }
+{
+    let end = end_of(Kind::Name, row, x).min(x + MOST_WORD);
+    bytes_seen(&row[x..end])
+}
+
 /// What is seen as the first parameter of the word at the cell in that column and row; no byte where no word is.
 #[tactic(auto, unfolding(crate::specs::Called::parameter_word))]
 pub fn parameter_word(screen: &Screen, x: u8, y: u8) -> ArrayVec<u8, MOST_WORD>
@@ -60,7 +80,7 @@ fn word_behind(row: &Row, x: usize) -> ArrayVec<u8, MOST_WORD>
 }
 
 /// The bytes of a word, which is no longer than what is kept.
-fn bytes_seen(cells: &[Cell]) -> ArrayVec<u8, MOST_WORD>
+pub(crate) fn bytes_seen(cells: &[Cell]) -> ArrayVec<u8, MOST_WORD>
     requires { length cells.now ≤ MOST_WORD }
     ensures { result.items ≡ bytes_seen cells.now }
 {

@@ -22,6 +22,8 @@ pub enum Deed {
     Scroll,
     /// A file was made, or got other characters.
     File,
+    /// What was typed where a pattern was found was typed in another such place.
+    Replacement,
     /// A part of what a press did, of which the rest can't be taken back.
     Part,
 }
@@ -71,6 +73,7 @@ impl Deed {
             Deed::Call { .. } => b"a command",
             Deed::Scroll => b"a scroll",
             Deed::File => b"a file",
+            Deed::Replacement => b"a replacement",
             Deed::Part => b"a part of it, and the rest can't be",
         }
     }

@@ -4,12 +4,12 @@ ghost use Rattle.std.specs.List.{range_with_len};
 ghost use Rattle.screen_pictures.specs.Screen.{column_at, row_at};
 ghost use Rattle.desk_presses.specs.Aims.{is_menu};
 ghost use Rattle.desk_presses.specs.Frames.{left_at, track_end, is_in_frame, is_menu_row, is_frame_row};
-ghost use Rattle.desk_presses.specs.Frames.{lowest_row, menu_row, rows_below, rows_to_menu};
+ghost use Rattle.desk_presses.specs.Frames.{lowest_row, menu_row, rows_below, rows_to_menu, text_start};
 
 use crate::along::Row;
 use screen_cells::Screen;
 use screen_pictures::{Cell, Mark};
-use viewer_tracks::{COLUMNS, ROWS, SYSTEM_LEFT};
+use viewer_tracks::{COLUMNS, Place, ROWS, SYSTEM_LEFT};
 
 /// The cell of a row in a column, and that of an empty display where the row has none.
 pub(crate) fn cell_in(row: &Row, x: usize) -> Cell
@@ -38,6 +38,19 @@ pub(crate) fn end_at(x: u8) -> u8
         SYSTEM_LEFT
     } else {
         COLUMNS
+    }
+}
+
+/// The first cell of the text of a viewer that stands there: right of its bar, and below its menu. None where it has no
+/// row of text.
+#[tactic(auto, unfolding(crate::specs::Frames::text_start))]
+pub fn text_start(place: Place) -> Option<(u8, u8)>
+    ensures { result ≡ text_start place }
+{
+    if place.bottom < place.top.saturating_sub(1) {
+        Some((left_at(place.x) + 1, place.top - 2))
+    } else {
+        None
     }
 }
 

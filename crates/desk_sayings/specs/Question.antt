@@ -1,16 +1,13 @@
 -- What is asked about before a press is done.
 use Rattle.std.specs.Prelude.{ℕ, Bool, true, false, not, ◌==◌, ◌&&◌, Option, Some, None}
 use Rattle.desk_sayings.specs.declared.question.Question.{Question}
-use Rattle.desk_sayings.specs.declared.question.Question.TheVariants.{Leaving, Closing}
-
--- a text that closing would lose, by the first cell of its viewer's menu
-abbrev pub closing : Option (ℕ × ℕ) → Option Question
-closing None = None
-closing (Some cell) = Some (Closing cell.0 cell.1)
+use Rattle.desk_sayings.specs.declared.question.Question.TheVariants.{Leaving, Closing, Taking, Rivalled}
 
 abbrev pub is_same_question : Question → Question → Bool
 is_same_question Leaving Leaving = true
 is_same_question (Closing x y) (Closing u v) = (x == u) && (y == v)
+is_same_question (Taking x y) (Taking u v) = (x == u) && (y == v)
+is_same_question (Rivalled x y) (Rivalled u v) = (x == u) && (y == v)
 is_same_question _ _ = false
 
 abbrev pub is_asked : Option Question → Question → Bool

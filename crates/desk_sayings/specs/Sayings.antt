@@ -10,15 +10,15 @@ use Rattle.terminal_presses.specs.declared.action.Click.{Click}
 use Rattle.terminal_presses.specs.declared.action.Click.TheVariants.{Mark, Keys}
 use Rattle.desk_sayings.specs.declared.saying.Saying.{Saying}
 use Rattle.desk_sayings.specs.declared.saying.Saying.TheVariants.{Greeting, Unproved, InMemory, Keys as ForKeys, Pointing, Asks, NoKey, NoText, NoScroll}
-use Rattle.desk_sayings.specs.declared.saying.Saying.TheVariants.{NothingAfter, NoWord, Fills, FillsNot, ToolFiled, Refused, CutShort, OneSide, NoDocument}
+use Rattle.desk_sayings.specs.declared.saying.Saying.TheVariants.{NothingAfter, NoWord, NoCommand, NoSearch, NothingTyped, Fills, FillsNot, ToolFiled, Refused, CutShort, OneSide, NoDocument}
 use Rattle.desk_sayings.specs.declared.saying.Saying.TheVariants.{Worn, Unread, Unfinished, TooNarrow, TooLow, TookBack, DidAgain}
-use Rattle.desk_sayings.specs.declared.saying.Saying.TheVariants.{NothingBack, NothingAgain, NotBack}
+use Rattle.desk_sayings.specs.declared.saying.Saying.TheVariants.{NothingBack, NothingAgain, NotBack, Logged}
 use Rattle.desk_sayings.specs.declared.question.Question.{Question}
-use Rattle.desk_sayings.specs.declared.question.Question.TheVariants.{Leaving, Closing}
+use Rattle.desk_sayings.specs.declared.question.Question.TheVariants.{Leaving, Closing, Taking, Rivalled}
 use Rattle.desk_presses.specs.declared.deed.Deed.{Deed}
 use Rattle.desk_presses.specs.declared.deed.Deed.TheVariants as deed
 use Rattle.screen_pictures.specs.declared.cell.Cell.{Cell}
-use Rattle.desk_presses.specs.Called.{called_word, parameter_word}
+use Rattle.desk_presses.specs.Called.{called_word, parameter_word, word_from}
 use Rattle.desk_presses.specs.Deeds.{deed_words}
 
 -- why an event is refused, by the code of the refusal from 0 on
@@ -102,50 +102,70 @@ unfoldable pub closing_words : List ℕ → List ℕ
 closing_words [] = codes "This text isn't stored: press again closes it"
 closing_words (b ∷ name) = b ∷ name ++ codes " isn't stored: press again closes it"
 
+-- that a viewer goes, by the name in its menu
+unfoldable pub taking_words : List ℕ → List ℕ
+taking_words [] = codes "This takes another viewer away: press again"
+taking_words (b ∷ name) =
+    codes "This takes the viewer of " ++ b ∷ name ++ codes " away: press again"
+
+-- that another viewer shows another text as the document of a name, to which this text is to go
+unfoldable pub rivalled_words : List ℕ → List ℕ
+rivalled_words [] = codes "This name is in two viewers: press again stores this text"
+rivalled_words (b ∷ name) = b ∷ name ++ codes " is in two viewers: press again stores this text"
+
 -- what is asked, where this is the screen
 abbrev pub question_words : List (List Cell) → Question → List ℕ
 question_words screen Leaving =
     codes "This desktop is in memory: Ctrl-Q again leaves, and then it is gone."
-question_words screen (Closing x y) = closing_words (called_word screen x y)
+question_words screen (Closing x y) = closing_words (word_from screen x y)
+question_words screen (Taking x y) = taking_words (word_from screen x y)
+question_words screen (Rivalled x y) = rivalled_words (word_from screen x y)
 
--- where this is the screen
-unfoldable pub words : List (List Cell) → Saying → List ℕ
-words screen Greeting =
+-- where this is the screen, and this the line of the log that is said
+unfoldable pub words : List (List Cell) → List ℕ → Saying → List ℕ
+words screen log Greeting =
     codes "Middle button, or F2 and then a click, calls the word there; Ctrl-Q leaves"
-words screen Unproved =
+words screen log Unproved =
     codes "Compiled, not proved yet: ./prove does it. F2+click calls a word; Ctrl-Q leaves"
-words screen OneSide =
+words screen log OneSide =
     codes "Alt-Left, Alt-Right: the other side. F2 and a click calls a word; Ctrl-Q leaves"
-words screen InMemory = codes "This desktop is in memory: when you leave (Ctrl-Q) it is gone."
-words screen ForKeys =
+words screen log InMemory = codes "This desktop is in memory: when you leave (Ctrl-Q) it is gone."
+words screen log ForKeys =
     codes "F2 calls, Ctrl-Z undo, Ctrl-Q leaves, F3 selects, F1 marker, Ctrl-O file"
-words screen Pointing =
+words screen log Pointing =
     codes "Arrows move the pointer, Return clicks, F2 calls, F3 selects, Escape ends it"
-words screen (Asks question) = question_words screen question
-words screen NoKey = codes "That key means nothing here."
-words screen NoText = codes "There is no text on that side of the caret, or no caret in sight."
-words screen NothingAfter = codes "There is no character after the caret, or no caret in sight."
-words screen NoScroll = codes "Nothing moves there: no viewer, no caret, or too few rows of a text."
-words screen NoWord =
+words screen log (Asks question) = question_words screen question
+words screen log NoKey = codes "That key means nothing here."
+words screen log NoText = codes "There is no text on that side of the caret, or no caret in sight."
+words screen log NothingAfter = codes "There is no character after the caret, or no caret in sight."
+words screen log NoScroll =
+    codes "Nothing moves there: no viewer, no caret, or too few rows of a text."
+words screen log NoWord =
     codes "No caret, or no such word, is in sight: System.Tool shows the commands."
-words screen Fills = codes "A line is broken at its last blank where it would pass the edge."
-words screen FillsNot = codes "Lines aren't broken while you type, and may pass the edge."
-words screen ToolFiled =
+words screen log NoCommand =
+    codes "No command's whole word is in sight: System.Tool shows the commands."
+words screen log NoSearch =
+    codes "Ctrl-R puts what you typed after the last Ctrl-F: press Ctrl-F first"
+words screen log NothingTyped = codes "Nothing was typed after the last Ctrl-F"
+words screen log Fills = codes "A line is broken at its last blank where it would pass the edge."
+words screen log FillsNot = codes "Lines aren't broken while you type, and may pass the edge."
+words screen log ToolFiled =
     codes "System.Tool was gone, and is a document again: the same click opens it."
-words screen (Refused code) = reason code
-words screen (NoDocument x y) = no_document (parameter_word screen x y)
-words screen (CutShort typed code) = cut_short typed code
-words screen Worn = codes "This store takes no more events: its epochs are used up."
-words screen Unread = codes "The host's file can't be read, and nothing was typed."
-words screen Unfinished =
+words screen log (Refused code) = reason code
+words screen log (NoDocument x y) = no_document (parameter_word screen x y)
+words screen log (CutShort typed code) = cut_short typed code
+words screen log Worn = codes "This store takes no more events: its epochs are used up."
+words screen log Unread = codes "The host's file can't be read, and nothing was typed."
+words screen log Unfinished =
     codes "The host's file can't be read to its end; what came of it is typed."
-words screen TooNarrow = codes "This window is too narrow: it has fewer than 45 columns."
-words screen TooLow = codes "This window is too low: it has fewer than 12 rows."
-words screen (TookBack what) = told_back screen what
-words screen (DidAgain what) = told (codes "did again: ") what
-words screen NothingBack = codes "There is nothing to take back."
-words screen NothingAgain = codes "There is nothing to do again."
-words screen NotBack = codes "What was before can't be read, and nothing was taken back."
+words screen log TooNarrow = codes "This window is too narrow: it has fewer than 45 columns."
+words screen log TooLow = codes "This window is too low: it has fewer than 12 rows."
+words screen log (TookBack what) = told_back screen what
+words screen log (DidAgain what) = told (codes "did again: ") what
+words screen log NothingBack = codes "There is nothing to take back."
+words screen log NothingAgain = codes "There is nothing to do again."
+words screen log Logged = log
+words screen log NotBack = codes "What was before can't be read, and nothing was taken back."
 
 -- the name of a host file or the number of a line, as far as it is typed, of which the end is seen
 abbrev pub asked_words : Bool → List ℕ
@@ -165,17 +185,17 @@ said_by_pointer true ForKeys = Pointing
 said_by_pointer true saying = saying
 
 -- the line between two presses: a name that is asked for, or else what the next click does, or what is said
-abbrev pub line_by_hand : List (List Cell) → Option (List ℕ) → Bool → Option Click → Saying
-    → List ℕ
-line_by_hand screen (Some name) line armed saying = question line name
-line_by_hand screen None line (Some click) saying = click_words click
-line_by_hand screen None line None saying = words screen saying
+abbrev pub line_by_hand : List (List Cell) → List ℕ → Option (List ℕ) → Bool → Option Click
+    → Saying → List ℕ
+line_by_hand screen log (Some name) line armed saying = question line name
+line_by_hand screen log None line (Some click) saying = click_words click
+line_by_hand screen log None line None saying = words screen log saying
 
 -- the line below a screen: a question goes before all else
-unfoldable pub line_of : List (List Cell) → Option (List ℕ) → Bool → Option Click → Saying
-    → List ℕ
-line_of screen asked line armed (Asks question) = question_words screen question
-line_of screen asked line armed saying = line_by_hand screen asked line armed saying
+unfoldable pub line_of : List (List Cell) → List ℕ → Option (List ℕ) → Bool → Option Click
+    → Saying → List ℕ
+line_of screen log asked line armed (Asks question) = question_words screen question
+line_of screen log asked line armed saying = line_by_hand screen log asked line armed saying
 
 abbrev pub is_in_memory : Saying → Bool
 is_in_memory InMemory = true

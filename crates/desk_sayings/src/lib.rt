@@ -8,5 +8,5 @@
 mod question;
 mod saying;
 
-pub use question::{CLOSE_WORD, Question, asks_to_leave, closing, comes_first};
+pub use question::{Question, asks_to_leave, comes_first};
 pub use saying::{Saying, SayingLine, is_in_memory, line_of, resting_of, said_by_pointer};

@@ -1,9 +1,6 @@
 //! Questions: what a press would lose is asked about first.
 ghost use Rattle.std.specs.Prelude.{◌≡◌};
-ghost use Rattle.desk_sayings.specs.Question.{asks_to_leave, closing, comes_first, is_same_question};
-
-/// The word of the command that closes a viewer.
-pub const CLOSE_WORD: &[u8] = b"System.Close";
+ghost use Rattle.desk_sayings.specs.Question.{asks_to_leave, comes_first, is_same_question};
 
 /// What a press would lose.
 #[derive(Clone, Copy, Debug, PartialEq, Eq)]
@@ -17,6 +14,20 @@ pub enum Question {
         /// Its row.
         y: u8,
     },
+    /// The whole place of a viewer: another one opens there.
+    Taking {
+        /// The column of the first cell of the menu of the viewer that goes.
+        x: u8,
+        /// Its row.
+        y: u8,
+    },
+    /// What a document holds of which another viewer shows another text: the text of a viewer is stored.
+    Rivalled {
+        /// The column of the first cell of the menu of the viewer whose text is stored.
+        x: u8,
+        /// Its row.
+        y: u8,
+    },
 }
 
 /// Whether two questions are the same.
@@ -26,17 +37,9 @@ fn is_same(last: Question, question: Question) -> bool
     match (last, question) {
         (Question::Leaving, Question::Leaving) => true,
         (Question::Closing { x, y }, Question::Closing { x: u, y: v }) => x == u && y == v,
+        (Question::Taking { x, y }, Question::Taking { x: u, y: v }) => x == u && y == v,
+        (Question::Rivalled { x, y }, Question::Rivalled { x: u, y: v }) => x == u && y == v,
         _ => false,
-    }
-}
-
-/// What closing would lose, by the first cell of the viewer's menu.
-pub fn closing(cell: Option<(u8, u8)>) -> Option<Question>
-    ensures { result ≡ closing cell }
-{
-    match cell {
-        None => None,
-        Some((x, y)) => Some(Question::Closing { x, y }),
     }
 }
 

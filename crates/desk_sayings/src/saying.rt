@@ -4,11 +4,11 @@ ghost use Rattle.desk_sayings.specs.Sayings.{asked_words, click_words, closing_w
 ghost use Rattle.desk_sayings.specs.Sayings.{line_of, no_document, question, question_words, reason};
 ghost use Rattle.desk_sayings.specs.Sayings.{is_in_memory as memory_said, resting_of as rest_after};
 ghost use Rattle.desk_sayings.specs.Sayings.{said_by_pointer as by_pointer};
-ghost use Rattle.desk_sayings.specs.Sayings.{called, short_reason, told, told_back, words};
+ghost use Rattle.desk_sayings.specs.Sayings.{called, rivalled_words, short_reason, taking_words, told, told_back, words};
 
 use crate::question::Question;
 use arrayvec::ArrayVec;
-use desk_presses::{Deed, called_word, parameter_word};
+use desk_presses::{Deed, called_word, parameter_word, word_from};
 use desktop_definitions::codes::NO_FILE;
 use event_bytes::Keys;
 use screen_cells::Screen;
@@ -41,6 +41,12 @@ pub enum Saying {
     NoScroll,
     /// No word of a command is in sight, or no caret.
     NoWord,
+    /// No word of a command is in sight whole.
+    NoCommand,
+    /// The pattern wasn't searched right before.
+    NoSearch,
+    /// Nothing was typed where the pattern had been found before.
+    NothingTyped,
     /// Lines are broken from now on while they are typed.
     Fills,
     /// Lines are no longer broken.
@@ -82,6 +88,8 @@ pub enum Saying {
     NothingAgain,
     /// What was before can't be read.
     NotBack,
+    /// The line that was added to the log last.
+    Logged,
 }
 
 /// Why an event was refused, by the code of the refusal.
@@ -195,8 +203,16 @@ fn question_words(screen: &Screen, question: Question) -> SayingLine
             b"This desktop is in memory: Ctrl-Q again leaves, and then it is gone.",
         ),
         Question::Closing { x, y } => {
-            let word = called_word(screen, x, y);
-            closing_words(word.as_slice())
+            let name = word_from(screen, x, y);
+            closing_words(name.as_slice())
+        }
+        Question::Taking { x, y } => {
+            let name = word_from(screen, x, y);
+            taking_words(name.as_slice())
+        }
+        Question::Rivalled { x, y } => {
+            let name = word_from(screen, x, y);
+            rivalled_words(name.as_slice())
         }
     }
 }
@@ -212,6 +228,36 @@ fn closing_words(name: &[u8]) -> SayingLine
     }
     let mut text = line(name);
     text.try_extend_from_slice(b" isn't stored: press again closes it")
+        .unwrap();
+    text
+}
+
+/// That a viewer goes, by the name in its menu, where one is seen.
+#[tactic(auto, unfolding(crate::specs::Sayings::taking_words))]
+fn taking_words(name: &[u8]) -> SayingLine
+    requires { length name.now ≤ 31 }
+    ensures { result.items ≡ taking_words name.now }
+{
+    if name.is_empty() {
+        return line(b"This takes another viewer away: press again");
+    }
+    let mut text = line(b"This takes the viewer of ");
+    text.try_extend_from_slice(name).unwrap();
+    text.try_extend_from_slice(b" away: press again").unwrap();
+    text
+}
+
+/// That another viewer shows another text as the document of a name, where one is seen, to which this text is to go.
+#[tactic(auto, unfolding(crate::specs::Sayings::rivalled_words))]
+fn rivalled_words(name: &[u8]) -> SayingLine
+    requires { length name.now ≤ 31 }
+    ensures { result.items ≡ rivalled_words name.now }
+{
+    if name.is_empty() {
+        return line(b"This name is in two viewers: press again stores this text");
+    }
+    let mut text = line(name);
+    text.try_extend_from_slice(b" is in two viewers: press again stores this text")
         .unwrap();
     text
 }
@@ -250,10 +296,10 @@ pub fn said_by_pointer(is_shown: bool, saying: Saying) -> Saying
 }
 
 impl Saying {
-    /// Its text, where this is the screen.
+    /// Its text, where this is the screen, and this the line of the log that is said.
     #[tactic(auto, unfolding(crate::specs::Sayings::words))]
-    fn words(self, screen: &Screen) -> SayingLine
-        ensures { result.items ≡ words screen.now self }
+    fn words(self, screen: &Screen, log: &SayingLine) -> SayingLine
+        ensures { result.items ≡ words screen.now log.now.items self }
     {
         match self {
             Saying::Greeting => line(
@@ -288,6 +334,13 @@ impl Saying {
             Saying::NoWord => line(
                 b"No caret, or no such word, is in sight: System.Tool shows the commands.",
             ),
+            Saying::NoCommand => line(
+                b"No command's whole word is in sight: System.Tool shows the commands.",
+            ),
+            Saying::NoSearch => line(
+                b"Ctrl-R puts what you typed after the last Ctrl-F: press Ctrl-F first",
+            ),
+            Saying::NothingTyped => line(b"Nothing was typed after the last Ctrl-F"),
             Saying::Fills => line(
                 b"A line is broken at its last blank where it would pass the edge.",
             ),
@@ -310,6 +363,7 @@ impl Saying {
             Saying::NothingBack => line(b"There is nothing to take back."),
             Saying::NothingAgain => line(b"There is nothing to do again."),
             Saying::NotBack => line(b"What was before can't be read, and nothing was taken back."),
+            Saying::Logged => line(log.as_slice()),
         }
     }
 }
@@ -317,41 +371,43 @@ impl Saying {
 /// The line below a screen, of 80 characters at most.
 pub type SayingLine = ArrayVec<u8, 80>;
 
-/// The text of the line below: a question goes before all else.
+/// The text of the line below, where `log` is the line of the log that a saying says: a question goes before all else.
 #[tactic(auto, unfolding(crate::specs::Sayings::line_of))]
 pub fn line_of(
     screen: &Screen,
+    log: &SayingLine,
     asked: Option<&[u8]>,
     asks_line: bool,
     armed: Option<Click>,
     saying: Saying,
 ) -> SayingLine
-    ensures { result.items ≡ line_of screen.now (option_map (λ name. name.now) asked.entry)
-        asks_line armed saying }
+    ensures { result.items ≡ line_of screen.now log.now.items
+        (option_map (λ name. name.now) asked.entry) asks_line armed saying }
 {
     match saying {
         Saying::Asks(question) => question_words(screen, question),
-        other => line_by_hand(screen, asked, asks_line, armed, other),
+        other => line_by_hand(screen, log, asked, asks_line, armed, other),
     }
 }
 
 /// The same where no question is asked: a name that is asked for, or else what the next click does.
 fn line_by_hand(
     screen: &Screen,
+    log: &SayingLine,
     asked: Option<&[u8]>,
     asks_line: bool,
     armed: Option<Click>,
     saying: Saying,
 ) -> SayingLine
-    ensures { result.items ≡ line_by_hand screen.now (option_map (λ name. name.now) asked.entry)
-        asks_line armed saying }
+    ensures { result.items ≡ line_by_hand screen.now log.now.items
+        (option_map (λ name. name.now) asked.entry) asks_line armed saying }
 {
     if let Some(name) = asked {
         return question(asks_line, name);
     }
     match armed {
         Some(click) => line(click_words(click)),
-        None => saying.words(screen),
+        None => saying.words(screen, log),
     }
 }
 

@@ -15,12 +15,12 @@ use Rattle.terminal_presses.specs.declared.hand.Hand.{Hand}
 use Rattle.terminal_presses.specs.Hands.{handled}
 use Rattle.desk_sitting.specs.declared.sitting.Sitting.{Sitting}
 use Rattle.desk_sitting.specs.declared.task.Task.{Task}
-use Rattle.desk_sitting.specs.declared.task.TheConstants.{MOST_PLANS}
+use Rattle.desk_sitting.specs.Sittings.{most_plans}
 use Rattle.desk_sitting.specs.Questions.{unasked}
-use Rattle.desk_sitting.specs.Tasks.{Plan, Events, Refused as NotDone, plan_of, task_of}
+use Rattle.desk_sitting.specs.Tasks.{Plan, Aims, Events, Refused as NotDone, Says, plan_of}
 use Rattle.desk_sitting.specs.Sittings.{Seat, accepted_as, accepted_by, accepted_in, accepted_one, accepted_stage, acted}
 use Rattle.desk_sitting.specs.Sittings.{accepted_unasked, after_planned, after_post, after_posts, after_press, after_stage}
-use Rattle.desk_sitting.specs.Sittings.{after_task, asks_first, does, does_all, done_by, done_so, is_filling, task_left, planned, with_hand}
+use Rattle.desk_sitting.specs.Sittings.{after_task, asks_first, does, does_all, done_by, done_so, noted_at, task_in, task_left, planned, with_hand}
 use Rattle.desk_sitting.specs.Sittings.{accepted_events, accepted_of, PressesAreSteps}
 
 -- ---- one event
@@ -139,6 +139,8 @@ planned_steps : (plan : Plan) (d : Seat) → (after_planned plan d).session.desk
     ≡ steps d.session.desktop (accepted_by d.session (planned plan))
 planned_steps (NotDone why) d = refl
 planned_steps (Events events next) d = all_steps events d
+planned_steps (Says line) d = refl
+planned_steps (Aims cell) d = refl
 
 stage_steps : (left : Option Task) (d : Seat)
     → (after_stage left d).session.desktop ≡ steps d.session.desktop (accepted_stage left d)
@@ -160,13 +162,13 @@ none_accepted zero d = refl
 none_accepted (suc n) d = none_accepted n d
 
 so_steps : (left : Option Task) (a : Action) (d : Seat) → (done_so left a d).session.desktop
-    ≡ steps d.session.desktop (accepted_in MOST_PLANS left d)
-so_steps None a d = sym (ap (steps d.session.desktop) (none_accepted MOST_PLANS d))
-so_steps (Some task) a d = task_steps MOST_PLANS (Some task) d
+    ≡ steps d.session.desktop (accepted_in most_plans left d)
+so_steps None a d = sym (ap (steps d.session.desktop) (none_accepted most_plans d))
+so_steps (Some task) a d = task_steps most_plans (Some task) d
 
 action_steps : (a : Action) (d : Seat) → (done_by a d).session.desktop ≡ steps d.session.desktop (accepted_as a d)
 unfolding done_by accepted_as
-action_steps a d = so_steps (task_of (is_filling d.sitting) a) a d
+action_steps a d = so_steps (task_in d.sitting a) a (noted_at a d)
 
 -- the hand is nothing to a question
 pub hand_asks : (a : Action) (hand : Hand) (d : Seat)

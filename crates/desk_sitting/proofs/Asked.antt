@@ -16,13 +16,13 @@ use Rattle.terminal_presses.specs.Hands.{handled}
 use Rattle.desk_sayings.specs.declared.question.Question.{Question}
 use Rattle.desk_sitting.specs.declared.sitting.Sitting.{Sitting}
 use Rattle.desk_sitting.specs.declared.task.Task.{Task}
-use Rattle.desk_sitting.specs.declared.task.TheConstants.{MOST_PLANS}
+use Rattle.desk_sitting.specs.Sittings.{most_plans}
 use Rattle.desk_sitting.specs.Doing.{DoesAction, DoesPress, seat_of}
 use Rattle.desk_sitting.specs.Listed.{event_meant, is_by_list, lacks_tool}
 use Rattle.desk_presses.specs.Deeds.{is_middle}
 use Rattle.desk_sitting.specs.Sittings.{Seat, accepted_as, accepted_in, accepted_of, accepted_unasked, acted, acted_alone}
-use Rattle.desk_sitting.specs.Sittings.{after_press, after_task, asks_first, done_by, done_so, is_filling, with_hand}
-use Rattle.desk_sitting.specs.Tasks.{task_of}
+use Rattle.desk_sitting.specs.Sittings.{after_press, after_task, asks_first, done_by, done_so, noted_in, task_in, with_hand}
+use Rattle.desk_sitting.specs.Tasks.{is_call, task_of}
 use Rattle.desk_sitting.proofs.Accepted.{none_accepted}
 use Rattle.desk_sitting.proofs.Pressed.{alone_press, press_same}
 use Rattle.desk_sitting.proofs.Taking.{left_seat, pressed_seat}
@@ -41,6 +41,14 @@ unlisted entries (event.Key key) is = refl
 unlisted entries (event.Mark x y) is = absurd cc
 unlisted entries (event.Point keys x0 y0 x1 y1) is = no_tool keys (lacks_tool entries x0 y0) _ _ is
 unlisted entries (event.File name bytes) is = refl
+
+-- and which calls no word
+pub uncalled : (e : Event) → is_by_list e ≡ false → is_call e ≡ false
+uncalled (event.Typed bytes) is = refl
+uncalled (event.Key key) is = refl
+uncalled (event.Mark x y) is = absurd cc
+uncalled (event.Point keys x0 y0 x1 y1) is = is
+uncalled (event.File name bytes) is = refl
 
 module _ {D : Type 0} (d : Ghosts D) where
   -- after the person has left
@@ -70,24 +78,29 @@ module _ {D : Type 0} (d : Ghosts D) where
   -- ---- a task
 
   -- what it comes to, where it has a task
-  pub task_press : {T : Type 0} (a : Action) (task : Task) (result : Result T Error) (s s' : Sitting) (old new : StoreView D)
-      → task_of (is_filling s) a ≡ Some task
-      → DoesPress d (accepted_in MOST_PLANS (Some task) (seat_of s old)) (after_task MOST_PLANS (Some task) (seat_of s old))
-      result s' old new
+  pub task_press : {T : Type 0} (a : Action) (task : Task) (result : Result T Error) (s mid s' : Sitting)
+      (old new : StoreView D) → task_in s a ≡ Some task → mid ≡ noted_in a s
+      → DoesPress d (accepted_in most_plans (Some task) (seat_of mid old))
+      (after_task most_plans (Some task) (seat_of mid old)) result s' old new
       → DoesAction d a result s s' old new
   unfolding done_by accepted_as
-  task_press a task result s s' old new is does = press_same d result (λ honest durable. (
-    ap (λ left. accepted_in MOST_PLANS left (seat_of s old)) (sym is),
-    ap (λ left. done_so left a (seat_of s old)) (sym is),
+  task_press a task result s mid s' old new is noted does = press_same d result (λ honest durable. (
+    ap (λ t. accepted_in most_plans (Some task) (seat_of t old)) noted
+        ∙ ap (λ left. accepted_in most_plans left (seat_of (noted_in a s) old)) (sym is),
+    ap (λ t. after_task most_plans (Some task) (seat_of t old)) noted
+        ∙ ap (λ left. done_so left a (seat_of (noted_in a s) old)) (sym is),
   )) does
 
   -- and where it has none
-  pub alone_action : (a alone : Action) (s s' : Sitting) (store : StoreView D) → store.must_reopen ≡ false
-      → task_of (is_filling s) a ≡ None → alone ≡ a → s' ≡ acted_alone alone s → DoesAction d {T = Unit} a (Ok tt) s s' store store
+  pub alone_action : (a alone : Action) (s mid s' : Sitting) (store : StoreView D) → store.must_reopen ≡ false
+      → task_in s a ≡ None → mid ≡ noted_in a s → alone ≡ a → s' ≡ acted_alone alone mid
+      → DoesAction d {T = Unit} a (Ok tt) s s' store store
   unfolding done_by accepted_as
-  alone_action a alone s s' store usable none is_a is = press_same d (Ok tt) (λ honest durable. (
-    sym (ap (λ left. accepted_in MOST_PLANS left (seat_of s store)) none ∙ none_accepted MOST_PLANS (seat_of s store)),
-    ap (λ left. done_so left a (seat_of s store)) (sym none),
-  ))
-      (alone_press d tt (done_so None a (seat_of s store)) s' store usable
-      (ap (λ t. seat_of t store) (is ∙ ap (λ x. acted_alone x s) is_a)))
+  alone_action a alone s mid s' store usable none noted is_a is =
+      let at : Seat = seat_of (noted_in a s) store in
+      press_same d (Ok tt) (λ honest durable. (
+        sym (ap (λ left. accepted_in most_plans left at) none ∙ none_accepted most_plans at),
+        ap (λ left. done_so left a at) (sym none),
+      ))
+      (alone_press d tt (done_so None a at) s' store usable
+      (ap (λ t. seat_of t store) (is ∙ ap (λ x. acted_alone x mid) is_a ∙ ap (acted_alone a) noted)))

@@ -1,7 +1,8 @@
 -- A task is done plan by plan.
 use Rattle.std.proofs.Common.{◌≡◌, ◌≤◌, ℕ, zero, suc, true, false, List, [], ◌∷◌, ◌++◌, Some, None, Ok, Err, refl, sym, ◌∙◌, ap, subst}
 use Rattle.std.proofs.Common.{append_assoc, append-nil, arith}
-use Rattle.std.specs.Prelude.{Bool, ◌&&◌, if◌then◌else◌, Option, Result}
+use Rattle.std.specs.Prelude.{Bool, ◌&&◌, not, if◌then◌else◌, Option, is_some, Result}
+use Rattle.std.proofs.lemmas.Bool.{false≢true}
 use Rattle.sector_disk.specs.declared.disk.Disk.{Ghosts}
 use Rattle.event_bytes.specs.declared.event.Event.{Event}
 use Rattle.desk_journal.specs.Errors.{Error}
@@ -11,11 +12,13 @@ use Rattle.desk_journal.specs.View.{StoreView, IsDurable}
 use Rattle.desk_presses.specs.declared.deed.Deed.{Deed}
 use Rattle.desk_sitting.specs.declared.sitting.Sitting.{Sitting}
 use Rattle.desk_sitting.specs.declared.task.Task.{Task}
+use Rattle.desk_sitting.specs.declared.task.TheConstants.{MOST_PLANS}
+use Rattle.desk_sitting.specs.Sittings.{most_plans}
 use Rattle.desk_sitting.specs.Doing.{ComesToSeat, DoesPress, seat_of}
 use Rattle.desk_sitting.specs.Sittings.{Seat, accepted_by, accepted_in, accepted_stage, after_planned, after_post, after_posts}
 use Rattle.desk_sitting.specs.Sittings.{after_stage, after_task, does, kept_follows, left_by, task_left, planned, went_on}
 use Rattle.desk_sitting.specs.Tasks.{Plan, deed_of_task, plan_of}
-use Rattle.desk_sitting.proofs.Accepted.{alone_accepted, alone_posted}
+use Rattle.desk_sitting.proofs.Accepted.{alone_accepted, alone_posted, none_accepted}
 use Rattle.desk_sitting.proofs.Pressed.{alone_press, event_press, look_press, press_both, press_same, press_short, unseen_press}
 use Rattle.desk_sitting.proofs.Taking.{same_session}
 
@@ -57,6 +60,34 @@ accepted_front (suc n) (suc k) left seat most =
       append_assoc (accepted_stage left seat) (accepted_in n (task_left left seat.session) (after_stage left seat)) rest.0
           ∙ ap (λ es. accepted_stage left seat ++ es) rest.1,
     )
+
+-- the number of plans, which no other proof has to know
+pub plans_are : most_plans ≡ MOST_PLANS
+unfolding most_plans
+plans_are = refl
+
+pub within_plans : {n : ℕ} → n ≤ MOST_PLANS → n ≤ most_plans
+within_plans {n} most = subst (λ (k : ℕ). n ≤ k) (sym plans_are) most
+
+-- where nothing is left no plan more does anything
+none_done : (n : ℕ) (seat : Seat) → after_task n None seat ≡ seat
+none_done zero seat = refl
+none_done (suc n) seat = none_done n seat
+
+rest_done : (n k : ℕ) (left : Option Task) (seat : Seat) → n ≤ k → left_in n left seat ≡ None
+    → (accepted_in k left seat ≡ accepted_in n left seat) × (after_task k left seat ≡ after_task n left seat)
+rest_done zero k left seat most is = (
+  ap (λ l. accepted_in k l seat) is ∙ none_accepted k seat,
+  ap (λ l. after_task k l seat) is ∙ none_done k seat,
+)
+rest_done (suc n) zero left seat most is = absurd (omega (arith, most))
+rest_done (suc n) (suc k) left seat most is =
+    let rest = rest_done n k (task_left left seat.session) (after_stage left seat) (omega (arith, most)) is in
+    (ap (λ es. accepted_stage left seat ++ es) rest.0, rest.1)
+
+pub none_of : (left : Option Task) (none : Bool) → is_some left ≡ not none → none ≡ true → left ≡ None
+none_of None none is so = refl
+none_of (Some task) none is so = absurd (false≢true (sym (is ∙ ap not so)))
 
 -- ---- one plan
 
@@ -232,6 +263,19 @@ module _ {D : Type 0} (d : Ghosts D) where
         subst (λ es. DoesPress d {T = T} es (after_task k first start) (Err error) s'' old new) front.1
         (press_short d front.0 (after_task k first start)
         (press_broken {T = T} (after_task (suc i) first start) (next_stage (Err error) press)))
+
+  -- nothing is left, and so all plans are made
+  pub carried_early : {T : Type 0} {x : T} (first left : Option Task) (s : Sitting) {i j k : ℕ} {s' : Sitting}
+      {old new : StoreView D} → suc i ≡ j → j ≤ k
+      → (d.honest old.disk → IsDurable d old → left ≡ left_in j first (seat_of s old)) → left ≡ None
+      → DoesPress d (accepted_in (suc i) first (seat_of s old)) (after_task (suc i) first (seat_of s old)) (Ok x) s' old new
+      → DoesPress d (accepted_in k first (seat_of s old)) (after_task k first (seat_of s old)) (Ok x) s' old new
+  carried_early {x = x} first left s {i = i} {j = j} {k = k} {old = old} more most is none press =
+      press_same d (Ok x) (λ honest durable.
+      let rest = rest_done j k first (seat_of s old) most (sym (is honest durable) ∙ none) in (
+        ap (λ n. accepted_in n first (seat_of s old)) more ∙ sym rest.0,
+        ap (λ n. after_task n first (seat_of s old)) more ∙ sym rest.1,
+      )) press
 
   -- all plans are made
   pub carried_to : {T : Type 0} {x : T} (first : Option Task) (s : Sitting) {i k : ℕ} {s' : Sitting} {old new : StoreView D}

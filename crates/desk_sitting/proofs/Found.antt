@@ -1,6 +1,6 @@
 -- What is found by looking at a store before a press is done.
 use Rattle.std.proofs.Common.{◌≡◌, [], Ok, Err, refl, sym, ◌∙◌, ap, subst}
-use Rattle.std.specs.Prelude.{ℕ, Bool, true, false, List, Option, Some, None, Result, IfOk, if◌then◌else◌}
+use Rattle.std.specs.Prelude.{Bool, true, false, List, Option, Some, None, Result, IfOk, if◌then◌else◌}
 use Rattle.std.proofs.lemmas.Bool.{cond-true, cond-false}
 use Rattle.std.proofs.lemmas.Result.{IfOk-weaker}
 use Rattle.sector_disk.specs.declared.disk.Disk.{Ghosts}
@@ -12,14 +12,15 @@ use Rattle.desk_journal.specs.Errors.{Error}
 use Rattle.desk_journal.specs.Looking.{OnlyLooks}
 use Rattle.desk_journal.specs.Session.{Session, session_of}
 use Rattle.desk_journal.specs.View.{StoreView, IsDurable}
-use Rattle.desk_journal.specs.Unstored.{unstored_at}
+use Rattle.desk_journal.specs.Losses.{loss_at}
 use Rattle.desk_sayings.specs.declared.question.Question.{Question}
 use Rattle.desk_sitting.specs.declared.sitting.Sitting.{Sitting}
 use Rattle.desk_sitting.specs.Doing.{DoesAction, DoesPress, Finds, IsPressDone, seat_of}
-use Rattle.desk_sitting.specs.Questions.{middle_cell, is_close, is_leave, left_behind}
-use Rattle.desk_sayings.specs.Question.{closing, comes_first}
+use Rattle.desk_sitting.specs.declared.asking.MiddleClick.{MiddleClick}
+use Rattle.desk_sitting.specs.Questions.{click_made, is_leave, left_behind, loss_question, click_question}
+use Rattle.desk_sayings.specs.Question.{comes_first}
 use Rattle.desk_sayings.specs.Sayings.{is_in_memory}
-use Rattle.desk_sitting.specs.Questions.{loss_of, lost_at, question_of, questioned, unasked}
+use Rattle.desk_sitting.specs.Questions.{loss_of, question_of, questioned, unasked}
 use Rattle.desk_sitting.specs.Sittings.{Seat, accepted_as, accepted_unasked, acted, asks_first, done_by, question_at}
 use Rattle.desk_sitting.proofs.Pressed.{alone_press, look_press, press_both, press_same, press_short, unseen_press}
 use Rattle.desk_sitting.proofs.Taking.{same_session}
@@ -143,28 +144,24 @@ module _ (a : Action) (s : Sitting) (desktop : Desktop) where
   asks_leave found in_memory asks leaves memory is =
       is ∙ ap left_behind memory
       ∙ sym (cond-true s.questions (loss_of a (is_in_memory s.resting) desktop) None asks
-      ∙ cond-true (is_leave a) (left_behind (is_in_memory s.resting)) (lost_at (middle_cell a) desktop) leaves)
+      ∙ cond-true (is_leave a) (left_behind (is_in_memory s.resting)) (click_question (click_made a (shown_screen desktop)) desktop)
+      leaves)
 
-  pub asks_click : s.questions ≡ true → is_leave a ≡ false → lost_at (middle_cell a) desktop ≡ question_of a s desktop
+  pub asks_click : s.questions ≡ true → is_leave a ≡ false
+      → click_question (click_made a (shown_screen desktop)) desktop ≡ question_of a s desktop
   asks_click asks stays =
       sym (cond-true s.questions (loss_of a (is_in_memory s.resting) desktop) None asks
-      ∙ cond-false (is_leave a) (left_behind (is_in_memory s.resting)) (lost_at (middle_cell a) desktop) stays)
+      ∙ cond-false (is_leave a) (left_behind (is_in_memory s.resting))
+      (click_question (click_made a (shown_screen desktop)) desktop) stays)
 
-module _ (click : Option (ℕ × ℕ)) (desktop : Desktop) where
-  pub lost_nowhere : click ≡ None → None ≡ lost_at click desktop
-  lost_nowhere is = sym (ap (λ (o : Option (ℕ × ℕ)). lost_at o desktop) is)
+-- what a click would lose, where one was found, or none
+module _ (made : Option MiddleClick) (desktop : Desktop) (found : Option MiddleClick) (is : found ≡ made) where
+  pub lost_nothing : found ≡ None → None ≡ click_question made desktop
+  lost_nothing none = sym (ap (λ o. click_question o desktop) (sym is ∙ none))
 
-  module _ (x y : ℕ) (is : click ≡ Some (x, y)) (closes : Bool) (word : closes ≡ is_close (shown_screen desktop) x y) where
-    there : lost_at (Some (x, y)) desktop ≡ lost_at click desktop
-    there = sym (ap (λ (o : Option (ℕ × ℕ)). lost_at o desktop) is)
-
-    pub lost_there : closes ≡ true → closing (unstored_at desktop x y) ≡ lost_at click desktop
-    lost_there so = sym (cond-true (is_close (shown_screen desktop) x y) (closing (unstored_at desktop x y)) None
-        (sym word ∙ so)) ∙ there
-
-    pub lost_not : closes ≡ false → None ≡ lost_at click desktop
-    lost_not other = sym (cond-false (is_close (shown_screen desktop) x y) (closing (unstored_at desktop x y)) None
-        (sym word ∙ other)) ∙ there
+  pub lost_so : (click : MiddleClick) → found ≡ Some click
+      → loss_question (loss_at desktop click.marker click.from click.to) ≡ click_question made desktop
+  lost_so click some = sym (ap (λ o. click_question o desktop) (sym is ∙ some))
 
 -- ---- what a press comes to
 

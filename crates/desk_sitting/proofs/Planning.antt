@@ -1,7 +1,7 @@
 -- The plan of a task is made by one look at the store.
-use Rattle.std.proofs.Common.{◌≡◌, ◌≢◌, Bool, false, refl, sym, ◌∙◌, ap, Ok, Err, List}
-use Rattle.std.specs.Prelude.{ℕ, Option, Some, None}
-use Rattle.std.proofs.lemmas.Bool.{false≢true}
+use Rattle.std.proofs.Common.{◌≡◌, ◌≢◌, Bool, true, false, refl, sym, ◌∙◌, ap, Ok, Err, List, []}
+use Rattle.std.specs.Prelude.{ℕ, nat_lt, Option, Some, None}
+use Rattle.std.proofs.lemmas.Bool.{cond-true, cond-false, false≢true}
 use Rattle.sector_disk.specs.declared.disk.Disk.{Ghosts}
 use Rattle.event_bytes.specs.declared.event.Event.{Event}
 use Rattle.desktop_definitions.specs.Desktop.{Desktop}
@@ -10,35 +10,69 @@ use Rattle.desk_journal.specs.Errors.{Error}
 use Rattle.desk_journal.specs.Looking.{OnlyLooks}
 use Rattle.desk_journal.specs.Scrolling.{Scrolls, Wish, presses_to}
 use Rattle.desk_journal.specs.View.{StoreView}
+use Rattle.desk_journal.specs.Views.{DeskInfo, Place, desk_info, last_log_line}
+use Rattle.desk_presses.specs.Frames.{text_start}
 use Rattle.desk_journal.proofs.Passing.{at_start}
 use Rattle.desk_sitting.specs.declared.task.Task.{Task}
 use Rattle.desk_sitting.specs.declared.task.Task.TheVariants as kind
 use Rattle.desk_sitting.specs.declared.task.Plan.{Plan as MadePlan}
 use Rattle.desk_sitting.specs.Doing.{Plans}
-use Rattle.desk_sitting.specs.Tasks.{Plan, plan_of, plan_on, seen_plan}
+use Rattle.desk_sitting.specs.Tasks.{Plan, Events, Says, answer_plan, entry_plan, opened_place, plan_of, plan_on, seen_plan}
 
 -- what is neither an event of the hand nor a scroll is planned by the screen
 pub by_screen : (task : Task) (d : Desktop) → ((event : Event) → task ≢ kind.Post event)
     → ((at : Option (ℕ × ℕ)) (wish : Wish) → task ≢ kind.Scroll at wish)
     → ((at : ℕ × ℕ) (deletes : Bool) → task ≢ kind.Below at deletes)
     → ((at : ℕ × ℕ) (wish : Wish) (deletes : Bool) → task ≢ kind.Shift at wish deletes)
+    → ((before : DeskInfo) → task ≢ kind.After before)
     → plan_of task d ≡ plan_on task (shown_screen d)
 unfolding plan_of
-by_screen (kind.Post event) d post scroll below shift = absurd (post event refl)
-by_screen (kind.Scroll at wish) d post scroll below shift = absurd (scroll at wish refl)
-by_screen (kind.Step arrow) d post scroll below shift = refl
-by_screen (kind.Click place) d post scroll below shift = refl
-by_screen kind.Delete d post scroll below shift = refl
-by_screen (kind.Pass from column deletes) d post scroll below shift = refl
-by_screen (kind.Below at deletes) d post scroll below shift = absurd (below at deletes refl)
-by_screen (kind.Shift at wish deletes) d post scroll below shift = absurd (shift at wish deletes refl)
-by_screen (kind.Reach place) d post scroll below shift = refl
-by_screen kind.Rub d post scroll below shift = refl
-by_screen (kind.AtCaret click) d post scroll below shift = refl
-by_screen (kind.Compose event) d post scroll below shift = refl
-by_screen (kind.Break event next) d post scroll below shift = refl
-by_screen (kind.Rejoin event next) d post scroll below shift = refl
-by_screen (kind.Call word) d post scroll below shift = refl
+by_screen (kind.Post event) d post scroll below shift after = absurd (post event refl)
+by_screen (kind.Scroll at wish) d post scroll below shift after = absurd (scroll at wish refl)
+by_screen (kind.Step arrow) d post scroll below shift after = refl
+by_screen (kind.Click place) d post scroll below shift after = refl
+by_screen kind.Delete d post scroll below shift after = refl
+by_screen (kind.Pass from column deletes) d post scroll below shift after = refl
+by_screen (kind.Below at deletes) d post scroll below shift after = absurd (below at deletes refl)
+by_screen (kind.Shift at wish deletes) d post scroll below shift after = absurd (shift at wish deletes refl)
+by_screen (kind.Reach place) d post scroll below shift after = refl
+by_screen kind.Rub d post scroll below shift after = refl
+by_screen (kind.AtCaret click) d post scroll below shift after = refl
+by_screen (kind.Compose event) d post scroll below shift after = refl
+by_screen (kind.Break event next) d post scroll below shift after = refl
+by_screen (kind.Rejoin event next) d post scroll below shift after = refl
+by_screen (kind.Call word) d post scroll below shift after = refl
+by_screen (kind.Seek at) d post scroll below shift after = refl
+by_screen (kind.Replace t fills) d post scroll below shift after = refl
+by_screen (kind.Wrap next t fills) d post scroll below shift after = refl
+by_screen (kind.Resume event t fills) d post scroll below shift after = refl
+by_screen (kind.After before) d post scroll below shift after = absurd (after before refl)
+
+-- what is left to do once a word was called
+module _ (before : DeskInfo) (d : Desktop) where
+  pub entry_answer : (place : Place) (info : DeskInfo) → opened_place before d ≡ Some place → info ≡ desk_info d
+      → entry_plan info.is_marked (text_start place) ≡ plan_of (kind.After before) d
+  unfolding plan_of
+  entry_answer place info some is = ap (λ (i : DeskInfo). entry_plan i.is_marked (text_start place)) is
+      ∙ sym (ap (λ p. answer_plan p before d) some)
+
+  module _ (none : opened_place before d ≡ None) (info : DeskInfo) (is : info ≡ desk_info d) where
+    abbrev longer : Bool
+    longer = nat_lt before.log_length (desk_info d).log_length
+
+    told : nat_lt before.log_length info.log_length ≡ longer
+    told = ap (λ (i : DeskInfo). nat_lt before.log_length i.log_length) is
+
+    pub no_answer : nat_lt before.log_length info.log_length ≡ false → Events [] None ≡ plan_of (kind.After before) d
+    unfolding plan_of
+    no_answer short = sym (ap (λ p. answer_plan p before d) none
+        ∙ cond-false longer (Says (last_log_line d)) (Events [] None) (sym told ∙ short))
+
+    pub log_answer : (line : List ℕ) → nat_lt before.log_length info.log_length ≡ true → line ≡ last_log_line d
+        → Says line ≡ plan_of (kind.After before) d
+    unfolding plan_of
+    log_answer line long said = ap Says said ∙ sym (ap (λ p. answer_plan p before d) none
+        ∙ cond-true longer (Says (last_log_line d)) (Events [] None) (sym told ∙ long))
 
 module _ {D : Type 0} (d : Ghosts D) where
   -- something is made of what was seen

@@ -15,19 +15,20 @@ use Rattle.terminal_presses.specs.declared.action.Action.{Action}
 use Rattle.terminal_presses.specs.declared.action.Action.TheVariants as action
 use Rattle.terminal_presses.specs.declared.hand.Hand.{Hand}
 use Rattle.terminal_presses.specs.Pointers.{pointer_cell}
-use Rattle.terminal_presses.specs.Hands.{dropping, handled, new_hand, pastes_text}
+use Rattle.terminal_presses.specs.Hands.{dropping, handled, new_hand, pastes_text, with_pointer}
 use Rattle.viewer_tracks.specs.declared.display.TheConstants.{COLUMNS, ROWS}
 use Rattle.viewer_tracks.specs.declared.display.Track.TheVariants.{System}
 use Rattle.terminal_presses.specs.Sights.{Sight}
 use Rattle.desk_sayings.specs.declared.question.Question.{Question}
 use Rattle.desk_sayings.specs.declared.saying.Saying.{Saying}
-use Rattle.desk_sayings.specs.declared.saying.Saying.TheVariants.{NoKey, Refused, CutShort, Worn, Unread}
-use Rattle.desk_sayings.specs.declared.saying.Saying.TheVariants.{Unfinished, TooNarrow, TooLow, ToolFiled, OneSide, NoDocument, Fills, FillsNot}
+use Rattle.desk_sayings.specs.declared.saying.Saying.TheVariants.{NoKey, Refused, CutShort, Worn, Unread, Logged}
+use Rattle.desk_sayings.specs.declared.saying.Saying.TheVariants.{Unfinished, TooNarrow, TooLow, ToolFiled, OneSide, NoDocument, Fills, FillsNot, NoSearch, NothingTyped}
 use Rattle.desk_sitting.specs.declared.sitting.Sitting.{Sitting}
 use Rattle.desk_sitting.specs.declared.sitting.Travel.TheVariants.{Back, Again}
 use Rattle.desk_presses.specs.Again.{no_again}
 use Rattle.desk_presses.specs.declared.deed.Deed.{Deed}
 use Rattle.desk_presses.specs.Deeds.{typed_more}
+use Rattle.desk_presses.specs.Replacing.{ReplacingView, is_untouched, left_place, no_replacing, noted, replacement}
 use Rattle.desk_presses.specs.Past.{PastView, past_after, named, no_past, with_refused}
 use Rattle.desk_sitting.specs.Questions.{questioned, question_of, unasked}
 use Rattle.desk_sayings.specs.Question.{comes_first}
@@ -36,7 +37,7 @@ use Rattle.desk_presses.specs.Aims.{caret_cell, or_else}
 use Rattle.desk_sitting.specs.declared.task.Task.{Task}
 use Rattle.desk_sitting.specs.declared.task.TheConstants.{MOST_PLANS}
 use Rattle.desk_sitting.specs.Tasks.{Plan, deed_of_task, keeps_sight, plan_of, task_of}
-use Rattle.desk_sitting.specs.Tasks.{Events, Refused as NotDone}
+use Rattle.desk_sitting.specs.Tasks.{Aims, Events, Refused as NotDone, Says}
 use Rattle.desk_journal.specs.Session.{Session, is_worn, taken}
 use Rattle.desk_presses.specs.Windows.{fitted, following_sight, height_told, is_low, is_narrow, moved_sight}
 use Rattle.desk_presses.specs.Windows.{width_told}
@@ -78,6 +79,8 @@ new_sitting height width greeting questions = record {
   past = no_past;
   joins = false;
   fills = true;
+  logged = record { items = [] };
+  replacing = no_replacing;
 }
 
 -- the terminal rings, and the line below says why
@@ -98,8 +101,12 @@ unfoldable pub turned_by : Option ℕ → Saying → Sitting → Sitting
 turned_by None saying s = refused saying s
 turned_by (Some n) saying s = refused (came_to n saying) (record s { hand = dropping s.hand })
 
+-- what was typed after a search isn't known any more
+abbrev pub unplaced : Sitting → Sitting
+unplaced s = record s { replacing = left_place s.replacing }
+
 abbrev pub turned_away : Saying → Sitting → Sitting
-turned_away saying s = turned_by s.typed saying s
+turned_away saying s = turned_by s.typed saying (unplaced s)
 
 -- what the line below says once an event is done: of the text of all commands, that it is there again
 abbrev pub done_saying : Event → Saying → Saying
@@ -192,10 +199,22 @@ went_on deed follows s = record s {
 abbrev pub kept_follows : Task → Sitting → Option Bool
 kept_follows task s = if keeps_sight task then Some s.follows else None
 
--- what is done by a plan: the terminal rings for the reason, or events are posted
+-- the line below says a line of the log
+abbrev pub with_log_line : List ℕ → Sitting → Sitting
+with_log_line line s = record s { saying = Logged; logged = record { items = line } }
+
+-- the pointer that keys move is shown at a cell, and the rows in sight follow it
+abbrev pub aimed_at : ℕ × ℕ → Sitting → Sitting
+aimed_at cell s = record s { hand = with_pointer cell s.hand; follows = true }
+
+-- what is done by a plan: the terminal rings for the reason, events are posted, a line of the log is said, or the
+-- pointer moves
 abbrev pub after_planned : Plan → Seat → Seat
-after_planned (NotDone why) seat = record seat { sitting = refused why seat.sitting }
+after_planned (NotDone why) seat =
+    record seat { sitting = refused why (unplaced seat.sitting) }
 after_planned (Events events next) seat = after_posts events seat
+after_planned (Says line) seat = record seat { sitting = with_log_line line seat.sitting }
+after_planned (Aims cell) seat = record seat { sitting = aimed_at cell seat.sitting }
 
 -- and by a task of which that is the plan
 abbrev pub after_plan : Task → Plan → Seat → Seat
@@ -210,6 +229,8 @@ after_plan task plan seat =
 abbrev pub left_by : Plan → Session → Option Task
 left_by (NotDone why) session = None
 left_by (Events events next) session = if does_all session events then next else None
+left_by (Says line) session = None
+left_by (Aims cell) session = None
 
 -- what is left of a task goes one plan further
 abbrev pub task_left : Option Task → Session → Option Task
@@ -225,6 +246,10 @@ abbrev pub after_task : ℕ → Option Task → Seat → Seat
 after_task zero left seat = seat
 after_task (suc n) left seat =
     after_task n (task_left left seat.session) (after_stage left seat)
+
+-- how many plans a press has at most
+unfoldable pub most_plans : ℕ
+most_plans = MOST_PLANS
 
 -- what the line below says once the terminal has told its size: where that is too small, that
 abbrev pub is_too_small : Saying → Bool
@@ -245,6 +270,10 @@ ring_reason s = if is_some s.hand.asked then s.resting else NoKey
 abbrev pub fill_saying : Bool → Saying
 fill_saying fills = if fills then Fills else FillsNot
 
+-- why there is nothing to be typed in the place of what was found
+abbrev pub why_unreplaced : ReplacingView → Saying
+why_unreplaced r = if is_untouched r.typed then NothingTyped else NoSearch
+
 -- what a press comes to that posts nothing
 unfoldable pub acted_alone : Action → Sitting → Sitting
 acted_alone action.Ring s = refused (ring_reason s) s
@@ -261,19 +290,31 @@ acted_alone (action.Fit rows columns) s = record s {
 }
 acted_alone action.Fill s = record s { fills = not s.fills; saying = fill_saying (not s.fills) }
 acted_alone action.FileFailed s = refused Unfinished s
+acted_alone action.Replace s = refused (why_unreplaced s.replacing) s
 acted_alone _ s = s
 
 -- what a press comes to: a task, or what is done alone
 abbrev pub done_so : Option Task → Action → Seat → Seat
 done_so None a seat = record seat { sitting = acted_alone a seat.sitting }
-done_so (Some task) a seat = after_task MOST_PLANS (Some task) seat
+done_so (Some task) a seat = after_task most_plans (Some task) seat
 
 -- whether what is typed may break a line: a paste breaks none
 abbrev pub is_filling : Sitting → Bool
 is_filling s = s.fills && not (is_some s.typed)
 
+-- the task of a press in a sitting
+abbrev pub task_in : Sitting → Action → Option Task
+task_in s a = task_of (is_filling s) (replacement s.replacing) a
+
+-- what is typed where the pattern was found is kept
+abbrev pub noted_in : Action → Sitting → Sitting
+noted_in a s = record s { replacing = noted a s.replacing }
+
+abbrev pub noted_at : Action → Seat → Seat
+noted_at a seat = record seat { sitting = noted_in a seat.sitting }
+
 unfoldable pub done_by : Action → Seat → Seat
-done_by a seat = done_so (task_of (is_filling seat.sitting) a) a seat
+done_by a seat = done_so (task_in seat.sitting a) a (noted_at a seat)
 
 -- what is asked about a press here
 abbrev pub question_at : Action → Seat → Option Question
@@ -328,6 +369,8 @@ accepted_by session (event ∷ events) = accepted_one session event
 abbrev pub planned : Plan → List Event
 planned (NotDone why) = []
 planned (Events events next) = events
+planned (Says line) = []
+planned (Aims cell) = []
 
 -- the events of a task that are accepted, by one plan, and by so many at most
 abbrev pub accepted_stage : Option Task → Seat → List Event
@@ -342,7 +385,7 @@ accepted_in (suc n) left seat = accepted_stage left seat
 
 -- and of what a press comes to; a question has none
 unfoldable pub accepted_as : Action → Seat → List Event
-accepted_as a seat = accepted_in MOST_PLANS (task_of (is_filling seat.sitting) a) seat
+accepted_as a seat = accepted_in most_plans (task_in seat.sitting a) (noted_at a seat)
 
 abbrev pub accepted_unasked : Action → Seat → List Event
 accepted_unasked a seat = if asks_first a seat then []

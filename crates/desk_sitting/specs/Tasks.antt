@@ -1,5 +1,5 @@
 -- Presses that post events: the task of each, and what a task becomes over a desktop.
-use Rattle.std.specs.Prelude.{ℕ, ◌+◌, ◌-◌, Bool, true, false, if◌then◌else◌, List, [], ◌∷◌, Option, Some, None, option_map}
+use Rattle.std.specs.Prelude.{ℕ, ◌+◌, ◌-◌, Bool, true, false, nat_lt, if◌then◌else◌, List, [], ◌∷◌, Option, Some, None, option_map}
 use Rattle.event_bytes.specs.declared.event.Event.{Event}
 use Rattle.event_bytes.specs.declared.event.Event.TheVariants as event
 use Rattle.event_bytes.specs.declared.keys.Keys.TheVariants as keys
@@ -10,6 +10,7 @@ use Rattle.desktop_definitions.specs.Listing.{entries_of}
 use Rattle.desktop_definitions.specs.Shown.{shown_screen}
 use Rattle.desk_journal.specs.Scrolling.{Wish, presses_to}
 use Rattle.desk_journal.specs.Scrolling as wish
+use Rattle.desk_journal.specs.Views.{DeskInfo, Place, desk_info, last_log_line, shown_place}
 use Rattle.terminal_presses.specs.declared.action.Action.{Action}
 use Rattle.terminal_presses.specs.declared.action.Action.TheVariants as action
 use Rattle.terminal_presses.specs.declared.action.Click.{Click as AClick}
@@ -21,28 +22,34 @@ use Rattle.terminal_presses.specs.declared.press.Scroll.TheVariants.{WheelUp, Wh
 use Rattle.terminal_presses.specs.declared.spot.Spot.{Spot}
 use Rattle.desk_presses.specs.declared.deed.Deed.{Deed}
 use Rattle.desk_presses.specs.declared.deed.Deed.TheVariants as deed
-use Rattle.desk_presses.specs.Deeds.{deed_of}
+use Rattle.desk_presses.specs.CommandWords.{next_command}
+use Rattle.desk_presses.specs.Deeds.{deed_of, is_middle}
 use Rattle.desk_presses.specs.Filling.{filling, line_end}
+use Rattle.desk_presses.specs.Replacing.{TypingView, first_typed, rest_typed}
 use Rattle.desk_presses.specs.declared.filling.Filling.{Filling}
 use Rattle.desk_presses.specs.declared.filling.Filling.TheVariants.{Plain, Ended, Broken}
 use Rattle.desk_presses.specs.declared.menus.MenuWord.TheVariants as word
 use Rattle.desk_presses.specs.declared.menus.WordCall.{WordCall}
 use Rattle.desk_presses.specs.Menus.{word_call}
-use Rattle.desk_presses.specs.Aims.{aimed, caret_cell, edge_of, further, is_caret_at, row_below}
+use Rattle.desk_presses.specs.Aims.{aimed, caret_cell, edge_of, further, is_caret_at, or_else, row_below}
+use Rattle.desk_presses.specs.Frames.{text_start}
+pub use Rattle.event_bytes.specs.Parts.{◌>>=◌}
 use Rattle.desk_sayings.specs.declared.saying.Saying.{Saying}
-use Rattle.desk_sayings.specs.declared.saying.Saying.TheVariants.{NoText, NoScroll, NothingAfter, NoWord}
+use Rattle.desk_sayings.specs.declared.saying.Saying.TheVariants.{NoText, NoScroll, NothingAfter, NoWord, NoCommand}
 use Rattle.desk_sitting.specs.declared.task.Task.{Task}
 use Rattle.desk_sitting.specs.declared.task.Task.TheVariants.{Post, Scroll, Step, AtCaret, Click, Delete, Pass, Below, Shift, Reach, Rub}
-use Rattle.desk_sitting.specs.declared.task.Task.TheVariants.{Compose, Break, Rejoin, Call}
+use Rattle.desk_sitting.specs.declared.task.Task.TheVariants.{Compose, Break, Rejoin, Call, After, Seek, Replace, Wrap, Resume}
 use Rattle.desk_sitting.specs.declared.task.Plan.{Plan as MadePlan}
 use Rattle.desk_sitting.specs.declared.task.Plan.TheVariants as made
 use Rattle.desk_sitting.specs.Listed.{event_meant}
 
--- What a task becomes over a desktop: it can't be done, for a reason, or it has these events, and then this is left to
--- do, if anything.
+-- What a task becomes over a desktop: it can't be done, for a reason; or it has these events, and then this is left to
+-- do, if anything; or it has none, and a line of the log is said, or the pointer that keys move goes to a cell.
 pub data Plan : Type 0 where
   Refused : Saying → Plan
   Events : List Event → Option Task → Plan
+  Says : List ℕ → Plan
+  Aims : ℕ × ℕ → Plan
 
 -- a plan as it is kept
 abbrev pub seen_plan : MadePlan → Plan
@@ -50,6 +57,8 @@ seen_plan (made.Refused why) = Refused why
 seen_plan (made.Next next) = Events [] next
 seen_plan (made.Event event next) = Events (event ∷ []) next
 seen_plan (made.Events events next) = Events events.items next
+seen_plan (made.Says line) = Says line.items
+seen_plan (made.Aims cell) = Aims cell
 
 -- ---- the task of a press
 
@@ -71,17 +80,21 @@ posting fills (event.Typed bytes) =
     if fills then Compose (event.Typed bytes) else Post (event.Typed bytes)
 posting fills event = Post event
 
--- of what posts no event there is none
-unfoldable pub task_of : Bool → Action → Option Task
-task_of fills (action.Post event) = Some (posting fills event)
-task_of fills (action.Scroll at scroll) = Some (Scroll (cell_meant at) (wish_of scroll))
-task_of fills (action.GoTo line) = Some (Scroll None (wish.Line (line - 1)))
-task_of fills (action.Step arrow) = Some (Step arrow)
-task_of fills action.Delete = Some Delete
-task_of fills (action.AtCaret click) = Some (AtCaret click)
-task_of fills action.Search = Some (Call word.Search)
-task_of fills action.Store = Some (Call word.Store)
-task_of fills _ = None
+-- Of what posts no event there is none, but of the pointer's way to the next command. Before it this replacement is to be
+-- typed, if any is.
+unfoldable pub task_of : Bool → Option TypingView → Action → Option Task
+task_of fills replacement (action.Post event) = Some (posting fills event)
+task_of fills replacement (action.Scroll at scroll) =
+    Some (Scroll (cell_meant at) (wish_of scroll))
+task_of fills replacement (action.GoTo line) = Some (Scroll None (wish.Line (line - 1)))
+task_of fills replacement (action.Seek at) = Some (Seek (at.x, at.y))
+task_of fills replacement (action.Step arrow) = Some (Step arrow)
+task_of fills replacement action.Delete = Some Delete
+task_of fills replacement (action.AtCaret click) = Some (AtCaret click)
+task_of fills replacement action.Search = Some (Call word.Search)
+task_of fills replacement action.Store = Some (Call word.Store)
+task_of fills replacement action.Replace = option_map (λ t. Replace t fills) replacement
+task_of fills replacement _ = None
 
 -- what a press did by a task; of what the hand posts, what the event did
 abbrev pub deed_of_task : Task → Option Deed
@@ -92,6 +105,11 @@ deed_of_task (Rejoin event next) = Some (deed_of event)
 deed_of_task (Call word) = Some (deed.Click keys.Middle)
 deed_of_task (Scroll at wish) = Some deed.Scroll
 deed_of_task (AtCaret click) = None
+deed_of_task (After before) = None
+deed_of_task (Seek at) = None
+deed_of_task (Replace t fills) = Some deed.Replacement
+deed_of_task (Wrap next t fills) = Some deed.Replacement
+deed_of_task (Resume event t fills) = Some deed.Replacement
 deed_of_task Rub = Some (deed.Key key.Back)
 deed_of_task _ = Some (deed.Click keys.Left)
 
@@ -194,10 +212,32 @@ type_plan event Ended = Events (event ∷ []) (Some (Post line_end))
 type_plan event (Broken at) =
     Events (click_of (at.x, at.y) ∷ []) (Some (Break event (at.next_x, at.next_y)))
 
+-- A replacement is typed, event after event: this one first, where these are all that are left. Where its lines are
+-- filled they are broken as above, and then it goes on.
+unfoldable pub retype_plan : Event → TypingView → Bool → Filling → Plan
+retype_plan event t fills Plain = Events (event ∷ []) (Some (Replace (rest_typed t) fills))
+retype_plan event t fills Ended =
+    Events (event ∷ []) (Some (Resume line_end (rest_typed t) fills))
+retype_plan event t fills (Broken at) =
+    Events (click_of (at.x, at.y) ∷ []) (Some (Wrap (at.next_x, at.next_y) t fills))
+
+abbrev pub filling_if : Bool → Event → List (List Cell) → Filling
+filling_if fills event screen = if fills then filling event screen else Plain
+
+abbrev pub replace_plan : Option Event → TypingView → Bool → List (List Cell) → Plan
+replace_plan None t fills screen = Events [] None
+replace_plan (Some event) t fills screen =
+    retype_plan event t fills (filling_if fills event screen)
+
+-- the pointer that keys move goes to a cell, where there is one to go to
+abbrev pub seek_plan : Option (ℕ × ℕ) → Plan
+seek_plan None = Refused NoCommand
+seek_plan (Some cell) = Aims cell
+
 -- A command is called on the viewer of the caret by a click on a word of it that is in sight, if it isn't the menu's after
 -- the marker is set there.
 abbrev pub call_marked : Option (ℕ × ℕ) → Event → Plan
-call_marked None click = Events (click ∷ []) None
+call_marked None click = Events [] (Some (Post click))
 call_marked (Some at) click = Events (event.Mark at.0 at.1 ∷ []) (Some (Post click))
 
 unfoldable pub call_plan : Option WordCall → Plan
@@ -205,12 +245,49 @@ call_plan None = Refused NoWord
 call_plan (Some call) =
     call_marked call.marker (event.Point keys.Middle call.x call.y call.x call.y)
 
+-- ---- what is left to do once a word was called
+
+-- whether an event is a click of the middle button
+abbrev pub is_call : Event → Bool
+is_call (event.Point keys x0 y0 x1 y1) = is_middle keys
+is_call _ = false
+
+-- an event, of a desktop that said this of itself before it
+unfoldable pub posted_plan : Event → DeskInfo → Plan
+posted_plan e before = Events (e ∷ []) (if is_call e then Some (After before) else None)
+
+-- where the viewer stands that was opened since then: a new one, or the one that was closed last
+unfoldable pub opened_place : DeskInfo → Desktop → Option Place
+opened_place before d =
+    or_else (shown_place d before.next_viewer) (before.closed_viewer >>= shown_place d)
+
+-- The caret goes to a cell, and before it the marker goes away, if it is set.
+abbrev pub entry_plan : Bool → Option (ℕ × ℕ) → Plan
+entry_plan marked None = Events [] None
+entry_plan marked (Some cell) = if marked
+    then Events (event.Key key.Escape ∷ []) (Some (Post (click_of cell)))
+    else Events (click_of cell ∷ []) None
+
+-- The caret goes into the viewer that was opened. Where none was, the line below says what was added to the log, if
+-- anything was.
+abbrev pub answer_plan : Option Place → DeskInfo → Desktop → Plan
+answer_plan (Some place) before d = entry_plan (desk_info d).is_marked (text_start place)
+answer_plan None before d = if nat_lt before.log_length (desk_info d).log_length
+    then Says (last_log_line d) else Events [] None
+
+-- ---- by the screen, and by the desktop
+
 -- what a task becomes by what the screen shows
 unfoldable pub plan_on : Task → List (List Cell) → Plan
 plan_on (Compose event) screen = type_plan event (filling event screen)
 plan_on (Break event next) screen = Events (line_end ∷ []) (Some (Rejoin event next))
 plan_on (Rejoin event next) screen = Events (click_of next ∷ []) (Some (Post event))
 plan_on (Call word) screen = call_plan (word_call word screen)
+plan_on (Seek at) screen = seek_plan (next_command at screen)
+plan_on (Replace t fills) screen = replace_plan (first_typed t) t fills screen
+plan_on (Wrap next t fills) screen =
+    Events (line_end ∷ []) (Some (Resume (click_of next) t fills))
+plan_on (Resume event t fills) screen = Events (event ∷ []) (Some (Replace t fills))
 plan_on (Step arrow) screen = step_plan arrow screen
 plan_on (AtCaret click) screen = at_caret_plan click (caret_cell screen)
 plan_on (Click place) screen = Events (click_of place ∷ []) None
@@ -221,7 +298,8 @@ plan_on Rub screen = Events (event.Key key.Back ∷ []) None
 plan_on _ screen = Events [] None
 
 unfoldable pub plan_of : Task → Desktop → Plan
-plan_of (Post event) d = Events (event_meant (entries_of d) event ∷ []) None
+plan_of (Post event) d = posted_plan (event_meant (entries_of d) event) (desk_info d)
+plan_of (After before) d = answer_plan (opened_place before d) before d
 plan_of (Scroll at wish) d = scroll_plan (presses_to d at wish)
 plan_of (Below at deletes) d = below_plan at deletes (presses_to d None wish.End)
 plan_of (Shift at wish deletes) d = shift_plan at deletes (presses_to d None wish)

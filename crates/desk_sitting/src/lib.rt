@@ -11,6 +11,7 @@
 //! `sittings_survive` is the theorem: what was shown is never lost.
 #![tactic(auto)]
 
+mod asking;
 mod doing;
 mod ending;
 mod laws;

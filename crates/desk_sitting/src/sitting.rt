@@ -2,32 +2,27 @@
 ghost use Rattle.std.specs.Prelude.{◌≡◌, ◌≢◌, [], false, Some, None, if◌then◌else◌, OnOk, IfOk, IfErr, IfSome, ◌<◌};
 ghost use Rattle.terminal_presses.specs.Hands.{handled};
 ghost use Rattle.desk_journal.specs.Session.{session_of};
-ghost use Rattle.desk_sitting.specs.Doing.{ComesToSeat, DoesAction, DoesPress, Finds, TellsDone, seat_of};
+ghost use Rattle.desk_sitting.specs.Doing.{ComesToSeat, DoesAction, DoesPress, TellsDone, seat_of};
 ghost use Rattle.desk_sitting.specs.Scenes.{sitting_line};
-ghost use Rattle.desk_sitting.specs.Questions.{is_close, is_leave, is_nothing, is_of_terminal, left_behind, lost_at, middle_cell};
-ghost use Rattle.desk_sitting.specs.Questions.{middle_click, question_of, questioned, unasked};
-ghost use Rattle.desk_sayings.specs.Question.{closing};
-ghost use Rattle.desk_journal.specs.Unstored.{unstored_at};
-ghost use Rattle.desktop_definitions.specs.Shown.{shown_screen};
+ghost use Rattle.desk_sitting.specs.Questions.{is_nothing, is_of_terminal, questioned, unasked};
 ghost use Rattle.desk_journal.specs.View.{IsDurable};
 ghost use Rattle.desk_sitting.specs.Sittings.{followed_cell, acted, acted_alone, after_press, after_fetch, looked, new_sitting};
 ghost use Rattle.desk_sitting.specs.Sittings.{done_saying, first_saying, is_done, refused_saying, ring_reason, is_filling, fill_saying};
 ghost use Rattle.desk_sitting.specs.Sittings.{came_to, fitted_saying, after_post, refused, replied, turned_away};
 ghost use Rattle.desk_sitting.specs.Sittings.{accepted_by, accepted_of, accepted_unasked, after_posts, does_all, went_on};
 ghost use Rattle.desk_sitting.specs.Sittings.{accepted_in, accepted_stage, after_planned, after_stage, after_task, kept_follows, left_by};
-ghost use Rattle.desk_sitting.specs.Sittings.{task_left};
+ghost use Rattle.desk_sitting.specs.Sittings.{aimed_at, most_plans, noted_in, task_left, unplaced, why_unreplaced, with_log_line};
 ghost use Rattle.desk_sitting.specs.Sittings.{planned, with_hand};
 ghost use Rattle.desk_sitting.specs.Tasks.{seen_plan};
 
 use crate::task::{MOST_PLANS, Plan, Task};
 use desk_journal::{Error, Store};
 use desk_presses::{
-    Again, Deed, Past, called_word, caret_of, fitted, followed, height_told, is_low, is_narrow,
+    Again, Deed, Past, Replacing, caret_of, fitted, followed, height_told, is_low, is_narrow,
     moved, typed_more, width_told,
 };
 use desk_sayings::{
-    CLOSE_WORD, Question, Saying, SayingLine, asks_to_leave, closing, comes_first, is_in_memory,
-    line_of, resting_of, said_by_pointer,
+    Question, Saying, SayingLine, asks_to_leave, comes_first, line_of, resting_of, said_by_pointer,
 };
 use desktop_definitions::Reply;
 use desktop_definitions::codes::NO_FILE;
@@ -47,9 +42,6 @@ pub enum Travel {
 
 /// What doing a press comes to: it is done, or why it isn't.
 pub(crate) type Doing = Result<(), Error>;
-
-/// What is asked about a press.
-type Asking = Result<Option<Question>, Error>;
 
 /// What a sitting knows beside the store: the hand, the rows in sight, the line below, and what is to be done when the
 /// screen is shown next.
@@ -91,6 +83,10 @@ pub struct Sitting {
     pub joins: bool,
     /// What is typed breaks a line that would pass the edge of its viewer.
     pub fills: bool,
+    /// The line of the log that the line below says, where it says one.
+    pub logged: SayingLine,
+    /// What is typed where the pattern was found, and typed again in another such place.
+    pub replacing: Replacing,
 }
 
 impl Sitting {
@@ -119,6 +115,8 @@ impl Sitting {
             past: Past::none(),
             joins: false,
             fills: true,
+            logged: SayingLine::new(),
+            replacing: Replacing::none(),
         }
     }
 
@@ -129,6 +127,7 @@ impl Sitting {
         let saying = said_by_pointer(self.hand.pointer().is_some(), self.saying);
         line_of(
             screen,
+            &self.logged,
             self.hand.asked(),
             self.hand.asks_line,
             self.hand.armed(),
@@ -142,6 +141,31 @@ impl Sitting {
     {
         self.saying = saying;
         self.rings = true;
+    }
+
+    /// A press can't be done: the terminal rings, and the line below says why. What was typed after a search isn't known
+    /// any more.
+    fn give_up(&mut self, why: Saying)
+        ensures { self.new ≡ refused why (unplaced self.old) }
+    {
+        self.replacing.leave();
+        self.refuse(why);
+    }
+
+    /// The line below says a line of the log.
+    fn say_logged(&mut self, line: SayingLine)
+        ensures { self.new ≡ with_log_line line.items self.old }
+    {
+        self.saying = Saying::Logged;
+        self.logged = line;
+    }
+
+    /// The pointer that keys move is shown at a cell, and the rows in sight follow it.
+    fn aim(&mut self, cell: (u8, u8))
+        ensures { self.new ≡ aimed_at cell self.old }
+    {
+        self.hand.move_pointer(cell);
+        self.follows = true;
     }
 
     /// What the rows in sight follow: the pointer that keys move, where it is shown, and else the caret.
@@ -189,6 +213,7 @@ impl Sitting {
     fn turn_away(&mut self, why: Saying)
         ensures { self.new ≡ turned_away why self.old }
     {
+        self.replacing.leave();
         match self.typed {
             None => self.refuse(why),
             Some(typed) => {
@@ -278,72 +303,6 @@ impl Sitting {
         self.do_action(alloc, action, store)
     }
 
-    /// What is asked about a press. It only looks at the store.
-    ///
-    /// Errors: `NoMemory`, where memory runs out; `Fault`, where the disk fails.
-    fn question_of<D: Disk>(&self, alloc: Global, action: &Action, store: &mut Store<D>) -> Asking
-        requires { store.old.must_reopen ≡ false }
-        ensures { Finds D.Disk result (question_of action.now self.now) self.now store.old
-            store.new }
-    {
-        if !self.questions {
-            return Ok(None);
-        }
-        if is_leave(action) {
-            return Ok(left_behind(is_in_memory(self.resting)));
-        }
-        self.lost_by(alloc, action, store)
-    }
-
-    /// The text that a press would lose. It only looks at the store.
-    ///
-    /// Errors: `NoMemory`; `Fault`.
-    fn lost_by<D: Disk>(&self, alloc: Global, action: &Action, store: &mut Store<D>) -> Asking
-        requires { store.old.must_reopen ≡ false }
-        ensures { Finds D.Disk result (lost_at (middle_cell action.now)) self.now store.old
-            store.new }
-    {
-        let Some((x, y)) = middle_cell(action) else {
-            return Ok(None);
-        };
-        let closes = self.is_close(alloc, x, y, store)?;
-        if closes {
-            return self.closing(x, y, store);
-        }
-        Ok(None)
-    }
-
-    /// Whether the word at a cell of the screen is the one that closes a viewer. It only looks at the store.
-    ///
-    /// Errors: `NoMemory`; `Fault`.
-    fn is_close<D: Disk>(
-        &self,
-        alloc: Global,
-        x: u8,
-        y: u8,
-        store: &mut Store<D>,
-    ) -> Result<bool, Error>
-        requires { store.old.must_reopen ≡ false }
-        ensures { Finds D.Disk result (λ d. is_close (shown_screen d) x y) self.now store.old
-            store.new }
-    {
-        let mut screen = Screen::new();
-        store.screen(alloc, &mut screen)?;
-        Ok(is_close(&screen, x, y))
-    }
-
-    /// The text that is lost where a viewer is closed by the word at a cell. It only looks at the store.
-    ///
-    /// Errors: `Fault`.
-    fn closing<D: Disk>(&self, x: u8, y: u8, store: &mut Store<D>) -> Asking
-        requires { store.old.must_reopen ≡ false }
-        ensures { Finds D.Disk result (λ d. closing (unstored_at d x y)) self.now store.old
-            store.new }
-    {
-        let cell = store.unstored_at((x, y))?;
-        Ok(closing(cell))
-    }
-
     /// The question is asked: the terminal rings, and the line below says it.
     fn ask(&mut self, question: Option<Question>)
         ensures { self.new ≡ questioned question self.old }
@@ -384,12 +343,33 @@ impl Sitting {
         self.fills && self.typed.is_none()
     }
 
+    /// A press is to be done: what is typed where the pattern was found is kept.
+    fn note(&mut self, action: &Action)
+        ensures { self.new ≡ noted_in action.now self.old }
+    {
+        self.replacing.note(action);
+    }
+
+    /// Why there is nothing to be typed in the place of what was found.
+    fn unreplaced_reason(&self) -> Saying
+        ensures { result ≡ why_unreplaced self.now.replacing }
+    {
+        if self.replacing.is_untouched() {
+            Saying::NothingTyped
+        } else {
+            Saying::NoSearch
+        }
+    }
+
     /// Does what a press comes to.
     fn do_action<D: Disk>(&mut self, alloc: Global, action: Action, store: &mut Store<D>) -> Doing
         requires { store.old.must_reopen ≡ false }
         ensures { DoesAction D.Disk action result self.old self.new store.old store.new }
     {
-        match Task::of(action, self.is_filling()) {
+        let replacement = self.replacing.replacement();
+        let fills = self.is_filling();
+        self.note(&action);
+        match Task::of(action, fills, replacement) {
             Ok(task) => self.carry_out(alloc, task, store),
             Err(alone) => {
                 self.act_alone(alone);
@@ -412,12 +392,17 @@ impl Sitting {
             | Action::Delete
             | Action::Search
             | Action::Store
+            | Action::Seek(_)
             | Action::AtCaret(_) => {}
             Action::Ring => {
                 let reason = self.ring_reason();
                 self.refuse(reason);
             }
             Action::FileFailed => self.refuse(Saying::Unfinished),
+            Action::Replace => {
+                let why = self.unreplaced_reason();
+                self.refuse(why);
+            }
             Action::Fill => {
                 self.fills = !self.fills;
                 self.saying = fill_saying(self.fills);
@@ -455,13 +440,16 @@ impl Sitting {
     fn carry_out<D: Disk>(&mut self, alloc: Global, task: Task, store: &mut Store<D>) -> Doing
         requires { store.old.must_reopen ≡ false }
         ensures { DoesPress D.Disk
-            (accepted_in MOST_PLANS (Some task) (seat_of self.old store.old))
-            (after_task MOST_PLANS (Some task) (seat_of self.old store.old))
+            (accepted_in most_plans (Some task) (seat_of self.old store.old))
+            (after_task most_plans (Some task) (seat_of self.old store.old))
             result self.new store.old store.new }
     {
         let mut left = Some(task);
         for _count in 0..MOST_PLANS {
             left = self.go_on(alloc, left, store)?;
+            if left.is_none() {
+                return Ok(());
+            }
         }
         Ok(())
     }
@@ -518,7 +506,7 @@ impl Sitting {
         }
     }
 
-    /// Posts the events of a plan, or rings, and returns what is left to do.
+    /// Does a plan, whose events are posted one after another, and returns what is left to do.
     fn post_planned<D: Disk>(
         &mut self,
         alloc: Global,
@@ -535,7 +523,15 @@ impl Sitting {
     {
         match plan {
             Plan::Refused(why) => {
-                self.refuse(why);
+                self.give_up(why);
+                Ok(None)
+            }
+            Plan::Says(line) => {
+                self.say_logged(line);
+                Ok(None)
+            }
+            Plan::Aims(cell) => {
+                self.aim(cell);
                 Ok(None)
             }
             Plan::Next(next) => Ok(next),
@@ -636,57 +632,6 @@ fn came_to(typed: u32, why: Saying) -> Saying
         Saying::Refused(code) if typed != 0 => Saying::CutShort { typed, code },
         other => other,
     }
-}
-
-/// The cell of a click of the middle button.
-fn middle_click(event: &Event) -> Option<(u8, u8)>
-    ensures { result ≡ middle_click event.now }
-{
-    match event {
-        Event::Point {
-            keys: Keys::Middle,
-            x1,
-            y1,
-            ..
-        } => Some((*x1, *y1)),
-        _ => None,
-    }
-}
-
-/// The same of a press.
-fn middle_cell(action: &Action) -> Option<(u8, u8)>
-    ensures { result ≡ middle_cell action.now }
-{
-    match action {
-        Action::Post(event) => middle_click(event),
-        _ => None,
-    }
-}
-
-/// Whether the person leaves by a press.
-fn is_leave(action: &Action) -> bool
-    ensures { result ≡ is_leave action.now }
-{
-    matches!(action, Action::Leave)
-}
-
-/// What leaving would lose.
-fn left_behind(in_memory: bool) -> Option<Question>
-    ensures { result ≡ left_behind in_memory }
-{
-    if in_memory {
-        Some(Question::Leaving)
-    } else {
-        None
-    }
-}
-
-/// Whether the word at a cell of a screen is the one that closes a viewer.
-fn is_close(screen: &Screen, x: u8, y: u8) -> bool
-    ensures { result ≡ is_close screen.now x y }
-{
-    let word = called_word(screen, x, y);
-    word.as_slice() == CLOSE_WORD
 }
 
 /// What the line below says of lines that are filled from now on, or no longer.

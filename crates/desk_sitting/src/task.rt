@@ -4,21 +4,25 @@
 //! reason why it can't be done, or events, and what is left to do once they are done. A sitting posts the events and goes
 //! on with what is left, over the desktop that stands then. So another kind of press is a row of `plan_of` in
 //! `specs/Tasks.antt`, and what does it here; each plan is made by one look at the store.
-ghost use Rattle.std.specs.Prelude.{◌≡◌, false, Some, None, IfOk, IfErr, option_map};
+ghost use Rattle.std.specs.Prelude.{◌≡◌, false, Some, None, IfOk, IfErr, if◌then◌else◌, option_map};
 ghost use Rattle.desk_sitting.specs.Doing.{Plans};
 ghost use Rattle.desk_sitting.specs.Tasks.{below_plan, cell_meant as cell_of_spot, click_of, deed_of_task, delete_plan};
 ghost use Rattle.desk_sitting.specs.Tasks.{keeps_sight, pass_plan, plan_of, plan_on, reach_plan, scroll_plan};
 ghost use Rattle.desk_sitting.specs.Tasks.{seen_plan, shift_plan, step_plan, task_of, wish_of as wish_of_scroll, why_not};
+ghost use Rattle.desk_presses.specs.Replacing.{first_typed};
+ghost use Rattle.desk_sitting.specs.Tasks.{replace_plan, retype_plan, seek_plan};
 ghost use Rattle.desk_sitting.specs.Tasks.{at_caret_plan, call_plan, caret_event, at_edge, passing, posting, rest_of_pass, type_plan};
+ghost use Rattle.desk_sitting.specs.Tasks.{entry_plan, is_call, opened_place, posted_plan};
+ghost use Rattle.desk_journal.specs.Views.{desk_info, shown_place};
 ghost use Rattle.desktop_definitions.specs.Shown.{shown_screen};
 
 use crate::listed::{event_meant, is_by_list};
-use desk_journal::{Error, Store, Wish};
+use desk_journal::{DeskInfo, Error, Store, Wish};
 use desk_presses::{
-    Deed, Filling, MenuWord, WordCall, aimed, caret_of, edge_of, further, is_caret_at, line_end,
-    row_below,
+    Deed, Filling, MenuWord, Typing, WordCall, aimed, caret_of, edge_of, further, is_caret_at,
+    line_end, next_command, row_below, text_start,
 };
-use desk_sayings::Saying;
+use desk_sayings::{Saying, SayingLine};
 use event_bytes::{Event, Key, Keys};
 use screen_cells::Screen;
 use sector_disk::Disk;
@@ -27,16 +31,19 @@ use std::vec::Vec;
 use terminal_presses::{Action, Arrow, Click, Scroll, Spot};
 
 /// A cell of the display: its column and its row.
-type Place = (u8, u8);
+pub(crate) type Place = (u8, u8);
 
-/// How many plans a press has at most.
-pub(crate) const MOST_PLANS: u8 = 16;
+/// How many plans a press has at most: a replacement one for each Backspace and four for each byte, and one where it ends.
+pub(crate) const MOST_PLANS: u16 = 321;
 
 /// What is left to do of a press that posts events.
 #[derive(Drop)]
 pub(crate) enum Task {
     /// An event of the hand happens, as it is meant at the desk.
     Post(Event),
+    /// A word was called, over a desktop that said this of itself: the caret goes into the viewer that it opened, or the
+    /// line below says what it added to the log.
+    After(DeskInfo),
     /// An event is typed, and breaks the line where it would pass the edge.
     Compose(Event),
     /// The line is broken at the caret. Then the caret goes to that cell, and the event is typed.
@@ -45,6 +52,14 @@ pub(crate) enum Task {
     Rejoin(Event, Place),
     /// A command is called on the viewer of the caret.
     Call(MenuWord),
+    /// The pointer that keys move goes from a cell on to the next word of a command.
+    Seek(Place),
+    /// A replacement is typed, and its lines are filled or not.
+    Replace(Typing, bool),
+    /// The line is broken at the caret. Then the caret goes to that cell, and the replacement is typed.
+    Wrap(Place, Typing, bool),
+    /// An event of a replacement happens, and what is left of it is typed.
+    Resume(Event, Typing, bool),
     /// The text of the viewer at a cell moves. None: of the viewer of the caret.
     Scroll(Option<Place>, Wish),
     /// The caret goes where an arrow leads.
@@ -90,14 +105,20 @@ pub(crate) enum Plan {
     Event(Event, Option<Task>),
     /// Events, one after another, and what is left to do once they are done.
     Events(Vec<Event>, Option<Task>),
+    /// No event: the line below says this line of the log.
+    Says(SayingLine),
+    /// No event: the pointer that keys move goes to that cell.
+    Aims(Place),
 }
 
 impl Task {
-    /// The task of a press, where what is typed may break lines or not. An action that posts nothing is none.
+    /// The task of a press, where what is typed may break lines or not, and a replacement is to be typed or none is. An
+    /// action that posts nothing is none, but for that which moves the pointer to the next command.
     #[tactic(auto, unfolding(crate::specs::Tasks::task_of))]
-    pub fn of(action: Action, fills: bool) -> Result<Task, Action>
-        ensures task { IfOk result (λ task. task_of fills action ≡ Some task) }
-        ensures none { IfErr result (λ alone. (alone ≡ action) × (task_of fills action ≡ None)) }
+    pub fn of(action: Action, fills: bool, replacement: Option<Typing>) -> Result<Task, Action>
+        ensures task { IfOk result (λ task. task_of fills replacement action ≡ Some task) }
+        ensures none { IfErr result (λ alone. (alone ≡ action)
+            × (task_of fills replacement action ≡ None)) }
     {
         match action {
             Action::Post(event) => Ok(posting(fills, event)),
@@ -108,6 +129,11 @@ impl Task {
             Action::AtCaret(click) => Ok(Task::AtCaret(click)),
             Action::Search => Ok(Task::Call(MenuWord::Search)),
             Action::Store => Ok(Task::Call(MenuWord::Store)),
+            Action::Seek(at) => Ok(Task::Seek((at.x, at.y))),
+            Action::Replace => match replacement {
+                Some(typing) => Ok(Task::Replace(typing, fills)),
+                None => Err(Action::Replace),
+            },
             alone => Err(alone),
         }
     }
@@ -117,7 +143,10 @@ impl Task {
         ensures { result ≡ deed_of_task self.now }
     {
         match self {
-            Task::Post(_) | Task::AtCaret(_) => None,
+            Task::Post(_) | Task::AtCaret(_) | Task::After(_) | Task::Seek(_) => None,
+            Task::Replace(_, _) | Task::Wrap(_, _, _) | Task::Resume(_, _, _) => Some(
+                Deed::Replacement,
+            ),
             Task::Compose(event) | Task::Break(event, _) | Task::Rejoin(event, _) => Some(Deed::of(
                 event,
             )),
@@ -144,6 +173,7 @@ impl Task {
     {
         match self {
             Task::Post(event) => post_plan(alloc, event, store),
+            Task::After(before) => after_plan(before, store),
             Task::Scroll(at, wish) => {
                 let presses = store.scroll(alloc, at, wish)?;
                 Ok(scroll_plan(presses))
@@ -169,8 +199,115 @@ fn post_plan<D: Disk>(alloc: Global, event: Event, store: &mut Store<D>) -> Resu
     if !is_by_list(&event) {
         return Ok(Plan::Event(event, None));
     }
+    let before = info_of(store);
     let entries = store.list(alloc)?;
-    Ok(Plan::Event(event_meant(entries.as_slice(), event), None))
+    Ok(posted_plan(event_meant(entries.as_slice(), event), before))
+}
+
+/// An event, of a desktop that said this of itself before it, and what is left to do where it calls a word.
+#[tactic(auto, unfolding(crate::specs::Tasks::posted_plan))]
+fn posted_plan(event: Event, before: DeskInfo) -> Plan
+    ensures { seen_plan result ≡ posted_plan event before }
+{
+    let next = left_by_call(&event, before);
+    Plan::Event(event, next)
+}
+
+/// What is left to do after an event, where that calls a word.
+fn left_by_call(event: &Event, before: DeskInfo) -> Option<Task>
+    ensures { result ≡ (if is_call event.now then Some (Task.After before) else None) }
+{
+    if is_call(event) {
+        Some(Task::After(before))
+    } else {
+        None
+    }
+}
+
+/// Whether an event is a click of the middle button.
+fn is_call(event: &Event) -> bool
+    ensures { result ≡ is_call event.now }
+{
+    matches!(
+        event,
+        Event::Point {
+            keys: Keys::Middle,
+            ..
+        }
+    )
+}
+
+/// What a desktop says of itself.
+fn info_of<D: Disk>(store: &Store<D>) -> DeskInfo
+    requires { store.now.must_reopen ≡ false }
+    ensures { result ≡ desk_info store.now.desktop }
+{
+    match store.desk_info() {
+        Ok(info) => info,
+        Err(_) => unreachable!(),
+    }
+}
+
+/// Where the viewer of an id stands, if it is shown.
+fn place_of<D: Disk>(id: u16, store: &Store<D>) -> Option<viewer_tracks::Place>
+    requires { store.now.must_reopen ≡ false }
+    ensures { result ≡ shown_place store.now.desktop id }
+{
+    match store.shown_place(id) {
+        Ok(place) => place,
+        Err(_) => unreachable!(),
+    }
+}
+
+/// Where the viewer stands that was opened since a desktop said this of itself.
+#[tactic(auto, unfolding(crate::specs::Tasks::opened_place))]
+fn opened_place<D: Disk>(before: DeskInfo, store: &Store<D>) -> Option<viewer_tracks::Place>
+    requires { store.now.must_reopen ≡ false }
+    ensures { result ≡ opened_place before store.now.desktop }
+{
+    match place_of(before.next_viewer, store) {
+        None => place_of(before.closed_viewer?, store),
+        place => place,
+    }
+}
+
+/// What is left to do once a word was called, over a desktop that said this of itself before.
+fn after_plan<D: Disk>(before: DeskInfo, store: &mut Store<D>) -> Result<Plan, Error>
+    requires { store.old.must_reopen ≡ false }
+    ensures { Plans D.Disk (Task.After before) result store.old store.new }
+{
+    match opened_place(before, store) {
+        Some(place) => Ok(entry_plan(info_of(store).is_marked, text_start(place))),
+        None => log_plan(before, store),
+    }
+}
+
+/// The caret goes to a cell, and before it the marker goes away, if it is set.
+fn entry_plan(is_marked: bool, cell: Option<Place>) -> Plan
+    ensures { seen_plan result ≡ entry_plan is_marked cell }
+{
+    match cell {
+        None => Plan::Next(None),
+        Some(cell) if is_marked => Plan::Event(
+            Event::Key(Key::Escape),
+            Some(Task::Post(click(cell))),
+        ),
+        Some(cell) => Plan::Event(click(cell), None),
+    }
+}
+
+/// The line below says what was added to the log, if anything was, where no viewer was opened.
+fn log_plan<D: Disk>(before: DeskInfo, store: &mut Store<D>) -> Result<Plan, Error>
+    requires usable { store.old.must_reopen ≡ false }
+    requires none { opened_place before store.old.desktop ≡ None }
+    ensures { Plans D.Disk (Task.After before) result store.old store.new }
+{
+    let is_longer = before.log_length < info_of(store).log_length;
+    if !is_longer {
+        return Ok(Plan::Next(None));
+    }
+    let line = store.last_log_line()?;
+    Ok(Plan::Says(line))
 }
 
 /// An event of the hand. What is typed may break a line, where lines are filled.
@@ -207,6 +344,16 @@ fn plan_on(task: Task, screen: &Screen) -> Plan
         Task::Break(event, next) => Plan::Event(line_end(), Some(Task::Rejoin(event, next))),
         Task::Rejoin(event, next) => Plan::Event(click(next), Some(Task::Post(event))),
         Task::Call(word) => call_plan(WordCall::of(word, screen)),
+        Task::Seek(at) => seek_plan(next_command(at, screen)),
+        Task::Replace(typing, fills) => replace_plan(typing, fills, screen),
+        Task::Wrap(next, typing, fills) => Plan::Event(
+            line_end(),
+            Some(Task::Resume(click(next), typing, fills)),
+        ),
+        Task::Resume(event, typing, fills) => Plan::Event(
+            event,
+            Some(Task::Replace(typing, fills)),
+        ),
         Task::Step(arrow) => step_plan(arrow, screen),
         Task::AtCaret(click) => at_caret_plan(click, caret_of(screen)),
         Task::Click(place) => Plan::Event(click(place), None),
@@ -218,9 +365,11 @@ fn plan_on(task: Task, screen: &Screen) -> Plan
         } => pass_plan(from, column, deletes, screen),
         Task::Reach(from) => reach_plan(from, screen),
         Task::Rub => Plan::Event(Event::Key(Key::Back), None),
-        Task::Post(_) | Task::Scroll(_, _) | Task::Below { .. } | Task::Shift { .. } => Plan::Next(
-            None,
-        ),
+        Task::Post(_)
+        | Task::After(_)
+        | Task::Scroll(_, _)
+        | Task::Below { .. }
+        | Task::Shift { .. } => Plan::Next(None),
     }
 }
 
@@ -236,7 +385,7 @@ fn at_caret_plan(click: Click, caret: Option<Place>) -> Plan
 }
 
 /// The event of a click at a cell.
-fn event_at(click: Click, place: Place) -> Event
+pub(crate) fn event_at(click: Click, place: Place) -> Event
     ensures { result ≡ caret_event click place }
 {
     let (x, y) = place;
@@ -267,7 +416,48 @@ fn type_plan(event: Event, filling: Filling) -> Plan
     }
 }
 
-/// The click that calls a command on the viewer of the caret, as the screen shows its word.
+/// A replacement that is typed, event after event.
+fn replace_plan(typing: Typing, fills: bool, screen: &Screen) -> Plan
+    ensures { seen_plan result ≡ replace_plan (first_typed typing) typing fills screen.now }
+{
+    let Some(event) = typing.first() else {
+        return Plan::Next(None);
+    };
+    let filling = if fills {
+        Filling::of(&event, screen)
+    } else {
+        Filling::Plain
+    };
+    retype_plan(event, typing, fills, filling)
+}
+
+/// The next event of a replacement, and where its line is broken.
+#[tactic(auto, unfolding(crate::specs::Tasks::retype_plan))]
+fn retype_plan(event: Event, typing: Typing, fills: bool, filling: Filling) -> Plan
+    ensures { seen_plan result ≡ retype_plan event typing fills filling }
+{
+    match filling {
+        Filling::Plain => Plan::Event(event, Some(Task::Replace(typing.rest(), fills))),
+        Filling::Ended => Plan::Event(event, Some(Task::Resume(line_end(), typing.rest(), fills))),
+        Filling::Broken(at) => Plan::Event(
+            click((at.x, at.y)),
+            Some(Task::Wrap((at.next_x, at.next_y), typing, fills)),
+        ),
+    }
+}
+
+/// The pointer that keys move goes to a cell, where there is one to go to.
+fn seek_plan(cell: Option<Place>) -> Plan
+    ensures { seen_plan result ≡ seek_plan cell }
+{
+    match cell {
+        None => Plan::Refused(Saying::NoCommand),
+        Some(cell) => Plan::Aims(cell),
+    }
+}
+
+/// The click that calls a command on the viewer of the caret, as the screen shows its word, after the marker is set there,
+/// if it has to be.
 #[tactic(auto, unfolding(crate::specs::Tasks::call_plan))]
 fn call_plan(call: Option<WordCall>) -> Plan
     ensures { seen_plan result ≡ call_plan call }
@@ -283,7 +473,7 @@ fn call_plan(call: Option<WordCall>) -> Plan
         y1: y,
     };
     match marker {
-        None => Plan::Event(click, None),
+        None => Plan::Next(Some(Task::Post(click))),
         Some((x, y)) => Plan::Event(Event::Mark { x, y }, Some(Task::Post(click))),
     }
 }

@@ -1,5 +1,6 @@
 -- What a closed gate of the slot in use makes of a settled disk.
-use Rattle.std.proofs.Common.{◌≡◌, ◌≢◌, ◌⊎◌, inl, inr, ℕ, ◌+◌, ◌-◌, ◌<◌, ◌≤◌, List, ◌∷◌, ◌++◌, length, take, refl, sym, ◌∙◌, ap, subst, arith, length-append, true, false}
+use Rattle.std.proofs.Common.{◌≡◌, ◌≢◌, ◌⊎◌, inl, inr, ℕ, ◌+◌, ◌-◌, ◌<◌, ◌≤◌, List, ◌∷◌, ◌++◌, length, take, refl}
+use Rattle.std.proofs.Common.{sym, ◌∙◌, ap, subst, arith, length-append, true, false}
 use Rattle.sector_disk.specs.Trail.{Content, Trail, now, LeavesOnly, Only, Touches}
 use Rattle.sector_disk.proofs.Touching.{spared, still_reads}
 use Rattle.store_layout.specs.declared.layout.TheConstants.{AREA, IMAGE_SECTORS, JOURNAL_EVENTS, LABEL, SLOTS}

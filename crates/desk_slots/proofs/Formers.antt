@@ -15,7 +15,8 @@ use Rattle.store_layout.specs.declared.head.Head.{Head}
 use Rattle.store_layout.specs.declared.layout.TheConstants.{JOURNAL_EVENTS, LAYOUT, SLOTS}
 use Rattle.store_layout.specs.Finding.{IsNoEvent, StandingLaw}
 use Rattle.store_layout.specs.Layout.{is_open, slot_gate, gate, head, IsGoodHead}
-use Rattle.store_layout.specs.Meaning.{IsJournal, HasImage, MakesDesktop, Standing, Stands, and_all, area_bytes, cut_to, desktop_of, full_sectors}
+use Rattle.store_layout.specs.Meaning.{IsJournal, HasImage, MakesDesktop, Standing, Stands, and_all, area_bytes}
+use Rattle.store_layout.specs.Meaning.{cut_to, desktop_of, full_sectors}
 use Rattle.store_layout.specs.Meaning.{left_over, slot_image_bytes}
 use Rattle.desk_image.specs.Laws.{UniqueLaw}
 use Rattle.desktop_definitions.specs.Seen.{seen}
@@ -24,7 +25,8 @@ use Rattle.std.proofs.lemmas.Bool.{cases_lt}
 use Rattle.store_layout.proofs.StandingLaws.{journal_goes_on, journal_leads}
 use Rattle.store_layout.proofs.Bits.{clash}
 use Rattle.desk_slots.specs.declared.live.LiveDesktop.{LiveDesktop}
-use Rattle.desk_slots.specs.Beside.{CameBefore, HasEvents, HasFormer, IsCountedBack, IsEarlier, IsLoadedUpTo, IsRest, StandsBeside, across}
+use Rattle.desk_slots.specs.Beside.{CameBefore, HasEvents, HasFormer, IsCountedBack, IsEarlier, IsLoadedUpTo}
+use Rattle.desk_slots.specs.Beside.{IsRest, StandsBeside, across}
 use Rattle.desk_slots.specs.Live.{IsNamed, seen_live}
 use Rattle.desk_slots.specs.Load.{IsReadUpTo}
 use Rattle.desk_slots.specs.Written.{IsUpTo}
@@ -51,7 +53,11 @@ counted_across {end = end} {count = count} {events = events} two more some few n
         | inr all ↦ inl (omega (arith, all, k_is, left_is))
       ];
       own = λ room. absurd (omega (arith, room, more));
-      other = λ _. inr (omega (arith, slot_is, two), omega (arith, number_is, numbered), omega (arith, k_is, back_is, more, some));
+      other = λ _. inr (
+        omega (arith, slot_is, two),
+        omega (arith, number_is, numbered),
+        omega (arith, k_is, back_is, more, some),
+      );
       short = λ _. omega (arith, left_is, k_is, more, some, few);
       two = omega (arith, slot_is, two);
     }
@@ -64,12 +70,14 @@ pub loaded_up_to : {old mid last : Trail} {slot version most count : ℕ} {h : H
     → IsReadUpTo (now mid).reads slot version most count start (seen_live (now last).reads live) → count ≤ most
     → live.area ≡ h.area → (renewed_of live.pages ≡ false → saved_sectors live.pages ≡ full_sectors h.written)
     → h.version ≡ version → IsLoadedUpTo (now old).reads slot h.version most count (now last).reads live
-loaded_up_to {old = old} {mid = mid} {last = last} {slot = slot} {version = version} {most = most} {count = count} {start = start} live is
+loaded_up_to {old = old} {mid = mid} {last = last} {slot = slot} {version = version} {most = most} {count = count}
+    {start = start} live is
     loads replays image up few area counted by_head = record {
       start = start;
       image = image;
       read = subst (λ v. IsReadUpTo (now old).reads slot v most count start (seen_live (now last).reads live)) (sym by_head)
-          (subst (λ c. IsReadUpTo c slot version most count start (seen_live (now last).reads live)) (still_all old mid loads) up);
+          (subst (λ c. IsReadUpTo c slot version most count start (seen_live (now last).reads live))
+          (still_all old mid loads) up);
       few = few;
       named = named_after slot live is (stays_put Nowhere old) loads replays area counted;
     }

@@ -14,14 +14,13 @@ ghost use Rattle.desk_slots.specs.Live.{IsLiveOn, IsLiveStep, IsLiveBringing, Is
 ghost use Rattle.piece_ring.specs.Text.{Text as AText};
 ghost use Rattle.screen_cells.specs.Lines.{AreLinesOf};
 ghost use Rattle.desk_input.specs.Scrolling.{Scrolls};
-ghost use Rattle.desk_commands.specs.Unstored.{unstored_at};
 ghost use Rattle.desk_slots.specs.Words.{Nowhere, now, IsConfined, FailsAs, entries_of, shown_screen};
 ghost use Rattle.desk_slots.specs.Words.{Content, ListsUnread};
 
+mod views;
+
 use crate::Error;
-use crate::over::{
-    bring_over, list_over, read_over, screen_over, scroll_over, step_over, unstored_over,
-};
+use crate::over::{bring_over, list_over, read_over, screen_over, scroll_over, step_over};
 use char_pages::Pages;
 use desk_image::ByteSink;
 use event_bytes::{Event, Name};
@@ -129,12 +128,12 @@ impl LiveDesktop {
         ensures faults { FailsAs Error.Fault OfDesktop result (D.failures disk.old)
             (D.failures disk.new) }
     {
-        self.desktop.forget_stale(event, &mut self.lines);
         Ok(step_over(
             alloc,
             version,
             &mut self.desktop,
             event,
+            &mut self.lines,
             disk,
             &mut self.pages,
         )?)
@@ -250,24 +249,6 @@ impl LiveDesktop {
             (D.failures disk.new) }
     {
         Ok(scroll_over(alloc, &mut self.desktop, at, wish, disk, &mut self.pages)?)
-    }
-
-    /// Where the menu begins of the viewer that a command means which is called at a cell, if its text would be lost.
-    pub fn unstored_at<D: Disk>(
-        &mut self,
-        at: (u8, u8),
-        disk: &mut D,
-    ) -> Result<Option<(u8, u8)>, Error>
-        requires on { IsLiveOn D.Disk disk.old self.old }
-        requires room { STORE_SECTORS ≤ D.size disk.old }
-        ensures told { IfOk result (λ cell. D.honest disk.old → cell
-            ≡ unstored_at (seen_live (now (D.trail disk.old)).reads self.old) at.0 at.1) }
-        ensures same { StaysLive D.Disk disk.old disk.new self.old self.new }
-        ensures disk { IsConfined D.size D.honest D.trail Nowhere disk.old disk.new }
-        ensures faults { FailsAs Error.Fault OfDesktop result (D.failures disk.old)
-            (D.failures disk.new) }
-    {
-        Ok(unstored_over(&self.desktop, at, disk, &mut self.pages)?)
     }
 
     /// Gives up the characters in memory that fill whole sectors of that area by now, in which all that are on the disk

@@ -8,7 +8,9 @@ ghost use Rattle.desktop_definitions.specs.Stepped.{IsStep};
 ghost use Rattle.desk_bringing.specs.Bringing.{IsBringing};
 ghost use Rattle.screen_cells.specs.Lines.{AreLinesOf};
 ghost use Rattle.desk_input.specs.Scrolling.{Scrolls};
-ghost use Rattle.desk_commands.specs.Unstored.{unstored_at};
+ghost use Rattle.event_loop.specs.Keeping.{KeepsLines};
+ghost use Rattle.desk_views.specs.Losses.{loss_at};
+ghost use Rattle.desk_views.specs.Info.{last_log_line};
 ghost use Rattle.desk_slots.specs.Live.{CanReadThrough, CanStepThrough, ReadsThrough, LooksThrough, seen_through};
 ghost use Rattle.desk_slots.specs.Words.{Content, now, FailsAs, IsStop, entries_of, shown_screen};
 ghost use Rattle.desk_slots.specs.Words.{ListsUnread, AreWithin, contents, flat};
@@ -16,23 +18,25 @@ ghost use Rattle.desk_slots.specs.Words.{ListsUnread, AreWithin, contents, flat}
 use crate::reading::read_all;
 use char_pages::{Paged, Pages};
 use event_bytes::Event;
-use event_loop::{Desktop, Document, Entry, Reply, Stop, Version, Wish};
+use event_loop::{Desktop, Document, Entry, LogRow, Loss, Reply, Stop, Version, Wish};
 use piece_ring::Look;
 use screen_cells::{KeptLines, Screen};
 use sector_disk::Disk;
 use std::alloc::Global;
 use text_core::Text;
 
-/// Does the event, with the commands of that version.
+/// Does the event, with the commands of that version, and gives up the lines of texts that it may change.
 pub(crate) fn step_over<D: Disk>(
     alloc: Global,
     version: Version,
     desktop: &mut Desktop,
     event: &Event,
+    lines: &mut KeptLines,
     disk: &mut D,
     pages: &mut Pages,
 ) -> Result<Reply, Stop>
     requires { CanStepThrough D.Disk disk.old pages.old desktop.old }
+    ensures lines { KeepsLines desktop.old event.now lines.old lines.new }
     ensures stepped { IfOk result (IsStep (D.honest disk.old) (version_number version) event.now
         desktop.old desktop.new (seen_through D.Disk disk.old pages.old desktop.old)
         (seen_through D.Disk disk.new pages.new desktop.new)) }
@@ -42,7 +46,7 @@ pub(crate) fn step_over<D: Disk>(
     ensures faults { FailsAs Stop.Fault IsStop result (D.failures disk.old) (D.failures disk.new) }
 {
     let mut source = Paged::over(disk, pages);
-    desktop.step(alloc, version, event, &mut source)
+    desktop.step_with_lines(alloc, version, event, lines, &mut source)
 }
 
 /// Each document becomes the file of its name, or none does.
@@ -149,19 +153,38 @@ pub(crate) fn scroll_over<D: Disk>(
     desktop.scroll(alloc, at, wish, &mut source)
 }
 
-/// Where the menu begins of the viewer that a command means which is called at a cell, if its text would be lost.
-pub(crate) fn unstored_over<D: Disk>(
-    desktop: &Desktop,
-    at: (u8, u8),
+/// What a click would lose, once the marker was set.
+pub(crate) fn loss_over<D: Disk>(
+    desktop: &mut Desktop,
+    marked: Option<(u8, u8)>,
+    from: (u8, u8),
+    to: (u8, u8),
     disk: &mut D,
     pages: &mut Pages,
-) -> Result<Option<(u8, u8)>, Stop>
-    requires { CanStepThrough D.Disk disk.old pages.old desktop.now }
-    ensures told { IfOk result (λ cell. D.honest disk.old → cell
-        ≡ unstored_at (seen_through D.Disk disk.old pages.old desktop.now) at.0 at.1) }
+) -> Result<Option<Loss>, Stop>
+    requires { CanStepThrough D.Disk disk.old pages.old desktop.old }
+    ensures told { IfOk result (λ loss. D.honest disk.old → loss
+        ≡ loss_at (seen_through D.Disk disk.old pages.old desktop.old) marked from to) }
+    ensures unchanged { desktop.new ≡ desktop.old }
     ensures looks { LooksThrough D.Disk disk.old disk.new pages.old pages.new }
     ensures faults { FailsAs Stop.Fault IsStop result (D.failures disk.old) (D.failures disk.new) }
 {
     let mut source = Paged::over(disk, pages);
-    desktop.unstored_at(at, &mut source)
+    desktop.loss_at(marked, from, to, &mut source)
+}
+
+/// The last whole line of the log.
+pub(crate) fn log_line_over<D: Disk>(
+    desktop: &Desktop,
+    disk: &mut D,
+    pages: &mut Pages,
+) -> Result<LogRow, Stop>
+    requires { CanStepThrough D.Disk disk.old pages.old desktop.now }
+    ensures told { IfOk result (λ line. D.honest disk.old → line.items
+        ≡ last_log_line (seen_through D.Disk disk.old pages.old desktop.now)) }
+    ensures looks { LooksThrough D.Disk disk.old disk.new pages.old pages.new }
+    ensures faults { FailsAs Stop.Fault IsStop result (D.failures disk.old) (D.failures disk.new) }
+{
+    let mut source = Paged::over(disk, pages);
+    desktop.last_log_line(&mut source)
 }

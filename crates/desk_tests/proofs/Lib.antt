@@ -9,3 +9,4 @@ pub mod Steps
 pub mod ScreenRows
 pub mod SymbolRows
 pub mod FrameRows
+pub mod LossRows

@@ -246,7 +246,9 @@ fn letter(action: &Action) -> Option<u8> {
         Action::Delete => Some(b'X'),
         Action::Search => Some(b's'),
         Action::Store => Some(b't'),
+        Action::Replace => Some(b'r'),
         Action::Fill => Some(b'w'),
+        Action::Seek(_) => Some(b'k'),
         Action::GoTo(line) => Some((*line).min(255) as u8),
         Action::Undo => Some(b'Z'),
         Action::Redo => Some(b'Y'),
@@ -279,6 +281,9 @@ fn add_action(found: &mut Vec<u8>, action: &Action) -> Result<(), AllocError> {
     if let Action::Scroll(Some(Spot { x, y }), _) = action {
         found.extend_from_slice(&[*x, *y])?;
     }
+    if let Action::Seek(Spot { x, y }) = action {
+        found.extend_from_slice(&[*x, *y])?;
+    }
     if let Some(letter) = letter(action) {
         found.push(letter)?;
     }
@@ -308,7 +313,7 @@ fn acted(alloc: Global, bytes: &[u8], sight: Sight) -> Result<Vec<u8>, AllocErro
 
 #[test]
 fn presses_make_events(rt: HostRuntime) -> Result<(), Fail> {
-    let table: [(&[u8], &[u8]); 39] = [
+    let table: [(&[u8], &[u8]); 40] = [
         (b"a", b"\x01\x00\x01a"),
         (b"\n", b"\x01\x00\x01\x0d"),
         (b"\x08\x03\x18\x16", b"\x02\x00\x02\x01\x02\x03\x02\x02"),
@@ -317,7 +322,12 @@ fn presses_make_events(rt: HostRuntime) -> Result<(), Fail> {
         (b"\x1bOQ\x1b\xff\x1b\xff", b"\x02\x04"),
         (b"\x0c\x11\x01", b"NLR"),
         (b"\x05\x14", b"em"),
-        (b"\x06\x13\x17", b"stw"),
+        (b"\x06\x12\x13\x17", b"srtw"),
+        // A tabulator is typed, and where the pointer is shown it seeks the next command from there on.
+        (
+            b"\t\x1b[23~\t\x1b\xff\t",
+            b"\x01\x00\x01\x09\x27\x0fk\x01\x00\x01\x09",
+        ),
         // A pointer that keys move: a left click, a call, a draw, and Escape, which puts it away and drops nothing.
         (b"\x1b[23~\r", b"\x04\x00\x27\x0f\x27\x0f"),
         (

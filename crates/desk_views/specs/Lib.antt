@@ -1,1 +1,4 @@
 pub mod Views
+pub mod Unstored
+pub mod Losses
+pub mod Info

@@ -1,5 +1,6 @@
 -- The table of gestures, region by region.
 use Rattle.std.specs.Prelude.{◌≡◌, ◌<◌, ◌&&◌, ◌||◌, not, ℕ, Bool, true, false, List, [], Option, Some, None, is_none}
+use Rattle.std.specs.Prelude.{if◌then◌else◌}
 use Rattle.std.specs.Prelude.{Result, Ok, IfOk}
 use Rattle.std.proofs.lemmas.Result.{IfOk-weaker}
 use Rattle.std.proofs.Common.{refl, sym, ap, subst, ◌∙◌}
@@ -10,11 +11,12 @@ use Rattle.event_bytes.specs.declared.keys.Keys.TheVariants.{Left, LeftMiddle, L
 use Rattle.event_bytes.specs.declared.keys.Keys.TheVariants.{RightMiddle, MiddleLeft, MiddleRight}
 use Rattle.desktop_definitions.specs.declared.reply.Reply.{Reply}
 use Rattle.desktop_definitions.specs.declared.region.Region.{Region}
-use Rattle.desktop_definitions.specs.declared.region.Region.TheVariants.{Filler, Menu, Bar, Body}
+use Rattle.desktop_definitions.specs.declared.region.Region.TheVariants.{Filler, Body}
 use Rattle.desktop_definitions.specs.declared.viewer.Selection.{Selection}
 use Rattle.desktop_definitions.specs.Limits.{outside}
 use Rattle.desktop_definitions.specs.Needs.{unless}
-use Rattle.desktop_definitions.specs.Unread.{gesture_needs_no_byte, gesture_brings, characters_after, needs_no_byte, characters_brought}
+use Rattle.desktop_definitions.specs.Unread.{gesture_needs_no_byte, gesture_brings, characters_after}
+use Rattle.desktop_definitions.specs.Unread.{needs_no_byte, characters_brought}
 use Rattle.desk_core.specs.Doing.{Settles, SettlesUnread, SettlesBringing, Uses, Does, DoesUnread}
 use Rattle.desktop_definitions.specs.Desktop.{Desktop, KeptDesktop}
 use Rattle.desktop_definitions.specs.Seen.{seen}
@@ -38,6 +40,23 @@ use Rattle.event_loop.proofs.UnreadEvents.{bringing_event}
 pub cells_inside : (from to : ℕ × ℕ) {both : Bool} → both ≡ (is_on_display from.0 from.1 && is_on_display to.0 to.1)
     → both ≡ true → ((from.0 < COLUMNS) × (from.1 < ROWS)) × ((to.0 < COLUMNS) × (to.1 < ROWS))
 cells_inside from to same is = both_inside from.0 from.1 to.0 to.1 (sym same ∙ is)
+
+pub none_between : (inside : Bool) (there : Region) → None ≡ (if inside then Some there else None) → inside ≡ false
+none_between true there is = absurd (cc is)
+none_between false there is = refl
+
+pub some_between : (inside : Bool) (there region : Region) → Some region ≡ (if inside then Some there else None)
+    → (inside ≡ true) × (region ≡ there)
+some_between true there region is = (refl, cc is)
+some_between false there region is = absurd (cc is)
+
+pub between_none : (inside : Bool) (there : Region) → inside ≡ false → None ≡ (if inside then Some there else None)
+between_none inside there is = sym (ap (λ (b : Bool). if b then Some there else None) is)
+
+pub between_some : (inside : Bool) (there region : Region) → inside ≡ true → region ≡ there
+    → Some region ≡ (if inside then Some there else None)
+between_some inside there region is same =
+    ap (λ (r : Region). Some r) same ∙ sym (ap (λ (b : Bool). if b then Some there else None) is)
 
 -- ---- what isn't in the table
 
@@ -90,7 +109,7 @@ pointed_there version H old new d after keys x0 y0 x1 y1 result inside here is a
 -- ---- a text
 
 -- without the right button the keys mean the position that is nearest to the cell where they went up
-pub pointed_at : (version : ℕ) (d : Desktop) (keys : Keys) (v x0 y0 x1 y1 : ℕ) → ¬ (keys ≡ Right) → ¬ (keys ≡ RightLeft)
+pointed_at : (version : ℕ) (d : Desktop) (keys : Keys) (v x0 y0 x1 y1 : ℕ) → ¬ (keys ≡ Right) → ¬ (keys ≡ RightLeft)
     → ¬ (keys ≡ RightMiddle)
     → done_at version d keys v (text_position d v x1 y1) ≡ pointed version d (Body v) keys x0 y0 x1 y1
 unfolding pointed
@@ -175,9 +194,11 @@ module _ {S : Type 0} (s : Ghosts S)
     (ground_through : (a b c : S) → s.same_ground a b → s.same_ground b c → s.same_ground a c) (version : ℕ)
     {keys one : Keys} (is : keys ≡ one) (v x0 y0 x1 y1 p : ℕ) (old mid new : S) (d after : KeptDesktop)
     (result : Result Reply Stop) (reads : Reads s old mid) (calm : s.failures mid ≡ s.failures old)
-    (exact : s.honest old → p ≡ text_position (seen (s.characters old) d) v x1 y1)
-    (there : (x : Desktop)
-    → done_at version x keys v (text_position x v x1 y1) ≡ pointed version x (Body v) keys x0 y0 x1 y1) where
+    (exact : s.honest old → p ≡ text_position (seen (s.characters old) d) v x1 y1) (right : ¬ (keys ≡ Right))
+    (out : ¬ (keys ≡ RightLeft)) (sent : ¬ (keys ≡ RightMiddle)) where
+  there : (x : Desktop) → done_at version x keys v (text_position x v x1 y1) ≡ pointed version x (Body v) keys x0 y0 x1 y1
+  there x = pointed_at version x keys v x0 y0 x1 y1 right out sent
+
   pub does_at : DoesUnread s (gesture_needs_no_byte d (Body v) one ≡ true) (λ x. done_at version x one v p) result mid new d
       after
       → DoesUnread s (gesture_needs_no_byte d (Body v) keys ≡ true)

@@ -3,4 +3,5 @@ pub mod GestureLemmas
 pub mod ImageRead
 pub mod UnreadEvents
 pub mod Stepping
+pub mod LossLemmas
 mod StaleLemmas

@@ -3,7 +3,6 @@ ghost use Rattle.std.specs.Prelude.{◌≡◌, ℕ, List, [], length, IfOk, IfSo
 ghost use Rattle.readers_scanners.specs.Words.{contents};
 ghost use Rattle.command_table.specs.Versions.{version_number, newest_version};
 ghost use Rattle.desktop_definitions.specs.Desktop.{KeptDesktop, empty_desktop, file_of};
-ghost use Rattle.desktop_definitions.specs.Step.{step_in};
 ghost use Rattle.desktop_definitions.specs.Unread.{ListsUnread, characters_after};
 ghost use Rattle.desktop_definitions.specs.Outcome.{IsSameSource};
 ghost use Rattle.desktop_definitions.specs.Listing.{entries_of};
@@ -16,16 +15,18 @@ ghost use Rattle.desk_image.specs.Image.{Spells, image_of, image_bytes, IsSpella
 ghost use Rattle.desk_image.specs.Passing.{OnlyGets};
 ghost use Rattle.desktop_definitions.specs.Viewers.{text_of};
 ghost use Rattle.desk_input.specs.Scrolling.{Scrolls};
-ghost use Rattle.desk_commands.specs.Unstored.{unstored_at};
 ghost use Rattle.screen_cells.specs.Lines.{AreLinesOf};
+ghost use Rattle.event_loop.specs.Keeping.{KeepsLines};
 ghost use Rattle.desk_core.specs.Words.{FailsAs, OnlyReads, flat, AreWithin, seen, IsKeptWhole, IsOver, IsStop};
 
+mod views;
+
 use crate::events::act;
+use crate::regions::region_of;
 use crate::stale::{forget, stale_from, stale_of};
 use char_file::{CharSource, Fault};
 use command_table::Version;
 use desk_bringing::{Document, bring};
-use desk_commands::unstored::unstored_at;
 use desk_core::desk::{Desk, empty_desk};
 use desk_core::files::{entries, file_of};
 use desk_core::stop::{NoMemory, Stop};
@@ -124,8 +125,34 @@ impl Desktop {
         ensures faults { FailsAs Stop.Fault IsStop result (S.failures source.old)
             (S.failures source.new) }
     {
+        self.step_with_lines(alloc, version, event, &mut KeptLines::new(alloc), source)
+    }
+
+    /// Does the event as `step` does, and gives up the lines of texts that it may change, whatever it returns. Those
+    /// that are left are so of the texts after it, by whatever version.
+    pub fn step_with_lines<S: CharSource>(
+        &mut self,
+        alloc: Global,
+        version: Version,
+        event: &Event,
+        lines: &mut KeptLines,
+        source: &mut S,
+    ) -> Result<Reply, Stop>
+        requires { IsOver (S.characters source.old) self.old }
+        ensures lines { KeepsLines self.old event.now lines.old lines.new }
+        ensures stepped { IfOk result (IsStep (S.honest source.old) (version_number version)
+            event.now self.old self.new (seen (S.characters source.old) self.old)
+            (seen (S.characters source.new) self.new)) }
+        ensures over { OnOk result (IsOver (S.characters source.new) self.new) }
+        ensures source { IsSameSource S.failures S.honest S.same_ground source.old source.new }
+        ensures faults { FailsAs Stop.Fault IsStop result (S.failures source.old)
+            (S.failures source.new) }
+    {
         self.desk.alloc = alloc;
-        act(&mut self.desk, version, event, source)
+        let region = region_of(&self.desk, event);
+        let stale = stale_of(&self.desk, event, region);
+        forget(lines, stale, stale_from(&self.desk, event));
+        act(&mut self.desk, version, event, region, source)
     }
 
     /// Each document becomes the file of its name, in their order: then Done. No where there would be more files at the
@@ -191,21 +218,6 @@ impl Desktop {
         Ok(entries)
     }
 
-    /// Gives up the lines of texts that the event may change, whatever version it is stepped by. Those that are left
-    /// are so of the texts after it.
-    pub fn forget_stale(&self, event: &Event, lines: &mut KeptLines)
-        ensures { (version : ℕ) (characters : List ℕ) → IsOver characters self.now
-            → AreLinesOf (text_of (seen characters self.now)) lines.old
-            → AreLinesOf (text_of (step_in version (seen characters self.now) event.now).desktop)
-            lines.new }
-    {
-        forget(
-            lines,
-            stale_of(&self.desk, event),
-            stale_from(&self.desk, event),
-        );
-    }
-
     /// Paints what the desktop shows: its viewers, with the caret and what is selected, and the marker. `lines` has
     /// what is kept of the screens before: a row whose line is kept isn't read, and the lines of the others are kept.
     ///
@@ -260,27 +272,6 @@ impl Desktop {
     {
         self.desk.alloc = alloc;
         presses_to(&self.desk, at, wish, source)
-    }
-
-    /// Where the menu begins of the viewer that a command means which is called at a cell, each as column and row, if
-    /// closing that viewer would lose its main text: neither the document that its menu names nor another viewer has it.
-    /// None where no viewer is meant, and where nothing would be lost; so of the log, and of an empty text.
-    ///
-    /// It takes no memory. Fault where a character could not be read.
-    pub fn unstored_at<S: CharSource>(
-        &self,
-        at: (u8, u8),
-        source: &mut S,
-    ) -> Result<Option<(u8, u8)>, Stop>
-        requires { IsOver (S.characters source.old) self.now }
-        ensures told { IfOk result (λ cell. S.honest source.old
-            → cell ≡ unstored_at (seen (S.characters source.old) self.now) at.0 at.1) }
-        ensures reads { OnlyReads S.characters S.failures S.honest S.same_ground source.old
-            source.new }
-        ensures faults { FailsAs Stop.Fault IsStop result (S.failures source.old)
-            (S.failures source.new) }
-    {
-        Ok(unstored_at(&self.desk, at, source)?)
     }
 
     /// Puts the image of the desktop in the newest version, the bytes that say how it is kept, and returns how many

@@ -6,6 +6,7 @@ ghost use Rattle.desktop_definitions.specs.Tables.{file_put};
 ghost use Rattle.desktop_definitions.specs.Step.{fits, filed};
 ghost use Rattle.desk_core.specs.Words.{Text as AText, most_written, lengths, seen, IsKeptWhole, IsOver, kept_desktop};
 ghost use Rattle.event_loop.specs.Doing.{DoesEvent};
+ghost use Rattle.event_loop.specs.Regions.{IsRegionOfEvent};
 
 use crate::gestures::{Gesture, point};
 use char_file::CharSource;
@@ -15,20 +16,22 @@ use desk_core::files::{put, room_for};
 use desk_core::held::within_limits;
 use desk_core::stop::StepResult;
 use desk_input::keys::{press, type_bytes};
-use desktop_definitions::{Reply, codes};
+use desktop_definitions::{Region, Reply, codes};
 use event_bytes::{Event, FileBytes, Name};
 use piece_ring::DEFAULT_LOOK;
 use text_core::Text;
 
-/// Does the event, in a version of the table of commands.
+/// Does the event, whose region is handed over, in a version of the table of commands.
 #[tactic(auto, unfolding(desktop_definitions::specs::Step::raw))]
 pub fn act<S: CharSource>(
     desk: &mut Desk,
     version: Version,
     event: &Event,
+    region: Option<Region>,
     source: &mut S,
 ) -> StepResult
-    requires { IsOver (S.characters source.old) (kept_desktop desk.old) }
+    requires over { IsOver (S.characters source.old) (kept_desktop desk.old) }
+    requires region { IsRegionOfEvent (kept_desktop desk.old) event.now region }
     ensures { DoesEvent S.CharSource (version_number version) event.now result
         source.old source.new (kept_desktop desk.old) (kept_desktop desk.new) }
 {
@@ -48,7 +51,7 @@ pub fn act<S: CharSource>(
                 from: (*x0, *y0),
                 to: (*x1, *y1),
             };
-            point(desk, version, gesture, source)
+            point(desk, version, gesture, region, source)
         }
         Event::File { name, bytes } => put_file(desk, name, bytes, source),
     }

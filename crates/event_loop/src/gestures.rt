@@ -11,16 +11,16 @@ ghost use Rattle.desk_core.specs.Words.{COLUMNS, ROWS, IsOnTop, IsOver, kept_des
 ghost use Rattle.desk_commands.specs.Words.{version_number};
 ghost use Rattle.desk_input.specs.Reads.{IsMainRow, IsMainPlace};
 ghost use Rattle.event_loop.specs.Doing.{DoesEvent};
+ghost use Rattle.event_loop.specs.Regions.{IsRegionBetween};
 
 use char_file::CharSource;
 use command_table::Version;
 use desk_commands::calls::call;
 use desk_commands::documents::open_tool;
 use desk_core::desk::Desk;
-use desk_core::marks::are_on_display;
 use desk_core::stop::StepResult;
 use desk_input::bars::{scroll_row, scroll_share, scroll_top};
-use desk_input::places::{frame_row, menu_position, region_under, stretch_drawn, text_position};
+use desk_input::places::{frame_row, menu_position, stretch_drawn, text_position};
 use desk_input::stretches::{copy_to, send_to_caret, take_looks, take_out};
 use desktop_definitions::{Region, Reply, Selection, codes};
 use event_bytes::Keys;
@@ -36,24 +36,26 @@ pub struct Gesture {
     pub to: (u8, u8),
 }
 
-/// Does what a gesture means. Refused where one of its cells is outside the display. The version is that of the table
-/// of commands, of which one may be called.
+/// Does what a gesture means in the region where its keys went down. Refused without one: where one of its cells is
+/// outside the display. The version is that of the table of commands, of which one may be called.
 pub fn point<S: CharSource>(
     desk: &mut Desk,
     version: Version,
     gesture: Gesture,
+    region: Option<Region>,
     source: &mut S,
 ) -> StepResult
     requires over { IsOver (S.characters source.old) (kept_desktop desk.old) }
+    requires region { IsRegionBetween (kept_desktop desk.old) gesture.from gesture.to region }
     ensures { DoesEvent S.CharSource (version_number version)
         (Point gesture.keys gesture.from.0 gesture.from.1 gesture.to.0 gesture.to.1) result
         source.old source.new (kept_desktop desk.old) (kept_desktop desk.new) }
 {
     let Gesture { keys, from, to } = gesture;
-    if !are_on_display(from, to) {
+    let Some(region) = region else {
         return Ok(Reply::No(codes::OUTSIDE));
-    }
-    match region_under(desk, from.0, from.1) {
+    };
+    match region {
         Region::Filler => point_filler(desk, keys, from, source),
         Region::Menu(id) => point_menu(desk, version, keys, id, to, source),
         Region::Bar(id) => {

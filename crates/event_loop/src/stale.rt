@@ -1,29 +1,28 @@
 //! Which texts an event may change, and lines that are given up for it.
-ghost use Rattle.std.specs.Prelude.{◌≡◌, ◌&&◌, ℕ, List, Option, false, if◌then◌else◌, take};
+ghost use Rattle.std.specs.Prelude.{◌≡◌, ℕ, List, Option, MatchOption, false, take};
 ghost use Rattle.piece_ring.specs.Text.{Text as AText};
 ghost use Rattle.desktop_definitions.specs.declared.region.Region.TheVariants.{Filler, Menu, Body};
 ghost use Rattle.desktop_definitions.specs.declared.viewer.Viewer.{Viewer as AViewer};
 ghost use Rattle.desktop_definitions.specs.declared.viewer.Caret.{Caret as ACaret};
 ghost use Rattle.desktop_definitions.specs.declared.viewer.Selection.{Selection as ASelection};
 ghost use Rattle.desktop_definitions.specs.Viewers.{newest};
-ghost use Rattle.desktop_definitions.specs.Gesture.{is_on_display, region_at};
 ghost use Rattle.desk_input.specs.declared.stale.Stale.TheVariants.{Nothing};
 ghost use Rattle.desk_input.specs.Stale.{is_stale, stale_in, stale_at_caret, stale_selected, stale_by_key};
 ghost use Rattle.desk_input.specs.Stale.{stale_by_gesture, stale_of, stale_from, position_or_zero};
 ghost use Rattle.screen_cells.specs.Lines.{AreLinesOf};
 ghost use Rattle.desk_core.specs.Kept.{kept_desktop};
+ghost use Rattle.event_loop.specs.Regions.{IsRegionOfEvent};
 
 use desk_core::desk::Desk;
-use desk_core::marks::are_on_display;
 use desk_core::viewers::{ViewerTable, viewer_or_none};
 use desk_input::Stale;
-use desk_input::places::region_under;
 use desktop_definitions::{Caret, Region, Selection};
 use event_bytes::{Event, Key, Keys};
 use screen_cells::KeptLines;
 
-/// Which texts the event may change.
-pub fn stale_of(desk: &Desk, event: &Event) -> Stale
+/// Which texts the event may change, whose region is handed over.
+pub fn stale_of(desk: &Desk, event: &Event, region: Option<Region>) -> Stale
+    requires { IsRegionOfEvent (kept_desktop desk.now) event.now region }
     ensures { result ≡ stale_of (kept_desktop desk.now) event.now }
 {
     match event {
@@ -32,27 +31,25 @@ pub fn stale_of(desk: &Desk, event: &Event) -> Stale
         Event::Mark { x: _, y: _ } => Stale::Nothing,
         Event::Point {
             keys,
-            x0: from_x,
-            y0: from_y,
-            x1: to_x,
-            y1: to_y,
-        } => stale_by_point(desk, *keys, (*from_x, *from_y), (*to_x, *to_y)),
+            x0: _,
+            y0: _,
+            x1: _,
+            y1: _,
+        } => stale_by_point(desk, *keys, region),
         Event::File { name: _, bytes: _ } => Stale::Nothing,
     }
 }
 
-/// Which texts the mouse may change, whose keys went down at the cell `from` and up at `to`.
-fn stale_by_point(desk: &Desk, keys: Keys, from: (u8, u8), to: (u8, u8)) -> Stale
-    ensures { result ≡ (if is_on_display from.0 from.1 && is_on_display to.0 to.1
-        then stale_by_gesture (kept_desktop desk.now).viewers (kept_desktop desk.now).caret
-        (newest (kept_desktop desk.now))
-        (region_at (kept_desktop desk.now) from.0 from.1) keys else Nothing) }
+/// Which texts the mouse may change, whose keys went down in that region: none where there is none.
+fn stale_by_point(desk: &Desk, keys: Keys, region: Option<Region>) -> Stale
+    ensures { MatchOption region (result ≡ Nothing) (λ there. result
+        ≡ stale_by_gesture (kept_desktop desk.now).viewers (kept_desktop desk.now).caret
+        (newest (kept_desktop desk.now)) there keys) }
 {
-    if !are_on_display(from, to) {
-        return Stale::Nothing;
+    match region {
+        None => Stale::Nothing,
+        Some(there) => stale_by_gesture(&desk.viewers, desk.caret, desk.newest(), there, keys),
     }
-    let region = region_under(desk, from.0, from.1);
-    stale_by_gesture(&desk.viewers, desk.caret, desk.newest(), region, keys)
 }
 
 /// Which texts a key of the keyboard may change.

@@ -51,7 +51,7 @@ pub const HELP_TEXT: &[u8] = b"\
 Middle button: calls the word under it.\r\
 Left button: sets the caret. Right: selects.\r\
 No such buttons? F2 and a click, F3 and a draw.\r\
-No mouse? F11 shows a pointer; arrows move it.\r\
+No mouse? F11: a pointer; arrows, Tab move it.\r\
 In a menu: draw with the left button to move the\r\
 viewer's top. The last word there is Edit.Store.\r\
 F1, then a click: the marker. New viewers open\r\
@@ -65,9 +65,9 @@ In the bar: left scrolls down, right goes to the\r\
 beginning. Ctrl-G goes to a line.\r\
 Ctrl-C, Ctrl-X, Ctrl-V: copy, cut, put in.\r\
 Ctrl-Z takes back what was last; Ctrl-Y redoes.\r\
-Ctrl-F searches on; Ctrl-O types a file.\r\
+Ctrl-F searches on, Ctrl-R replaces so again.\r\
 Colour 0 is white on white; 5, 13, 14 are faint.\r\
-Ctrl-Q leaves. All is in the store at once.\r\
+Ctrl-O types a file. Ctrl-Q leaves; all is kept.\r\
 ";
 
 /// Makes the document with the words of all commands and the one that says how the desktop is used, and opens the first

@@ -2,6 +2,7 @@ pub mod Adding
 pub mod Behind
 pub mod Blocks
 pub mod Dividing
+pub mod Earlier
 pub mod Joins
 pub mod Keeping
 pub mod Looks

@@ -1,8 +1,9 @@
 //! A list of pieces in a chain of nodes: first the trailer, a node without characters, then a node for each piece. This
 //! layer has no raw pointer: it names nodes by their spots and indexes, and goes through the calls of `Chain`.
 ghost use Rattle.std.specs.Prelude.{ℕ, ◌≡◌, ◌+◌, ◌-◌, ◌<◌, ◌≤◌, ◌∷◌, [], ◌++◌, ◌^◌, length, Some, slice_get, IfOk};
-ghost use Rattle.std.specs.Prelude.{OnErr, take};
+ghost use Rattle.std.specs.Prelude.{OnErr, OnOk, take};
 ghost use Rattle.piece_ring.specs.BackCursor.{IsBackCursor, text_before};
+ghost use Rattle.piece_ring.specs.declared.place.Seam.{Seam as ASeam};
 ghost use Rattle.piece_ring.specs.Flat.{flat, relooked_piece, IsWhole};
 ghost use Rattle.piece_ring.specs.Finger.{IsFingerAt, IsSettledAt, fingered};
 ghost use Rattle.piece_ring.specs.Merging.{AreUnited, Continues, IsMergedAt, UnitesAtMost};
@@ -170,11 +171,10 @@ impl PieceList {
     {
         let finger = self.finger;
         if finger.pos <= pos {
-            return if self.len - pos < pos - finger.pos {
-                self.find_back(self.end(), pos)
-            } else {
-                self.find_ahead(finger, pos)
-            };
+            if self.len - pos < pos - finger.pos {
+                return self.find_back(self.end(), pos);
+            }
+            return self.find_ahead(finger, pos);
         }
         let before = self.step_back(finger);
         if before.pos <= pos {
@@ -185,10 +185,9 @@ impl PieceList {
             };
         }
         if pos < before.pos - pos {
-            self.find_ahead(self.start(), pos)
-        } else {
-            self.find_back(before, pos)
+            return self.find_ahead(self.start(), pos);
         }
+        self.find_back(before, pos)
     }
 
     /// The seam at `pos`, or the piece that has it inside.
@@ -289,6 +288,8 @@ impl PieceList {
         ensures long { self.new.len ≡ self.old.len }
         ensures seam { IfOk result (IsSeam self.new.chain.nodes) }
         ensures at { IfOk result (λ s. s.pos ≡ pos) }
+        ensures kept { OnOk result ((s : ASeam) → s.pos ≤ pos → IsSeam self.old.chain.nodes s
+            → IsSeam self.new.chain.nodes s) }
         ensures refused { OnErr result (self.new.chain.nodes ≡ self.old.chain.nodes) }
     {
         match self.place(pos) {
@@ -327,11 +328,20 @@ impl PieceList {
         ensures upto { IfOk result (λ s. IsSeam self.new.chain.nodes s.1 × (s.1.pos ≡ end)) }
         ensures refused { OnErr result (self.new.chain.nodes ≡ self.old.chain.nodes) }
     {
-        let spare = Spare::new(alloc)?;
-        let from = self.seam_at(alloc, beg)?;
-        self.finger = from;
-        let upto = self.seam_with(end, spare);
-        Ok((from, upto))
+        match self.place(beg) {
+            RingPlace::Between(from) => {
+                self.finger = from;
+                let upto = self.seam_at(alloc, end)?;
+                Ok((from, upto))
+            }
+            RingPlace::Inside(found) => {
+                let first = Spare::new(alloc)?;
+                let second = Spare::new(alloc)?;
+                let from = self.divide(beg, found, first);
+                let upto = self.seam_with(end, second);
+                Ok((from, upto))
+            }
+        }
     }
 
     /// Puts pieces in at `seam`, and gives the seam after them.
@@ -343,6 +353,7 @@ impl PieceList {
             (text_along self.old.chain.nodes) }
         ensures made { pieces_of self.new.chain.nodes
             ≡ with_put_in seam.index (pieces other.chain.nodes) (pieces_of self.old.chain.nodes) }
+        ensures kept { IsSeam self.new.chain.nodes seam }
         ensures after { IsSeam self.new.chain.nodes result }
         ensures at { result.pos ≡ seam.pos + other.len }
     {
@@ -369,6 +380,7 @@ impl PieceList {
         requires from { IsSeam self.old.chain.nodes from }
         requires upto { IsSeam self.old.chain.nodes upto }
         requires order { from.pos < upto.pos }
+        ensures kept { IsSeam self.new.chain.nodes from }
         ensures text { text_along self.new.chain.nodes
             ≡ deleted from.pos upto.pos (text_along self.old.chain.nodes) }
         ensures taken { flat (pieces result.chain.nodes)
@@ -435,6 +447,8 @@ impl PieceList {
         ensures same { text_along self.new.chain.nodes ≡ text_along self.old.chain.nodes }
         ensures long { self.new.len ≡ self.old.len }
         ensures merged { IsMergedAt (pieces_of self.new.chain.nodes) seam.pos }
+        ensures earlier { (s : ASeam) → s.pos < seam.pos → IsSeam self.old.chain.nodes s
+            → IsSeam self.new.chain.nodes s }
         ensures elsewhere { (pos : ℕ) → seam.pos < pos
             → IsMergedAt (pieces_of self.old.chain.nodes) pos
             → IsMergedAt (pieces_of self.new.chain.nodes) pos }
@@ -452,35 +466,33 @@ impl PieceList {
         }
     }
 
-    /// Merges the neighbours that meet at `pos`, if pieces do.
-    fn merge_at(&mut self, alloc: &Global, pos: u32)
-        requires { pos ≤ self.old.len }
+    /// Merges the neighbours that meet at `seam`, and keeps the place of the piece that has its position.
+    pub(crate) fn settle_at(&mut self, alloc: &Global, seam: Seam)
+        requires { IsSeam self.old.chain.nodes seam }
         ensures same { text_along self.new.chain.nodes ≡ text_along self.old.chain.nodes }
-        ensures long { self.new.len ≡ self.old.len }
-        ensures merged { IsMergedAt (pieces_of self.new.chain.nodes) pos }
-        ensures elsewhere { (at : ℕ) → pos < at → IsMergedAt (pieces_of self.old.chain.nodes) at
+        ensures settled { IsSettledAt (fingered self.new.chain.nodes self.new.finger) seam.pos }
+        ensures elsewhere { (at : ℕ) → seam.pos < at
+            → IsMergedAt (pieces_of self.old.chain.nodes) at
             → IsMergedAt (pieces_of self.new.chain.nodes) at }
         ensures pieces { UnitesAtMost (pieces_of self.old.chain.nodes)
             (pieces_of self.new.chain.nodes) }
     {
-        match self.place(pos) {
-            RingPlace::Between(seam) => self.merge(alloc, seam),
-            RingPlace::Inside(_) => {}
-        }
+        self.merge(alloc, seam);
+        self.locate(seam.pos);
     }
 
-    /// Merges the neighbours that meet at `pos`, and keeps the place of the piece that has it.
+    /// Merges the neighbours that meet at `pos`, if pieces do, and keeps the place of the piece that has it.
     pub(crate) fn settle(&mut self, alloc: &Global, pos: u32)
         requires { pos ≤ self.old.len }
         ensures same { text_along self.new.chain.nodes ≡ text_along self.old.chain.nodes }
         ensures settled { IsSettledAt (fingered self.new.chain.nodes self.new.finger) pos }
         ensures elsewhere { (at : ℕ) → pos < at → IsMergedAt (pieces_of self.old.chain.nodes) at
             → IsMergedAt (pieces_of self.new.chain.nodes) at }
-        ensures pieces { UnitesAtMost (pieces_of self.old.chain.nodes)
-            (pieces_of self.new.chain.nodes) }
     {
-        self.merge_at(alloc, pos);
-        self.locate(pos);
+        match self.place(pos) {
+            RingPlace::Between(seam) => self.settle_at(alloc, seam),
+            RingPlace::Inside(_) => self.locate(pos),
+        }
     }
 
     /// The pieces, of which there is at least one. The trailer is freed.

@@ -91,13 +91,15 @@ impl Ring {
         ensures settled { OnOk result (IsSettledAt self.new beg) }
     {
         let mut taken = Ring::new(alloc)?;
-        if beg < end {
-            let (from, upto) = self.list.seams(alloc, beg, end)?;
-            let pieces = self.list.take_out(from, upto);
-            let start = taken.list.start();
-            taken.list.insert(start, pieces);
+        if beg == end {
+            self.list.settle(&alloc, beg);
+            return Ok(taken);
         }
-        self.list.settle(&alloc, beg);
+        let (from, upto) = self.list.seams(alloc, beg, end)?;
+        let pieces = self.list.take_out(from, upto);
+        let start = taken.list.start();
+        taken.list.insert(start, pieces);
+        self.list.settle_at(&alloc, from);
         Ok(taken)
     }
 
@@ -125,7 +127,7 @@ impl Ring {
         let pieces = list.into_stretch(&own);
         let after = self.list.insert(seam, pieces);
         self.list.merge(&alloc, after);
-        self.list.settle(&alloc, pos);
+        self.list.settle_at(&alloc, seam);
         Ok(())
     }
 
@@ -157,7 +159,7 @@ impl Ring {
         let one = Stretch::of_piece(&alloc, piece)?;
         let end = self.list.end();
         self.list.insert(end, one);
-        self.list.settle(&alloc, end.pos);
+        self.list.settle_at(&alloc, end);
         Ok(())
     }
 

@@ -1,9 +1,9 @@
 -- Lists of the values of a function.
-use Rattle.std.proofs.Common.{◌≡◌, ℕ, ◌+◌, ◌-◌, ◌<◌, ◌≤◌, List, length, get_or, [], ◌++◌, ap, ◌∙◌, arith, inl, inr}
+use Rattle.std.proofs.Common.{◌≡◌, ℕ, ◌+◌, ◌-◌, ◌<◌, ◌≤◌, List, length, get_or, [], ◌++◌, take, ap, ◌∙◌, arith, inl, inr}
 use Rattle.std.specs.Prelude.{replicate}
 use Rattle.std.proofs.lemmas.Bool.Decides.{leb_tells}
 use Rattle.std.proofs.lemmas.List.{length-replicate, get_or-replicate, length-append, get_or_append_left}
-use Rattle.std.proofs.lemmas.List.{get_or-append_right}
+use Rattle.std.proofs.lemmas.List.{get_or-append_right, get_or-take, length-take-le}
 use Rattle.std.proofs.lemmas.List.FromFn.{fill_by_all, get_or-map-range_with_len, length-map-range_with_len}
 use Rattle.viewer_tracks.specs.declared.display.TheConstants.{ROWS, COLUMNS}
 use Rattle.screen_pictures.specs.declared.cell.Cell.{Cell}
@@ -30,6 +30,14 @@ module _ {X : Type 0} where
 
   pub replicate_is : (n : ℕ) (x : X) → replicate n x ≡ values n (λ k. x)
   replicate_is n x = values_is n (λ k. x) (replicate n x) x (length-replicate n x) (λ k h. get_or-replicate n k x x h)
+
+  -- the first of more values
+  pub values_front : (n m : ℕ) (f : ℕ → X) → n ≤ m → take n (values m f) ≡ values n f
+  values_front n m f few =
+      values_is n f (take n (values m f)) (f 0)
+      (length-take-le n (values m f) (let le : n ≤ length (values m f) = omega (arith, few, length-values m f) in le))
+      (λ k h. get_or-take n (values m f) k (f 0) h
+      ∙ value_at m f k (f 0) (let lt : k < m = omega (arith, h, few) in lt))
 
   -- the first n values and the m after them
   pub values_join : (n m all : ℕ) (f g h : ℕ → X) → n + m ≡ all → ((k : ℕ) → k < n → f k ≡ h k)

@@ -21,7 +21,7 @@ use Rattle.screen_cells.specs.declared.lines.KeptLines.{KeptLines}
 -- its cells are those of its row
 abbrev pub IsLineOf : (ℕ → Text ℕ) → KeptLine → Type 0
 IsLineOf texts line =
-    line.cells.items
+    line.cells
     ≡ row_cells line.key.frame.width (texts line.key.frame.text) line.key.frame.org line.key.row
 
 abbrev pub IsSlotOf : (ℕ → Text ℕ) → Option KeptLine → Type 0
@@ -37,7 +37,7 @@ IsCaretOf texts c =
 -- the cells that are kept in a line's place
 abbrev pub kept_cells : Option KeptLine → List ShownCell
 kept_cells None = []
-kept_cells (Some line) = line.cells.items
+kept_cells (Some line) = line.cells
 
 -- all that is kept is so
 pub record AreLinesOf (texts : ℕ → Text ℕ) (lines : KeptLines) : Type 0 where

@@ -5,6 +5,7 @@ use Rattle.text_frames.specs.declared.row.TheConstants.{MOST_COLUMNS}
 use Rattle.text_frames.specs.Rows.{AreRows}
 use Rattle.viewer_tracks.specs.declared.display.TheConstants.{ROWS}
 use Rattle.screen_cells.specs.declared.shown.Shown.{Shown}
+use Rattle.screen_cells.specs.declared.walk.ViewerRow.{ViewerRow}
 use Rattle.screen_cells.specs.declared.walk.Walk.{Walk}
 use Rattle.screen_cells.specs.declared.walk.Walks.{Walks}
 use Rattle.screen_cells.specs.Shown.{IsShowable}
@@ -20,14 +21,14 @@ pub record IsRowOf (w row : ℕ) (walk : Walk) : Type 0 where
   pub rows : walk.h ≤ 31
   pub within : row < walk.h
 
--- A row of the display in which a viewer stands, which is so wide, and begins and ends there.
-pub record IsViewerRow (width bottom top y : ℕ) (walk : Walk) : Type 0 where
-  pub some : 0 < width
-  pub fits : width ≤ MOST_COLUMNS
-  pub display : top ≤ ROWS
-  pub from : bottom ≤ y
-  pub before : y < top
-  pub rows : walk.h ≡ top - bottom - 1
+-- A row of the display in which this viewer stands.
+pub record IsViewerRow (shown : List Shown) (viewer : Shown) (at : ViewerRow) : Type 0 where
+  pub there : slice_get shown at.index ≡ Some viewer
+  pub some : 0 < at.width
+  pub fits : at.width ≤ MOST_COLUMNS
+  pub display : at.top ≤ ROWS
+  pub from : at.bottom ≤ at.y
+  pub before : at.y < at.top
 
 -- The viewer is still the one of before.
 pub record IsOfSame (old new : Walk) : Type 0 where

@@ -9,6 +9,7 @@
 mod laws;
 mod line;
 mod lines;
+mod painted;
 mod print;
 mod putting;
 mod screen;

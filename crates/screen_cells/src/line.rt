@@ -3,22 +3,22 @@ ghost use Rattle.std.specs.Prelude.{◌≡◌, ◌<◌, ◌≤◌, length, map};
 ghost use Rattle.screen_pictures.specs.Mark.{letter};
 ghost use Rattle.screen_pictures.specs.Printed.{row_line, without_trailing, character_line, mark_line, has_mark_line};
 
+use crate::screen::{Row, WIDTH};
 use arrayvec::ArrayVec;
 use screen_pictures::Cell;
 
 /// A row's number and colon, its 80 bytes and a line feed.
 pub(crate) type PrintedLine = ArrayVec<u8, 84>;
 
-/// The bytes of a row.
+/// The bytes of a row's marks.
 type RowBytes = ArrayVec<u8, 80>;
 
 /// The line of a row's characters.
-pub(crate) fn character_line(y: u8, row: &[Cell]) -> PrintedLine
-    requires two_digits { y < 100 }
-    requires fits { length row.now ≤ 80 }
+pub(crate) fn character_line(y: u8, row: &Row) -> PrintedLine
+    requires { y < 100 }
     ensures { result.items ≡ character_line y row.now }
 {
-    row_line(y, characters(row).as_slice(), b' ')
+    row_line(y, &characters(row), b' ')
 }
 
 /// The line of a row's marks.
@@ -38,13 +38,12 @@ pub(crate) fn has_mark_line(row: &[Cell]) -> bool
 }
 
 /// The bytes of a row's characters.
-fn characters(row: &[Cell]) -> RowBytes
-    requires { length row.now ≤ 80 }
-    ensures { result.items ≡ map (λ c. c.ch) row.now }
+fn characters(row: &Row) -> [u8; WIDTH]
+    ensures { result ≡ map (λ c. c.ch) row.now }
 {
-    let mut bytes = RowBytes::new();
-    for cell in row {
-        bytes.push(cell.ch);
+    let mut bytes = [b' '; WIDTH];
+    for x in 0..WIDTH {
+        bytes[x] = row[x].ch;
     }
     bytes
 }

@@ -1,23 +1,24 @@
 //! Lines that are kept from one screen to the next.
-ghost use Rattle.std.specs.Prelude.{◌≡◌, ◌==◌, ◌&&◌, ◌≤◌, ◌<◌, nat_lt, ℕ, List, length, take, All, Some};
+ghost use Rattle.std.specs.Prelude.{◌≡◌, ◌==◌, ◌&&◌, ◌+◌, ◌-◌, ◌≤◌, ◌<◌, nat_lt, ℕ, List, length, take, All, Some};
 ghost use Rattle.std.specs.Prelude.{IfOk, IfSome, IfNone, OnOk, true, false};
 ghost use Rattle.text_frames.specs.declared.row.TheConstants.{MOST_COLUMNS};
 ghost use Rattle.piece_ring.specs.Flat.{flat};
 ghost use Rattle.piece_ring.specs.Text.{Text as AText};
-ghost use Rattle.readers_scanners.specs.Words.{CountsFault, OnlyReads};
+ghost use Rattle.readers_scanners.specs.Words.{CountsFault, OnlyReads, ReadsOrFails};
 ghost use Rattle.text_frames.specs.Row.{row_cells};
 ghost use Rattle.screen_pictures.specs.Picture.{caret_at};
 ghost use Rattle.screen_cells.specs.Shown.{IsShowable, as_read};
 ghost use Rattle.screen_cells.specs.Lines.{IsSlotOf, IsCaretOf, AreLinesOf, IsNumbered, HasLine, HasCaretKey, HavePlaces};
 ghost use Rattle.screen_cells.specs.Lines.{IsAbove, HasSameRows, kept_cells};
-ghost use Rattle.screen_cells.specs.Walks.{IsWalk, IsOfSame, IsRowOf};
+ghost use Rattle.screen_cells.specs.Walks.{IsKeptWalk, IsWalk, IsOfSame, IsRowOf, IsViewerRow};
 
+use crate::painted::PaintedLine;
 use crate::shown::Shown;
-use crate::strip::{Filled, StripLine};
-use crate::walk::Walk;
+use crate::strip::Filled;
+use crate::walk::{ViewerRow, Walk, walk_of};
 use std::alloc::{AllocError, Global};
 use std::vec::Vec;
-use text_frames::{CharSource, Fault, cells_of_row};
+use text_frames::{CharSource, Fault, Frame, cells_of_row};
 use viewer_tracks::ROWS;
 
 /// Which frame it is: one of so many columns that shows the text of that number from `org` on.
@@ -39,7 +40,7 @@ pub(crate) struct LineKey {
 #[derive(Drop)]
 pub(crate) struct KeptLine {
     pub(crate) key: LineKey,
-    pub(crate) cells: StripLine,
+    pub(crate) cells: PaintedLine,
 }
 
 /// Which caret it is: before that position of its text, in a frame of so many rows.
@@ -216,7 +217,7 @@ pub(crate) fn kept_cells(slot: &Slot) -> &[Filled]
 {
     match slot {
         None => &[],
-        Some(line) => line.cells.as_slice(),
+        Some(line) => line.cells.filled(),
     }
 }
 
@@ -265,13 +266,69 @@ pub(crate) fn keep_menu<S: CharSource>(
         return Ok(());
     }
     let cells = cells_of_row(shown.menu, 0, width, 0, source)?;
-    *slot = Some(KeptLine { key, cells });
+    *slot = Some(KeptLine {
+        key,
+        cells: PaintedLine::new(cells),
+    });
     Ok(())
 }
 
-/// Keeps the line of a row of a viewer's main frame of `w` columns: it is read, where it isn't kept yet. `Fault`: the
-/// source failed in this call.
-pub(crate) fn keep_row<S: CharSource>(
+/// Keeps the line of a row of a viewer's main frame: where it isn't kept yet, it is read by the walk that is kept, or by
+/// a new one where that is another viewer's. `Fault`: the source failed in this call.
+pub(crate) fn keep_row<'a, S: CharSource>(
+    viewer: &Shown<'a>,
+    shown: &[Shown<'a>],
+    at: ViewerRow,
+    kept: &mut Option<Walk<'a>>,
+    slot: &mut Slot,
+    source: &mut S,
+) -> Result<(), Fault>
+    requires at { IsViewerRow shown.now viewer.now at × (at.y + 1 < at.top) }
+    requires showable { All (IsShowable (length (S.characters source.old))) shown.now }
+    requires kept { IfSome kept.old
+        (IsKeptWalk (S.honest source.old) (S.characters source.old) shown.now) }
+    ensures cells { OnOk result (S.honest source.old → (texts : ℕ → AText ℕ)
+        → IsNumbered texts (S.characters source.old) viewer.now → IsSlotOf texts slot.old
+        → let v = as_read (S.characters source.old) viewer.now in
+        kept_cells slot.new ≡ row_cells (at.width - 1) v.main v.frame.org (at.top - 2 - at.y)) }
+    ensures slot { S.honest source.old → (texts : ℕ → AText ℕ)
+        → IsNumbered texts (S.characters source.old) viewer.now → IsSlotOf texts slot.old
+        → IsSlotOf texts slot.new }
+    ensures kept { OnOk result (IfSome kept.new
+        (IsKeptWalk (S.honest source.new) (S.characters source.new) shown.now)) }
+    ensures source { ReadsOrFails S.CharSource result source.old source.new }
+{
+    let w = at.width - 1;
+    let row = at.top - 2 - at.y;
+    if is_kept(slot, row_key(&viewer.frame, w, row)) {
+        return Ok(());
+    }
+    let mut walk = walk_of(kept.take(), shown, at.index, at.top - at.bottom - 1, source);
+    read_row(&mut walk, w, row, slot, source)?;
+    *kept = Some(walk);
+    Ok(())
+}
+
+/// The line of a row of a frame of `w` columns.
+fn row_key(frame: &Frame, w: u8, row: u8) -> LineKey
+    ensures text { result.frame.text ≡ frame.now.text }
+    ensures org { result.frame.org ≡ frame.now.org }
+    ensures width { result.frame.width ≡ w }
+    ensures row { result.row ≡ row }
+{
+    LineKey {
+        frame: FrameKey {
+            text: frame.text,
+            org: frame.org,
+            width: w,
+        },
+        row,
+    }
+}
+
+/// Reads the line of a row of a viewer's main frame of `w` columns, and keeps it. `Fault`: the source failed in this
+/// call.
+fn read_row<S: CharSource>(
     walk: &mut Walk<'_>,
     w: u8,
     row: u8,
@@ -280,8 +337,7 @@ pub(crate) fn keep_row<S: CharSource>(
 ) -> Result<(), Fault>
     requires row { IsRowOf w row walk.old }
     requires walk { IsWalk (S.honest source.old) (S.characters source.old) walk.old }
-    ensures cells { OnOk result (S.honest source.old → (texts : ℕ → AText ℕ)
-        → IsNumbered texts (S.characters source.old) walk.old.shown → IsSlotOf texts slot.old
+    ensures cells { OnOk result (S.honest source.old
         → let v = as_read (S.characters source.old) walk.old.shown in
         kept_cells slot.new ≡ row_cells w v.main v.frame.org row) }
     ensures slot { S.honest source.old → (texts : ℕ → AText ℕ)
@@ -289,23 +345,15 @@ pub(crate) fn keep_row<S: CharSource>(
         → IsSlotOf texts slot.new }
     ensures walk { OnOk result (IsWalk (S.honest source.new) (S.characters source.new) walk.new) }
     ensures viewer { IsOfSame walk.old walk.new }
-    ensures reads { OnlyReads S.characters S.failures S.honest S.same_ground source.old source.new }
-    ensures cause { CountsFault result (S.failures source.old) (S.failures source.new) }
+    ensures source { ReadsOrFails S.CharSource result source.old source.new }
 {
     let frame = walk.shown.frame;
-    let key = LineKey {
-        frame: FrameKey {
-            text: frame.text,
-            org: frame.org,
-            width: w,
-        },
-        row,
-    };
-    if is_kept(slot, key) {
-        return Ok(());
-    }
+    let key = row_key(&frame, w, row);
     let cells = frame.read_line(walk.shown.main, w, walk.h, row, &mut walk.rows, source)?;
-    *slot = Some(KeptLine { key, cells });
+    *slot = Some(KeptLine {
+        key,
+        cells: PaintedLine::new(cells),
+    });
     Ok(())
 }
 

@@ -5,49 +5,63 @@ ghost use Rattle.screen_pictures.specs.Bytes.{shown_byte};
 ghost use Rattle.screen_pictures.specs.Picture.{cell_with, is_at, is_selected, text_cell};
 ghost use Rattle.screen_pictures.specs.Mark.{mark_of};
 ghost use Rattle.screen_pictures.specs.Screen.{values};
-ghost use Rattle.screen_cells.specs.Shown.{strip_cell};
+ghost use Rattle.screen_cells.specs.Shown.{plain_cell, strip_cell};
+ghost use Rattle.screen_cells.specs.Lines.{kept_cells};
 
+use crate::lines::{Slot, kept_cells};
 use crate::strip::{Filled, FrameRow, Strip};
 use piece_ring::DEFAULT_LOOK;
 use screen_pictures::{Cell, Mark};
 use text_frames::FrameSelection;
 
 impl Strip {
-    /// Puts it into the cells of its track in a row.
-    pub(crate) fn put(self, line: &[Filled], cells: &mut [Cell])
+    /// Puts it into the cells of its track in a row, where `slot` has the line that it shows.
+    pub(crate) fn put(self, slot: &Slot, cells: &mut [Cell])
         requires some { 0 < length cells.old }
         requires fits { length cells.old ≤ MOST_COLUMNS }
-        ensures { cells.new ≡ values (length cells.old) (strip_cell self line.now) }
+        ensures { cells.new ≡ values (length cells.old) (strip_cell self (kept_cells slot.now)) }
     {
         match self {
             Strip::Filler => put_same(cells, Cell::filler(false)),
-            Strip::Menu => put_line(cells, b'-', line, Mark::Menu),
-            Strip::Frame(row) => put_row(cells, line, row),
+            Strip::Menu => put_line(cells, b'-', kept_cells(slot), Mark::Menu),
+            Strip::Frame(row) => put_row(cells, slot, row),
         }
     }
 }
 
 /// Puts a row of a main frame, its bar at the left.
-fn put_row(cells: &mut [Cell], line: &[Filled], row: FrameRow)
+fn put_row(cells: &mut [Cell], slot: &Slot, row: FrameRow)
     requires some { 0 < length cells.old }
     requires fits { length cells.old ≤ MOST_COLUMNS }
-    ensures { cells.new ≡ values (length cells.old) (strip_cell (Strip.Frame row) line.now) }
+    ensures { cells.new ≡ values (length cells.old)
+        (strip_cell (Strip.Frame row) (kept_cells slot.now)) }
 {
     let (bar, text) = cells.split_at_mut(1);
     put_same(bar, cell_with(b'|', None, Mark::Bar));
-    put_text(text, line, row);
+    put_text(text, slot, row);
 }
 
 /// Puts a row of a main frame beside its bar: in one go where neither the caret nor a selected character is in it.
-fn put_text(cells: &mut [Cell], line: &[Filled], row: FrameRow)
+fn put_text(cells: &mut [Cell], slot: &Slot, row: FrameRow)
     requires { length cells.old ≤ MOST_COLUMNS }
     ensures { cells.new ≡ values (length cells.old)
-        (λ x. text_cell line.now row.caret row.selection x row.row) }
+        (λ x. text_cell (kept_cells slot.now) row.caret row.selection x row.row) }
 {
     if is_plain(row) {
-        put_line(cells, b' ', line, Mark::Text);
+        put_plain(cells, slot);
     } else {
-        put_each(cells, line, row);
+        put_each(cells, kept_cells(slot), row);
+    }
+}
+
+/// Puts a row of a main frame beside its bar in which nothing is marked.
+fn put_plain(cells: &mut [Cell], slot: &Slot)
+    requires { length cells.old ≤ MOST_COLUMNS }
+    ensures { cells.new ≡ values (length cells.old) (plain_cell (kept_cells slot.now)) }
+{
+    match slot {
+        None => put_line(cells, b' ', &[], Mark::Text),
+        Some(line) => line.cells.put(cells),
     }
 }
 
@@ -63,7 +77,7 @@ fn put_each(cells: &mut [Cell], line: &[Filled], row: FrameRow)
 }
 
 /// Puts a line from the left, and a byte in the default look into the cells past its end.
-fn put_line(cells: &mut [Cell], blank: u8, line: &[Filled], mark: Mark)
+pub(crate) fn put_line(cells: &mut [Cell], blank: u8, line: &[Filled], mark: Mark)
     ensures { cells.new ≡ values (length cells.old)
         (λ x. cell_with blank (slice_get line.now x) mark) }
 {

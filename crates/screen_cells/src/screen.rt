@@ -10,18 +10,18 @@ ghost use Rattle.screen_cells.specs.Shown.{IsShowable, as_read, strip_cell};
 ghost use Rattle.screen_pictures.specs.Screen.{screen_of, cell_at, column_at, row_at, values};
 ghost use Rattle.screen_cells.specs.Rows.{painted_row, strips_cell};
 ghost use Rattle.screen_cells.specs.Walks.{AreKept};
-ghost use Rattle.screen_cells.specs.Lines.{AreLinesOf, IsNumbered, HavePlaces};
+ghost use Rattle.screen_cells.specs.Lines.{AreLinesOf, IsNumbered, HavePlaces, kept_cells};
 
-use crate::lines::{KeptLines, kept_cells};
+use crate::lines::{KeptLines, Slot};
 use crate::shown::Shown;
-use crate::strip::{Filled, Strip, track_strip};
+use crate::strip::{Strip, track_strip};
 use crate::walk::Walks;
 use screen_pictures::{Cell, Mark};
 use std::marker::Model;
 use text_frames::{CharSource, Fault};
 use viewer_tracks::{COLUMNS, ROWS, SYSTEM_LEFT, Track, Tracks};
 
-const WIDTH: usize = COLUMNS as usize;
+pub(crate) const WIDTH: usize = COLUMNS as usize;
 
 const HEIGHT: usize = ROWS as usize;
 
@@ -184,33 +184,35 @@ fn paint_row<'a, S: CharSource>(
         &mut lines.caret,
         source,
     )?;
-    let line = kept_cells(&lines.user[at]);
-    let other = kept_cells(&lines.system[at]);
+    let line = &lines.user[at];
+    let other = &lines.system[at];
     put_strips(row, y, user, line, system, other, marker);
     Ok(())
 }
 
-/// Puts what both tracks show in a row into its cells, with the marker where it stands there. `line` is the line that
+/// Puts what both tracks show in a row into its cells, with the marker where it stands there. `line` has the line that
 /// the user track shows, and `other` that of the system track.
 fn put_strips(
     row: &mut Row,
     y: u8,
     user: Strip,
-    line: &[Filled],
+    line: &Slot,
     system: Strip,
-    other: &[Filled],
+    other: &Slot,
     marker: Option<(u8, u8)>,
 )
-    ensures { row.new ≡ values COLUMNS (strips_cell user line.now system other.now marker y) }
+    ensures { row.new ≡ values COLUMNS
+        (strips_cell user (kept_cells line.now) system (kept_cells other.now) marker y) }
 {
     put_both(row, user, line, system, other);
     put_marker(row, y, marker);
 }
 
 /// Puts what both tracks show in a row into its cells.
-fn put_both(row: &mut Row, user: Strip, line: &[Filled], system: Strip, other: &[Filled])
-    ensures { row.new ≡ values COLUMNS (λ x. if nat_lt x SYSTEM_LEFT then strip_cell user line.now x
-        else strip_cell system other.now (x - SYSTEM_LEFT)) }
+fn put_both(row: &mut Row, user: Strip, line: &Slot, system: Strip, other: &Slot)
+    ensures { row.new ≡ values COLUMNS (λ x. if nat_lt x SYSTEM_LEFT
+        then strip_cell user (kept_cells line.now) x
+        else strip_cell system (kept_cells other.now) (x - SYSTEM_LEFT)) }
 {
     let (left, right) = row.split_at_mut(usize::from(SYSTEM_LEFT));
     user.put(line, left);

@@ -11,11 +11,11 @@ ghost use Rattle.screen_pictures.specs.Picture.{viewer_cell, width_of, track_cel
 ghost use Rattle.screen_cells.specs.Shown.{IsShowable, as_read, strip_cell};
 ghost use Rattle.piece_ring.specs.Text.{Text as AText};
 ghost use Rattle.screen_cells.specs.Lines.{IsSlotOf, IsCaretOf, IsNumbered, kept_cells};
-ghost use Rattle.screen_cells.specs.Walks.{IsWalk, IsKeptWalk, IsOfSame, IsViewerRow};
+ghost use Rattle.screen_cells.specs.Walks.{IsKeptWalk, IsViewerRow};
 
 use crate::lines::{KeptCaret, Slot, caret_cell, keep_menu, keep_row};
 use crate::shown::Shown;
-use crate::walk::{Walk, walk_of};
+use crate::walk::{ViewerRow, Walk};
 use arrayvec::ArrayVec;
 use piece_ring::Look;
 use text_frames::{CharSource, Fault, FrameSelection, MOST_COLUMNS};
@@ -93,47 +93,48 @@ fn menu_strip<S: CharSource>(
     Ok(Strip::Menu)
 }
 
-/// A row of a viewer of that width and these rows: of its menu, or of its main frame. `Fault`: the source failed in
-/// this call.
-fn viewer_strip<S: CharSource>(
-    walk: &mut Walk<'_>,
-    width: u8,
-    bottom: u8,
-    top: u8,
-    y: u8,
+/// A row of a viewer: of its menu, or of its main frame. `kept` is the walk of the viewer that was painted last there.
+/// `Fault`: the source failed in this call.
+fn viewer_strip<'a, S: CharSource>(
+    viewer: &Shown<'a>,
+    shown: &[Shown<'a>],
+    at: ViewerRow,
+    kept: &mut Option<Walk<'a>>,
     slot: &mut Slot,
     caret: &mut Option<KeptCaret>,
     source: &mut S,
 ) -> Result<Strip, Fault>
-    requires at { IsViewerRow width bottom top y walk.old }
-    requires walk { IsWalk (S.honest source.old) (S.characters source.old) walk.old }
+    requires at { IsViewerRow shown.now viewer.now at }
+    requires showable { All (IsShowable (length (S.characters source.old))) shown.now }
+    requires kept { IfSome kept.old
+        (IsKeptWalk (S.honest source.old) (S.characters source.old) shown.now) }
     ensures strip { IfOk result (λ strip. S.honest source.old → (texts : ℕ → AText ℕ)
-        → IsNumbered texts (S.characters source.old) walk.old.shown → IsSlotOf texts slot.old
+        → IsNumbered texts (S.characters source.old) viewer.now → IsSlotOf texts slot.old
         → IfSome caret.old (IsCaretOf texts) → (column : ℕ)
         → strip_cell strip (kept_cells slot.new) column
-        ≡ viewer_cell (as_read (S.characters source.old) walk.old.shown) width bottom top column
-        y) }
+        ≡ viewer_cell (as_read (S.characters source.old) viewer.now) at.width at.bottom at.top
+        column at.y) }
     ensures slot { S.honest source.old → (texts : ℕ → AText ℕ)
-        → IsNumbered texts (S.characters source.old) walk.old.shown → IsSlotOf texts slot.old
+        → IsNumbered texts (S.characters source.old) viewer.now → IsSlotOf texts slot.old
         → IsSlotOf texts slot.new }
     ensures caret { S.honest source.old → (texts : ℕ → AText ℕ)
-        → IsNumbered texts (S.characters source.old) walk.old.shown
+        → IsNumbered texts (S.characters source.old) viewer.now
         → IfSome caret.old (IsCaretOf texts)
         → IfSome caret.new (IsCaretOf texts) }
-    ensures walk { OnOk result (IsWalk (S.honest source.new) (S.characters source.new) walk.new) }
-    ensures viewer { IsOfSame walk.old walk.new }
+    ensures kept { OnOk result (IfSome kept.new
+        (IsKeptWalk (S.honest source.new) (S.characters source.new) shown.now)) }
     ensures source { ReadsOrFails S.CharSource result source.old source.new }
 {
-    if y + 1 == top {
-        return menu_strip(&walk.shown, width, slot, source);
+    if at.y + 1 == at.top {
+        return menu_strip(viewer, at.width, slot, source);
     }
-    let row = top - 2 - y;
-    let frame = walk.shown.frame;
-    let cell = caret_cell(&walk.shown, width - 1, walk.h, caret, source)?;
-    keep_row(walk, width - 1, row, slot, source)?;
+    let row = at.top - 2 - at.y;
+    let h = at.top - at.bottom - 1;
+    let cell = caret_cell(viewer, at.width - 1, h, caret, source)?;
+    keep_row(viewer, shown, at, kept, slot, source)?;
     Ok(Strip::Frame(FrameRow {
         caret: cell,
-        selection: frame.selection,
+        selection: viewer.frame.selection,
         row,
     }))
 }
@@ -191,18 +192,12 @@ pub(crate) fn track_strip<'a, S: CharSource>(
         return Ok(Strip::Filler);
     }
     let place = tracks.place_of(viewer);
-    let h = place.top - place.bottom - 1;
-    let mut walk = walk_of(kept.take(), shown, index, h, source);
-    let strip = viewer_strip(
-        &mut walk,
-        width(track),
-        place.bottom,
-        place.top,
+    let at = ViewerRow {
+        index,
+        width: width(track),
+        bottom: place.bottom,
+        top: place.top,
         y,
-        slot,
-        caret,
-        source,
-    );
-    *kept = Some(walk);
-    strip
+    };
+    viewer_strip(&shown[index], shown, at, kept, slot, caret, source)
 }

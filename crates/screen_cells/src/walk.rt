@@ -18,6 +18,17 @@ pub(crate) struct Walk<'a> {
     pub(crate) rows: FrameRows<'a>,
 }
 
+/// A row of a viewer: the viewer's place among those that are handed in, how wide it is, from which row of the display up
+/// to before which it stands, and the row of the display.
+#[derive(Clone, Copy)]
+pub(crate) struct ViewerRow {
+    pub(crate) index: usize,
+    pub(crate) width: u8,
+    pub(crate) bottom: u8,
+    pub(crate) top: u8,
+    pub(crate) y: u8,
+}
+
 /// The walks of both tracks, each that of the viewer that was painted there last.
 #[derive(Drop)]
 pub(crate) struct Walks<'a> {

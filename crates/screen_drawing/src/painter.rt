@@ -7,10 +7,11 @@ ghost use Rattle.viewer_tracks.specs.declared.display.TheConstants.{COLUMNS as c
 ghost use Rattle.screen_drawing.specs.Scene.{scene_row, scene_rows, height_of, IsInSight};
 ghost use Rattle.screen_drawing.specs.Painting.{IsShown, Leads, Paints, PaintsFront};
 ghost use Rattle.screen_drawing.specs.Painting.{are_of_size as rows_known, are_wide as rows_wide, beginning, begun_rows, ending, rows_changes};
+ghost use Rattle.screen_drawing.specs.Changes.{changes};
 ghost use Rattle.screen_drawing.specs.Pen.{blank_face};
 ghost use Rattle.screen_drawing.specs.Spelling.{operation_bytes, spelled_all};
 
-use crate::changes::{MOST, row_changes};
+use crate::changes::{MOST, are_same, row_changes};
 use crate::face::Face;
 use crate::operation::Operation;
 use crate::pen::{Pen, WHITE};
@@ -200,11 +201,47 @@ fn paint_rows<W: AnswerWriter>(
     let mut rows = Rows::new();
     for y in 0..scene.height() {
         let row = scene.row(y);
-        let changes = row_changes(y + 1, olds[usize::from(y)].faces(), row.faces());
-        send(writer, changes.as_slice())?;
+        send_changes(writer, y + 1, olds[usize::from(y)].faces(), row.faces())?;
         rows.push(row);
     }
     Ok(rows)
+}
+
+/// Sends what changes a row that shows `olds` to one that shows `news`.
+fn send_changes<W: AnswerWriter>(
+    writer: &mut W,
+    row: u8,
+    olds: &[Face],
+    news: &[Face],
+) -> Result<(), OutputFault>
+    requires same { length olds.now ≡ length news.now }
+    requires few { length news.now ≤ columns }
+    ensures sent { Sends result (W.contents writer.old) (W.contents writer.new)
+        (spelled_all (changes row olds.now news.now)) }
+    ensures cause { CountsFault result (W.failures writer.old) (W.failures writer.new) }
+{
+    if are_same(olds, news) {
+        return Ok(());
+    }
+    send_strokes(writer, row, olds, news)
+}
+
+/// The same, cell by cell.
+#[inline(never)]
+fn send_strokes<W: AnswerWriter>(
+    writer: &mut W,
+    row: u8,
+    olds: &[Face],
+    news: &[Face],
+) -> Result<(), OutputFault>
+    requires same { length olds.now ≡ length news.now }
+    requires few { length news.now ≤ columns }
+    ensures sent { Sends result (W.contents writer.old) (W.contents writer.new)
+        (spelled_all (changes row olds.now news.now)) }
+    ensures cause { CountsFault result (W.failures writer.old) (W.failures writer.new) }
+{
+    let changes = row_changes(row, olds, news);
+    send(writer, changes.as_slice())
 }
 
 /// Ends a painting: the cursor goes to its place, or is hidden.

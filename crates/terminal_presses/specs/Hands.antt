@@ -1,6 +1,7 @@
 -- What presses come to.
 use Rattle.std.specs.Prelude.{ℕ, Bool, true, false, ◌==◌, ◌&&◌, not, if◌then◌else◌, List, [], ◌∷◌}
 use Rattle.std.specs.Prelude.{Option, Some, None, is_some, option_map, unwrap_or}
+use Rattle.event_bytes.specs.Bytes.{tabulator}
 use Rattle.event_bytes.specs.declared.event.Event.TheVariants.{Key}
 use Rattle.event_bytes.specs.declared.keys.Key.TheVariants as key
 use Rattle.event_bytes.specs.declared.keys.Keys.TheVariants as keys
@@ -26,14 +27,14 @@ use Rattle.terminal_presses.specs.declared.pointer.Pointer.{Pointer}
 use Rattle.terminal_presses.specs.declared.pointer.TheConstants.{LEAP}
 use Rattle.terminal_presses.specs.declared.action.Action.{Action}
 use Rattle.terminal_presses.specs.declared.action.Action.TheVariants.{Nothing, Post, Ring, LookAnew, Leave, Undo, Redo}
-use Rattle.terminal_presses.specs.declared.action.Action.TheVariants.{Search, Store, Fill}
+use Rattle.terminal_presses.specs.declared.action.Action.TheVariants.{Search, Store, Replace, Fill, Seek}
 use Rattle.terminal_presses.specs.declared.action.Action.TheVariants.{Move, Step, AtCaret, Fit, FileFailed}
 use Rattle.terminal_presses.specs.declared.action.Action.TheVariants as action
 use Rattle.terminal_presses.specs.declared.gesture.Gesture.{Gesture}
 use Rattle.terminal_presses.specs.declared.paste.Paste.{Paste}
 use Rattle.terminal_presses.specs.declared.hand.Hand.{Hand}
 use Rattle.terminal_presses.specs.declared.hand.TheConstants.{CONTROL_C, CONTROL_E, CONTROL_F, CONTROL_G, CONTROL_L, CONTROL_O, CONTROL_Q}
-use Rattle.terminal_presses.specs.declared.hand.TheConstants.{CONTROL_S, CONTROL_T, CONTROL_V, CONTROL_W, CONTROL_X, CONTROL_Y, CONTROL_Z}
+use Rattle.terminal_presses.specs.declared.hand.TheConstants.{CONTROL_R, CONTROL_S, CONTROL_T, CONTROL_V, CONTROL_W, CONTROL_X, CONTROL_Y, CONTROL_Z}
 use Rattle.terminal_presses.specs.Gestures.{no_buttons, is_none_down, is_down, with_button, pressed_more, released}
 use Rattle.terminal_presses.specs.Gestures.{released_at}
 use Rattle.terminal_presses.specs.Pointers.{nowhere, moved_to, laid_aside, toggled, started, spot_moved, begins_at, pointed_cell}
@@ -65,7 +66,7 @@ asking name hand = record hand { paste = None; asked = Some name; asks_line = fa
 
 -- ---- keys
 
--- what Ctrl comes to with C, E, F, J, L, Q, S, T, V, W, X, Y and Z; another letter rings
+-- what Ctrl comes to with C, E, F, J, L, Q, R, S, T, V, W, X, Y and Z; another letter rings
 unfoldable pub control : ℕ → Action
 control b =
     if b == CONTROL_C then Post (Key key.Copy) else
@@ -74,13 +75,14 @@ control b =
     (if b == line_feed then typing_action (return ∷ []) else
     (if b == CONTROL_L then LookAnew else
     (if b == CONTROL_Q then Leave else
+    (if b == CONTROL_R then Replace else
     (if b == CONTROL_S then Store else
     (if b == CONTROL_T then AtCaret Mark else
     (if b == CONTROL_V then Post (Key key.Paste) else
     (if b == CONTROL_W then Fill else
     (if b == CONTROL_X then Post (Key key.Cut) else
     (if b == CONTROL_Y then Redo else
-    (if b == CONTROL_Z then Undo else Ring))))))))))))
+    (if b == CONTROL_Z then Undo else Ring)))))))))))))
 
 -- Where a function key has said what the next click is, the click is what it says by itself again, and no more. Else a
 -- pointer that is shown is put away, and no more.
@@ -110,11 +112,12 @@ clicked at hand = (
   released_at (Some (click_by_key hand.armed)) (begins_at hand.armed hand.pointer.start at) at,
 )
 
--- Return is that click where the pointer is shown
+-- where the pointer is shown, Return is that click, and a tabulator seeks the next command from there on
 unfoldable pub hand_after_byte : ℕ → Option Spot → Hand → Hand × Action
 hand_after_byte b None hand = (hand, typing_action (b ∷ []))
 hand_after_byte b (Some at) hand =
-    if b == return then clicked at hand else (hand, typing_action (b ∷ []))
+    if b == return then clicked at hand else
+    (if b == tabulator then (hand, Seek at) else (hand, typing_action (b ∷ [])))
 
 -- an arrow moves the pointer where that is shown, and is else a click beside the caret
 unfoldable pub hand_after_arrow : ℕ → ArrowKey → Option Spot → Hand → Hand × Action
@@ -346,3 +349,8 @@ pastes_text hand = is_pasting hand.paste && not (is_some hand.asked)
 -- the rest of the text that is pasted, if one is, comes to nothing
 abbrev pub dropping : Hand → Hand
 dropping hand = record hand { paste = option_map dropped hand.paste }
+
+-- the pointer that keys move is shown at a cell of the display, by its column and its row
+abbrev pub with_pointer : ℕ × ℕ → Hand → Hand
+with_pointer at hand =
+    record hand { pointer = moved_to (record { x = at.0; y = at.1 }) hand.pointer }

@@ -43,8 +43,12 @@ pub enum Action {
     Search,
     /// The text of the viewer of the caret becomes a document.
     Store,
+    /// What the pattern was found at is replaced by what was typed the time before.
+    Replace,
     /// Lines are broken while they are typed, or are no longer.
     Fill,
+    /// The pointer that keys move goes from that cell on to the next word of a command, as the screen has it.
+    Seek(Spot),
     /// A click beside the caret, as the screen has it.
     Step(Arrow),
     /// The character after the caret is deleted.

@@ -1,7 +1,7 @@
 //! The events that presses make.
 ghost use Rattle.std.specs.Prelude.{◌≡◌, ◌<◌, ◌↔◌, Some, None, IsNone, IfSome};
 ghost use Rattle.terminal_presses.specs.Hands.{new_hand, handled, pasting as pasting_by, fresh, hand_after_escape as escaped_by};
-ghost use Rattle.terminal_presses.specs.Hands.{answering as answering_by, pasting_name as pasting_name_by, dropping};
+ghost use Rattle.terminal_presses.specs.Hands.{answering as answering_by, pasting_name as pasting_name_by, dropping, with_pointer};
 ghost use Rattle.terminal_presses.specs.Hands.{by_question as question_says, pastes_text};
 ghost use Rattle.terminal_presses.specs.Hands.{controlled as controlled_by, control as control_says, by_function};
 ghost use Rattle.terminal_presses.specs.Hands.{hand_after_report as reported_by, hand_after_wheel as wheeled_by, hand_after_button as buttoned_by};
@@ -23,7 +23,7 @@ use crate::pointer::{LEAP, Pointer};
 use crate::press::{Arrow, Button, FunctionKey, MouseReport, Press, Scroll, WheelReport};
 use crate::sight::Sight;
 use crate::spot::Spot;
-use event_bytes::{CARRIAGE_RETURN, Event, Key, Keys, is_digit};
+use event_bytes::{CARRIAGE_RETURN, Event, Key, Keys, TABULATOR, is_digit};
 use viewer_tracks::{COLUMNS, ROWS};
 
 /// The byte of Ctrl-C.
@@ -40,6 +40,8 @@ pub(crate) const CONTROL_L: u8 = 12;
 pub(crate) const CONTROL_O: u8 = 15;
 /// The byte of Ctrl-Q.
 pub(crate) const CONTROL_Q: u8 = 17;
+/// The byte of Ctrl-R.
+pub(crate) const CONTROL_R: u8 = 18;
 /// The byte of Ctrl-S.
 pub(crate) const CONTROL_S: u8 = 19;
 /// The byte of Ctrl-T.
@@ -124,6 +126,14 @@ impl Hand {
         if let Some(paste) = &mut self.paste {
             paste.drop_rest();
         }
+    }
+
+    /// The pointer that keys move is shown at the cell in that column and that row of the display, both counted from 0 at
+    /// the lower left.
+    pub fn move_pointer(&mut self, at: (u8, u8))
+        ensures { self.new ≡ with_pointer at self.old }
+    {
+        self.pointer = self.pointer.moved_to(Spot { x: at.0, y: at.1 });
     }
 
     /// What a press comes to, where this part of the display is in sight.
@@ -375,13 +385,14 @@ impl Hand {
         }
     }
 
-    /// A byte that can be typed. Return is a click where the pointer is shown.
+    /// A byte that can be typed. Where the pointer is shown, Return is a click, and a tabulator seeks the next command.
     #[tactic(auto, unfolding(crate::specs::Hands::hand_after_byte))]
     fn character(&mut self, byte: u8) -> Action
         ensures { ComesTo (hand_after_byte byte self.old.pointer.shown self.old) self.new result }
     {
         match self.pointer.shown {
             Some(at) if byte == CARRIAGE_RETURN => self.click(at),
+            Some(at) if byte == TABULATOR => Action::Seek(at),
             _ => typed(&[byte]),
         }
     }
@@ -684,6 +695,7 @@ fn control(byte: u8) -> Action
         LINE_FEED => typed(&[CARRIAGE_RETURN]),
         CONTROL_L => Action::LookAnew,
         CONTROL_Q => Action::Leave,
+        CONTROL_R => Action::Replace,
         CONTROL_S => Action::Store,
         CONTROL_T => Action::AtCaret(Click::Mark),
         CONTROL_V => Action::Post(Event::Key(Key::Paste)),

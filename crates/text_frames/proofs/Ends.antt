@@ -1,7 +1,8 @@
 -- Ends of lines, counted stretch after stretch.
-use Rattle.std.specs.Prelude.{◌≡◌, ℕ, zero, suc, ◌+◌, ◌-◌, ◌≤◌, cond, List, [], ◌∷◌, ◌++◌, take, drop}
-use Rattle.std.specs.Prelude.{count_by, slice_range}
-use Rattle.std.proofs.Common.{sym, ap, ◌∙◌, arith}
+use Rattle.std.specs.Prelude.{◌≡◌, ℕ, zero, suc, ◌+◌, ◌-◌, ◌<◌, ◌≤◌, cond, Option, None, IfSome, List, [], ◌∷◌, ◌++◌, take, drop}
+use Rattle.std.specs.Prelude.{Bool, true, false, Some, count_by, slice_range}
+use Rattle.std.proofs.Common.{refl, sym, ap, ◌∙◌, inl, inr, arith}
+use Rattle.std.proofs.lemmas.Bool.Decides.{eqb_tells}
 use Rattle.std.proofs.lemmas.List.Sums.{sum_by-append}
 use Rattle.char_file.specs.Source.{OnlyReads}
 use Rattle.char_file.proofs.Reading.{read_on}
@@ -11,6 +12,7 @@ use Rattle.readers_scanners.proofs.Walking.{IsAt}
 use Rattle.readers_scanners.proofs.Upcoming.{drop_more}
 use Rattle.event_bytes.specs.Bytes.{carriage_return}
 use Rattle.text_frames.specs.Lines.{is_return, ends_between}
+use Rattle.text_frames.specs.Reading.{IsRowBelow}
 
 take_on : {X : Type 0} → (xs : List X) (a n : ℕ) → take (a + n) xs ≡ take a xs ++ take n (drop a xs)
 take_on xs zero n = ap (λ k. take k xs) (let e : 0 + n ≡ n = omega arith in e)
@@ -29,6 +31,44 @@ ends_on bs org p n from =
     ∙ (λ k. ends_between bs org p + count_by is_return (take ((let e : n ≡ p + n - p = omega arith in e) k)
     ((sym (drop_more bs org (p - org))
     ∙ ap (λ j. drop j bs) (let o : org + (p - org) ≡ p = omega (arith, from) in o)) k)))
+
+-- lines that are left to end, after a byte
+module _ (left left' : ℕ) (some : 0 < left) where
+  pub left_on : (b : Bool) (ends ends' rows : ℕ) → left' ≡ left - cond b 1 0 → cond b (ends + 1) ends ≡ ends'
+      → ends + left ≡ rows → ends' + left' ≡ rows
+  left_on true ends ends' rows e more all = omega (arith, some, e, more, all)
+  left_on false ends ends' rows e more all = omega (arith, some, e, more, all)
+
+  pub left_few : (b : Bool) (low at : ℕ) → left' ≡ left - cond b 1 0 → low ≤ at + left → low ≤ at + 1 + left'
+  left_few true low at e few = (let le : low ≤ at + 1 + left' = omega (arith, some, e, few) in le)
+  left_few false low at e few = (let le : low ≤ at + 1 + left' = omega (arith, some, e, few) in le)
+
+  pub left_none : (b : Bool) → left' ≡ left - cond b 1 0 → left' ≡ 0 → b ≡ true
+  left_none true e none = refl
+  left_none false e none = absurd (let bad : ⊥ = omega (arith, some, e, none) in bad)
+
+pub return_is : (byte : ℕ) → is_return byte ≡ true → byte ≡ carriage_return
+return_is byte is = elim (eqb_tells byte carriage_return) [
+  | inl same ↦ same.1
+  | inr other ↦ let bad : true ≡ false = sym is ∙ other.0 in absurd (let wrong : ⊥ = cc in wrong)
+]
+
+-- a row further down, counted in two steps
+module _ (bs : List ℕ) (from at ends more rows : ℕ) (low : from ≤ at) (so_far : ends ≡ ends_between bs from at)
+    (sum : ends + more ≡ rows) where
+  rows_on : (p : ℕ) → at + more ≤ p → IsRowBelow bs at more p → IsRowBelow bs from rows p
+  rows_on p far is =
+      let on = ends_on bs from at (p - at) low in
+      let to : at + (p - at) ≡ p = omega (arith, far) in
+      let all : ends_between bs from p ≡ ends_between bs from at + ends_between bs at p =
+      ap (ends_between bs from) (sym to) ∙ on ∙ ap (λ k. ends_between bs from at + ends_between bs at k) to in
+      let rest = is.below in
+      record { below = omega (arith, all, so_far, rest, sum); behind = is.behind }
+
+  pub rows_on_if : (long : ℕ) (found : Option ℕ) → IfSome found (λ p. (at + more ≤ p) × (p ≤ long))
+      → IfSome found (IsRowBelow bs at more) → IfSome found (IsRowBelow bs from rows)
+  rows_on_if long None range is = tt
+  rows_on_if long (Some p) range is = rows_on p range.0 is
 
 module _ {S : Type 0} (characters : S → List ℕ) (failures : S → ℕ) (honest : S → Type 0) (same_ground : S → S
     → Type 0) (ground_through : (a b c : S) → same_ground a b → same_ground b c → same_ground a c)

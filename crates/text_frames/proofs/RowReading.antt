@@ -2,7 +2,7 @@
 use Rattle.std.specs.Prelude.{◌≡◌, ℕ, suc, ◌+◌, ◌-◌, ◌<◌, ◌≤◌, Bool, true, false, cond, ◌||◌, ◌==◌, nat_lt, List, []}
 use Rattle.std.specs.Prelude.{◌++◌, length, take, replicate, Some, slice_get}
 use Rattle.std.specs.List.{All, flat_map, range_with_len}
-use Rattle.std.proofs.Common.{sym, ap, ◌∙◌, inl, inr, arith}
+use Rattle.std.proofs.Common.{refl, sym, ap, ◌∙◌, inl, inr, arith}
 use Rattle.std.proofs.lemmas.Bool.{cases_eq}
 use Rattle.std.proofs.lemmas.Bool.Decides.{leb_tells}
 use Rattle.std.proofs.lemmas.List.Elements.{All-same, All-nil}
@@ -11,12 +11,15 @@ use Rattle.piece_ring.specs.declared.piece.Look.{Look}
 use Rattle.piece_ring.specs.Text.{Text}
 use Rattle.readers_scanners.specs.Reading.{contents, bytes_of_text, Reading}
 use Rattle.readers_scanners.proofs.Walking.{at_first, seen_character, byte_there}
-use Rattle.text_frames.specs.Lines.{is_return}
+use Rattle.event_bytes.specs.Bytes.{carriage_return}
+use Rattle.text_frames.specs.Lines.{is_return, ends_between}
 use Rattle.text_frames.specs.Cells.{column_after, row_of, column_of}
 use Rattle.text_frames.specs.Row.{ShownCell, cells_taken, cells_at, IsOfText, AreRowCells}
-use Rattle.text_frames.specs.Reading.{IsReadTo}
+use Rattle.text_frames.specs.Reading.{IsReadTo, IsRowBelow, IsPlaceInRows}
+use Rattle.text_frames.proofs.Ends.{ends_on}
 use Rattle.text_frames.proofs.Filling.{all_filled}
-use Rattle.text_frames.proofs.Placing.{IsPlaced, placed_on, row_first, column_first}
+use Rattle.text_frames.proofs.Placing.{IsPlaced, placed_on, row_first, column_first, row_next, column_next, rows_rise}
+use Rattle.text_frames.proofs.Placing.{length-read as read_long}
 use Rattle.text_frames.proofs.RowCells.{cells_none, cells_on, cells_done, cells_last, most_filled, length-read}
 
 -- before the first row
@@ -51,6 +54,77 @@ read_below honest characters text org next row reader r column later is = record
   in_column = is.in_column;
   passed = λ h p low high. let lt = is.passed h p low high in omega (arith, lt, later);
 }
+
+-- where a row begins below the one at org
+pub place_of_row : (bs : List ℕ) (org n begin : ℕ) → 0 < n → org + n ≤ begin → IsRowBelow bs org n begin
+    → IsPlaceInRows bs org begin n 0
+place_of_row bs org n begin some far is =
+    let last : ℕ = begin - 1 in
+    let next_is : last + 1 ≡ begin = omega (arith, some, far) in
+    record {
+      in_row = sym is.below;
+      in_column = column_next bs org last carriage_return is.behind (omega (arith, some, far)) (column_of bs org last)
+          refl ∙ ap (column_of bs org) next_is;
+    }
+
+-- and org itself
+pub place_first : (bs : List ℕ) (org : ℕ) → IsPlaceInRows bs org org 0 0
+place_first bs org = record { in_row = sym (row_first bs org); in_column = sym (column_first bs org) }
+
+-- a row that begins further down
+pub row_reached : (honest : Type 0) (characters : List ℕ) (text : Text ℕ) (reader next : Reading)
+    (org row r column n begin : ℕ) → IsReadTo honest characters text org row reader r column → r < row → n ≡ row - r
+    → next.text ≡ text → next.position ≡ begin → reader.position + n ≤ begin → begin ≤ length text
+    → (honest → IsRowBelow (bytes_of_text characters text) reader.position n begin)
+    → IsReadTo honest characters text org row next row 0
+row_reached honest characters text reader next org row r column n begin is above e same at far within begins =
+    let few = is.few in let from = is.from in
+    record {
+      same = same;
+      from = omega (arith, from, far, at);
+      within = omega (arith, within, at);
+      few = omega (arith, few, above, e, far, at);
+      short = omega arith;
+      high = omega arith;
+      in_row = λ h. rw at (here h);
+      in_column = λ h. rw at (first h);
+      passed = λ h p low under. before h p low (omega (arith, under, at));
+    }
+  where
+    bs : List ℕ
+    bs = bytes_of_text characters text
+
+    last : ℕ
+    last = begin - 1
+
+    next_is : last + 1 ≡ begin
+    next_is = omega (arith, above, e, far)
+
+    inside : org ≤ last
+    inside = let from = is.from in omega (arith, from, above, e, far)
+
+    here : honest → row ≡ row_of bs org begin
+    here h =
+        let from = is.from in let low : reader.position ≤ begin = omega (arith, far) in
+        let on = ends_on bs org reader.position (begin - reader.position) from in
+        let to : reader.position + (begin - reader.position) ≡ begin = omega (arith, low) in
+        let all : row_of bs org begin ≡ row_of bs org reader.position + ends_between bs reader.position begin =
+        ap (row_of bs org) (sym to) ∙ on
+        ∙ ap (λ k. row_of bs org reader.position + ends_between bs reader.position k) to in
+        let start = is.in_row h in let more = (begins h).below in omega (arith, all, start, more, above, e)
+
+    first : honest → 0 ≡ column_of bs org begin
+    first h = column_next bs org last carriage_return (begins h).behind inside (column_of bs org last) refl
+        ∙ ap (column_of bs org) next_is
+
+    before : honest → (p : ℕ) → org ≤ p → p < begin → row_of bs org p < row
+    before h p low under =
+        let long = read_long characters text in
+        let rise = rows_rise bs org p (last - p) last low (omega (arith, under)) (omega (arith, within, long)) in
+        let more : row_of bs org last + 1 ≡ row_of bs org (last + 1) =
+        row_next bs org last carriage_return (begins h).behind inside (row_of bs org last) refl in
+        let same : row_of bs org (last + 1) ≡ row_of bs org begin = ap (row_of bs org) next_is in
+        let is_row = here h in omega (arith, rise, more, same, is_row)
 
 -- what a place passes of rows
 pub done_high : (r r' row byte : ℕ) → r' ≡ cond (is_return byte) (r + 1) r → r ≤ row → r' ≤ row + 1
@@ -94,7 +168,7 @@ module _ {S : Type 0} (characters : S → List ℕ) (failures : S → ℕ) (hone
       }
 
   -- a reader that has passed nothing but what was read before
-  begun : (start now : S) (text : Text ℕ) (reader : Reading) (org next at r column : ℕ)
+  pub begun : (start now : S) (text : Text ℕ) (reader : Reading) (org next at r column : ℕ)
       → OnlyReads characters failures honest same_ground start now → failures now ≡ failures start
       → IsReadTo (honest start) (characters start) text org next reader r column → at ≡ reader.position
       → IsSkipped start now text reader org next at r column

@@ -1,8 +1,10 @@
 -- What is known while the rows of a frame are read one after another.
-use Rattle.std.specs.Prelude.{◌≡◌, ◌-◌, ◌*◌, ◌<◌, ◌≤◌, ℕ, List, length}
+use Rattle.std.specs.Prelude.{◌≡◌, ◌-◌, ◌*◌, ◌<◌, ◌≤◌, ℕ, List, length, Some, slice_get}
+use Rattle.event_bytes.specs.Bytes.{carriage_return}
 use Rattle.piece_ring.specs.Text.{Text}
 use Rattle.readers_scanners.specs.Reading.{bytes_of_text, Reading}
 use Rattle.text_frames.specs.Cells.{row_of, column_of}
+use Rattle.text_frames.specs.Lines.{ends_between}
 
 -- A reader of the text from org on stands in this row and column, and no character from row `next` on is passed.
 pub record IsReadTo (honest : Type 0) (characters : List ℕ) (text : Text ℕ) (org next : ℕ)
@@ -20,3 +22,22 @@ pub record IsReadTo (honest : Type 0) (characters : List ℕ) (text : Text ℕ) 
   pub in_column : honest → column ≡ column_of (bytes_of_text characters text) org reader.position
   pub passed : honest → (p : ℕ) → org ≤ p → p < reader.position
       → row_of (bytes_of_text characters text) org p < next
+
+-- A row begins at p that is so many rows below that of `from`: as many lines end between, the last of them right
+-- before.
+pub record IsRowBelow (bs : List ℕ) (from rows p : ℕ) : Type 0 where
+  pub below : ends_between bs from p ≡ rows
+  pub behind : slice_get bs (p - 1) ≡ Some carriage_return
+
+-- the row and the column of a position
+pub record IsPlaceInRows (bs : List ℕ) (org p row column : ℕ) : Type 0 where
+  pub in_row : row ≡ row_of bs org p
+  pub in_column : column ≡ column_of bs org p
+
+-- A place on the way to a row of a text of so many characters, at the beginning of that row or of one above it.
+pub record IsOnWay (org long row p r column : ℕ) : Type 0 where
+  pub from : org ≤ p
+  pub within : p ≤ long
+  pub few : r ≤ p
+  pub above : r ≤ row
+  pub first : column ≡ 0

@@ -121,8 +121,8 @@ impl Frame {
 
     /// The filled cells of the row `row`, counted from 0, in a frame of `w` columns: from the left one on, at most `w`,
     /// the byte, the look and the position of the character in each. A tabulator stands in each of its cells, a carriage
-    /// return in none. The text is read from `org` to the end of that row at most. `Fault`: the source failed in this
-    /// call.
+    /// return in none. The text is read from `org` to the end of that row at most, or to less than 128 characters past
+    /// its start. `Fault`: the source failed in this call.
     pub fn line<S: CharSource>(
         &self,
         text: &Text,
@@ -144,7 +144,8 @@ impl Frame {
 
     /// The position at the cell of the column `col` and the row `row`, counted from 0: of the character whose cells
     /// hold the column; past the last character of a line the line's end; in a row without a line the text's end. A
-    /// column past the frame's is one of the line all the same. `Fault`: the source failed in this call.
+    /// column past the frame's is one of the line all the same. The text is read from `org` to that cell, or to less
+    /// than 128 characters past the start of that row. `Fault`: the source failed in this call.
     pub fn pos_at<S: CharSource>(
         &self,
         text: &Text,

@@ -1,9 +1,11 @@
 //! Where lines start, read from a position backwards, and how many end on the way to one.
 ghost use Rattle.std.specs.Prelude.{◌≡◌, ◌+◌, ◌-◌, ◌<◌, ◌≤◌, nat_lt, length, IfOk, IfSome, MatchOption, OnOk};
+ghost use Rattle.std.specs.Prelude.{if◌then◌else◌};
 ghost use Rattle.readers_scanners.specs.Words.{ReadsOrFails, flat, AreWithin, bytes_of_text};
 ghost use Rattle.text_frames.specs.Walks.{CanWalk};
-ghost use Rattle.text_frames.specs.Lines.{line_start, line_above, ends_between};
+ghost use Rattle.text_frames.specs.Lines.{line_start, line_above, ends_between, is_return};
 ghost use Rattle.text_frames.specs.Cells.{row_start};
+ghost use Rattle.text_frames.specs.Reading.{IsRowBelow};
 
 use crate::{CharSource, Fault, Text};
 use event_bytes::CARRIAGE_RETURN;
@@ -11,6 +13,9 @@ use readers_scanners::{BackReader, Reader};
 
 /// How many characters are counted at once, at most.
 const STRETCH: u32 = 512;
+
+/// How many characters are counted at once on the way to a row, at most.
+const ROW_STRETCH: u32 = 128;
 
 /// Where the line of the position starts: at 0, or after the last carriage return before it. The text is read from the
 /// position back to there. `Fault`: the source failed in this call.
@@ -100,6 +105,81 @@ pub(crate) fn ends_between<S: CharSource>(
         left -= count;
     }
     Ok(ends)
+}
+
+/// Where the row begins that is so many rows below that of the position `from`. None where the text ends before. The
+/// text is read from there to less than a stretch past that place, and the last stretch twice. `Fault`: the source
+/// failed in this call.
+pub(crate) fn row_below<S: CharSource>(
+    text: &Text,
+    from: u32,
+    rows: u32,
+    source: &mut S,
+) -> Result<Option<u32>, Fault>
+    requires walk { CanWalk (S.characters source.old) (flat text.now) from
+        (length (flat text.now)) }
+    requires some { 0 < rows }
+    ensures begins { IfOk result (λ found. S.honest source.old → IfSome found
+        (IsRowBelow (bytes_of_text (S.characters source.old) (flat text.now)) from rows)) }
+    ensures range { IfOk result (λ found. IfSome found (λ p. (from + rows ≤ p)
+        × (p ≤ length (flat text.now)))) }
+    ensures source { ReadsOrFails S.CharSource result source.old source.new }
+{
+    let mut reader = Reader::open(text, from);
+    let mut ends = 0;
+    let len = text.len();
+    let mut left = len - from;
+    while left > 0 {
+        let (count, found) = reader.count(CARRIAGE_RETURN, left.min(ROW_STRETCH), source)?;
+        if ends + found >= rows {
+            let begin = row_within(text, len - left, rows - ends, source)?;
+            return Ok(begin);
+        }
+        ends += found;
+        left -= count;
+    }
+    Ok(None)
+}
+
+/// The same, read byte by byte.
+fn row_within<S: CharSource>(
+    text: &Text,
+    from: u32,
+    rows: u32,
+    source: &mut S,
+) -> Result<Option<u32>, Fault>
+    requires walk { CanWalk (S.characters source.old) (flat text.now) from
+        (length (flat text.now)) }
+    requires some { 0 < rows }
+    ensures begins { IfOk result (λ found. S.honest source.old → IfSome found
+        (IsRowBelow (bytes_of_text (S.characters source.old) (flat text.now)) from rows)) }
+    ensures range { IfOk result (λ found. IfSome found (λ p. (from + rows ≤ p)
+        × (p ≤ length (flat text.now)))) }
+    ensures source { ReadsOrFails S.CharSource result source.old source.new }
+{
+    let mut reader = Reader::open(text, from);
+    let mut left = rows;
+    let len = text.len();
+    for at in from..len {
+        let byte = reader.next_byte(source)?;
+        left = left_after(left, byte);
+        if left == 0 {
+            return Ok(Some(at + 1));
+        }
+    }
+    Ok(None)
+}
+
+/// How many lines are left to end after a byte.
+fn left_after(left: u32, byte: u8) -> u32
+    requires { 0 < left }
+    ensures { result ≡ left - (if is_return byte then 1 else 0) }
+{
+    if byte == CARRIAGE_RETURN {
+        left - 1
+    } else {
+        left
+    }
 }
 
 /// Where the row starts in which the reader stands, in a frame that begins at `org`. None where that is `most`

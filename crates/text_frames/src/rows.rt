@@ -11,7 +11,7 @@ use crate::{CharSource, Fault, Frame, Text};
 use readers_scanners::Reader;
 
 /// How far the rows of a frame have been read. Those that are asked for from the upper one on take one pass over the
-/// text: no character is read twice.
+/// text. Where one isn't asked for, less than 128 characters before the start of the next are read twice.
 #[derive(Drop)]
 pub struct FrameRows<'a> {
     reader: Reader<'a>,
@@ -36,15 +36,15 @@ impl Frame {
     }
 
     /// The filled cells of the row `row`, as `cells_of_row` gives them, where `rows` tells how far the frame's rows in
-    /// this text have been read. The text is read from there to the end of that row at most, and from `org` for a row
+    /// this text have been read. The text is read from there as `line` reads it from `org`, and from `org` for a row
     /// that was read already. `Fault`: the source failed in this call.
-    pub fn read_line<S: CharSource>(
+    pub fn read_line<'a, S: CharSource>(
         &self,
-        text: &Text,
+        text: &'a Text,
         w: u8,
         h: u8,
         row: u8,
-        rows: &mut FrameRows<'_>,
+        rows: &mut FrameRows<'a>,
         source: &mut S,
     ) -> Result<RowCells, Fault>
         requires columns { w ≤ MOST_COLUMNS }

@@ -49,5 +49,6 @@ returns-clause-shown g c = λ honest s at has.
     (former_events at c.standing_law.ensures has))
     (subst (λ r. HasEvents r c.args.slot c.args.end s.events) (sym one) (events_of d at run honest)) in
     subst (λ r. IsEarlier r (1 - c.args.slot) h.epoch c.args.k s live c.in_ok-events.events.items) (sym (two ∙ one))
-    (earlier_there at c.standing_law.ensures has c.at_most_one_begins.ensures c.one_desktop.ensures c.requires.more.some live loaded
+    (earlier_there at c.standing_law.ensures has c.at_most_one_begins.ensures c.one_desktop.ensures
+    c.requires.more.some live loaded
     others)

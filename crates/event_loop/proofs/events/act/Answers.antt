@@ -17,6 +17,9 @@ pub returns-in-Mark : goal.returns-in-Mark
 unfolding raw needs_no_byte characters_brought
 returns-in-Mark g c = rw c.in-Mark.is (does_event g.S.CharSource _ (Mark _ _) (λ h. tt) refl c.mark.ensures)
 
+pub point-requires-clause-region : goal.point-requires-clause-region
+point-requires-clause-region g c = rw c.in-Point.is at c.requires.region
+
 pub returns-in-Point : goal.returns-in-Point
 returns-in-Point g c = rw c.in-Point.is c.point.ensures
 

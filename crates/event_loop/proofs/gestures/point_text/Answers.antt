@@ -8,7 +8,7 @@ use Rattle.desktop_definitions.specs.Unread.{gesture_needs_no_byte}
 use Rattle.desk_core.specs.Kept.{kept_desktop}
 use Rattle.desk_core.proofs.ArmLemmas.{rest_done}
 use Rattle.desk_input.proofs.StillLemmas.{does_unread}
-use Rattle.event_loop.proofs.GestureLemmas.{pointed_at, last_keys, reading, does_at}
+use Rattle.event_loop.proofs.GestureLemmas.{last_keys, reading, does_at}
 use Rattle.event_loop.proofs.gestures.point_text.Goals as goal
 
 pub returns-in-Right : goal.returns-in-Right
@@ -36,43 +36,35 @@ unfolding done_at gesture_needs_no_byte
 returns-in-Left g c =
     let told = c.in_ok-pos-in_default.ensures.told in
     let other = c.in_default in
-    does_at g.S.CharSource g.met.S.CharSource.ground_through (version_number c.args.version) c.in-Left.is c.args.id
-    c.args.gesture.from.0 c.args.gesture.from.1 c.args.gesture.to.0 c.args.gesture.to.1 c.in_ok-pos-in_default.pos _ _ _ _ _ _
-    told.reads told.cause told.exact (λ x. pointed_at (version_number c.args.version) x c.args.gesture.keys c.args.id
-    c.args.gesture.from.0 c.args.gesture.from.1 c.args.gesture.to.0 c.args.gesture.to.1 other.not-Right other.not-RightLeft
-    other.not-RightMiddle) (reading g.S.CharSource refl c.set_caret.ensures)
+    does_at g.S.CharSource g.met.S.CharSource.ground_through _ c.in-Left.is _ _ _ _ _ _ _ _ _ _ _ _
+    told.reads told.cause told.exact other.not-Right other.not-RightLeft other.not-RightMiddle
+    (reading g.S.CharSource refl c.set_caret.ensures)
 
 pub returns-in-LeftMiddle : goal.returns-in-LeftMiddle
 unfolding done_at gesture_needs_no_byte
 returns-in-LeftMiddle g c =
     let told = c.in_ok-pos-in_default.ensures.told in
     let other = c.in_default in
-    does_at g.S.CharSource g.met.S.CharSource.ground_through (version_number c.args.version) c.in-LeftMiddle.is c.args.id
-    c.args.gesture.from.0 c.args.gesture.from.1 c.args.gesture.to.0 c.args.gesture.to.1 c.in_ok-pos-in_default.pos _ _ _ _ _ _
-    told.reads told.cause told.exact (λ x. pointed_at (version_number c.args.version) x c.args.gesture.keys c.args.id
-    c.args.gesture.from.0 c.args.gesture.from.1 c.args.gesture.to.0 c.args.gesture.to.1 other.not-Right other.not-RightLeft
-    other.not-RightMiddle) c.copy_to.ensures
+    does_at g.S.CharSource g.met.S.CharSource.ground_through _ c.in-LeftMiddle.is _ _ _ _ _ _ _ _ _ _ _ _
+    told.reads told.cause told.exact other.not-Right other.not-RightLeft other.not-RightMiddle
+    c.copy_to.ensures
 
 pub returns-in-LeftRight : goal.returns-in-LeftRight
 unfolding done_at gesture_needs_no_byte
 returns-in-LeftRight g c =
     let told = c.in_ok-pos-in_default.ensures.told in
     let other = c.in_default in
-    does_at g.S.CharSource g.met.S.CharSource.ground_through (version_number c.args.version) c.in-LeftRight.is c.args.id
-    c.args.gesture.from.0 c.args.gesture.from.1 c.args.gesture.to.0 c.args.gesture.to.1 c.in_ok-pos-in_default.pos _ _ _ _ _ _
-    told.reads told.cause told.exact (λ x. pointed_at (version_number c.args.version) x c.args.gesture.keys c.args.id
-    c.args.gesture.from.0 c.args.gesture.from.1 c.args.gesture.to.0 c.args.gesture.to.1 other.not-Right other.not-RightLeft
-    other.not-RightMiddle) c.take_looks.ensures
+    does_at g.S.CharSource g.met.S.CharSource.ground_through _ c.in-LeftRight.is _ _ _ _ _ _ _ _ _ _ _ _
+    told.reads told.cause told.exact other.not-Right other.not-RightLeft other.not-RightMiddle
+    c.take_looks.ensures
 
 pub returns-in_default-keys : goal.returns-in_default-keys
 unfolding done_at gesture_needs_no_byte
 returns-in_default-keys g c =
     let told = c.in_ok-pos-in_default.ensures.told in
     let other = c.in_default in
-    does_at g.S.CharSource g.met.S.CharSource.ground_through (version_number c.args.version) (last_keys c.args.gesture.keys
-    other.not-Right other.not-RightLeft other.not-RightMiddle other.not-MiddleLeft other.not-MiddleRight
-    c.in_default-keys.not-Left c.in_default-keys.not-LeftMiddle c.in_default-keys.not-LeftRight) c.args.id
-    c.args.gesture.from.0 c.args.gesture.from.1 c.args.gesture.to.0 c.args.gesture.to.1 c.in_ok-pos-in_default.pos _ _ _ _ _ _
-    told.reads told.cause told.exact (λ x. pointed_at (version_number c.args.version) x c.args.gesture.keys c.args.id
-    c.args.gesture.from.0 c.args.gesture.from.1 c.args.gesture.to.0 c.args.gesture.to.1 other.not-Right other.not-RightLeft
-    other.not-RightMiddle) (reading g.S.CharSource refl c.call.ensures)
+    does_at g.S.CharSource g.met.S.CharSource.ground_through _ (last_keys _ other.not-Right
+    other.not-RightLeft other.not-RightMiddle other.not-MiddleLeft other.not-MiddleRight c.in_default-keys.not-Left
+    c.in_default-keys.not-LeftMiddle c.in_default-keys.not-LeftRight) _ _ _ _ _ _ _ _ _ _ _ _
+    told.reads told.cause told.exact other.not-Right other.not-RightLeft other.not-RightMiddle
+    (reading g.S.CharSource refl c.call.ensures)

@@ -1,6 +1,7 @@
 use Rattle.std.proofs.Common.{refl, ap, ◌∙◌}
 use Rattle.desk_core.specs.Kept.{kept_desktop}
 use Rattle.desk_input.specs.Stale.{stale_of, stale_by_key}
+use Rattle.event_loop.proofs.StaleLemmas.{stale_there}
 use Rattle.event_loop.proofs.stale.stale_of.Goals as goal
 
 pub returns-in-Typed : goal.returns-in-Typed
@@ -20,7 +21,9 @@ returns-in-Mark c = rw c.in-Mark.is refl
 
 pub returns-in-Point : goal.returns-in-Point
 unfolding stale_of
-returns-in-Point c = rw c.in-Point.is c.stale_by_point.ensures
+returns-in-Point c =
+    rw c.in-Point.is (stale_there (kept_desktop c.args.desk.now) _ _ _ _ _ (rw c.in-Point.is at c.requires)
+    c.stale_by_point.ensures)
 
 pub returns-in-File : goal.returns-in-File
 unfolding stale_of

@@ -1,6 +1,6 @@
-use Rattle.std.proofs.Common.{◌≡◌, take}
-use Rattle.std.specs.Prelude.{map}
+use Rattle.screen_pictures.specs.Screen.{column_at}
+use Rattle.screen_cells.proofs.Painting.{IsDoneTo}
 use Rattle.screen_cells.proofs.line.characters.Given as goal
 
-abbrev pub invariant-loop-cell : goal.invariant-loop-cell
-invariant-loop-cell l = l.bytes.items ≡ map (λ c. c.ch) (take l.cell-index l.row)
+abbrev pub invariant-loop-x : goal.invariant-loop-x
+invariant-loop-x l = IsDoneTo 0 (λ x before. (column_at l.row x).ch) l.initial.bytes l.bytes l.x

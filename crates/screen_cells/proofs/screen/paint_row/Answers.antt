@@ -39,12 +39,10 @@ returns-clause-painted g c = λ h texts numbered told.
     let low : at < length lines.user.items = omega (arith, c.from-at.ensures, c.requires.row.0, c.requires.row.1.user) in
     let low2 : at < length lines.system.items =
     omega (arith, c.from-at.ensures, c.requires.row.0, c.requires.row.1.system) in
-    let lined : c.kept_cells-line.result.now ≡ kept_cells c.track_strip.new.slot =
-    c.kept_cells-line.ensures
-    ∙ ap kept_cells (c.index.ensures ∙ get_or-set_same lines.user.items at c.track_strip.new.slot _ low) in
-    let other : c.kept_cells-other.result.now ≡ kept_cells c.track_strip-2.new.slot =
-    c.kept_cells-other.ensures
-    ∙ ap kept_cells (c.index-2.ensures ∙ get_or-set_same lines.system.items at c.track_strip-2.new.slot _ low2) in
+    let lined : kept_cells c.index-line.result.now ≡ kept_cells c.track_strip.new.slot =
+    ap kept_cells (c.index-line.ensures ∙ get_or-set_same lines.user.items at c.track_strip.new.slot _ low) in
+    let other : kept_cells c.index-other.result.now ≡ kept_cells c.track_strip-2.new.slot =
+    ap kept_cells (c.index-other.ensures ∙ get_or-set_same lines.system.items at c.track_strip-2.new.slot _ low2) in
     c.put_strips.ensures
     ∙ (λ i. values COLUMNS
     (strips_cell c.in_ok-user.user (lined i) c.in_ok-system.system (other i) c.args.marker c.args.y))

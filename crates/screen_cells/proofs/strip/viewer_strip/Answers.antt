@@ -1,38 +1,40 @@
-use Rattle.std.proofs.Common.{ap, ◌∙◌, refl, List, ℕ, ◌-◌, ◌+◌, ◌<◌, rules}
+use Rattle.std.proofs.Common.{ap, ◌∙◌, refl, length, List, ℕ, ◌-◌, ◌+◌, ◌<◌, rules}
 use Rattle.text_frames.specs.Row.{row_cells}
-use Rattle.screen_pictures.specs.Picture.{caret_at}
-use Rattle.screen_cells.specs.Shown.{as_read}
+use Rattle.screen_cells.specs.Shown.{IsShowable, as_read}
 use Rattle.screen_cells.specs.Lines.{kept_cells}
-use Rattle.screen_cells.proofs.Strips.{frame_shown}
+use Rattle.screen_cells.proofs.Strips.{all_got, frame_shown}
+use Rattle.byte_streams.proofs.Taking.{on_ok}
 use Rattle.screen_cells.proofs.Keeping.{numbered_still}
-use Rattle.screen_cells.proofs.Walking.{walk_still}
+use Rattle.screen_cells.proofs.Walking.{kept_still}
 use Rattle.screen_cells.proofs.strip.viewer_strip.Goals as goal
 
-pub returns-then-y-top-clause-walk : goal.returns-then-y-top-clause-walk
-returns-then-y-top-clause-walk g c =
+pub returns-then-at-clause-kept : goal.returns-then-at-clause-kept
+returns-then-at-clause-kept g c =
     let reads = c.menu_strip.ensures.reads in
-    let still = walk_still _ _ _ _ reads.already reads.same reads.as_long _ c.requires.walk in
-    search rules
+    on_ok c.menu_strip.result
+    (kept_still _ _ _ _ reads.already reads.same reads.as_long c.args.shown.now _ c.requires.kept)
 
-pub keep_row-requires-clause-walk : goal.keep_row-requires-clause-walk
-keep_row-requires-clause-walk g c =
+pub caret_cell-requires-clause-showable : goal.caret_cell-requires-clause-showable
+caret_cell-requires-clause-showable g c =
+    all_got (IsShowable (length (g.S.CharSource.characters c.args.source.now))) _ _ _ c.requires.at.there
+    c.requires.showable
+
+pub keep_row-requires-clause-kept : goal.keep_row-requires-clause-kept
+keep_row-requires-clause-kept g c =
     let reads = c.in_ok-cell.ensures.reads in
-    walk_still _ _ _ _ reads.already reads.same reads.as_long _ c.requires.walk
+    kept_still _ _ _ _ reads.already reads.same reads.as_long c.args.shown.now _ c.requires.kept
 
 pub returns-clause-strip : goal.returns-clause-strip
 returns-clause-strip g c = λ h texts numbered line_told caret_told column.
-    let walk = c.args.walk.now in
+    let viewer = c.args.viewer.now in let at = c.args.at in
     let characters = g.S.CharSource.characters c.args.source.now in
     let reads = c.in_ok-cell.ensures.reads in
-    let under : c.args.y + 1 < c.args.top = search rules in
-    frame_shown (as_read characters walk.shown) c.args.width c.args.bottom c.args.top c.args.y column
-    (c.args.top - 2 - c.args.y) (kept_cells c.keep_row.new.slot) c.in_ok-cell.cell walk.shown.frame.selection
-    under refl
-    (c.in_ok-keep_row.ensures.cells (reads.still h) texts (numbered_still texts _ _ walk.shown (reads.same h) numbered)
+    let under : at.y + 1 < at.top = search rules in
+    frame_shown (as_read characters viewer) at.width at.bottom at.top at.y column (at.top - 2 - at.y)
+    (kept_cells c.keep_row.new.slot) c.in_ok-cell.cell viewer.frame.selection under refl
+    (c.in_ok-keep_row.ensures.cells (reads.still h) texts (numbered_still texts _ _ viewer (reads.same h) numbered)
     line_told
-    ∙ ap (λ (read : List ℕ). row_cells (c.args.width - 1) (as_read read walk.shown).main walk.shown.frame.org
-    (c.args.top - 2 - c.args.y)) (reads.same h))
-    (c.in_ok-cell.ensures.cell h texts numbered caret_told
-    ∙ ap (λ rows. caret_at (c.args.width - 1) rows (as_read characters walk.shown).main
-    walk.shown.frame.org walk.shown.frame.caret) c.requires.at.rows)
+    ∙ ap (λ (read : List ℕ). row_cells (at.width - 1) (as_read read viewer).main viewer.frame.org (at.top - 2 - at.y))
+    (reads.same h))
+    (c.in_ok-cell.ensures.cell h texts numbered caret_told)
     refl

@@ -20,8 +20,8 @@ push-requires g c =
     ap length c.loop-y.invariant.rows ∙ values_long (scene_row c.args.scene.now) c.loop-y.y in
     (omega arith, omega arith)
 
-pub row_changes-changes-requires-clause-same : goal.row_changes-changes-requires-clause-same
-row_changes-changes-requires-clause-same g c =
+pub send_changes-requires-clause-same : goal.send_changes-requires-clause-same
+send_changes-requires-clause-same g c =
     let old : c.faces.result.now ≡ get_or c.args.olds.now c.loop-y.y [] =
     c.faces.ensures.cells ∙ c.index-olds-from.is ∙ any_default c.args.olds.now c.from.result _ (omega arith)
     ∙ ap (λ (k : ℕ). get_or c.args.olds.now k []) c.from.ensures in
@@ -45,13 +45,13 @@ loop-y-preserved g c =
           (omega arith) (omega arith) new old
           (ap length old ∙ row_wide c.args.scene.now.width c.args.olds.now c.loop-y.y c.requires.wide (omega arith))
           (ap length new ∙ row_long c.args.scene.now c.loop-y.y)
-          (row_printable c.args.scene.now c.loop-y.y) (c.as_slice.ensures.value ∙ c.row_changes-changes.ensures)
-          c.in_ok-send.ensures.sent.sent c.loop-y.invariant.led;
-      calm = c.in_ok-send.ensures.cause ∙ c.loop-y.invariant.calm;
+          (row_printable c.args.scene.now c.loop-y.y) refl
+          c.in_ok-send_changes.ensures.sent.sent c.loop-y.invariant.led;
+      calm = c.in_ok-send_changes.ensures.cause ∙ c.loop-y.invariant.calm;
     }
 
-pub returns-in_err-send-clause-front : goal.returns-in_err-send-clause-front
-returns-in_err-send-clause-front g c =
+pub returns-in_err-send_changes-clause-front : goal.returns-in_err-send_changes-clause-front
+returns-in_err-send_changes-clause-front g c =
     let old : c.faces.result.now ≡ get_or c.args.olds.now c.loop-y.y [] =
     c.faces.ensures.cells ∙ c.index-olds-from.is ∙ any_default c.args.olds.now c.from.result _ (omega arith)
     ∙ ap (λ (k : ℕ). get_or c.args.olds.now k []) c.from.ensures in
@@ -59,9 +59,8 @@ returns-in_err-send-clause-front g c =
     c.faces-in-loop-y.ensures.cells ∙ c.row-row.ensures.value in
     on_err c.from_residual.result
     (row_front _ _ _ (height_of c.args.scene.now) c.loop-y.y (scene_row c.args.scene.now) _ _ _ _ (omega arith)
-    new old
-    (c.as_slice.ensures.value ∙ c.row_changes-changes.ensures) c.loop-y.invariant.led.sent
-    c.in_err-send.ensures.sent.front)
+    new old refl c.loop-y.invariant.led.sent
+    c.in_err-send_changes.ensures.sent.front)
 
 pub returns-clause-rows : goal.returns-clause-rows
 unfolding scene_rows

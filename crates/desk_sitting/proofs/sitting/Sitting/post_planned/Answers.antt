@@ -11,7 +11,15 @@ use Rattle.desk_sitting.proofs.sitting.Sitting.post_planned.Goals as goal
 
 pub returns-in-Refused-clause-does : goal.returns-in-Refused-clause-does
 returns-in-Refused-clause-does g c = rw c.in-Refused.is (alone_press g.D.Disk _ _ _ c.args.store.now c.requires
-    (ap (λ (s : Sitting). seat_of s c.args.store.now) c.refuse.ensures))
+    (ap (λ (s : Sitting). seat_of s c.args.store.now) c.give_up.ensures))
+
+pub returns-in-Says-clause-does : goal.returns-in-Says-clause-does
+returns-in-Says-clause-does g c = rw c.in-Says.is (alone_press g.D.Disk _ _ _ c.args.store.now c.requires
+    (ap (λ (s : Sitting). seat_of s c.args.store.now) c.say_logged.ensures))
+
+pub returns-in-Aims-clause-does : goal.returns-in-Aims-clause-does
+returns-in-Aims-clause-does g c = rw c.in-Aims.is (alone_press g.D.Disk _ _ _ c.args.store.now c.requires
+    (ap (λ (s : Sitting). seat_of s c.args.store.now) c.aim.ensures))
 
 pub returns-in-Next-clause-does : goal.returns-in-Next-clause-does
 returns-in-Next-clause-does g c = rw c.in-Next.is (alone_press g.D.Disk _ _ _ c.args.store.now c.requires refl)

@@ -43,4 +43,4 @@ returns-in_err-presses-in-Shift g c =
 
 pub plan_seen-requires-clause-seen : goal.plan_seen-requires-clause-seen
 plan_seen-requires-clause-seen g c = by_screen _ c.args.store.now.desktop c.in_default.not-Post c.in_default.not-Scroll
-    c.in_default.not-Below c.in_default.not-Shift
+    c.in_default.not-Below c.in_default.not-Shift c.in_default.not-After

@@ -22,9 +22,9 @@ returns-clause-left g c = record {
     lines = λ honest.
         let before = c.step_over.ensures.reads.confined.already honest in
         let content = (now (g.D.Disk.trail c.args.disk.now)).reads in
-        subst (λ (d : Desktop). AreLinesOf (text_of d) c.forget_stale.new.lines)
+        subst (λ (d : Desktop). AreLinesOf (text_of d) c.step_over.new.lines)
         (sym (ap (λ (o : Outcome). o.desktop) (c.in_ok-step_over.ensures.stepped.done before)))
-        (c.forget_stale.ensures (version_number c.args.version) (live_characters content c.args.self.now)
+        (c.step_over.ensures.lines (version_number c.args.version) (live_characters content c.args.self.now)
         (c.requires.on.live.over content) (c.requires.on.told.lines before));
   };
 }

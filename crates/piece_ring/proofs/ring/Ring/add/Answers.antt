@@ -9,6 +9,6 @@ returns-clause-pieces c =
     let list = c.self.inside.list in
     let made = put_last (pieces_of list.chain.nodes) c.insert.ensures.made c.end-end.ensures.index
     c.in_ok-one.ensures.pieces in
-    subst (λ r. AddsAtMost r.pieces c.args.piece (pieces_of c.settle.new.self.chain.nodes)) c.self.view_is
-    (added_at_most made c.settle.ensures.pieces (c.end-end.ensures.last ∙ sym list.sound.measured)
-    c.settle.ensures.settled.merged)
+    subst (λ r. AddsAtMost r.pieces c.args.piece (pieces_of c.settle_at.new.self.chain.nodes)) c.self.view_is
+    (added_at_most made c.settle_at.ensures.pieces (c.end-end.ensures.last ∙ sym list.sound.measured)
+    c.settle_at.ensures.settled.merged)

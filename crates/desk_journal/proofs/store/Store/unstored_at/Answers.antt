@@ -1,6 +1,0 @@
-use Rattle.desk_journal.proofs.Storing.{looked_at}
-use Rattle.desk_journal.proofs.store.Store.unstored_at.Goals as goal
-
-pub invariant_of-self : goal.invariant_of-self
-invariant_of-self g c = λ usable.
-    looked_at g.D.Disk _ _ _ _ _ _ _ _ c.unstored_at.ensures.disk c.unstored_at.ensures.same (c.self.invariant usable)
