@@ -355,7 +355,7 @@ def names_and_sizes(trial):
     sitting = trial.sit_anew()
     sitting.press(b'\x0flong\r')
     wanted = '261900 characters typed, the rest dropped: refused (6): no room'
-    trial.check(sitting.wait(lambda: sitting.terminal.line(ROWS).startswith(wanted), 60), sitting.terminal.line(ROWS))
+    trial.check(sitting.wait(lambda: sitting.terminal.line(ROWS).startswith(wanted), 300), sitting.terminal.line(ROWS))
     trial.leaves(sitting)
 
 

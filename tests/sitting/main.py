@@ -89,18 +89,20 @@ def press_by_hearings(sitting, model, presses, chance):
 
 
 def take(sitting, model, data, meanings):
-    """What one press comes to. What is heard at one time goes no further than to the end of a line, so after each of
-    these the screen is shown."""
-    has_lines = b'\r' in data or b'\n' in data
-    is_paste = data.startswith(b'\x1b[200~')
-    if is_paste and has_lines:
+    """What one press comes to. What is heard at one time goes no further than to the end of a line, so behind each of
+    these the screen is shown: within a press, all of which is meant at its end, and behind it."""
+    if has_line_end(data[:-1]):
         model.look()
     for meaning in meanings:
         model.take(meaning)
         if meaning[0] == 'fit':
             sitting.terminal.resize(*meaning[1:])
-    if has_lines and not is_paste:
+    if has_line_end(data[-1:]):
         model.look()
+
+
+def has_line_end(data):
+    return b'\r' in data or b'\n' in data
 
 
 def characters(cells, rows):

@@ -148,6 +148,7 @@ def press(random, rows, is_whole):
         return b'\x1b[%d;%d;%dt' % (random.choice([8, 48]), *told), [('fit', height, width)]
     if kind == 19:
         text = ''.join(random.choices(['word ', 'a ', 'longer ', 'sentence. ', 'end,  ', 'x', '\t'], k=random.randrange(20)))
+        text = text if is_whole else text[:63]  # (more isn't heard at one time, and the screen is shown between)
         return text.encode(), [('type', character) for character in text]
     if kind in (17, 18):
         return scroll(random, rows)
