@@ -169,7 +169,7 @@ class Model:
 
     def __init__(self, oberon, store, window, columns=COLUMNS):
         self.oberon, self.store = oberon, store
-        self.pointer, self.put_away = None, None
+        self.pointer, self.put_away, self.points, self.has_entered = None, None, False, False
         self.replacing = Replacing()
         self.play = subprocess.Popen([oberon, 'play', store], stdin=subprocess.PIPE, stdout=subprocess.PIPE)
         self.top, self.rows = ROWS - 1, ROWS
@@ -237,8 +237,12 @@ class Model:
         place = self.screen().caret() if self.follows else None
         self.follows = False
         if place:
-            self.top = max(place[1], min(self.top, place[1] + self.rows - 1))
-            self.side = 0 if place[0] < 50 else 50
+            self.follow(*place)
+
+    def follow(self, x, y):
+        """As few rows as bring a cell into sight, and its side."""
+        self.top = max(y, min(self.top, y + self.rows - 1))
+        self.side = 0 if x < 50 else 50
 
     def spot(self, column, row):
         return self.left() + min(max(column - 1, 0), self.columns() - 1), self.top - min(max(row - 1, 0), self.rows - 1)
@@ -297,6 +301,7 @@ class Model:
     def taken(self, meaning):
         """Whether it was done; None where it posts nothing by itself."""
         kind, *rest = meaning
+        self.has_entered = self.has_entered and kind == 'pointer'
         if kind == 'type':
             return self.type(rest[0])
         if kind == 'call':
@@ -315,11 +320,11 @@ class Model:
             self.pointer = self.shown(*rest[1:])
             return self.scroll(self.viewer_at(*self.pointer), ('wheel', rest[0])) if self.pointer else None
         if kind == 'text page':
-            return self.scroll(self.viewer_at(*self.pointer) if self.pointer else self.viewer_of_caret(), ('page', rest[0]))
+            return self.page(rest[0])
         if kind == 'text end':
-            return self.scroll(self.viewer_of_caret(), rest[0])
+            return self.go(rest[0])
         if kind == 'line':
-            return self.scroll(self.viewer_of_caret(), ('number', max(rest[0] - 1, 0)))
+            return self.go(('number', max(rest[0] - 1, 0)))
         if kind in ('arrow', 'delete'):
             (self.step if kind == 'arrow' else self.delete)(*rest)
             return True
@@ -340,7 +345,7 @@ class Model:
             self.fills = not self.fills
             self.saying = FILLS if self.fills else FILLS_NOT
         elif kind == 'pointer':
-            self.pointer = self.shown(*rest)
+            self.pointer = None if self.has_entered else self.shown(*rest)
         elif kind == 'fit':
             self.fit(*rest)
             if rest[1] < 45:
@@ -394,9 +399,15 @@ class Model:
         return None
 
     def enter(self, viewer):
-        """The caret goes to the first cell of a viewer's text, where it has one, and the marker away."""
-        left, bottom, top, _ = viewer
+        """The caret goes to the first cell of a viewer's text, where it has one, and the marker away; that of the log comes
+        into sight. Nothing is pointed at any more."""
+        left, bottom, top, name = viewer
         if top - 2 < bottom:
+            return True
+        self.points, self.pointer, self.has_entered = False, None, True
+        if name == 'System.Log':
+            self.follow(left + 1, top - 2)
+            self.follows = False
             return True
         marked = ['key escape'] if self.screen().place('m') else []
         return self.post_all([*marked, 'point l %d %d %d %d' % (left + 1, top - 2, left + 1, top - 2)])
@@ -424,7 +435,7 @@ class Model:
         """What a pointer that keys move is used for, from where it is shown until it is put away. Whether all its clicks were
         done; None where there was none."""
         at, start = self.pointer or self.put_away or self.spot(COLUMNS // 2, self.rows // 2 + 1), None
-        is_done = None
+        is_done, self.points = None, True
         for kind, *rest in steps:
             if kind == 'move':
                 at = min(max(at[0] + rest[0], 0), COLUMNS - 1), min(max(at[1] + rest[1], 0), ROWS - 1)
@@ -434,11 +445,15 @@ class Model:
                 start = at
             elif kind == 'off':
                 start = None
+            elif kind == 'escape':
+                if not self.points:
+                    self.begin_press()
+                    self.post('key escape')
             else:
                 self.begin_press()
                 is_done = self.click(rest[0], start or at, at) and is_done is not False
                 start = None
-        self.put_away = at
+        self.put_away, self.points = at, False
         return is_done
 
     def next_command(self, at):
@@ -540,6 +555,31 @@ class Model:
         self.follows = follows
         self.name_press('a scroll')
         return True
+
+    def page(self, way):
+        """The text under the mouse, or that of the caret, moves by as many rows as are in sight of it, less one; where none
+        is, by all rows of the viewer, less one."""
+        viewer = self.viewer_at(*self.pointer) if self.pointer else self.viewer_of_caret()
+        seen = [y for y in range(viewer[1], viewer[2] - 1) if self.top - self.rows < y <= self.top] if viewer else []
+        return self.scroll(viewer, ('rows', way, max(len(seen) - 1, 1)) if seen else ('page', way))
+
+    def go(self, wish):
+        """The text of the caret goes to a line, and its first row comes into sight, or at its end the last one in which
+        something stands."""
+        viewer = self.viewer_of_caret()
+        is_done = self.scroll(viewer, wish)
+        row = is_done and (self.last_row(viewer) if wish == 'last' else viewer[2] - 2)
+        if is_done and row is not None:
+            self.follow(viewer[0] + 1, row)
+            self.follows = False
+        return is_done
+
+    def last_row(self, viewer):
+        """The lowest row of a viewer's text in which something stands; None where nothing does."""
+        left, bottom, top, _ = viewer
+        rows = self.screen().rows
+        return next((y for y in range(bottom, top - 1)
+                     if rows[ROWS - 1 - y].ljust(COLUMNS)[left + 1:left + WIDTHS[left]].strip(' ')), None)
 
     def name_press(self, words):
         """What is said of the events of this press, if it has any, where they are taken back."""

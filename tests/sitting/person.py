@@ -93,7 +93,10 @@ class Person:
         self.point(word, at)
         self.key(*{'left': [], 'middle': ['F2'], 'right': ['F3']}[button])
         self.point(to_word, to)
-        self.key('Return', 'F11')
+        pointer = self.caret()
+        self.key('Return')
+        if self.caret() == pointer:  # (where a viewer opened it is put away)
+            self.key('F11')
 
     def bring(self, word, way='down'):
         """Scrolls until a word of the text on the left is in sight, and returns its place. In a low window a page may have rows

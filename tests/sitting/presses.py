@@ -183,7 +183,8 @@ def sought(random, rows):
 def keyed(random):
     """Clicks of a pointer that keys move: it is shown, and put away again. A step is ('move', across, up), in cells, or the
     columns themselves for the ends of a row; ('tab',), to the next command; or ('click', keys), from where it begins by ('begin',), unless
-    that is called off by ('off',), or at one cell."""
+    that is called off by ('off',), or at one cell. After a click that calls a word, where a viewer may have opened, Escape
+    comes, ('escape',)."""
     data, steps = random.choice([b'\x1b[23~', b'\x1b ']), []
     for _ in range(random.randrange(1, 4)):
         data += moves(random, steps)
@@ -200,6 +201,8 @@ def keyed(random):
                 continue
             data += random.choice([b'\r', random.choice(spellings)])
         steps.append(('click', keys))
+        if keys == 'm':
+            return data + b'\x1b\x00', [('keyed', [*steps, ('escape',)]), ('ring',)]
     return data + random.choice([b'\x1b[23~', b'\x1b ']), [('keyed', steps)]
 
 

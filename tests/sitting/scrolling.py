@@ -58,8 +58,8 @@ def wished(text, height, org, wish):
         return line_below(text, wish[1], 0)
     if wish == 'last':
         return line_above(text, height - 1, len(text))
-    word, way = wish
-    count = {'wheel': 3, 'line': 1}.get(word, height - 1)
+    word, way, *count = wish
+    count = count[0] if count else {'wheel': 3, 'line': 1}.get(word, height - 1)
     return (line_above if way == 'up' else line_below)(text, count, org)
 
 

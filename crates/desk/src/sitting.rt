@@ -8,6 +8,7 @@ use desk_sitting::{Saying, SittingEnd, serve};
 use desk_stores::{NewFile, Trouble, in_memory, make, new_file, opened_locked};
 use host_files::{HostFault, LockedFile, lock_alone};
 use sector_disk::Disk;
+use std::io::BufWriter;
 use terminal_keyboard::{DeskKeyboard, StandardInput};
 
 /// How many rows and columns a terminal has, and whether lines are filled that are typed at it.
@@ -71,16 +72,20 @@ fn sit_at_made(rt: &HostRuntime, made: NewFile, path: &str, service: Service) ->
     }
 }
 
-/// Serves a person at the desktop of a store.
+/// Serves a person at the desktop of a store. What the terminal is sent is gathered until it is flushed, so that a scene
+/// is one write.
 fn sit<D: Disk + Drop>(rt: &HostRuntime, store: Store<D>, service: Service) -> SittingEnd
     requires { store.must_reopen ≡ false }
 {
+    let Ok(output) = BufWriter::new(rt.alloc(), rt.stdout()) else {
+        return SittingEnd::Memory;
+    };
     let mut store = store;
     let mut keyboard = DeskKeyboard::new(rt, StandardInput::new(rt.stdin()));
     serve(
         rt.alloc(),
         &mut keyboard,
-        &mut CountedWriter::new(rt.stdout()),
+        &mut CountedWriter::new(output),
         &mut store,
         service.window.rows,
         service.window.columns,

@@ -1,16 +1,17 @@
 -- A copy of a viewer's main text becomes a file, with a line of the log.
-use Rattle.std.specs.Prelude.{◌≡◌, ℕ, ◌+◌, ◌≤◌, true, IsTrue, List, [], length, Ok}
-use Rattle.std.proofs.Common.{ap, sym, subst, ◌∙◌}
+use Rattle.std.specs.Prelude.{◌≡◌, ℕ, ◌+◌, ◌≤◌, Bool, true, false, IsTrue, List, [], length, Result, Ok}
+use Rattle.std.proofs.Common.{refl, ap, sym, subst, ◌∙◌}
 use Rattle.piece_ring.specs.declared.piece.Piece.{Piece}
 use Rattle.piece_ring.specs.Flat.{flat}
 use Rattle.piece_ring.specs.Text.{Text, AreWithin}
 use Rattle.event_bytes.specs.Bytes.{is_name}
 use Rattle.readers_scanners.specs.Reading.{contents}
-use Rattle.desktop_definitions.specs.declared.reply.Reply.TheVariants.{Done}
-use Rattle.desktop_definitions.specs.Limits.{most_held, too_many_files}
+use Rattle.desktop_definitions.specs.declared.reply.Reply.{Reply}
+use Rattle.desktop_definitions.specs.declared.reply.Reply.TheVariants.{Done, No}
+use Rattle.desktop_definitions.specs.Limits.{most_held, too_many_files, full}
 use Rattle.desktop_definitions.specs.Needs.{unless}
 use Rattle.desktop_definitions.specs.Tables.{Files, file_put, has_file_room, lengths}
-use Rattle.desktop_definitions.specs.Desktop.{KeptDesktop, characters_held}
+use Rattle.desktop_definitions.specs.Desktop.{Desktop, KeptDesktop, characters_held}
 use Rattle.desktop_definitions.specs.Viewers.{viewer_or_none, main_of, kept_main}
 use Rattle.desktop_definitions.specs.Effects.{storing_line, stored_as}
 use Rattle.desktop_definitions.specs.Log.{logged}
@@ -21,10 +22,13 @@ use Rattle.desktop_definitions.specs.Seen.{seen, seen_text, seen_table}
 use Rattle.desktop_definitions.specs.Sound.{IsBuilt, IsOver}
 use Rattle.desktop_definitions.specs.Changed.{IsExtended, IsStanding}
 use Rattle.desktop_definitions.proofs.RowLaws.{over_built}
-use Rattle.desktop_definitions.specs.DeskWords.{has_space}
+use Rattle.desktop_definitions.specs.DeskWords.{has_space, kept_size}
 use Rattle.desktop_definitions.proofs.RowPartLaws.{kept_main_seen, kept_main_long, text_within}
 use Rattle.desktop_definitions.proofs.LookedLaws.{kept_text_looks}
 use Rattle.desktop_definitions.proofs.StoreLaws.{storing_stands, storing_short, storing_answered}
+use Rattle.desktop_definitions.proofs.StoreLaws.{storing_refused, storing_full}
+use Rattle.desk_core.specs.Filing.{IsFiled, filing}
+use Rattle.desk_core.proofs.FilingLemmas.{refused_after}
 
 module _ (H : Type 0) (old : List ℕ) (d : KeptDesktop) (over : IsOver old d) (name : List ℕ) (v : ℕ) (line : List ℕ)
     (size gone all : ℕ) (room : has_file_room (seen_table old d.files) name ≡ true)
@@ -68,3 +72,32 @@ module _ (H : Type 0) (old : List ℕ) (d : KeptDesktop) (over : IsOver old d) (
       (Ok (stored_as (seen old d) name (main_of (seen old d) v))))) Done
   copy_answered = storing_answered H old d over name (main_of (seen old d) v) line size gone all room size_seen line_is
       all_is sum files pieces is valid within looks reads
+
+-- ---- refused
+
+module _ (H : Type 0) (old : List ℕ) (d : KeptDesktop) (over : IsOver old d) (name : List ℕ) (v : ℕ) (line : List ℕ)
+    (size all : ℕ) (size_is : size ≡ length (flat (kept_main d v))) (line_is : line ≡ storing_line name size)
+    (all_is : all ≡ size + length line) {copy : List Piece} {left : KeptDesktop} {reply : Reply}
+    (put : IsFiled d name copy (length line) all left reply) (code : ℕ) where
+  abbrev pub row : Result Desktop ℕ
+  row = unless (has_file_room (seen old d).files name) too_many_files
+      (Ok (stored_as (seen old d) name (main_of (seen old d) v)))
+
+  refused_by : (room space : Bool) → has_file_room (seen_table old d.files) name ≡ room
+      → has_space (seen old d) (length line) all (kept_size d.files name) ≡ space
+      → No code ≡ filing room space → IsAnswered H old old d d (outcome_after (seen old d) row) (No code)
+  refused_by false space none tested is =
+      subst (λ (n : ℕ). IsAnswered H old old d d (outcome_after (seen old d) row) (No n))
+      (let same : too_many_files ≡ code = cc is in same)
+      (storing_refused H old d over name (main_of (seen old d) v) none)
+  refused_by true false room none is =
+      subst (λ (n : ℕ). IsAnswered H old old d d (outcome_after (seen old d) row) (No n))
+      (let same : full ≡ code = cc is in same)
+      (storing_full H old d over name (main_of (seen old d) v) line size (kept_size d.files name) all room
+      (size_is ∙ sym (kept_main_long old d v)) line_is all_is put.gone none)
+  refused_by true true room space is = absurd (cc is)
+
+  pub copy_refused : reply ≡ No code → IsAnswered H old old d left (outcome_after (seen old d) row) (No code)
+  copy_refused is =
+      subst (λ (after : KeptDesktop). IsAnswered H old old d after (outcome_after (seen old d) row) (No code))
+      (sym (refused_after put code is)) (refused_by _ _ refl refl (sym is ∙ put.answered old))

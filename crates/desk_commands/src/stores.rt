@@ -14,7 +14,7 @@ use crate::openings::copy_of;
 use char_file::{CharSource, Fault};
 use command_table::{name_in, symbol_at};
 use desk_core::desk::Desk;
-use desk_core::files::{Files, put, room_for, size_of};
+use desk_core::files::{Files, size_of};
 use desk_core::stop::{NoMemory, StepResult};
 use desktop_definitions::{Reply, codes};
 use event_bytes::Name;
@@ -137,17 +137,16 @@ fn store_as<S: CharSource>(desk: &mut Desk, id: u16, name: &Name, source: &mut S
         (Ok (stored_as d name.now (main_of d id)))) result
         source.old source.new (kept_desktop desk.old) (kept_desktop desk.new) }
 {
-    let Some(gone) = room_for(&desk.files, name) else {
-        return Ok(Reply::No(codes::TOO_MANY_FILES));
-    };
     let text = desk.main_text(id);
     let line = storing_line(name, text.len());
     let more = text.len() as usize + line.len();
-    if !desk.fits_more(line.len(), more, gone) {
-        return Ok(Reply::No(codes::FULL));
-    }
     let copy = copy_of(desk.alloc, text)?;
-    put(&mut desk.files, name, copy)?;
-    log_line(desk, line.as_slice(), source)?;
-    Ok(Reply::Done)
+    let reply = desk.put_file(name, copy, line.len(), more)?;
+    match reply {
+        Reply::Done => {
+            log_line(desk, line.as_slice(), source)?;
+            Ok(Reply::Done)
+        }
+        Reply::No(code) => Ok(Reply::No(code)),
+    }
 }

@@ -14,3 +14,4 @@ pub mod UnreadLemmas
 pub mod ArmLemmas
 pub mod Calm
 pub mod FileLemmas
+pub mod FilingLemmas

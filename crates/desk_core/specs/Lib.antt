@@ -7,3 +7,4 @@ pub mod Buffers
 pub mod Reads
 pub mod Mouse
 pub mod Words
+pub mod Filing

@@ -191,7 +191,7 @@ impl Desk {
 }
 
 /// Whether so many characters written, and so many held with `fewer` to go, are within the limits.
-fn is_space(written: usize, held: usize, fewer: usize) -> bool
+pub(crate) fn is_space(written: usize, held: usize, fewer: usize) -> bool
     requires { fewer < 2 ^ 32 }
     ensures { result ≡ (nat_le written most_written && nat_le held (most_held + fewer)) }
 {

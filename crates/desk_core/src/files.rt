@@ -1,15 +1,14 @@
 //! Files by name, as a desktop keeps them.
-ghost use Rattle.std.specs.Prelude.{◌≡◌, ◌+◌, ℕ, List, length, map, option_map, is_some, IsTrue, OnOk, OnErr, IfOk};
-ghost use Rattle.std.specs.Prelude.{IfSome, IsErrOf};
+ghost use Rattle.std.specs.Prelude.{◌≡◌, ℕ, List, map, option_map, IsTrue, OnOk, OnErr, IfOk, IsErrOf};
 ghost use Rattle.event_bytes.specs.Bytes.{is_name};
-ghost use Rattle.desktop_definitions.specs.Tables.{file_named, file_put as with_file, has_file_room};
+ghost use Rattle.desktop_definitions.specs.Tables.{file_named, file_put as with_file};
 ghost use Rattle.desktop_definitions.specs.Rewriting.{kept_length};
 ghost use Rattle.desktop_definitions.specs.DeskWords.{kept_size};
 ghost use Rattle.desktop_definitions.specs.Listing.{file_entry};
-ghost use Rattle.desk_core.specs.Words.{Text as AText, lengths, seen_table};
+ghost use Rattle.desk_core.specs.Words.{seen_table};
 
 use crate::stop::Stop;
-use desktop_definitions::{Entry, MOST_FILES};
+use desktop_definitions::Entry;
 use event_bytes::Name;
 use std::alloc::Global;
 use std::collections::BTreeMap;
@@ -39,29 +38,6 @@ pub fn size_of(files: &Files, name: &Name) -> usize
     ensures { result ≡ kept_size files.now.entries name.now }
 {
     size_found(files, name).unwrap_or(0)
-}
-
-/// How many characters are given up where the file of that name becomes another text. None where there is no file of
-/// that name, and no room for one more.
-pub fn room_for(files: &Files, name: &Name) -> Option<usize>
-    ensures room { (characters : List ℕ)
-        → has_file_room (seen_table characters files.now.entries) name.now ≡ is_some result }
-    ensures gone { IfSome result (λ gone. (characters : List ℕ) (text : AText ℕ)
-        → lengths (with_file (seen_table characters files.now.entries) name.now text) + gone
-        ≡ lengths (seen_table characters files.now.entries) + length text) }
-{
-    // The contract of `len` says that the names rise.
-    let count = files.len();
-    match size_found(files, name) {
-        Some(size) => Some(size),
-        None => {
-            if count < MOST_FILES as usize {
-                Some(0)
-            } else {
-                None
-            }
-        }
-    }
 }
 
 /// The file of that name becomes this text. After an error the files are as they were.

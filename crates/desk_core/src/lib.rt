@@ -5,6 +5,7 @@ mod covers;
 pub mod desk;
 pub mod edits;
 pub mod files;
+mod filing;
 pub mod held;
 pub mod marks;
 mod menus;

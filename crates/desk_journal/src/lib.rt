@@ -13,7 +13,9 @@ mod store;
 mod undone;
 
 pub use command_table::{NEWEST, Version};
-pub use desk_slots::{DeskInfo, Document, Error, LogRow, Loss, MOST_PRESSES, Place, Wish};
+pub use desk_slots::{
+    DeskInfo, Document, Error, LogRow, Loss, MOST_PRESSES, Place, ShownViewer, Wish,
+};
 pub use files::{open_in_a_file, post_in_a_file};
 pub use store::{Info, Store};
 pub use store_layout::{JOURNAL_EVENTS, STORE_SECTORS, finding_law, footprint_law, showing_law};

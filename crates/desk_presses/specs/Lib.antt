@@ -9,4 +9,3 @@ pub mod Frames
 pub mod Menus
 pub mod Past
 pub mod Replacing
-pub mod Windows

@@ -34,7 +34,7 @@ pub(crate) fn is_text(mark: Mark) -> bool
 
 /// Whether a cell is of a kind.
 #[tactic(auto, unfolding(crate::specs::Along::is_of))]
-fn is_of(kind: Kind, cell: Cell) -> bool
+pub(crate) fn is_of(kind: Kind, cell: Cell) -> bool
     ensures { result ≡ of_kind kind cell }
 {
     match kind {

@@ -1,7 +1,7 @@
 //! What presses mean by what is seen, and what was done by them.
 //!
 //! A key that moves the caret means a cell of the screen (`aim`): beside it, at an end of its row or a word further
-//! (`along`). The rows in sight follow the caret and fit the terminal's window (`window`).
+//! (`along`).
 //!
 //! A press has posted one event or several, and did something that can be said in words (`deed`). Those that changed
 //! something are known one after another, each with the number of its events (`past`): so one undo takes back all of
@@ -22,7 +22,6 @@ mod frames;
 mod menus;
 mod past;
 mod replacing;
-mod window;
 
 pub use again::{Again, MOST_AGAIN, NextEvent, Place, TakenPress};
 pub use aim::{aimed, caret_of, edge_of, further, is_caret_at, row_below};
@@ -30,10 +29,7 @@ pub use called::{MOST_WORD, called_word, parameter_word, word_from};
 pub use command_words::next_command;
 pub use deed::{Deed, typed_more};
 pub use filling::{Break, Filling, line_end};
-pub use frames::text_start;
+pub use frames::{text_end, text_rows_in_sight, text_start};
 pub use menus::{MenuWord, WordCall};
 pub use past::{DonePress, MOST_DONE, Past};
 pub use replacing::{MOST_TYPED, Replacing, Typing};
-pub use window::{
-    LEAST_HEIGHT, LEAST_WIDTH, fitted, followed, height_told, is_low, is_narrow, moved, width_told,
-};

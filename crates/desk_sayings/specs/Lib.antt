@@ -1,2 +1,4 @@
+pub mod Choosing
+pub mod Clicks
 pub mod Question
 pub mod Sayings

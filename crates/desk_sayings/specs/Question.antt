@@ -1,5 +1,5 @@
 -- What is asked about before a press is done.
-use Rattle.std.specs.Prelude.{ℕ, Bool, true, false, not, ◌==◌, ◌&&◌, Option, Some, None}
+use Rattle.std.specs.Prelude.{ℕ, Bool, true, false, not, ◌==◌, ◌&&◌, if◌then◌else◌, Option, Some, None}
 use Rattle.desk_sayings.specs.declared.question.Question.{Question}
 use Rattle.desk_sayings.specs.declared.question.Question.TheVariants.{Leaving, Closing, Taking, Rivalled}
 
@@ -22,3 +22,7 @@ comes_first last (Some question) = not (is_asked last question)
 abbrev pub asks_to_leave : Option Question → Bool
 asks_to_leave (Some Leaving) = true
 asks_to_leave _ = false
+
+-- what leaving would lose: a desktop in memory
+abbrev pub left_behind : Bool → Option Question
+left_behind in_memory = if in_memory then Some Leaving else None

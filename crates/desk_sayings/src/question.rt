@@ -1,6 +1,6 @@
 //! Questions: what a press would lose is asked about first.
 ghost use Rattle.std.specs.Prelude.{◌≡◌};
-ghost use Rattle.desk_sayings.specs.Question.{asks_to_leave, comes_first, is_same_question};
+ghost use Rattle.desk_sayings.specs.Question.{asks_to_leave, comes_first, is_same_question, left_behind};
 
 /// What a press would lose.
 #[derive(Clone, Copy, Debug, PartialEq, Eq)]
@@ -58,5 +58,16 @@ pub fn comes_first(last: Option<Question>, question: Option<Question>) -> bool
         (_, None) => false,
         (None, Some(_)) => true,
         (Some(last), Some(question)) => !is_same(last, question),
+    }
+}
+
+/// What leaving would lose.
+pub fn left_behind(in_memory: bool) -> Option<Question>
+    ensures { result ≡ left_behind in_memory }
+{
+    if in_memory {
+        Some(Question::Leaving)
+    } else {
+        None
     }
 }

@@ -10,14 +10,12 @@ use Rattle.desk_journal.specs.Session.{Session, is_due, is_worn, renewed, steppe
 use Rattle.desk_journal.proofs.Prefixes.{steps_both}
 use Rattle.terminal_presses.specs.declared.press.Press.{Press}
 use Rattle.terminal_presses.specs.declared.action.Action.{Action}
-use Rattle.terminal_presses.specs.declared.action.Action.TheVariants as action
 use Rattle.terminal_presses.specs.declared.hand.Hand.{Hand}
 use Rattle.terminal_presses.specs.Hands.{handled}
-use Rattle.desk_sitting.specs.declared.sitting.Sitting.{Sitting}
 use Rattle.desk_sitting.specs.declared.task.Task.{Task}
 use Rattle.desk_sitting.specs.Sittings.{most_plans}
 use Rattle.desk_sitting.specs.Questions.{unasked}
-use Rattle.desk_sitting.specs.Tasks.{Plan, Aims, Events, Refused as NotDone, Says, plan_of}
+use Rattle.desk_sitting.specs.Tasks.{Plan, Aims, Events, PutsAway, Refused as NotDone, Says, Shows, plan_of}
 use Rattle.desk_sitting.specs.Sittings.{Seat, accepted_as, accepted_by, accepted_in, accepted_one, accepted_stage, acted}
 use Rattle.desk_sitting.specs.Sittings.{accepted_unasked, after_planned, after_post, after_posts, after_press, after_stage}
 use Rattle.desk_sitting.specs.Sittings.{after_task, asks_first, does, does_all, done_by, done_so, noted_at, task_in, task_left, planned, with_hand}
@@ -141,6 +139,8 @@ planned_steps (NotDone why) d = refl
 planned_steps (Events events next) d = all_steps events d
 planned_steps (Says line) d = refl
 planned_steps (Aims cell) d = refl
+planned_steps (Shows cell) d = refl
+planned_steps (PutsAway next) d = refl
 
 stage_steps : (left : Option Task) (d : Seat)
     → (after_stage left d).session.desktop ≡ steps d.session.desktop (accepted_stage left d)
@@ -171,9 +171,9 @@ unfolding done_by accepted_as
 action_steps a d = so_steps (task_in d.sitting a) a (noted_at a d)
 
 -- the hand is nothing to a question
-pub hand_asks : (a : Action) (hand : Hand) (d : Seat)
-    → asks_first a (record d { sitting = with_hand hand d.sitting }) ≡ asks_first a d
-hand_asks a hand d = refl
+pub hand_asks : (a : Action) (next : Hand × Action) (d : Seat)
+    → asks_first a (record d { sitting = with_hand next d.sitting }) ≡ asks_first a d
+hand_asks a next d = refl
 
 -- a question is asked, or else it is done
 acted_steps : (a : Action) (d : Seat) → (acted a d).session.desktop ≡ steps d.session.desktop (accepted_unasked a d)
@@ -193,7 +193,7 @@ press_steps : (press : Press) (d : Seat)
 unfolding after_press
 press_steps press d =
     let made = handled d.sitting.sight press d.sitting.hand in
-    let held = record d { sitting = with_hand made.0 d.sitting } in
+    let held = record d { sitting = with_hand made d.sitting } in
     let events = accepted_unasked made.1 held in
     elim (true_or_false d.sitting.leaves) [
       | inl left ↦ ap (λ (t : Seat). t.session.desktop) (cond-true d.sitting.leaves d (acted made.1 held) left)

@@ -1,23 +1,24 @@
 -- What is found by looking at a store before a press is done.
-use Rattle.std.proofs.Common.{◌≡◌, [], Ok, Err, refl, sym, ◌∙◌, ap, subst}
-use Rattle.std.specs.Prelude.{Bool, true, false, List, Option, Some, None, Result, IfOk, if◌then◌else◌}
+use Rattle.std.proofs.Common.{◌≡◌, [], Ok, Err, refl, sym, ◌∙◌, ap}
+use Rattle.std.specs.Prelude.{Bool, true, false, Option, Some, None, Result}
 use Rattle.std.proofs.lemmas.Bool.{cond-true, cond-false}
 use Rattle.std.proofs.lemmas.Result.{IfOk-weaker}
 use Rattle.sector_disk.specs.declared.disk.Disk.{Ghosts}
-use Rattle.event_bytes.specs.declared.event.Event.{Event}
 use Rattle.desktop_definitions.specs.Desktop.{Desktop}
 use Rattle.desktop_definitions.specs.Shown.{shown_screen}
 use Rattle.terminal_presses.specs.declared.action.Action.{Action}
 use Rattle.desk_journal.specs.Errors.{Error}
 use Rattle.desk_journal.specs.Looking.{OnlyLooks}
-use Rattle.desk_journal.specs.Session.{Session, session_of}
+use Rattle.desk_journal.specs.Session.{Session}
 use Rattle.desk_journal.specs.View.{StoreView, IsDurable}
 use Rattle.desk_journal.specs.Losses.{loss_at}
 use Rattle.desk_sayings.specs.declared.question.Question.{Question}
 use Rattle.desk_sitting.specs.declared.sitting.Sitting.{Sitting}
-use Rattle.desk_sitting.specs.Doing.{DoesAction, DoesPress, Finds, IsPressDone, seat_of}
-use Rattle.desk_sitting.specs.declared.asking.MiddleClick.{MiddleClick}
-use Rattle.desk_sitting.specs.Questions.{click_made, is_leave, left_behind, loss_question, click_question}
+use Rattle.desk_sitting.specs.Doing.{DoesAction, DoesPress, Finds, seat_of}
+use Rattle.desk_sayings.specs.declared.clicks.MiddleClick.{MiddleClick}
+use Rattle.desk_sayings.specs.Clicks.{click_made}
+use Rattle.desk_sitting.specs.Questions.{is_leave, loss_question, click_question}
+use Rattle.desk_sayings.specs.Question.{left_behind}
 use Rattle.desk_sayings.specs.Question.{comes_first}
 use Rattle.desk_sayings.specs.Sayings.{is_in_memory}
 use Rattle.desk_sitting.specs.Questions.{loss_of, question_of, questioned, unasked}

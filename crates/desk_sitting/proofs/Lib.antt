@@ -3,6 +3,7 @@ pub mod Between
 pub mod Carrying
 pub mod Done
 pub mod Pressed
+pub mod Seen
 pub mod Sessions
 pub mod Surviving
 pub mod Taking
@@ -12,4 +13,5 @@ mod Found
 mod Asked
 mod Planning
 mod Questions
+mod Told
 mod Travelling

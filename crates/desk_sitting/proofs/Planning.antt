@@ -10,53 +10,60 @@ use Rattle.desk_journal.specs.Errors.{Error}
 use Rattle.desk_journal.specs.Looking.{OnlyLooks}
 use Rattle.desk_journal.specs.Scrolling.{Scrolls, Wish, presses_to}
 use Rattle.desk_journal.specs.View.{StoreView}
-use Rattle.desk_journal.specs.Views.{DeskInfo, Place, desk_info, last_log_line}
-use Rattle.desk_presses.specs.Frames.{text_start}
+use Rattle.desk_journal.specs.Views.{DeskInfo, ShownViewer, desk_info, last_log_line}
+use Rattle.terminal_presses.specs.Sights.{Sight}
 use Rattle.desk_journal.proofs.Passing.{at_start}
 use Rattle.desk_sitting.specs.declared.task.Task.{Task}
 use Rattle.desk_sitting.specs.declared.task.Task.TheVariants as kind
 use Rattle.desk_sitting.specs.declared.task.Plan.{Plan as MadePlan}
 use Rattle.desk_sitting.specs.Doing.{Plans}
-use Rattle.desk_sitting.specs.Tasks.{Plan, Events, Says, answer_plan, entry_plan, opened_place, plan_of, plan_on, seen_plan}
+use Rattle.desk_sitting.specs.Tasks.{Plan, Events, Says, answer_plan, opened_plan, opened_viewer, plan_of, plan_on, seen_plan}
 
--- what is neither an event of the hand nor a scroll is planned by the screen
+-- what is neither an event of the hand, nor a scroll, nor what follows one or a call is planned by the screen
 pub by_screen : (task : Task) (d : Desktop) → ((event : Event) → task ≢ kind.Post event)
     → ((at : Option (ℕ × ℕ)) (wish : Wish) → task ≢ kind.Scroll at wish)
     → ((at : ℕ × ℕ) (deletes : Bool) → task ≢ kind.Below at deletes)
     → ((at : ℕ × ℕ) (wish : Wish) (deletes : Bool) → task ≢ kind.Shift at wish deletes)
     → ((before : DeskInfo) → task ≢ kind.After before)
+    → ((cell : ℕ × ℕ) → task ≢ kind.Enter cell)
+    → ((at : Option (ℕ × ℕ)) (is_up : Bool) (sight : Sight) → task ≢ kind.Page at is_up sight)
+    → ((at_end : Bool) → task ≢ kind.Show at_end)
     → plan_of task d ≡ plan_on task (shown_screen d)
 unfolding plan_of
-by_screen (kind.Post event) d post scroll below shift after = absurd (post event refl)
-by_screen (kind.Scroll at wish) d post scroll below shift after = absurd (scroll at wish refl)
-by_screen (kind.Step arrow) d post scroll below shift after = refl
-by_screen (kind.Click place) d post scroll below shift after = refl
-by_screen kind.Delete d post scroll below shift after = refl
-by_screen (kind.Pass from column deletes) d post scroll below shift after = refl
-by_screen (kind.Below at deletes) d post scroll below shift after = absurd (below at deletes refl)
-by_screen (kind.Shift at wish deletes) d post scroll below shift after = absurd (shift at wish deletes refl)
-by_screen (kind.Reach place) d post scroll below shift after = refl
-by_screen kind.Rub d post scroll below shift after = refl
-by_screen (kind.AtCaret click) d post scroll below shift after = refl
-by_screen (kind.Compose event) d post scroll below shift after = refl
-by_screen (kind.Break event next) d post scroll below shift after = refl
-by_screen (kind.Rejoin event next) d post scroll below shift after = refl
-by_screen (kind.Call word) d post scroll below shift after = refl
-by_screen (kind.Seek at) d post scroll below shift after = refl
-by_screen (kind.Replace t fills) d post scroll below shift after = refl
-by_screen (kind.Wrap next t fills) d post scroll below shift after = refl
-by_screen (kind.Resume event t fills) d post scroll below shift after = refl
-by_screen (kind.After before) d post scroll below shift after = absurd (after before refl)
+by_screen (kind.Post event) d post scroll below shift after enter page show = absurd (post event refl)
+by_screen (kind.Scroll at wish) d post scroll below shift after enter page show = absurd (scroll at wish refl)
+by_screen (kind.Step arrow) d post scroll below shift after enter page show = refl
+by_screen (kind.Click place) d post scroll below shift after enter page show = refl
+by_screen kind.Delete d post scroll below shift after enter page show = refl
+by_screen (kind.Pass from column deletes) d post scroll below shift after enter page show = refl
+by_screen (kind.Below at deletes) d post scroll below shift after enter page show = absurd (below at deletes refl)
+by_screen (kind.Shift at wish deletes) d post scroll below shift after enter page show = absurd (shift at wish deletes refl)
+by_screen (kind.Reach place) d post scroll below shift after enter page show = refl
+by_screen kind.Rub d post scroll below shift after enter page show = refl
+by_screen (kind.AtCaret click) d post scroll below shift after enter page show = refl
+by_screen (kind.Compose event) d post scroll below shift after enter page show = refl
+by_screen (kind.Break event next) d post scroll below shift after enter page show = refl
+by_screen (kind.Rejoin event next) d post scroll below shift after enter page show = refl
+by_screen (kind.Call word) d post scroll below shift after enter page show = refl
+by_screen (kind.Seek at) d post scroll below shift after enter page show = refl
+by_screen (kind.Replace t fills) d post scroll below shift after enter page show = refl
+by_screen (kind.Wrap next t fills) d post scroll below shift after enter page show = refl
+by_screen (kind.Resume event t fills) d post scroll below shift after enter page show = refl
+by_screen (kind.After before) d post scroll below shift after enter page show = absurd (after before refl)
+by_screen (kind.Enter cell) d post scroll below shift after enter page show = absurd (enter cell refl)
+by_screen (kind.Page at is_up sight) d post scroll below shift after enter page show = absurd (page at is_up sight refl)
+by_screen (kind.Show at_end) d post scroll below shift after enter page show = absurd (show at_end refl)
+by_screen (kind.Last place) d post scroll below shift after enter page show = refl
+by_screen (kind.Reveal cell) d post scroll below shift after enter page show = refl
 
 -- what is left to do once a word was called
 module _ (before : DeskInfo) (d : Desktop) where
-  pub entry_answer : (place : Place) (info : DeskInfo) → opened_place before d ≡ Some place → info ≡ desk_info d
-      → entry_plan info.is_marked (text_start place) ≡ plan_of (kind.After before) d
+  pub opened_answer : (viewer : ShownViewer) → opened_viewer before d ≡ Some viewer
+      → opened_plan viewer ≡ plan_of (kind.After before) d
   unfolding plan_of
-  entry_answer place info some is = ap (λ (i : DeskInfo). entry_plan i.is_marked (text_start place)) is
-      ∙ sym (ap (λ p. answer_plan p before d) some)
+  opened_answer viewer some = sym (ap (λ p. answer_plan p before d) some)
 
-  module _ (none : opened_place before d ≡ None) (info : DeskInfo) (is : info ≡ desk_info d) where
+  module _ (none : opened_viewer before d ≡ None) (info : DeskInfo) (is : info ≡ desk_info d) where
     abbrev longer : Bool
     longer = nat_lt before.log_length (desk_info d).log_length
 

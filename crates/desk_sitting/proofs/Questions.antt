@@ -29,22 +29,22 @@ asking_keeps : (o : Option Question) (s : Sitting) → (questioned o s).leaves �
 asking_keeps None s = refl
 asking_keeps (Some question) s = refl
 
-asked_is : (a : Action) (d : Seat) (hand : Hand) → asks_first a d ≡ true
-    → acted a (record d { sitting = with_hand hand d.sitting })
-    ≡ with_question a (record d { sitting = with_hand hand d.sitting })
+asked_is : (a : Action) (d : Seat) (next : Hand × Action) → asks_first a d ≡ true
+    → acted a (record d { sitting = with_hand next d.sitting })
+    ≡ with_question a (record d { sitting = with_hand next d.sitting })
 unfolding acted
-asked_is a d hand asks =
-    let held = record d { sitting = with_hand hand d.sitting } in
-    cond-true (asks_first a held) _ _ (hand_asks a hand d ∙ asks)
+asked_is a d next asks =
+    let held = record d { sitting = with_hand next d.sitting } in
+    cond-true (asks_first a held) _ _ (hand_asks a next d ∙ asks)
 
 pub posts_nothing : QuestionsPostNothing
 unfolding after_press
 posts_nothing press d is =
     let made = handled d.sitting.sight press d.sitting.hand in
     let (here, asks) = both d.sitting.leaves (asks_first made.1 d) is in
-    let held = record d { sitting = with_hand made.0 d.sitting } in
-    let next = cond-false d.sitting.leaves d (acted made.1 held) here ∙ asked_is made.1 d made.0 asks in (
-      none_either d.sitting.leaves _ (cond-true (asks_first made.1 held) [] _ (hand_asks made.1 made.0 d ∙ asks)),
+    let held = record d { sitting = with_hand made d.sitting } in
+    let next = cond-false d.sitting.leaves d (acted made.1 held) here ∙ asked_is made.1 d made asks in (
+      none_either d.sitting.leaves _ (cond-true (asks_first made.1 held) [] _ (hand_asks made.1 made d ∙ asks)),
       ap (λ (t : Seat). t.session) next,
       ap (λ (t : Seat). t.sitting.leaves) next
           ∙ asking_keeps (question_at made.1 held) held.sitting ∙ here,

@@ -305,13 +305,13 @@ left_seat press d leaves = sym (cond-true d.sitting.leaves d _ leaves)
 
 -- before that the hand says what a press comes to
 pub pressed_seat : (press : Press) (d : Seat) (s : Sitting) (act : Action) → d.sitting.leaves ≡ false
-    → s ≡ with_hand (handled d.sitting.sight press d.sitting.hand).0 d.sitting
+    → s ≡ with_hand (handled d.sitting.sight press d.sitting.hand) d.sitting
     → act ≡ (handled d.sitting.sight press d.sitting.hand).1
     → acted act (record d { sitting = s }) ≡ after_press press d
 unfolding after_press
 pressed_seat press d s act stays is is_act =
     ap (λ t. acted act (record d { sitting = t })) is
     ∙ ap (λ a. acted a (record d {
-      sitting = with_hand (handled d.sitting.sight press d.sitting.hand).0 d.sitting;
+      sitting = with_hand (handled d.sitting.sight press d.sitting.hand) d.sitting;
     })) is_act
     ∙ sym (cond-false d.sitting.leaves d _ stays)

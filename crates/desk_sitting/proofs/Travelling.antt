@@ -1,5 +1,5 @@
 -- What taking back and doing again come to.
-use Rattle.std.proofs.Common.{◌≡◌, ◌≢◌, inl, inr, ◌-◌, ℕ, List, length, false, refl, sym, ap, ◌∙◌, arith}
+use Rattle.std.proofs.Common.{◌≡◌, ◌≢◌, inl, inr, ℕ, List, false, refl, sym, ap, ◌∙◌}
 use Rattle.std.proofs.Common.{Option, Some, None, subst}
 use Rattle.desk_presses.specs.declared.again.NextEvent.{NextEvent}
 use Rattle.desk_presses.specs.Past.{back_count}

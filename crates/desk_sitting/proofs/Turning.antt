@@ -5,6 +5,7 @@ use Rattle.std.specs.Prelude.{Result, OnErr, IfErr}
 use Rattle.byte_streams.specs.Counting.{CountsFault, RisesWhere}
 use Rattle.byte_streams.specs.Sent.{AppendsFront}
 use Rattle.sector_disk.specs.declared.disk.Disk.{Ghosts}
+use Rattle.sector_disk.specs.Trail.{IsCrashImage, now}
 use Rattle.sector_disk.proofs.Touching.{at_last}
 use Rattle.event_bytes.specs.declared.event.Event.{Event}
 use Rattle.screen_pictures.specs.declared.cell.Cell.{Cell}
@@ -21,9 +22,10 @@ use Rattle.desk_journal.specs.Errors.{Fault as DiskFault}
 use Rattle.desk_journal.specs.Looking.{OnlyLooks}
 use Rattle.desk_journal.specs.Session.{Session, session_of}
 use Rattle.desk_journal.specs.View.{StoreView, IsDurable}
+use Rattle.desk_journal.proofs.Passing.{at_start}
 use Rattle.desk_sitting.specs.declared.sitting.Sitting.{Sitting}
 use Rattle.desk_sitting.specs.Doing.{Breaks, DoesPresses, OfPresses, seat_of}
-use Rattle.desk_sitting.specs.Sittings.{accepted_events, looked}
+use Rattle.desk_sitting.specs.Sittings.{accepted_events, is_scene_due, looked}
 use Rattle.desk_sitting.specs.declared.ending.SittingEnd.{SittingEnd}
 use Rattle.desk_sitting.specs.declared.ending.SittingEnd.TheVariants.{Left, Closed, Input, TooLong, Output, Fault, Memory}
 use Rattle.desk_sitting.specs.Endings.{EndsBy, IsOfNoKeyboard, sitting_end_of, end_of_keyboard}
@@ -32,6 +34,8 @@ use Rattle.desk_sitting.specs.Serving.{TurnState, IsFetched, IsLookedAt, HearsAf
 use Rattle.desk_sitting.specs.Serving.{HasTurned, HasStopped, TakesTurn, CountsEnding, IsUsableAt, store_screen, sitting_shown}
 use Rattle.desk_sitting.specs.Serving.{CountsOutput, left, closed}
 use Rattle.desk_sitting.specs.Serving.{unheard, unseen, faulty, starved, faulty_press, starved_press}
+use Rattle.desk_sitting.specs.Serving.{IsSeenUnlessDue, IsShownIfDue, StaysInUse}
+use Rattle.desk_sitting.proofs.Seen.{seen_so}
 
 -- ---- a scene
 
@@ -58,6 +62,23 @@ module _ {D : Type 0} (d : Ghosts D) where
         disk = looks.disk;
         durable = still_durable old new looks.disk same durable;
       }
+
+  -- nobody looks
+  same_disk : (disk : D) → IsSameDevice d disk disk
+  same_disk disk = record { as_large = refl; still = λ honest. honest; already = λ honest. honest }
+
+  pub unlooked : (store : StoreView D) → IsDurable d store → IsLookedAt d store store
+  unlooked store durable = record {
+    session = refl;
+    disk = record {
+      device = same_disk store.disk;
+      unwritten = λ honest. at_start (d.trail store.disk) (IsCrashImage (now (d.trail store.disk))) (λ c image. image);
+    };
+    durable = durable;
+  }
+
+  pub unused : (store : StoreView D) → store.must_reopen ≡ false → StaysInUse d store store
+  unused store usable = record { usable = usable; device = same_disk store.disk }
 
 -- the output fails behind the scene
 module _ (s s' : Sitting) (screen screen' : List (List Cell)) (known known' : List (List Face))
@@ -193,7 +214,8 @@ module _ {D : Type 0} (d : Ghosts D) where
 
   -- a turn in which the sitting ends
   ended : {T : Type 0} (result : Result T SittingEnd) (end : SittingEnd) (old new : TurnState D) → result ≡ Err end
-      → (d.honest old.store.disk → IsDurable d old.store → HasStopped d end old new) → IsUsableAt end new.store
+      → (d.honest old.store.disk → IsDurable d old.store → IsSeenUnlessDue old → HasStopped d end old new)
+      → IsUsableAt end new.store
       → CountsEnding end (d.failures old.store.disk) (d.failures new.store.disk)
       → IsSameDevice d old.store.disk new.store.disk → TakesTurn d result old new
   ended result end old new is stops usable counts device = subst (λ r. TakesTurn d r old new) (sym is) (record {
@@ -207,25 +229,30 @@ module _ {D : Type 0} (d : Ghosts D) where
   })
 
   -- the scene isn't shown
-  unshown_stops : (end : SittingEnd) (old new : TurnState D) → IsLookedAt d old.store new.store → new.heard ≡ old.heard
+  unshown_stops : (end : SittingEnd) (old new : TurnState D) → is_scene_due old.sitting ≡ true
+      → IsLookedAt d old.store new.store → new.heard ≡ old.heard
       → IsUnshown end old.sitting (store_screen old.store) old.known old.held new.held → HasStopped d end old new
-  unshown_stops Left old new looks heard why = absurd why
-  unshown_stops Closed old new looks heard why = absurd why
-  unshown_stops Input old new looks heard why = absurd why
-  unshown_stops TooLong old new looks heard why = absurd why
-  unshown_stops Output old new looks heard why = ([], [], unseen (record { looked = looks; cut = why; heard = heard }))
-  unshown_stops Fault old new looks heard why = ([], [], faulty (record { looked = looks; held = why; heard = heard }))
-  unshown_stops Memory old new looks heard why =
-      ([], [], starved (record { looked = looks; held = why; heard = heard }))
+  unshown_stops Left old new due looks heard why = absurd why
+  unshown_stops Closed old new due looks heard why = absurd why
+  unshown_stops Input old new due looks heard why = absurd why
+  unshown_stops TooLong old new due looks heard why = absurd why
+  unshown_stops Output old new due looks heard why =
+      ([], [], unseen (record { due = due; looked = looks; cut = why; heard = heard }))
+  unshown_stops Fault old new due looks heard why =
+      ([], [], faulty (record { due = due; looked = looks; held = why; heard = heard }))
+  unshown_stops Memory old new due looks heard why =
+      ([], [], starved (record { due = due; looked = looks; held = why; heard = heard }))
 
   pub unshown_ends : {T : Type 0} {old new : TurnState D} (result : Result T SittingEnd) (end : SittingEnd)
       → result ≡ Err end → (d.honest old.store.disk → IsDurable d old.store → IsLookedAt d old.store new.store)
-      → (d.honest old.store.disk → IsUnshown end old.sitting (store_screen old.store) old.known old.held new.held)
+      → (is_scene_due old.sitting ≡ true)
+      × (d.honest old.store.disk → IsUnshown end old.sitting (store_screen old.store) old.known old.held new.held)
       → new.heard ≡ old.heard → new.store.must_reopen ≡ false
       → CountsEnding end (d.failures old.store.disk) (d.failures new.store.disk)
       → IsSameDevice d old.store.disk new.store.disk → TakesTurn d result old new
   unshown_ends {old = old} {new = new} result end is looks why heard usable = ended result end old new is
-      (λ honest durable. unshown_stops end old new (looks honest durable) heard (why honest)) (λ _ _. usable)
+      (λ honest durable seen. unshown_stops end old new why.0 (looks honest durable) heard (why.1 honest))
+      (λ _ _. usable)
 
   -- nothing is heard
   deaf_stops : (why : KeyboardEnd) (old new : TurnState D) → IsDeaf d old new
@@ -237,15 +264,16 @@ module _ {D : Type 0} (d : Ghosts D) where
       → result ≡ Err (end_of_keyboard why)
       → (d.honest old.store.disk → IsDurable d old.store → IsLookedAt d old.store new.store)
       → (d.honest old.store.disk
-      → IsSceneShown old.sitting (store_screen old.store) old.known new.known old.held new.held)
+      → IsShownIfDue old.sitting old.store new.store old.known new.known old.held new.held)
       → new.heard ≡ old.heard → new.store.must_reopen ≡ false
       → d.failures new.store.disk ≡ d.failures old.store.disk
       → IsSameDevice d old.store.disk new.store.disk → TakesTurn d result old new
   deaf_ends {old = old} {new = new} result why is looks shown heard usable calm =
       ended result (end_of_keyboard why) old new is
-      (λ honest durable. deaf_stops why old new (record {
+      (λ honest durable seen. deaf_stops why old new (record {
         looked = looks honest durable;
         shown = shown honest;
+        seen = seen_so (shown honest) seen;
         heard = heard ∙ sym (append-nil old.heard);
       })) (λ _ _. usable) (calm_keyboard why (d.failures old.store.disk) (d.failures new.store.disk) calm)
 
@@ -254,20 +282,26 @@ module _ {D : Type 0} (d : Ghosts D) where
       (looks : d.honest old.store.disk → IsDurable d old.store → IsLookedAt d old.store mid)
       (sees : d.honest old.store.disk → s ≡ sitting_shown old)
       (shown : d.honest old.store.disk
-      → IsSceneShown old.sitting (store_screen old.store) old.known new.known old.held new.held)
+      → IsShownIfDue old.sitting old.store mid old.known new.known old.held new.held)
       (heard : new.heard ≡ old.heard ++ hearing) where
-    scene : d.honest old.store.disk → IsDurable d old.store → HearsAfterScene d hearing old mid new
-    scene honest durable = record { looked = looks honest durable; shown = shown honest; heard = heard }
+    scene : d.honest old.store.disk → IsDurable d old.store → IsSeenUnlessDue old → HearsAfterScene d hearing old mid new
+    scene honest durable seen = record {
+      looked = looks honest durable;
+      shown = shown honest;
+      seen = seen_so (shown honest) seen;
+      heard = heard;
+    }
 
     pub turned : (s' : Sitting) → new.parser ≡ parser_after old.parser hearing
         → (d.honest mid.disk → IsDurable d mid → DoesPresses d (presses_heard old.parser hearing) s s' mid new.store)
-        → IsFetched s' new.sitting → d.honest old.store.disk → IsDurable d old.store → HasTurned d old new
-    turned s' parser does brings honest durable = (
+        → IsFetched s' new.sitting → d.honest old.store.disk → IsDurable d old.store → IsSeenUnlessDue old
+        → HasTurned d old new
+    turned s' parser does brings honest durable seen = (
       accepted_events (presses_heard old.parser hearing) (seat_of (sitting_shown old) mid),
       record {
         hearing = hearing;
         mid = mid;
-        scene = scene honest durable;
+        scene = scene honest durable seen;
         parser = parser;
         sitting = s';
         does = subst (λ t. DoesPresses d (presses_heard old.parser hearing) t s' mid new.store) (sees honest)
@@ -280,8 +314,9 @@ module _ {D : Type 0} (d : Ghosts D) where
     -- a press fails
     broken : (error : Error) → OfPresses error
         → (d.honest mid.disk → IsDurable d mid → Breaks d error (presses_heard old.parser hearing) s mid new.store)
-        → d.honest old.store.disk → IsDurable d old.store → HasStopped d (sitting_end_of error) old new
-    broken error why fails honest durable =
+        → d.honest old.store.disk → IsDurable d old.store → IsSeenUnlessDue old
+        → HasStopped d (sitting_end_of error) old new
+    broken error why fails honest durable seen =
         let breaks : Breaks d error (presses_heard old.parser hearing) (sitting_shown old) mid new.store =
         subst (λ t. Breaks d error (presses_heard old.parser hearing) t mid new.store) (sees honest)
         (fails ((looks honest durable).disk.device.still honest) (looks honest durable).durable) in
@@ -291,7 +326,7 @@ module _ {D : Type 0} (d : Ghosts D) where
         let broke : Broke d error events begun old new = record {
           hearing = hearing;
           mid = mid;
-          scene = scene honest durable;
+          scene = scene honest durable seen;
           breaks = breaks;
           are = refl;
           fails = refl;

@@ -8,10 +8,11 @@ use Rattle.desk_sitting.specs.declared.ending.SittingEnd.{SittingEnd}
 use Rattle.desk_sitting.specs.declared.ending.SittingEnd.TheVariants.{TooLong}
 use Rattle.desk_sitting.specs.declared.serving.TheConstants.{MOST_TURNS}
 use Rattle.desk_sitting.specs.Serving.{TurnState, IsTurnRun, Ends, TakesTurn, HasStopped, none, one_more}
-use Rattle.desk_sitting.specs.Serving.{stopped, too_long}
+use Rattle.desk_sitting.specs.Serving.{IsSeenUnlessDue, stopped, too_long}
 use Rattle.desk_sitting.specs.Surviving.{TurnsSurvive, EndsSurvive}
 use Rattle.desk_sitting.specs.Sitting.{Comes, IsStretchOfTurns, Sits, TakesEitherTurn, here, again}
 use Rattle.desk_sitting.specs.Travelling.{TakesBetween}
+use Rattle.desk_sitting.proofs.Seen.{between_seen, turn_seen}
 use Rattle.desk_sitting.proofs.Turning.{same_device}
 
 module _ {D : Type 0} (d : Ghosts D) where
@@ -26,6 +27,7 @@ module _ {D : Type 0} (d : Ghosts D) where
     pub started : IsDurable d start.store
     pub events : List Event
     pub run : IsTurnRun d start within events place
+    pub seen : IsSeenUnlessDue place
 
   -- after so many turns
   pub record HasCome (first : TurnState D) (count : ℕ) (place : TurnState D) : Type 0 where
@@ -35,8 +37,8 @@ module _ {D : Type 0} (d : Ghosts D) where
     pub device : IsSameDevice d first.store.disk place.store.disk
 
   pub come_none : {first : TurnState D} → IsDurable d first.store → first.store.must_reopen ≡ false
-      → HasCome first 0 first
-  come_none {first = first} durable usable = record {
+      → IsSeenUnlessDue first → HasCome first 0 first
+  come_none {first = first} durable usable seen = record {
     run = λ honest. record {
       before = 0;
       start = first;
@@ -47,6 +49,7 @@ module _ {D : Type 0} (d : Ghosts D) where
       started = durable;
       events = [];
       run = none;
+      seen = seen;
     };
     usable = usable;
     calm = refl;
@@ -69,7 +72,7 @@ module _ {D : Type 0} (d : Ghosts D) where
     turn_more {new = new} value turn = record {
       run = λ honest.
           let run = come.run honest in
-          let more = turn.goes_on (come.device.still honest) (stretch run).goes.durable in
+          let more = turn.goes_on (come.device.still honest) (stretch run).goes.durable run.seen in
           record {
             before = run.before;
             start = run.start;
@@ -80,6 +83,7 @@ module _ {D : Type 0} (d : Ghosts D) where
             started = run.started;
             events = run.events ++ more.0;
             run = one_more run.run more.1 turn.stays;
+            seen = turn_seen d more.1;
           };
       usable = turn.usable;
       calm = turn.counts ∙ come.calm;
@@ -103,6 +107,7 @@ module _ {D : Type 0} (d : Ghosts D) where
             started = between.travelled.durable;
             events = [];
             run = none;
+            seen = between_seen d between run.seen;
           };
       usable = turn.usable;
       calm = turn.counts ∙ come.calm;
@@ -147,7 +152,7 @@ module _ {D : Type 0} (d : Ghosts D) where
     sat_to_end {last = last} end (inl turn) honest =
         let run = come.run honest in
         let why : HasStopped d end place last =
-        turn.stops (come.device.still honest) (stretch run).goes.durable in
+        turn.stops (come.device.still honest) (stretch run).goes.durable run.seen in
         sat_with end why.0 why.1 last run (stopped why.2)
     sat_to_end {last = last} end (inr turn) honest =
         let run = come.run honest in

@@ -1,59 +1,19 @@
 -- Questions. A press that would lose something posts nothing and asks; the same press right after it does it.
-use Rattle.std.specs.Prelude.{ℕ, Bool, true, false, not, ◌&&◌, if◌then◌else◌, List, Option, Some, None, option_map}
-use Rattle.event_bytes.specs.declared.event.Event.{Event}
-use Rattle.event_bytes.specs.declared.event.Event.TheVariants.{Point}
-use Rattle.event_bytes.specs.declared.keys.Keys.TheVariants.{Middle}
-use Rattle.screen_pictures.specs.declared.cell.Cell.{Cell}
+use Rattle.std.specs.Prelude.{Bool, true, false, not, ◌&&◌, if◌then◌else◌, Option, Some, None}
 use Rattle.desktop_definitions.specs.Desktop.{Desktop}
 use Rattle.desktop_definitions.specs.Shown.{shown_screen}
 use Rattle.desk_journal.specs.Losses.{Loss, Closed, Rivalled, Taken, loss_at}
-use Rattle.desk_presses.specs.Aims.{caret_cell}
-use Rattle.desk_presses.specs.Menus.{word_call}
-use Rattle.desk_presses.specs.declared.menus.MenuWord.TheVariants as word
-use Rattle.desk_presses.specs.declared.menus.WordCall.{WordCall}
-use Rattle.terminal_presses.specs.declared.action.Click.{Click as AClick}
 use Rattle.terminal_presses.specs.declared.action.Action.{Action}
 use Rattle.terminal_presses.specs.declared.action.Action.TheVariants as action
 use Rattle.desk_sayings.specs.declared.question.Question.{Question}
-use Rattle.desk_sayings.specs.declared.question.Question.TheVariants.{Leaving, Closing, Taking}
+use Rattle.desk_sayings.specs.declared.question.Question.TheVariants.{Closing, Taking}
 use Rattle.desk_sayings.specs.declared.question.Question.TheVariants as question
 use Rattle.desk_sayings.specs.declared.saying.Saying.TheVariants.{Asks}
-use Rattle.desk_sayings.specs.Question.{asks_to_leave}
+use Rattle.desk_sayings.specs.Question.{asks_to_leave, left_behind}
 use Rattle.desk_sayings.specs.Sayings.{is_in_memory}
-use Rattle.desk_sitting.specs.declared.asking.MiddleClick.{MiddleClick}
+use Rattle.desk_sayings.specs.declared.clicks.MiddleClick.{MiddleClick}
+use Rattle.desk_sayings.specs.Clicks.{click_made}
 use Rattle.desk_sitting.specs.declared.sitting.Sitting.{Sitting}
-use Rattle.desk_sitting.specs.Tasks.{caret_event}
-
--- an event, where it is a click of the middle button
-abbrev pub middle_click : Event → Option MiddleClick
-middle_click (Point Middle x0 y0 x1 y1) =
-    Some (record { marker = None; from = (x0, y0); to = (x1, y1) })
-middle_click event = None
-
--- a click at the cell of the caret, where it is such a one
-abbrev pub click_at : AClick → Option (ℕ × ℕ) → Option MiddleClick
-click_at click None = None
-click_at click (Some at) = middle_click (caret_event click at)
-
--- the click by which a word is called on the viewer of the caret
-abbrev pub calling_click : WordCall → MiddleClick
-calling_click call =
-    record { marker = call.marker; from = (call.x, call.y); to = (call.x, call.y) }
-
--- the click of the middle button that a press makes, where this is the screen
-unfoldable pub click_made : Action → List (List Cell) → Option MiddleClick
-click_made (action.Post event) screen = middle_click event
-click_made (action.AtCaret click) screen = click_at click (caret_cell screen)
-click_made action.Search screen = option_map calling_click (word_call word.Search screen)
-click_made action.Store screen = option_map calling_click (word_call word.Store screen)
-click_made _ screen = None
-
--- whether the screen tells it
-abbrev pub is_by_screen : Action → Bool
-is_by_screen (action.AtCaret click) = true
-is_by_screen action.Search = true
-is_by_screen action.Store = true
-is_by_screen _ = false
 
 -- what is asked about what a command would lose
 abbrev pub loss_question : Option Loss → Option Question
@@ -70,10 +30,6 @@ click_question (Some click) d = loss_question (loss_at d click.marker click.from
 abbrev pub is_leave : Action → Bool
 is_leave action.Leave = true
 is_leave _ = false
-
--- what leaving would lose: a desktop in memory
-abbrev pub left_behind : Bool → Option Question
-left_behind in_memory = if in_memory then Some Leaving else None
 
 -- what a press would lose
 abbrev pub loss_of : Action → Bool → Desktop → Option Question

@@ -82,6 +82,20 @@ pub record IsSceneShown (s : Sitting) (screen : List (List Cell)) (known known' 
       between
   pub after : Appends between held' (after_scene s.rings s.asks)
 
+-- What was sent last has the terminal show this scene. What is sent after a scene changes nothing of that.
+pub record IsSeen (s : Sitting) (screen : List (List Cell)) (known : List (List Face))
+    (held : Option (List ℕ)) : Type 0 where
+  pub scene : Scene
+  pub is : IsSceneOf s screen scene
+  pub rows : known ≡ scene_rows scene
+  pub was_known : List (List Face)
+  pub before : Option (List ℕ)
+  pub between : Option (List ℕ)
+  pub paints : Paints before between was_known scene
+  pub rings : Bool
+  pub asks : Bool
+  pub after : Appends between held (after_scene rings asks)
+
 -- It took a front of that.
 pub data IsSceneCutShort (s : Sitting) (screen : List (List Cell)) (known : List (List Face))
     (held held' : Option (List ℕ)) : Type 0 where

@@ -1,5 +1,5 @@
--- A sitting over a store, turn by turn: the scene is shown, something is heard, and what is pressed is done. `d` is
--- what is known of a disk.
+-- A sitting over a store, turn by turn: the scene is shown where one is due, something is heard, and what is pressed is
+-- done. `d` is what is known of a disk.
 use Rattle.std.specs.Prelude.{◌≡◌, ◌≢◌, ◌<◌, ◌+◌, ◌-◌, ◌^◌, ℕ, Bool, true, false, List, [], ◌++◌, Option}
 use Rattle.std.specs.Prelude.{Result, MatchResult, OnOk, IfErr}
 use Rattle.byte_streams.specs.Counting.{RisesWhere}
@@ -18,10 +18,10 @@ use Rattle.terminal_keyboard.specs.Presses.{at_rest, parser_after, presses_heard
 use Rattle.desk_sayings.specs.declared.saying.Saying.{Saying}
 use Rattle.desk_sitting.specs.declared.sitting.Sitting.{Sitting}
 use Rattle.desk_sitting.specs.Doing.{Breaks, DoesPresses, seat_of}
-use Rattle.desk_sitting.specs.Sittings.{accepted_events, after_fetch, looked, new_sitting}
+use Rattle.desk_sitting.specs.Sittings.{accepted_events, after_fetch, is_scene_due, looked, new_sitting}
 use Rattle.desk_sitting.specs.declared.ending.SittingEnd.{SittingEnd}
 use Rattle.desk_sitting.specs.declared.ending.SittingEnd.TheVariants.{Left, Closed, Input, TooLong, Output, Fault, Memory}
-use Rattle.desk_sitting.specs.Scenes.{IsSceneShown, IsSceneCutShort}
+use Rattle.desk_sitting.specs.Scenes.{IsSceneShown, IsSceneCutShort, IsSeen}
 
 -- where a sitting stands between two turns: the parser, the sitting, the store, all that was heard so far, what is
 -- known of the terminal, and what the writer holds
@@ -37,9 +37,23 @@ pub record TurnState (D : Type 0) : Type 0 where
 abbrev pub store_screen : {D : Type 0} → StoreView D → List (List Cell)
 store_screen store = shown_screen store.desktop
 
--- the sitting after the scene was shown
+-- the sitting after the scene was shown; where none is due it is as before
 abbrev pub sitting_shown : {D : Type 0} → TurnState D → Sitting
 sitting_shown p = looked (store_screen p.store) p.sitting
+
+-- Unless a scene is due, what was sent last has the terminal show the scene of the desktop that stands.
+abbrev pub IsSeenUnlessDue : {D : Type 0} → TurnState D → Type 0
+IsSeenUnlessDue p =
+    is_scene_due p.sitting ≡ false → IsSeen p.sitting (store_screen p.store) p.known p.held
+
+-- What is shown before anything is heard: the scene, where one is due. Else nothing is sent, and nobody looks at the
+-- store.
+pub data IsShownIfDue {D : Type 0} (s : Sitting) (old mid : StoreView D)
+    (known known' : List (List Face)) (held held' : Option (List ℕ)) : Type 0 where
+  anew : is_scene_due s ≡ true → IsSceneShown s (store_screen old) known known' held held'
+      → IsShownIfDue s old mid known known' held held'
+  still : is_scene_due s ≡ false → mid ≡ old → known' ≡ known → held' ≡ held
+      → IsShownIfDue s old mid known known' held held'
 
 abbrev pub turn_state_of : {D : Type 0} → Parser → Sitting → StoreView D → List Heard
     → List (List Face)
@@ -103,12 +117,12 @@ module _ {D : Type 0} (d : Ghosts D) where
 
   -- ---- a turn
 
-  -- The terminal shows the desktop, and then this is heard.
+  -- The terminal shows the desktop, be it anew or still, and then this is heard.
   pub record HearsAfterScene (hearing : List Heard) (old : TurnState D) (mid : StoreView D)
       (new : TurnState D) : Type 0 where
     pub looked : IsLookedAt old.store mid
-    pub shown : IsSceneShown old.sitting (store_screen old.store) old.known new.known old.held
-        new.held
+    pub shown : IsShownIfDue old.sitting old.store mid old.known new.known old.held new.held
+    pub seen : IsSeen (sitting_shown old) (store_screen old.store) new.known new.held
     pub heard : new.heard ≡ old.heard ++ hearing
 
   -- Then what is pressed by it is done, of which these events are accepted, and the keyboard is asked for the text of a
@@ -141,12 +155,14 @@ module _ {D : Type 0} (d : Ghosts D) where
 
   -- the output takes a front of what has the terminal show the scene
   pub record IsUnseen (old new : TurnState D) : Type 0 where
+    pub due : is_scene_due old.sitting ≡ true
     pub looked : IsLookedAt old.store new.store
     pub cut : IsSceneCutShort old.sitting (store_screen old.store) old.known old.held new.held
     pub heard : new.heard ≡ old.heard
 
   -- the screen can't be worked out
   pub record IsBlind (old new : TurnState D) : Type 0 where
+    pub due : is_scene_due old.sitting ≡ true
     pub looked : IsLookedAt old.store new.store
     pub held : new.held ≡ old.held
     pub heard : new.heard ≡ old.heard
@@ -200,10 +216,11 @@ module _ {D : Type 0} (d : Ghosts D) where
   -- All that a turn promises that returns this.
   pub record TakesTurn {T : Type 0} (result : Result T SittingEnd) (old new : TurnState D)
       : Type 0 where
-    pub goes_on : OnOk result (d.honest old.store.disk → IsDurable d old.store → HasTurned old new)
+    pub goes_on : OnOk result (d.honest old.store.disk → IsDurable d old.store
+        → IsSeenUnlessDue old → HasTurned old new)
     pub stays : OnOk result (new.sitting.leaves ≡ false)
     pub stops : IfErr result (λ end. d.honest old.store.disk → IsDurable d old.store
-        → HasStopped end old new)
+        → IsSeenUnlessDue old → HasStopped end old new)
     pub usable : OnOk result (new.store.must_reopen ≡ false)
     pub still_usable : IfErr result (λ end. IsUsableAt end new.store)
     pub counts : CountsTurn result (d.failures old.store.disk) (d.failures new.store.disk)

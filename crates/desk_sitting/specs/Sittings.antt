@@ -1,28 +1,26 @@
 -- What presses come to, one after another: a sitting, and the session of the store before which it is.
-use Rattle.std.specs.Prelude.{◌≡◌, ℕ, zero, suc, ◌-◌, Bool, true, false, ◌==◌, ◌&&◌, ◌||◌, not, nat_lt, if◌then◌else◌, List, [], ◌∷◌, ◌++◌}
-use Rattle.std.specs.Prelude.{Option, Some, None, is_some, option_map, unwrap_or}
+use Rattle.std.specs.Prelude.{◌≡◌, ℕ, zero, suc, ◌-◌, Bool, true, false, ◌&&◌, ◌||◌, not, if◌then◌else◌, List, [], ◌∷◌, ◌++◌}
+use Rattle.std.specs.Prelude.{Option, Some, None, All, IfSome, is_some, min, option_map, unwrap_or}
 use Rattle.event_bytes.specs.declared.event.Event.{Event}
-use Rattle.event_bytes.specs.declared.event.Event.TheVariants.{File, Point}
-use Rattle.event_bytes.specs.declared.keys.Keys.TheVariants.{Middle}
 use Rattle.screen_pictures.specs.declared.cell.Cell.{Cell}
-use Rattle.desktop_definitions.specs.Desktop.{Desktop}
+use Rattle.desktop_definitions.specs.Shown.{shown_screen}
 use Rattle.desktop_definitions.specs.declared.reply.Reply.{Reply}
 use Rattle.desktop_definitions.specs.declared.reply.Reply.TheVariants.{Done, No}
-use Rattle.desktop_definitions.specs.Limits.{no_file}
 use Rattle.desktop_definitions.specs.Step.{step, steps}
 use Rattle.terminal_presses.specs.declared.press.Press.{Press}
 use Rattle.terminal_presses.specs.declared.action.Action.{Action}
 use Rattle.terminal_presses.specs.declared.action.Action.TheVariants as action
 use Rattle.terminal_presses.specs.declared.hand.Hand.{Hand}
 use Rattle.terminal_presses.specs.Pointers.{pointer_cell}
-use Rattle.terminal_presses.specs.Hands.{dropping, handled, new_hand, pastes_text, with_pointer}
+use Rattle.terminal_presses.specs.Hands.{dropping, handled, new_hand, pastes_text, with_pointer, without_pointer}
 use Rattle.viewer_tracks.specs.declared.display.TheConstants.{COLUMNS, ROWS}
 use Rattle.viewer_tracks.specs.declared.display.Track.TheVariants.{System}
 use Rattle.terminal_presses.specs.Sights.{Sight}
+use Rattle.desk_sayings.specs.declared.clicks.MiddleClick.{MiddleClick}
+use Rattle.desk_sayings.specs.Clicks.{click_made, is_by_screen, middle_click}
 use Rattle.desk_sayings.specs.declared.question.Question.{Question}
 use Rattle.desk_sayings.specs.declared.saying.Saying.{Saying}
-use Rattle.desk_sayings.specs.declared.saying.Saying.TheVariants.{NoKey, Refused, CutShort, Worn, Unread, Logged}
-use Rattle.desk_sayings.specs.declared.saying.Saying.TheVariants.{Unfinished, TooNarrow, TooLow, ToolFiled, OneSide, NoDocument, Fills, FillsNot, NoSearch, NothingTyped}
+use Rattle.desk_sayings.specs.declared.saying.Saying.TheVariants.{NoKey, Worn, Unread, Unfinished, Logged, NoSearch, NothingTyped}
 use Rattle.desk_sitting.specs.declared.sitting.Sitting.{Sitting}
 use Rattle.desk_sitting.specs.declared.sitting.Travel.TheVariants.{Back, Again}
 use Rattle.desk_presses.specs.Again.{no_again}
@@ -30,17 +28,18 @@ use Rattle.desk_presses.specs.declared.deed.Deed.{Deed}
 use Rattle.desk_presses.specs.Deeds.{typed_more}
 use Rattle.desk_presses.specs.Replacing.{ReplacingView, is_untouched, left_place, no_replacing, noted, replacement}
 use Rattle.desk_presses.specs.Past.{PastView, past_after, named, no_past, with_refused}
-use Rattle.desk_sitting.specs.Questions.{questioned, question_of, unasked}
-use Rattle.desk_sayings.specs.Question.{comes_first}
+use Rattle.desk_sitting.specs.Questions.{is_nothing, questioned, question_of, unasked}
+use Rattle.desk_sayings.specs.Question.{asks_to_leave, comes_first}
+use Rattle.desk_sayings.specs.Choosing.{came_to, done_saying, first_saying, fitted_saying, fill_saying, refused_saying}
 use Rattle.desk_sayings.specs.Sayings.{resting_of}
 use Rattle.desk_presses.specs.Aims.{caret_cell, or_else}
 use Rattle.desk_sitting.specs.declared.task.Task.{Task}
 use Rattle.desk_sitting.specs.declared.task.TheConstants.{MOST_PLANS}
 use Rattle.desk_sitting.specs.Tasks.{Plan, deed_of_task, keeps_sight, plan_of, task_of}
-use Rattle.desk_sitting.specs.Tasks.{Aims, Events, Refused as NotDone, Says}
+use Rattle.desk_sitting.specs.Tasks.{Aims, Events, PutsAway, Refused as NotDone, Says, Shows}
 use Rattle.desk_journal.specs.Session.{Session, is_worn, taken}
-use Rattle.desk_presses.specs.Windows.{fitted, following_sight, height_told, is_low, is_narrow, moved_sight}
-use Rattle.desk_presses.specs.Windows.{width_told}
+use Rattle.terminal_presses.specs.Windows.{fitted, following_sight, height_told, is_low, is_narrow, moved_sight}
+use Rattle.terminal_presses.specs.Windows.{width_told}
 
 -- a sitting, and the session of the store before which it is
 pub record Seat : Type 0 where
@@ -53,10 +52,6 @@ pub record Seat : Type 0 where
 abbrev pub first_sight : ℕ → ℕ → Sight
 first_sight height width =
     fitted height width (record { top = ROWS - 1; rows = ROWS; width = COLUMNS; side = System })
-
--- and what its line says then
-abbrev pub first_saying : ℕ → Saying → Saying
-first_saying width greeting = if nat_lt width COLUMNS then OneSide else greeting
 
 -- in which nothing was pressed, at a terminal of so many rows and columns; it asks before something is lost, or not
 abbrev pub new_sitting : ℕ → ℕ → Saying → Bool → Sitting
@@ -81,19 +76,12 @@ new_sitting height width greeting questions = record {
   fills = true;
   logged = record { items = [] };
   replacing = no_replacing;
+  changed = true;
 }
 
 -- the terminal rings, and the line below says why
 abbrev pub refused : Saying → Sitting → Sitting
 refused saying s = record s { saying = saying; rings = true }
-
--- why a paste is cut short of which so many characters are typed, and how far it came
-abbrev pub with_count : ℕ → Saying → Saying
-with_count n (Refused code) = CutShort n code
-with_count n saying = saying
-
-abbrev pub came_to : ℕ → Saying → Saying
-came_to n saying = if n == 0 then saying else with_count n saying
 
 -- An event is turned away, and the line below says why. Amid a paste, of which so many characters are typed, the rest of
 -- it is dropped, and the line says how far it came.
@@ -107,17 +95,6 @@ unplaced s = record s { replacing = left_place s.replacing }
 
 abbrev pub turned_away : Saying → Sitting → Sitting
 turned_away saying s = turned_by s.typed saying (unplaced s)
-
--- what the line below says once an event is done: of the text of all commands, that it is there again
-abbrev pub done_saying : Event → Saying → Saying
-done_saying (File name bytes) rest = ToolFiled
-done_saying event rest = rest
-
--- what it says of a refusal: where there is no document of a name, the word that was called has it
-abbrev pub refused_saying : Event → ℕ → Saying
-refused_saying (Point Middle x y _ _) code =
-    if code == no_file then NoDocument x y else Refused code
-refused_saying event code = Refused code
 
 -- after the reply to an event: what was done is followed by the rows in sight, and can be taken back
 unfoldable pub replied : Event → Reply → Sitting → Sitting
@@ -143,11 +120,17 @@ looked screen s = record s {
   rings = false;
   forgets = false;
   asks = false;
+  changed = false;
 }
+
+-- whether a scene is due: what is seen may have changed since the last one, or it is to be followed, or there is
+-- something to be done with a scene
+abbrev pub is_scene_due : Sitting → Bool
+is_scene_due s = s.changed || s.follows || s.rings || s.forgets || s.asks
 
 -- after the keyboard was asked for the text of a host file, where one is wanted: it will be heard, or it can't be read
 abbrev pub fetched : Bool → Sitting → Sitting
-fetched true s = record s { wanted = None; saying = s.resting }
+fetched true s = record s { wanted = None; saying = s.resting; changed = true }
 fetched false s = refused Unread (record s { wanted = None })
 
 unfoldable pub after_fetch : Bool → Sitting → Sitting
@@ -207,14 +190,27 @@ with_log_line line s = record s { saying = Logged; logged = record { items = lin
 abbrev pub aimed_at : ℕ × ℕ → Sitting → Sitting
 aimed_at cell s = record s { hand = with_pointer cell s.hand; follows = true }
 
--- what is done by a plan: the terminal rings for the reason, events are posted, a line of the log is said, or the
--- pointer moves
+-- the rows in sight go to a cell, and don't follow the caret
+abbrev pub brought_in_sight : ℕ × ℕ → Sitting → Sitting
+brought_in_sight cell s = record s {
+  sight = following_sight (Some (cell.0, min cell.1 (ROWS - 1))) s.sight;
+  follows = false;
+}
+
+-- the pointer that keys move is put away
+abbrev pub pointed_no_more : Sitting → Sitting
+pointed_no_more s = record s { hand = without_pointer s.hand }
+
+-- what is done by a plan: the terminal rings for the reason, events are posted, a line of the log is said, the pointer or
+-- the rows in sight go to a cell, or the pointer is put away
 abbrev pub after_planned : Plan → Seat → Seat
 after_planned (NotDone why) seat =
     record seat { sitting = refused why (unplaced seat.sitting) }
 after_planned (Events events next) seat = after_posts events seat
 after_planned (Says line) seat = record seat { sitting = with_log_line line seat.sitting }
 after_planned (Aims cell) seat = record seat { sitting = aimed_at cell seat.sitting }
+after_planned (Shows cell) seat = record seat { sitting = brought_in_sight cell seat.sitting }
+after_planned (PutsAway next) seat = record seat { sitting = pointed_no_more seat.sitting }
 
 -- and by a task of which that is the plan
 abbrev pub after_plan : Task → Plan → Seat → Seat
@@ -231,6 +227,8 @@ left_by (NotDone why) session = None
 left_by (Events events next) session = if does_all session events then next else None
 left_by (Says line) session = None
 left_by (Aims cell) session = None
+left_by (Shows cell) session = None
+left_by (PutsAway next) session = Some next
 
 -- what is left of a task goes one plan further
 abbrev pub task_left : Option Task → Session → Option Task
@@ -251,24 +249,9 @@ after_task (suc n) left seat =
 unfoldable pub most_plans : ℕ
 most_plans = MOST_PLANS
 
--- what the line below says once the terminal has told its size: where that is too small, that
-abbrev pub is_too_small : Saying → Bool
-is_too_small TooNarrow = true
-is_too_small TooLow = true
-is_too_small _ = false
-
-abbrev pub fitted_saying : Bool → Bool → Saying → Saying → Saying
-fitted_saying narrow low rest saying =
-    if narrow then TooNarrow else (if low then TooLow else
-    (if is_too_small saying then rest else saying))
-
 -- why the terminal rings: where a name is asked for, that stands on the line below
 abbrev pub ring_reason : Sitting → Saying
 ring_reason s = if is_some s.hand.asked then s.resting else NoKey
-
--- what the line below says of lines that are filled from now on, or no longer
-abbrev pub fill_saying : Bool → Saying
-fill_saying fills = if fills then Fills else FillsNot
 
 -- why there is nothing to be typed in the place of what was found
 abbrev pub why_unreplaced : ReplacingView → Saying
@@ -304,7 +287,7 @@ is_filling s = s.fills && not (is_some s.typed)
 
 -- the task of a press in a sitting
 abbrev pub task_in : Sitting → Action → Option Task
-task_in s a = task_of (is_filling s) (replacement s.replacing) a
+task_in s a = task_of (is_filling s) (replacement s.replacing) s.sight a
 
 -- what is typed where the pattern was found is kept
 abbrev pub noted_in : Action → Sitting → Sitting
@@ -334,21 +317,33 @@ acted a seat =
     if asks_first a seat then with_question a seat
     else done_by a (record seat { sitting = unasked a seat.sitting })
 
+-- whether nothing of a hand is seen: no name that is typed, no next click, and no pointer
+abbrev pub is_unseen : Hand → Bool
+is_unseen hand =
+    not (is_some hand.asked || is_some hand.armed || is_some (pointer_cell hand.pointer))
+
+-- Whether all that is seen stays as it is, where a press leads to this hand and comes to this: nothing of the hand is
+-- seen before and after it, it comes to nothing, and no question goes by it.
+abbrev pub is_still : Hand × Action → Sitting → Bool
+is_still next s = is_nothing next.1 && is_unseen next.0 && is_unseen s.hand
+    && not (asks_to_leave s.question)
+
 -- Once the hand has taken a press: where that is amid a text that is pasted, it is counted how many of its characters
 -- are typed, and its events are those of one press. The rows in sight follow a pointer that keys move.
-abbrev pub with_hand : Hand → Sitting → Sitting
-with_hand hand s = record s {
-  hand = hand;
+abbrev pub with_hand : Hand × Action → Sitting → Sitting
+with_hand next s = record s {
+  hand = next.0;
   typed = if pastes_text s.hand then Some (unwrap_or s.typed 0) else None;
   joins = pastes_text s.hand && s.joins;
-  follows = is_some (pointer_cell hand.pointer) || s.follows;
+  follows = is_some (pointer_cell next.0.pointer) || s.follows;
+  changed = s.changed || not (is_still next s);
 }
 
 -- nothing is done after the person has left
 unfoldable pub after_press : Press → Seat → Seat
 after_press press seat = if seat.sitting.leaves then seat else
     (let next = handled seat.sitting.sight press seat.sitting.hand in
-    acted next.1 (record seat { sitting = with_hand next.0 seat.sitting }))
+    acted next.1 (record seat { sitting = with_hand next seat.sitting }))
 
 abbrev pub after_presses : List Press → Seat → Seat
 after_presses [] seat = seat
@@ -371,6 +366,8 @@ planned (NotDone why) = []
 planned (Events events next) = events
 planned (Says line) = []
 planned (Aims cell) = []
+planned (Shows cell) = []
+planned (PutsAway next) = []
 
 -- the events of a task that are accepted, by one plan, and by so many at most
 abbrev pub accepted_stage : Option Task → Seat → List Event
@@ -395,7 +392,7 @@ accepted_unasked a seat = if asks_first a seat then []
 abbrev pub accepted_of : Press → Seat → List Event
 accepted_of press seat = if seat.sitting.leaves then [] else
     (let next = handled seat.sitting.sight press seat.sitting.hand in
-    accepted_unasked next.1 (record seat { sitting = with_hand next.0 seat.sitting }))
+    accepted_unasked next.1 (record seat { sitting = with_hand next seat.sitting }))
 
 abbrev pub accepted_events : List Press → Seat → List Event
 accepted_events [] seat = []
@@ -425,3 +422,24 @@ QuestionsPostNothing = (press : Press) (seat : Seat) → asks_by press seat ≡ 
 abbrev pub QuestionsComeOnce : Type 0
 QuestionsComeOnce = (a : Action) (seat : Seat) → asks_first a seat ≡ true
     → asks_first a (with_question a seat) ≡ false
+
+-- ---- clicks of the middle button
+
+abbrev pub ends_of : MiddleClick → (ℕ × ℕ) × (ℕ × ℕ)
+ends_of click = (click.from, click.to)
+
+-- an event is no such click, or it's the one that was told
+abbrev pub IsClickTold : Option MiddleClick → Event → Type 0
+IsClickTold told event =
+    IfSome (middle_click event) (λ click. option_map ends_of told ≡ Some (ends_of click))
+
+-- whether a press makes such a click by itself; the presses that scroll are clicks in the bar of a viewer, and call
+-- nothing
+abbrev pub is_clicking : Action → Bool
+is_clicking (action.Post event) = true
+is_clicking a = is_by_screen a
+
+-- Each of them that is accepted of such a press is the one about which it is asked.
+abbrev pub ClicksAreTold : Type 0
+ClicksAreTold = (a : Action) (seat : Seat) → is_clicking a ≡ true
+    → All (IsClickTold (click_made a (shown_screen seat.session.desktop))) (accepted_as a seat)

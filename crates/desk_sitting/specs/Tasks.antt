@@ -1,20 +1,24 @@
 -- Presses that post events: the task of each, and what a task becomes over a desktop.
-use Rattle.std.specs.Prelude.{ℕ, ◌+◌, ◌-◌, Bool, true, false, nat_lt, if◌then◌else◌, List, [], ◌∷◌, Option, Some, None, option_map}
+use Rattle.std.specs.Prelude.{ℕ, ◌+◌, ◌-◌, Bool, true, false, ◌==◌, nat_lt, if◌then◌else◌, max, List, [], ◌∷◌}
+use Rattle.std.specs.Prelude.{Option, Some, None, option_map}
+use Rattle.std.specs.List.{list_any}
 use Rattle.event_bytes.specs.declared.event.Event.{Event}
 use Rattle.event_bytes.specs.declared.event.Event.TheVariants as event
 use Rattle.event_bytes.specs.declared.keys.Keys.TheVariants as keys
 use Rattle.event_bytes.specs.declared.keys.Key.TheVariants as key
 use Rattle.screen_pictures.specs.declared.cell.Cell.{Cell}
 use Rattle.desktop_definitions.specs.Desktop.{Desktop}
-use Rattle.desktop_definitions.specs.Listing.{entries_of}
+use Rattle.desktop_definitions.specs.declared.entry.Entry.{Entry}
 use Rattle.desktop_definitions.specs.Shown.{shown_screen}
 use Rattle.desk_journal.specs.Scrolling.{Wish, presses_to}
 use Rattle.desk_journal.specs.Scrolling as wish
-use Rattle.desk_journal.specs.Views.{DeskInfo, Place, desk_info, last_log_line, shown_place}
+use Rattle.desk_journal.specs.Views.{DeskInfo, Place, ShownViewer, desk_info, last_log_line, place_at, shown_viewer}
+use Rattle.first_desk.specs.FirstDesk.{tool_event}
+use Rattle.terminal_presses.specs.Sights.{Sight}
 use Rattle.terminal_presses.specs.declared.action.Action.{Action}
 use Rattle.terminal_presses.specs.declared.action.Action.TheVariants as action
 use Rattle.terminal_presses.specs.declared.action.Click.{Click as AClick}
-use Rattle.terminal_presses.specs.declared.action.Click.TheVariants.{Mark, Keys}
+use Rattle.desk_sayings.specs.Clicks.{caret_event}
 use Rattle.terminal_presses.specs.declared.press.Arrow.{Arrow}
 use Rattle.terminal_presses.specs.declared.press.Arrow.TheVariants as arrow
 use Rattle.terminal_presses.specs.declared.press.Scroll.{Scroll as ScrollKey}
@@ -32,24 +36,28 @@ use Rattle.desk_presses.specs.declared.menus.MenuWord.TheVariants as word
 use Rattle.desk_presses.specs.declared.menus.WordCall.{WordCall}
 use Rattle.desk_presses.specs.Menus.{word_call}
 use Rattle.desk_presses.specs.Aims.{aimed, caret_cell, edge_of, further, is_caret_at, or_else, row_below}
-use Rattle.desk_presses.specs.Frames.{text_start}
+use Rattle.desk_presses.specs.Frames.{text_end, text_rows_in_sight, text_start}
 pub use Rattle.event_bytes.specs.Parts.{◌>>=◌}
 use Rattle.desk_sayings.specs.declared.saying.Saying.{Saying}
 use Rattle.desk_sayings.specs.declared.saying.Saying.TheVariants.{NoText, NoScroll, NothingAfter, NoWord, NoCommand}
 use Rattle.desk_sitting.specs.declared.task.Task.{Task}
 use Rattle.desk_sitting.specs.declared.task.Task.TheVariants.{Post, Scroll, Step, AtCaret, Click, Delete, Pass, Below, Shift, Reach, Rub}
 use Rattle.desk_sitting.specs.declared.task.Task.TheVariants.{Compose, Break, Rejoin, Call, After, Seek, Replace, Wrap, Resume}
+use Rattle.desk_sitting.specs.declared.task.Task.TheVariants.{Page, Show, Last, Reveal, Enter}
 use Rattle.desk_sitting.specs.declared.task.Plan.{Plan as MadePlan}
 use Rattle.desk_sitting.specs.declared.task.Plan.TheVariants as made
-use Rattle.desk_sitting.specs.Listed.{event_meant}
+use Rattle.desk_sitting.specs.Listed.{event_meant, is_tool}
 
 -- What a task becomes over a desktop: it can't be done, for a reason; or it has these events, and then this is left to
--- do, if anything; or it has none, and a line of the log is said, or the pointer that keys move goes to a cell.
+-- do, if anything; or it has none. Then a line of the log is said, the pointer that keys move or the rows in sight go to a
+-- cell, or that pointer is put away, and this is left to do.
 pub data Plan : Type 0 where
   Refused : Saying → Plan
   Events : List Event → Option Task → Plan
   Says : List ℕ → Plan
   Aims : ℕ × ℕ → Plan
+  Shows : ℕ × ℕ → Plan
+  PutsAway : Task → Plan
 
 -- a plan as it is kept
 abbrev pub seen_plan : MadePlan → Plan
@@ -59,17 +67,19 @@ seen_plan (made.Event event next) = Events (event ∷ []) next
 seen_plan (made.Events events next) = Events events.items next
 seen_plan (made.Says line) = Says line.items
 seen_plan (made.Aims cell) = Aims cell
+seen_plan (made.Shows cell) = Shows cell
+seen_plan (made.PutsAway next) = PutsAway next
 
 -- ---- the task of a press
 
--- the wheel moves a text by three lines
-abbrev pub wish_of : ScrollKey → Wish
-wish_of WheelUp = wish.Up 3
-wish_of WheelDown = wish.Down 3
-wish_of PageUp = wish.PageUp
-wish_of PageDown = wish.PageDown
-wish_of First = wish.Line 0
-wish_of Last = wish.End
+-- the wheel moves a text by three lines, and a page is as long as what is in sight of it
+abbrev pub scroll_task : Option (ℕ × ℕ) → ScrollKey → Sight → Task
+scroll_task at WheelUp sight = Scroll at (wish.Up 3)
+scroll_task at WheelDown sight = Scroll at (wish.Down 3)
+scroll_task at PageUp sight = Page at true sight
+scroll_task at PageDown sight = Page at false sight
+scroll_task at First sight = Scroll at (wish.Line 0)
+scroll_task at Last sight = Scroll at wish.End
 
 abbrev pub cell_meant : Option Spot → Option (ℕ × ℕ)
 cell_meant at = option_map (λ spot. (spot.x, spot.y)) at
@@ -81,20 +91,20 @@ posting fills (event.Typed bytes) =
 posting fills event = Post event
 
 -- Of what posts no event there is none, but of the pointer's way to the next command. Before it this replacement is to be
--- typed, if any is.
-unfoldable pub task_of : Bool → Option TypingView → Action → Option Task
-task_of fills replacement (action.Post event) = Some (posting fills event)
-task_of fills replacement (action.Scroll at scroll) =
-    Some (Scroll (cell_meant at) (wish_of scroll))
-task_of fills replacement (action.GoTo line) = Some (Scroll None (wish.Line (line - 1)))
-task_of fills replacement (action.Seek at) = Some (Seek (at.x, at.y))
-task_of fills replacement (action.Step arrow) = Some (Step arrow)
-task_of fills replacement action.Delete = Some Delete
-task_of fills replacement (action.AtCaret click) = Some (AtCaret click)
-task_of fills replacement action.Search = Some (Call word.Search)
-task_of fills replacement action.Store = Some (Call word.Store)
-task_of fills replacement action.Replace = option_map (λ t. Replace t fills) replacement
-task_of fills replacement _ = None
+-- typed, if any is, and this part of the display is in sight.
+unfoldable pub task_of : Bool → Option TypingView → Sight → Action → Option Task
+task_of fills replacement sight (action.Post event) = Some (posting fills event)
+task_of fills replacement sight (action.Scroll at scroll) =
+    Some (scroll_task (cell_meant at) scroll sight)
+task_of fills replacement sight (action.GoTo line) = Some (Scroll None (wish.Line (line - 1)))
+task_of fills replacement sight (action.Seek at) = Some (Seek (at.x, at.y))
+task_of fills replacement sight (action.Step arrow) = Some (Step arrow)
+task_of fills replacement sight action.Delete = Some Delete
+task_of fills replacement sight (action.AtCaret click) = Some (AtCaret click)
+task_of fills replacement sight action.Search = Some (Call word.Search)
+task_of fills replacement sight action.Store = Some (Call word.Store)
+task_of fills replacement sight action.Replace = option_map (λ t. Replace t fills) replacement
+task_of fills replacement sight _ = None
 
 -- what a press did by a task; of what the hand posts, what the event did
 abbrev pub deed_of_task : Task → Option Deed
@@ -104,6 +114,11 @@ deed_of_task (Break event next) = Some (deed_of event)
 deed_of_task (Rejoin event next) = Some (deed_of event)
 deed_of_task (Call word) = Some (deed.Click keys.Middle)
 deed_of_task (Scroll at wish) = Some deed.Scroll
+deed_of_task (Page at is_up sight) = Some deed.Scroll
+deed_of_task (Show at_end) = None
+deed_of_task (Last place) = None
+deed_of_task (Reveal cell) = None
+deed_of_task (Enter cell) = None
 deed_of_task (AtCaret click) = None
 deed_of_task (After before) = None
 deed_of_task (Seek at) = None
@@ -116,17 +131,13 @@ deed_of_task _ = Some (deed.Click keys.Left)
 -- whether the rows in sight don't follow the caret for it
 abbrev pub keeps_sight : Task → Bool
 keeps_sight (Scroll at wish) = true
+keeps_sight (Page at is_up sight) = true
 keeps_sight _ = false
 
 -- ---- its plan
 
 abbrev pub click_of : ℕ × ℕ → Event
 click_of place = event.Point keys.Left place.0 place.1 place.0 place.1
-
--- the click at a cell, and what it is at the desk
-abbrev pub caret_event : AClick → ℕ × ℕ → Event
-caret_event Mark place = event.Mark place.0 place.1
-caret_event (Keys keys) place = event.Point keys place.0 place.1 place.0 place.1
 
 unfoldable pub at_caret_plan : AClick → Option (ℕ × ℕ) → Plan
 at_caret_plan click None = Refused NoText
@@ -136,10 +147,45 @@ at_caret_plan click (Some place) = Events [] (Some (Post (caret_event click plac
 abbrev pub why_not : Bool → Saying
 why_not deletes = if deletes then NothingAfter else NoText
 
+-- where a viewer was to show a line by its number, or its last one, that comes into sight
+abbrev pub shown_then : Wish → Option Task
+shown_then (wish.Line n) = Some (Show false)
+shown_then wish.End = Some (Show true)
+shown_then _ = None
+
 -- the presses that scroll, where there is a way
-abbrev pub scroll_plan : Option (List Event) → Plan
-scroll_plan None = Refused NoScroll
-scroll_plan (Some events) = Events events None
+abbrev pub scroll_plan : Wish → Option (List Event) → Plan
+scroll_plan wish None = Refused NoScroll
+scroll_plan wish (Some events) = Events events (shown_then wish)
+
+-- where the viewer stands that has the caret, and the one that is meant: at a cell, or that one
+unfoldable pub caret_place : Desktop → Option Place
+caret_place d =
+    option_map (λ viewer. viewer.place) ((desk_info d).caret_viewer >>= shown_viewer d)
+
+abbrev pub place_meant : Option (ℕ × ℕ) → Desktop → Option Place
+place_meant None d = caret_place d
+place_meant (Some cell) d = place_at d cell
+
+-- A page is as many lines as rows are in sight, less one, and at least one. Where none is it's that of the whole viewer.
+unfoldable pub page_wish : Bool → ℕ → Wish
+page_wish true n = if n == 0 then wish.PageUp else wish.Up (max (n - 1) 1)
+page_wish false n = if n == 0 then wish.PageDown else wish.Down (max (n - 1) 1)
+
+unfoldable pub page_plan : Option (ℕ × ℕ) → Bool → Sight → Desktop → Plan
+page_plan at is_up sight d = let rows = text_rows_in_sight sight (place_meant at d) in
+    Events [] (Some (Scroll at (page_wish is_up rows)))
+
+-- a cell comes into sight, where there is one
+abbrev pub show_plan : Option (ℕ × ℕ) → Plan
+show_plan None = Events [] None
+show_plan (Some cell) = Shows cell
+
+-- the first row of the text of a viewer that stands there comes into sight, or the last one in which something stands
+abbrev pub shown_plan : Bool → Option Place → Plan
+shown_plan at_end None = Events [] None
+shown_plan at_end (Some place) =
+    if at_end then Events [] (Some (Last place)) else show_plan (text_start place)
 
 -- Right may have to pass the cells of a tabulator: the caret is before it after a click in any of them
 unfoldable pub passing : Arrow → List (List Cell) → Option Task
@@ -256,22 +302,35 @@ is_call _ = false
 unfoldable pub posted_plan : Event → DeskInfo → Plan
 posted_plan e before = Events (e ∷ []) (if is_call e then Some (After before) else None)
 
--- where the viewer stands that was opened since then: a new one, or the one that was closed last
-unfoldable pub opened_place : DeskInfo → Desktop → Option Place
-opened_place before d =
-    or_else (shown_place d before.next_viewer) (before.closed_viewer >>= shown_place d)
+-- a click of that button on the empty display, by the list
+abbrev pub empty_plan : Event → DeskInfo → List Entry → Plan
+empty_plan e before entries = if list_any is_tool entries
+    then Events (e ∷ []) (Some (After before)) else Events (tool_event ∷ []) None
+
+-- the viewer that was opened since then: a new one, or the one that was closed last
+unfoldable pub opened_viewer : DeskInfo → Desktop → Option ShownViewer
+opened_viewer before d =
+    or_else (shown_viewer d before.next_viewer) (before.closed_viewer >>= shown_viewer d)
 
 -- The caret goes to a cell, and before it the marker goes away, if it is set.
-abbrev pub entry_plan : Bool → Option (ℕ × ℕ) → Plan
-entry_plan marked None = Events [] None
-entry_plan marked (Some cell) = if marked
+abbrev pub entry_plan : Bool → ℕ × ℕ → Plan
+entry_plan marked cell = if marked
     then Events (event.Key key.Escape ∷ []) (Some (Post (click_of cell)))
     else Events (click_of cell ∷ []) None
 
+-- it goes to the first cell of a text, where there is one, but into that of the log it doesn't: that comes into sight
+abbrev pub enter_plan : Bool → Option (ℕ × ℕ) → Plan
+enter_plan is_log None = Events [] None
+enter_plan is_log (Some cell) = PutsAway (if is_log then Reveal cell else Enter cell)
+
+-- and nothing is pointed at any more then
+abbrev pub opened_plan : ShownViewer → Plan
+opened_plan viewer = enter_plan viewer.is_log (text_start viewer.place)
+
 -- The caret goes into the viewer that was opened. Where none was, the line below says what was added to the log, if
 -- anything was.
-abbrev pub answer_plan : Option Place → DeskInfo → Desktop → Plan
-answer_plan (Some place) before d = entry_plan (desk_info d).is_marked (text_start place)
+abbrev pub answer_plan : Option ShownViewer → DeskInfo → Desktop → Plan
+answer_plan (Some viewer) before d = opened_plan viewer
 answer_plan None before d = if nat_lt before.log_length (desk_info d).log_length
     then Says (last_log_line d) else Events [] None
 
@@ -295,12 +354,17 @@ plan_on Delete screen = delete_plan screen
 plan_on (Pass from column deletes) screen = pass_plan from column deletes screen
 plan_on (Reach from) screen = reach_plan from screen
 plan_on Rub screen = Events (event.Key key.Back ∷ []) None
+plan_on (Last place) screen = show_plan (text_end place screen)
+plan_on (Reveal cell) screen = Shows cell
 plan_on _ screen = Events [] None
 
 unfoldable pub plan_of : Task → Desktop → Plan
-plan_of (Post event) d = posted_plan (event_meant (entries_of d) event) (desk_info d)
-plan_of (After before) d = answer_plan (opened_place before d) before d
-plan_of (Scroll at wish) d = scroll_plan (presses_to d at wish)
+plan_of (Post event) d = posted_plan (event_meant d event) (desk_info d)
+plan_of (After before) d = answer_plan (opened_viewer before d) before d
+plan_of (Enter cell) d = entry_plan (desk_info d).is_marked cell
+plan_of (Scroll at wish) d = scroll_plan wish (presses_to d at wish)
+plan_of (Page at is_up sight) d = page_plan at is_up sight d
+plan_of (Show at_end) d = shown_plan at_end (caret_place d)
 plan_of (Below at deletes) d = below_plan at deletes (presses_to d None wish.End)
 plan_of (Shift at wish deletes) d = shift_plan at deletes (presses_to d None wish)
 plan_of task d = plan_on task (shown_screen d)

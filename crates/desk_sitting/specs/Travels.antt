@@ -60,6 +60,7 @@ did_again deed from to s =
     if is_unmoved from to then s else record s {
       saying = DidAgain deed;
       rings = false;
+      changed = true;
       again = record s.again { place = to };
       past = named deed s.past;
     }

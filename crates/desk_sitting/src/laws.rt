@@ -1,5 +1,5 @@
 //! What holds of all sittings.
-ghost use Rattle.desk_sitting.specs.Sittings.{PressesAreSteps, QuestionsComeOnce, QuestionsPostNothing};
+ghost use Rattle.desk_sitting.specs.Sittings.{ClicksAreTold, PressesAreSteps, QuestionsComeOnce, QuestionsPostNothing};
 
 /// Presses lead to the desktop to which the events lead that are accepted of them.
 pub fn presses_are_steps()
@@ -11,4 +11,10 @@ pub fn presses_are_steps()
 pub fn questions_post_nothing()
     ensures nothing { QuestionsPostNothing }
     ensures once { QuestionsComeOnce }
+{}
+
+/// Each click of the middle button that a press makes by itself is the one about which it is asked, as far as it is
+/// accepted.
+pub fn clicks_are_told()
+    ensures { ClicksAreTold }
 {}

@@ -25,7 +25,7 @@ mod travels;
 pub use desk_sayings::{Question, Saying, SayingLine};
 pub use doing::do_presses;
 pub use ending::SittingEnd;
-pub use laws::{presses_are_steps, questions_post_nothing};
+pub use laws::{clicks_are_told, presses_are_steps, questions_post_nothing};
 pub use serving::{MOST_TURNS, serve};
 pub use serving_laws::{sittings_survive, sittings_survive_in_files};
 pub use sitting::{Sitting, Travel};

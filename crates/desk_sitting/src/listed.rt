@@ -1,68 +1,36 @@
-//! What the list of a desktop tells of a cell, and the event that a press comes to by it.
-ghost use Rattle.std.specs.Prelude.{◌≡◌};
+//! What an event of the hand is at the desk.
+ghost use Rattle.std.specs.Prelude.{◌≡◌, false};
 ghost use Rattle.std.specs.List.{list_any};
-ghost use Rattle.viewer_tracks.specs.Display.{left_of, track_at as track_of_column};
-ghost use Rattle.desk_sitting.specs.Listed.{event_meant, is_by_list, is_tool, lacks_tool, middle_or, rows_at, listed_rows};
-ghost use Rattle.desk_sitting.specs.Listed.{rows_so_far};
+ghost use Rattle.desk_journal.specs.Views.{place_at};
+ghost use Rattle.desk_sitting.specs.Listed.{begins_in_viewer, event_meant, is_tool, middle_or};
+ghost use Rattle.desk_sitting.specs.Tasks.{is_call};
 
+use crate::task::Place;
+use desk_journal::Store;
 use desktop_definitions::Entry;
-use event_bytes::{Event, Keys};
-use first_desk::{TOOL_NAME, tool_event};
-use viewer_tracks::SYSTEM_LEFT;
+use event_bytes::Event;
+use first_desk::TOOL_NAME;
+use sector_disk::Disk;
 
-/// The rows of a viewer: the first, and the one before which it ends.
-type Rows = Option<(u8, u8)>;
-
-/// The leftmost column of the track that has a column.
-fn left_at(x: u8) -> u8
-    ensures { result ≡ left_of (track_of_column x) }
+/// Where the viewer stands that is seen at a cell.
+pub(crate) fn place_at<D: Disk>(cell: Place, store: &Store<D>) -> Option<viewer_tracks::Place>
+    requires { store.now.must_reopen ≡ false }
+    ensures { result ≡ place_at store.now.desktop cell }
 {
-    if x < SYSTEM_LEFT { 0 } else { SYSTEM_LEFT }
-}
-
-/// The rows of the viewer that has a cell, after an entry more of the list.
-fn rows_so_far(left: u8, y: u8, rows: Rows, entry: &Entry) -> Rows
-    ensures { result ≡ rows_so_far left y rows entry.now }
-{
-    match entry {
-        Entry::Viewer { x, bottom, top, .. } => {
-            if *x == left && *bottom <= y && y < *top {
-                Some((*bottom, *top))
-            } else {
-                rows
-            }
-        }
-        Entry::Over { x, .. } => if *x == left { None } else { rows },
-        Entry::File { .. } | Entry::Written(_) => rows,
+    match store.place_at(cell) {
+        Ok(place) => place,
+        Err(_) => unreachable!(),
     }
 }
 
-/// The rows of the viewer that is seen at a cell. None on the empty display.
-#[tactic(auto, unfolding(crate::specs::Listed::rows_at))]
-fn rows_at(entries: &[Entry], x: u8, y: u8) -> Rows
-    ensures { result ≡ rows_at entries.now x y }
+/// The row in the middle of a viewer that stands there, where one does, and else the row itself.
+fn middle_or(y: u8, place: Option<viewer_tracks::Place>) -> u8
+    ensures { result ≡ middle_or y place }
 {
-    listed_rows(entries, left_at(x), y)
-}
-
-/// The rows of the viewer that is seen in a row of a track, by the leftmost column of that.
-fn listed_rows(entries: &[Entry], left: u8, y: u8) -> Rows
-    ensures { result ≡ listed_rows entries.now left y }
-{
-    let mut rows = None;
-    for entry in entries {
-        rows = rows_so_far(left, y, rows, entry);
-    }
-    rows
-}
-
-/// The row in the middle of a viewer, where one is, and else the row itself.
-fn middle_or(y: u8, rows: Rows) -> u8
-    ensures { result ≡ middle_or y rows }
-{
-    match rows {
+    match place {
         None => y,
-        Some((bottom, top)) => ((u16::from(bottom) + u16::from(top)).saturating_sub(1) / 2) as u8,
+        Some(place) => ((u16::from(place.bottom) + u16::from(place.top)).saturating_sub(1)
+            / 2) as u8,
     }
 }
 
@@ -76,61 +44,36 @@ fn is_tool(entry: &Entry) -> bool
     }
 }
 
-/// Whether a cell is one of the empty display, and there is no text that a click there could open.
-#[tactic(auto, unfolding(crate::specs::Listed::lacks_tool))]
-fn lacks_tool(entries: &[Entry], x: u8, y: u8) -> bool
-    ensures { result ≡ lacks_tool entries.now x y }
-{
-    rows_at(entries, x, y).is_none() && !has_tool(entries)
-}
-
 /// Whether the text of all commands is in the list.
-fn has_tool(entries: &[Entry]) -> bool
+pub(crate) fn has_tool(entries: &[Entry]) -> bool
     ensures { result ≡ list_any is_tool entries.now }
 {
     entries.iter().any(|entry| is_tool(entry))
 }
 
-/// Whether an event of the hand is another one by the list of the desktop.
-pub(crate) fn is_by_list(event: &Event) -> bool
-    ensures { result ≡ is_by_list event.now }
+/// Whether a click begins at a viewer.
+pub(crate) fn begins_in_viewer<D: Disk>(event: &Event, store: &Store<D>) -> bool
+    requires { store.now.must_reopen ≡ false }
+    ensures { result ≡ begins_in_viewer store.now.desktop event.now }
 {
     match event {
-        Event::Mark { .. } => true,
-        Event::Point { keys, .. } => matches!(keys, Keys::Middle),
+        Event::Point { x0, y0, .. } => place_at((*x0, *y0), store).is_some(),
         _ => false,
     }
 }
 
-/// What an event of the hand is at the desk, by the list of the desktop.
+/// What an event that calls no word is at the desk.
 #[tactic(auto, unfolding(crate::specs::Listed::event_meant))]
-pub(crate) fn event_meant(entries: &[Entry], event: Event) -> Event
-    ensures { result ≡ event_meant entries.now event }
+pub(crate) fn uncalled_event<D: Disk>(event: Event, store: &Store<D>) -> Event
+    requires usable { store.now.must_reopen ≡ false }
+    requires uncalled { is_call event ≡ false }
+    ensures { result ≡ event_meant store.now.desktop event }
 {
     match event {
         Event::Mark { x, y } => Event::Mark {
             x,
-            y: middle_or(y, rows_at(entries, x, y)),
+            y: middle_or(y, place_at((x, y), store)),
         },
-        Event::Point {
-            keys,
-            x0,
-            y0,
-            x1,
-            y1,
-        } => {
-            if matches!(keys, Keys::Middle) && lacks_tool(entries, x0, y0) {
-                tool_event()
-            } else {
-                Event::Point {
-                    keys,
-                    x0,
-                    y0,
-                    x1,
-                    y1,
-                }
-            }
-        }
         other => other,
     }
 }

@@ -1,5 +1,5 @@
 //! A sitting over a store, turn by turn.
-ghost use Rattle.std.specs.Prelude.{◌≡◌, ◌≢◌, ℕ, Bool, false, OnOk, OnErr, IfErr, IfSome, List, Option};
+ghost use Rattle.std.specs.Prelude.{◌≡◌, ◌≢◌, ℕ, Bool, true, false, OnOk, OnErr, IfErr, IfSome, List, Option};
 ghost use Rattle.terminal_keyboard.specs.declared.parser.Parser.{Parser as AParser};
 ghost use Rattle.terminal_presses.specs.declared.press.Heard.{Heard};
 ghost use Rattle.screen_drawing.specs.declared.face.Face.{Face};
@@ -8,13 +8,14 @@ ghost use Rattle.byte_streams.specs.Sent.{Sends};
 ghost use Rattle.desk_journal.specs.Device.{IsSameDevice};
 ghost use Rattle.desk_journal.specs.View.{IsDurable};
 ghost use Rattle.desk_sitting.specs.Scenes.{sitting_line};
-ghost use Rattle.desk_sitting.specs.Sittings.{after_fetch, looked};
+ghost use Rattle.desk_sitting.specs.Sittings.{after_fetch, is_scene_due, looked};
 ghost use Rattle.desk_sitting.specs.declared.ending.SittingEnd.TheVariants.{Output as TakesNoMore};
 ghost use Rattle.screen_drawing.specs.Scene.{IsInSight};
 ghost use Rattle.desk_sitting.specs.Scenes.{IsSceneOf, IsHalfPainted, IsScenePainted, IsSceneShown, IsUnshown};
 ghost use Rattle.desk_sitting.specs.Endings.{EndsBy, IsOfNoKeyboard};
 ghost use Rattle.desk_sitting.specs.Scenes.{pointer_of as pointer_at, after_scene, bell_bytes, known_by, request, size_request};
-ghost use Rattle.desk_sitting.specs.Serving.{CountsEnding, CountsOutput, CountsTurn, IsFetched, IsLookedAt, IsUsableAt};
+ghost use Rattle.desk_sitting.specs.Serving.{CountsEnding, CountsOutput, CountsTurn, IsFetched, IsLookedAt};
+ghost use Rattle.desk_sitting.specs.Serving.{IsShownIfDue, IsUsableAt};
 ghost use Rattle.desk_sitting.specs.Serving.{StaysInUse, TakesTurn, first_place, turn_state_of, store_screen};
 ghost use Rattle.desk_sitting.specs.Sitting.{Sits, TakesEitherTurn};
 ghost use Rattle.desk_sitting.specs.Travelling.{TakesBetween};
@@ -134,7 +135,7 @@ fn go<D: Disk>(alloc: Global, sitting: &mut Sitting, store: &mut Store<D>) -> Re
     Ok(travel(alloc, sitting, store)?)
 }
 
-/// One turn: the desktop is shown, something is heard, and what is pressed by it is done.
+/// One turn: the desktop is shown where a scene is due, something is heard, and what is pressed by it is done.
 ///
 /// Errors: `Output`, and `Fault` and `Memory` where the screen can't be worked out, before anything is heard; `Closed`
 /// and `Input` where nothing is heard; `Fault` and `Memory` where a press fails; `Left` where the person leaves.
@@ -156,7 +157,7 @@ fn turn<K: Keyboard, W: AnswerWriter, D: Disk>(
     ensures ended { IfErr result (EndsBy (K.ended keyboard.new)) }
     ensures output { CountsOutput result (W.failures writer.old) (W.failures writer.new) }
 {
-    show(alloc, store, sitting, painter, writer)?;
+    show_if_due(alloc, store, sitting, painter, writer)?;
     let hearing = keyboard.hear()?;
     do_presses(alloc, sitting, parser, hearing.as_slice(), store)?;
     bring(sitting, keyboard);
@@ -180,6 +181,39 @@ fn bring<K: Keyboard>(sitting: &mut Sitting, keyboard: &mut K)
         None => false,
     };
     sitting.bring(will_be_heard);
+}
+
+/// Shows the desktop where a scene is due. Else the terminal shows it already: nobody looks at the store, and nothing is
+/// sent.
+///
+/// Errors: those of `show`, and only where a scene is due.
+fn show_if_due<W: AnswerWriter, D: Disk>(
+    alloc: Global,
+    store: &mut Store<D>,
+    sitting: &mut Sitting,
+    painter: &mut Painter,
+    writer: &mut W,
+) -> Result<(), SittingEnd>
+    requires { store.old.must_reopen ≡ false }
+    ensures looks { D.honest store.old.disk → IsDurable D.Disk store.old
+        → IsLookedAt D.Disk store.old store.new }
+    ensures shown { OnOk result (D.honest store.old.disk
+        → (sitting.new ≡ looked (store_screen store.old) sitting.old)
+        × IsShownIfDue sitting.old store.old store.new
+        painter.old painter.new (W.contents writer.old) (W.contents writer.new)) }
+    ensures unshown { IfErr result (λ end. (is_scene_due sitting.old ≡ true)
+        × (D.honest store.old.disk → IsUnshown end sitting.old (store_screen store.old)
+        painter.old (W.contents writer.old) (W.contents writer.new))) }
+    ensures cause { IfErr result IsOfNoKeyboard }
+    ensures output { CountsOutput result (W.failures writer.old) (W.failures writer.new) }
+    ensures counts { CountsTurn result (D.failures store.old.disk) (D.failures store.new.disk) }
+    ensures store { StaysInUse D.Disk store.old store.new }
+{
+    if sitting.is_scene_due() {
+        show(alloc, store, sitting, painter, writer)
+    } else {
+        Ok(())
+    }
 }
 
 /// Shows the desktop, all events of which are acknowledged.

@@ -7,31 +7,30 @@ ghost use Rattle.desk_sitting.specs.Scenes.{sitting_line};
 ghost use Rattle.desk_sitting.specs.Questions.{is_nothing, is_of_terminal, questioned, unasked};
 ghost use Rattle.desk_journal.specs.View.{IsDurable};
 ghost use Rattle.desk_sitting.specs.Sittings.{followed_cell, acted, acted_alone, after_press, after_fetch, looked, new_sitting};
-ghost use Rattle.desk_sitting.specs.Sittings.{done_saying, first_saying, is_done, refused_saying, ring_reason, is_filling, fill_saying};
-ghost use Rattle.desk_sitting.specs.Sittings.{came_to, fitted_saying, after_post, refused, replied, turned_away};
+ghost use Rattle.desk_sitting.specs.Sittings.{after_post, is_done, is_filling, refused, replied, ring_reason, turned_away};
 ghost use Rattle.desk_sitting.specs.Sittings.{accepted_by, accepted_of, accepted_unasked, after_posts, does_all, went_on};
 ghost use Rattle.desk_sitting.specs.Sittings.{accepted_in, accepted_stage, after_planned, after_stage, after_task, kept_follows, left_by};
 ghost use Rattle.desk_sitting.specs.Sittings.{aimed_at, most_plans, noted_in, task_left, unplaced, why_unreplaced, with_log_line};
-ghost use Rattle.desk_sitting.specs.Sittings.{planned, with_hand};
+ghost use Rattle.desk_sitting.specs.Sittings.{brought_in_sight, is_scene_due, is_unseen, planned, pointed_no_more, with_hand};
 ghost use Rattle.desk_sitting.specs.Tasks.{seen_plan};
 
 use crate::task::{MOST_PLANS, Plan, Task};
 use desk_journal::{Error, Store};
-use desk_presses::{
-    Again, Deed, Past, Replacing, caret_of, fitted, followed, height_told, is_low, is_narrow,
-    moved, typed_more, width_told,
-};
+use desk_presses::{Again, Deed, Past, Replacing, caret_of, typed_more};
 use desk_sayings::{
-    Question, Saying, SayingLine, asks_to_leave, comes_first, line_of, resting_of, said_by_pointer,
+    Question, Saying, SayingLine, asks_to_leave, came_to, comes_first, done_saying, fill_saying,
+    first_saying, fitted_saying, line_of, refused_saying, resting_of, said_by_pointer,
 };
 use desktop_definitions::Reply;
-use desktop_definitions::codes::NO_FILE;
-use event_bytes::{Event, Keys};
+use event_bytes::Event;
 use screen_cells::Screen;
 use sector_disk::Disk;
 use std::alloc::Global;
-use terminal_presses::{Action, Hand, HostName, Press, Sight};
-use viewer_tracks::{COLUMNS, ROWS, Track};
+use terminal_presses::{
+    Action, Hand, HostName, Press, Sight, fitted, followed, height_told, is_low, is_narrow, moved,
+    width_told,
+};
+use viewer_tracks::{ROWS, Track};
 
 /// What is asked for beside a press: to take the last one back, or to do again what was taken back last.
 #[derive(Clone, Copy, Debug, PartialEq, Eq)]
@@ -87,6 +86,8 @@ pub struct Sitting {
     pub logged: SayingLine,
     /// What is typed where the pattern was found, and typed again in another such place.
     pub replacing: Replacing,
+    /// What is seen may have changed since the last scene.
+    pub changed: bool,
 }
 
 impl Sitting {
@@ -117,6 +118,7 @@ impl Sitting {
             fills: true,
             logged: SayingLine::new(),
             replacing: Replacing::none(),
+            changed: true,
         }
     }
 
@@ -168,6 +170,22 @@ impl Sitting {
         self.follows = true;
     }
 
+    /// The rows in sight go to a cell, and don't follow the caret.
+    fn show_cell(&mut self, cell: (u8, u8))
+        ensures { self.new ≡ brought_in_sight cell self.old }
+    {
+        let (x, y) = cell;
+        self.sight = followed(Some((x, y.min(ROWS - 1))), self.sight);
+        self.follows = false;
+    }
+
+    /// The pointer that keys move is put away.
+    fn put_pointer_away(&mut self)
+        ensures { self.new ≡ pointed_no_more self.old }
+    {
+        self.hand.point_nowhere();
+    }
+
     /// What the rows in sight follow: the pointer that keys move, where it is shown, and else the caret.
     fn followed_cell(&self, screen: &Screen) -> Option<(u8, u8)>
         ensures value { result ≡ followed_cell screen.now self.now.hand }
@@ -191,6 +209,14 @@ impl Sitting {
         self.rings = false;
         self.forgets = false;
         self.asks = false;
+        self.changed = false;
+    }
+
+    /// Whether a scene is due: without one all that is seen is as it is to be.
+    pub fn is_scene_due(&self) -> bool
+        ensures { result ≡ is_scene_due self.now }
+    {
+        self.changed || self.follows || self.rings || self.forgets || self.asks
     }
 
     /// The keyboard was asked for the text of the host file that is wanted, and says whether it will be heard.
@@ -202,6 +228,7 @@ impl Sitting {
             self.wanted = None;
             if will_be_heard {
                 self.saying = self.resting;
+                self.changed = true;
             } else {
                 self.refuse(Saying::Unread);
             }
@@ -272,10 +299,11 @@ impl Sitting {
     /// The hand takes a press. Amid a text that is pasted it is counted how many of its characters are typed, and its
     /// events are those of one press.
     fn take(&mut self, press: Press) -> Action
-        ensures state { self.new ≡ with_hand (handled self.old.sight press self.old.hand).0
+        ensures state { self.new ≡ with_hand (handled self.old.sight press self.old.hand)
             self.old }
         ensures answer { result ≡ (handled self.old.sight press self.old.hand).1 }
     {
+        let stays = is_unseen(&self.hand) && !asks_to_leave(self.question);
         let pastes = self.hand.pastes_text();
         self.typed = if pastes {
             Some(self.typed.unwrap_or(0))
@@ -285,6 +313,8 @@ impl Sitting {
         self.joins = pastes && self.joins;
         let action = self.hand.take(self.sight, press);
         self.follows = self.hand.pointer().is_some() || self.follows;
+        let is_still = is_nothing(&action) && is_unseen(&self.hand) && stays;
+        self.changed = self.changed || !is_still;
         action
     }
 
@@ -368,8 +398,9 @@ impl Sitting {
     {
         let replacement = self.replacing.replacement();
         let fills = self.is_filling();
+        let sight = self.sight;
         self.note(&action);
-        match Task::of(action, fills, replacement) {
+        match Task::of(action, fills, replacement, sight) {
             Ok(task) => self.carry_out(alloc, task, store),
             Err(alone) => {
                 self.act_alone(alone);
@@ -534,6 +565,14 @@ impl Sitting {
                 self.aim(cell);
                 Ok(None)
             }
+            Plan::Shows(cell) => {
+                self.show_cell(cell);
+                Ok(None)
+            }
+            Plan::PutsAway(next) => {
+                self.put_pointer_away();
+                Ok(Some(next))
+            }
             Plan::Next(next) => Ok(next),
             Plan::Event(event, next) => {
                 let done = self.post(alloc, &event, store)?;
@@ -624,25 +663,11 @@ fn left_if(done: bool, next: Option<Task>) -> Option<Task>
     if done { next } else { None }
 }
 
-/// Why a paste is cut short, and how far it came where any of it is typed.
-fn came_to(typed: u32, why: Saying) -> Saying
-    ensures { result ≡ came_to typed why }
+/// Whether nothing of a hand is seen.
+fn is_unseen(hand: &Hand) -> bool
+    ensures { result ≡ is_unseen hand.now }
 {
-    match why {
-        Saying::Refused(code) if typed != 0 => Saying::CutShort { typed, code },
-        other => other,
-    }
-}
-
-/// What the line below says of lines that are filled from now on, or no longer.
-fn fill_saying(fills: bool) -> Saying
-    ensures { result ≡ fill_saying fills }
-{
-    if fills {
-        Saying::Fills
-    } else {
-        Saying::FillsNot
-    }
+    hand.asked().is_none() && hand.armed().is_none() && hand.pointer().is_none()
 }
 
 /// Whether a press comes to nothing.
@@ -657,52 +682,4 @@ fn is_of_terminal(action: &Action) -> bool
     ensures { result ≡ is_of_terminal action.now }
 {
     matches!(action, Action::Fit(_, _) | Action::LookAnew)
-}
-
-/// What the line below says first: where one side of the display is in sight, how the other one comes into sight.
-fn first_saying(width: u16, greeting: Saying) -> Saying
-    ensures { result ≡ first_saying width greeting }
-{
-    if width < u16::from(COLUMNS) {
-        Saying::OneSide
-    } else {
-        greeting
-    }
-}
-
-/// What the line below says of a refusal. Where there is no document of a name, the word that was called has it.
-fn refused_saying(event: &Event, code: u8) -> Saying
-    ensures { result ≡ refused_saying event.now code }
-{
-    match event {
-        Event::Point {
-            keys: Keys::Middle,
-            x0,
-            y0,
-            ..
-        } if code == NO_FILE => Saying::NoDocument { x: *x0, y: *y0 },
-        _ => Saying::Refused(code),
-    }
-}
-
-/// What the line below says once an event is done.
-fn done_saying(event: &Event, resting: Saying) -> Saying
-    ensures { result ≡ done_saying event.now resting }
-{
-    match event {
-        Event::File { .. } => Saying::ToolFiled,
-        _ => resting,
-    }
-}
-
-/// What the line below says once the terminal has told its size.
-fn fitted_saying(narrow: bool, low: bool, resting: Saying, saying: Saying) -> Saying
-    ensures { result ≡ fitted_saying narrow low resting saying }
-{
-    match saying {
-        _ if narrow => Saying::TooNarrow,
-        _ if low => Saying::TooLow,
-        Saying::TooNarrow | Saying::TooLow => resting,
-        other => other,
-    }
 }

@@ -4,31 +4,34 @@
 //! reason why it can't be done, or events, and what is left to do once they are done. A sitting posts the events and goes
 //! on with what is left, over the desktop that stands then. So another kind of press is a row of `plan_of` in
 //! `specs/Tasks.antt`, and what does it here; each plan is made by one look at the store.
-ghost use Rattle.std.specs.Prelude.{◌≡◌, false, Some, None, IfOk, IfErr, if◌then◌else◌, option_map};
+ghost use Rattle.std.specs.Prelude.{◌≡◌, true, false, Some, None, IfOk, IfErr, option_map};
 ghost use Rattle.desk_sitting.specs.Doing.{Plans};
 ghost use Rattle.desk_sitting.specs.Tasks.{below_plan, cell_meant as cell_of_spot, click_of, deed_of_task, delete_plan};
 ghost use Rattle.desk_sitting.specs.Tasks.{keeps_sight, pass_plan, plan_of, plan_on, reach_plan, scroll_plan};
-ghost use Rattle.desk_sitting.specs.Tasks.{seen_plan, shift_plan, step_plan, task_of, wish_of as wish_of_scroll, why_not};
+ghost use Rattle.desk_sitting.specs.Tasks.{scroll_task, seen_plan, shift_plan, shown_then, step_plan, task_of, why_not};
 ghost use Rattle.desk_presses.specs.Replacing.{first_typed};
 ghost use Rattle.desk_sitting.specs.Tasks.{replace_plan, retype_plan, seek_plan};
-ghost use Rattle.desk_sitting.specs.Tasks.{at_caret_plan, call_plan, caret_event, at_edge, passing, posting, rest_of_pass, type_plan};
-ghost use Rattle.desk_sitting.specs.Tasks.{entry_plan, is_call, opened_place, posted_plan};
-ghost use Rattle.desk_journal.specs.Views.{desk_info, shown_place};
+ghost use Rattle.desk_sitting.specs.Tasks.{at_caret_plan, call_plan, at_edge, passing, posting, rest_of_pass, type_plan};
+ghost use Rattle.desk_sitting.specs.Tasks.{empty_plan, entry_plan, is_call, opened_plan, opened_viewer, show_plan, shown_plan};
+ghost use Rattle.desk_sitting.specs.Tasks.{caret_place, page_plan, page_wish, place_meant};
+ghost use Rattle.desk_journal.specs.Views.{desk_info, shown_viewer};
 ghost use Rattle.desktop_definitions.specs.Shown.{shown_screen};
 
-use crate::listed::{event_meant, is_by_list};
-use desk_journal::{DeskInfo, Error, Store, Wish};
+use crate::listed::{begins_in_viewer, has_tool, place_at, uncalled_event};
+use desk_journal::{DeskInfo, Error, ShownViewer, Store, Wish};
 use desk_presses::{
     Deed, Filling, MenuWord, Typing, WordCall, aimed, caret_of, edge_of, further, is_caret_at,
-    line_end, next_command, row_below, text_start,
+    line_end, next_command, row_below, text_end, text_rows_in_sight, text_start,
 };
-use desk_sayings::{Saying, SayingLine};
+use desk_sayings::{Saying, SayingLine, event_at};
+use desktop_definitions::Entry;
 use event_bytes::{Event, Key, Keys};
+use first_desk::tool_event;
 use screen_cells::Screen;
 use sector_disk::Disk;
 use std::alloc::Global;
 use std::vec::Vec;
-use terminal_presses::{Action, Arrow, Click, Scroll, Spot};
+use terminal_presses::{Action, Arrow, Click, Scroll, Sight, Spot};
 
 /// A cell of the display: its column and its row.
 pub(crate) type Place = (u8, u8);
@@ -44,6 +47,8 @@ pub(crate) enum Task {
     /// A word was called, over a desktop that said this of itself: the caret goes into the viewer that it opened, or the
     /// line below says what it added to the log.
     After(DeskInfo),
+    /// The caret goes to a cell of a viewer that opened, and the marker goes away before it, if it is set.
+    Enter(Place),
     /// An event is typed, and breaks the line where it would pass the edge.
     Compose(Event),
     /// The line is broken at the caret. Then the caret goes to that cell, and the event is typed.
@@ -62,6 +67,20 @@ pub(crate) enum Task {
     Resume(Event, Typing, bool),
     /// The text of the viewer at a cell moves. None: of the viewer of the caret.
     Scroll(Option<Place>, Wish),
+    /// The same by a page, which is as long as what is in sight of the text.
+    Page {
+        at: Option<Place>,
+        is_up: bool,
+        sight: Sight,
+    },
+    /// The text of the viewer of the caret comes into sight, with its first row or with its last one.
+    Show {
+        at_end: bool,
+    },
+    /// The last row of the text of a viewer that stands there comes into sight.
+    Last(viewer_tracks::Place),
+    /// A cell comes into sight.
+    Reveal(Place),
     /// The caret goes where an arrow leads.
     Step(Arrow),
     /// A click at the cell of the caret.
@@ -109,20 +128,30 @@ pub(crate) enum Plan {
     Says(SayingLine),
     /// No event: the pointer that keys move goes to that cell.
     Aims(Place),
+    /// No event: the rows in sight go to that cell.
+    Shows(Place),
+    /// No event: the pointer that keys move is put away. Then this is left to do.
+    PutsAway(Task),
 }
 
 impl Task {
-    /// The task of a press, where what is typed may break lines or not, and a replacement is to be typed or none is. An
-    /// action that posts nothing is none, but for that which moves the pointer to the next command.
+    /// The task of a press, where what is typed may break lines or not, a replacement is to be typed or none is, and this
+    /// part of the display is in sight. An action that posts nothing is none, but for that which moves the pointer to the
+    /// next command.
     #[tactic(auto, unfolding(crate::specs::Tasks::task_of))]
-    pub fn of(action: Action, fills: bool, replacement: Option<Typing>) -> Result<Task, Action>
-        ensures task { IfOk result (λ task. task_of fills replacement action ≡ Some task) }
+    pub fn of(
+        action: Action,
+        fills: bool,
+        replacement: Option<Typing>,
+        sight: Sight,
+    ) -> Result<Task, Action>
+        ensures task { IfOk result (λ task. task_of fills replacement sight action ≡ Some task) }
         ensures none { IfErr result (λ alone. (alone ≡ action)
-            × (task_of fills replacement action ≡ None)) }
+            × (task_of fills replacement sight action ≡ None)) }
     {
         match action {
             Action::Post(event) => Ok(posting(fills, event)),
-            Action::Scroll(at, scroll) => Ok(Task::Scroll(cell_meant(at), wish_of(scroll))),
+            Action::Scroll(at, scroll) => Ok(scroll_task(cell_meant(at), scroll, sight)),
             Action::GoTo(line) => Ok(Task::Scroll(None, Wish::Line(line.saturating_sub(1)))),
             Action::Step(arrow) => Ok(Task::Step(arrow)),
             Action::Delete => Ok(Task::Delete),
@@ -143,7 +172,14 @@ impl Task {
         ensures { result ≡ deed_of_task self.now }
     {
         match self {
-            Task::Post(_) | Task::AtCaret(_) | Task::After(_) | Task::Seek(_) => None,
+            Task::Post(_)
+            | Task::AtCaret(_)
+            | Task::After(_)
+            | Task::Enter(_)
+            | Task::Seek(_)
+            | Task::Show { .. }
+            | Task::Last(_)
+            | Task::Reveal(_) => None,
             Task::Replace(_, _) | Task::Wrap(_, _, _) | Task::Resume(_, _, _) => Some(
                 Deed::Replacement,
             ),
@@ -151,7 +187,7 @@ impl Task {
                 event,
             )),
             Task::Call(_) => Some(Deed::Click(Keys::Middle)),
-            Task::Scroll(_, _) => Some(Deed::Scroll),
+            Task::Scroll(_, _) | Task::Page { .. } => Some(Deed::Scroll),
             Task::Rub => Some(Deed::Key(Key::Back)),
             _ => Some(Deed::Click(Keys::Left)),
         }
@@ -161,7 +197,7 @@ impl Task {
     pub fn keeps_sight(&self) -> bool
         ensures { result ≡ keeps_sight self.now }
     {
-        matches!(self, Task::Scroll(_, _))
+        matches!(self, Task::Scroll(_, _) | Task::Page { .. })
     }
 
     /// What it becomes over the desktop of a store.
@@ -174,9 +210,12 @@ impl Task {
         match self {
             Task::Post(event) => post_plan(alloc, event, store),
             Task::After(before) => after_plan(before, store),
+            Task::Enter(cell) => Ok(entry_plan(info_of(store).is_marked, cell)),
+            Task::Page { at, is_up, sight } => Ok(page_plan(at, is_up, sight, store)),
+            Task::Show { at_end } => Ok(shown_plan(at_end, caret_place(store))),
             Task::Scroll(at, wish) => {
                 let presses = store.scroll(alloc, at, wish)?;
-                Ok(scroll_plan(presses))
+                Ok(scroll_plan(wish, presses))
             }
             Task::Below { at, deletes } => {
                 let presses = store.scroll(alloc, None, Wish::End)?;
@@ -191,36 +230,40 @@ impl Task {
     }
 }
 
-/// An event of the hand as it is meant at the desk, by the list of the desktop where that is asked for it.
+/// An event of the hand as it is meant at the desk.
 fn post_plan<D: Disk>(alloc: Global, event: Event, store: &mut Store<D>) -> Result<Plan, Error>
     requires { store.old.must_reopen ≡ false }
     ensures { Plans D.Disk (Task.Post event) result store.old store.new }
 {
-    if !is_by_list(&event) {
-        return Ok(Plan::Event(event, None));
-    }
-    let before = info_of(store);
-    let entries = store.list(alloc)?;
-    Ok(posted_plan(event_meant(entries.as_slice(), event), before))
-}
-
-/// An event, of a desktop that said this of itself before it, and what is left to do where it calls a word.
-#[tactic(auto, unfolding(crate::specs::Tasks::posted_plan))]
-fn posted_plan(event: Event, before: DeskInfo) -> Plan
-    ensures { seen_plan result ≡ posted_plan event before }
-{
-    let next = left_by_call(&event, before);
-    Plan::Event(event, next)
-}
-
-/// What is left to do after an event, where that calls a word.
-fn left_by_call(event: &Event, before: DeskInfo) -> Option<Task>
-    ensures { result ≡ (if is_call event.now then Some (Task.After before) else None) }
-{
-    if is_call(event) {
-        Some(Task::After(before))
+    if is_call(&event) {
+        calling_plan(alloc, event, store)
     } else {
-        None
+        Ok(Plan::Event(uncalled_event(event, store), None))
+    }
+}
+
+/// A click that calls a word. The list of the desktop is asked only where it begins on the empty display.
+fn calling_plan<D: Disk>(alloc: Global, event: Event, store: &mut Store<D>) -> Result<Plan, Error>
+    requires usable { store.old.must_reopen ≡ false }
+    requires call { is_call event ≡ true }
+    ensures { Plans D.Disk (Task.Post event) result store.old store.new }
+{
+    let before = info_of(store);
+    if begins_in_viewer(&event, store) {
+        return Ok(Plan::Event(event, Some(Task::After(before))));
+    }
+    let entries = store.list(alloc)?;
+    Ok(empty_plan(event, before, entries.as_slice()))
+}
+
+/// A click of that button on the empty display, by the list of the desktop.
+fn empty_plan(event: Event, before: DeskInfo, entries: &[Entry]) -> Plan
+    ensures { seen_plan result ≡ empty_plan event before entries.now }
+{
+    if has_tool(entries) {
+        Plan::Event(event, Some(Task::After(before)))
+    } else {
+        Plan::Event(tool_event(), None)
     }
 }
 
@@ -248,26 +291,95 @@ fn info_of<D: Disk>(store: &Store<D>) -> DeskInfo
     }
 }
 
-/// Where the viewer of an id stands, if it is shown.
-fn place_of<D: Disk>(id: u16, store: &Store<D>) -> Option<viewer_tracks::Place>
+/// The viewer of an id, if it is shown.
+fn viewer_of<D: Disk>(id: u16, store: &Store<D>) -> Option<ShownViewer>
     requires { store.now.must_reopen ≡ false }
-    ensures { result ≡ shown_place store.now.desktop id }
+    ensures { result ≡ shown_viewer store.now.desktop id }
 {
-    match store.shown_place(id) {
-        Ok(place) => place,
+    match store.shown_viewer(id) {
+        Ok(viewer) => viewer,
         Err(_) => unreachable!(),
     }
 }
 
-/// Where the viewer stands that was opened since a desktop said this of itself.
-#[tactic(auto, unfolding(crate::specs::Tasks::opened_place))]
-fn opened_place<D: Disk>(before: DeskInfo, store: &Store<D>) -> Option<viewer_tracks::Place>
+/// The viewer that was opened since a desktop said this of itself.
+#[tactic(auto, unfolding(crate::specs::Tasks::opened_viewer))]
+fn opened_viewer<D: Disk>(before: DeskInfo, store: &Store<D>) -> Option<ShownViewer>
     requires { store.now.must_reopen ≡ false }
-    ensures { result ≡ opened_place before store.now.desktop }
+    ensures { result ≡ opened_viewer before store.now.desktop }
 {
-    match place_of(before.next_viewer, store) {
-        None => place_of(before.closed_viewer?, store),
-        place => place,
+    match viewer_of(before.next_viewer, store) {
+        None => viewer_of(before.closed_viewer?, store),
+        viewer => viewer,
+    }
+}
+
+/// Where the viewer stands that has the caret.
+#[tactic(auto, unfolding(crate::specs::Tasks::caret_place))]
+fn caret_place<D: Disk>(store: &Store<D>) -> Option<viewer_tracks::Place>
+    requires { store.now.must_reopen ≡ false }
+    ensures { result ≡ caret_place store.now.desktop }
+{
+    let id = info_of(store).caret_viewer?;
+    match viewer_of(id, store) {
+        None => None,
+        Some(viewer) => Some(viewer.place),
+    }
+}
+
+/// Where the viewer stands that is meant: at a cell, or that of the caret.
+fn place_meant<D: Disk>(at: Option<Place>, store: &Store<D>) -> Option<viewer_tracks::Place>
+    requires { store.now.must_reopen ≡ false }
+    ensures { result ≡ place_meant at store.now.desktop }
+{
+    match at {
+        None => caret_place(store),
+        Some(cell) => place_at(cell, store),
+    }
+}
+
+/// A page of a viewer's text, where this part of the display is in sight.
+#[tactic(auto, unfolding(crate::specs::Tasks::page_plan))]
+fn page_plan<D: Disk>(at: Option<Place>, is_up: bool, sight: Sight, store: &Store<D>) -> Plan
+    requires { store.now.must_reopen ≡ false }
+    ensures { seen_plan result ≡ page_plan at is_up sight store.now.desktop }
+{
+    let rows = text_rows_in_sight(sight, place_meant(at, store));
+    Plan::Next(Some(Task::Scroll(at, page_wish(is_up, rows))))
+}
+
+/// A page, where so many rows of the text are in sight.
+#[tactic(auto, unfolding(crate::specs::Tasks::page_wish))]
+fn page_wish(is_up: bool, rows: u8) -> Wish
+    ensures { result ≡ page_wish is_up rows }
+{
+    let lines = u32::from(rows.saturating_sub(1).max(1));
+    match (is_up, rows == 0) {
+        (true, true) => Wish::PageUp,
+        (true, false) => Wish::Up(lines),
+        (false, true) => Wish::PageDown,
+        (false, false) => Wish::Down(lines),
+    }
+}
+
+/// The first row of the text of a viewer that stands there comes into sight, or the last one in which something stands.
+fn shown_plan(at_end: bool, place: Option<viewer_tracks::Place>) -> Plan
+    ensures { seen_plan result ≡ shown_plan at_end place }
+{
+    match place {
+        None => Plan::Next(None),
+        Some(place) if at_end => Plan::Next(Some(Task::Last(place))),
+        Some(place) => show_plan(text_start(place)),
+    }
+}
+
+/// A cell comes into sight, where there is one.
+fn show_plan(cell: Option<Place>) -> Plan
+    ensures { seen_plan result ≡ show_plan cell }
+{
+    match cell {
+        None => Plan::Next(None),
+        Some(cell) => Plan::Shows(cell),
     }
 }
 
@@ -276,30 +388,39 @@ fn after_plan<D: Disk>(before: DeskInfo, store: &mut Store<D>) -> Result<Plan, E
     requires { store.old.must_reopen ≡ false }
     ensures { Plans D.Disk (Task.After before) result store.old store.new }
 {
-    match opened_place(before, store) {
-        Some(place) => Ok(entry_plan(info_of(store).is_marked, text_start(place))),
+    match opened_viewer(before, store) {
+        Some(viewer) => Ok(opened_plan(viewer)),
         None => log_plan(before, store),
     }
 }
 
+/// Nothing is pointed at any more, and the caret goes into a viewer that opened, but not into the log: that comes into
+/// sight.
+fn opened_plan(viewer: ShownViewer) -> Plan
+    ensures { seen_plan result ≡ opened_plan viewer }
+{
+    match text_start(viewer.place) {
+        None => Plan::Next(None),
+        Some(cell) if viewer.is_log => Plan::PutsAway(Task::Reveal(cell)),
+        Some(cell) => Plan::PutsAway(Task::Enter(cell)),
+    }
+}
+
 /// The caret goes to a cell, and before it the marker goes away, if it is set.
-fn entry_plan(is_marked: bool, cell: Option<Place>) -> Plan
+fn entry_plan(is_marked: bool, cell: Place) -> Plan
     ensures { seen_plan result ≡ entry_plan is_marked cell }
 {
-    match cell {
-        None => Plan::Next(None),
-        Some(cell) if is_marked => Plan::Event(
-            Event::Key(Key::Escape),
-            Some(Task::Post(click(cell))),
-        ),
-        Some(cell) => Plan::Event(click(cell), None),
+    if is_marked {
+        Plan::Event(Event::Key(Key::Escape), Some(Task::Post(click(cell))))
+    } else {
+        Plan::Event(click(cell), None)
     }
 }
 
 /// The line below says what was added to the log, if anything was, where no viewer was opened.
 fn log_plan<D: Disk>(before: DeskInfo, store: &mut Store<D>) -> Result<Plan, Error>
     requires usable { store.old.must_reopen ≡ false }
-    requires none { opened_place before store.old.desktop ≡ None }
+    requires none { opened_viewer before store.old.desktop ≡ None }
     ensures { Plans D.Disk (Task.After before) result store.old store.new }
 {
     let is_longer = before.log_length < info_of(store).log_length;
@@ -365,9 +486,14 @@ fn plan_on(task: Task, screen: &Screen) -> Plan
         } => pass_plan(from, column, deletes, screen),
         Task::Reach(from) => reach_plan(from, screen),
         Task::Rub => Plan::Event(Event::Key(Key::Back), None),
+        Task::Last(place) => show_plan(text_end(place, screen)),
+        Task::Reveal(cell) => Plan::Shows(cell),
         Task::Post(_)
         | Task::After(_)
+        | Task::Enter(_)
         | Task::Scroll(_, _)
+        | Task::Page { .. }
+        | Task::Show { .. }
         | Task::Below { .. }
         | Task::Shift { .. } => Plan::Next(None),
     }
@@ -381,23 +507,6 @@ fn at_caret_plan(click: Click, caret: Option<Place>) -> Plan
     match caret {
         None => Plan::Refused(Saying::NoText),
         Some(place) => Plan::Next(Some(Task::Post(event_at(click, place)))),
-    }
-}
-
-/// The event of a click at a cell.
-pub(crate) fn event_at(click: Click, place: Place) -> Event
-    ensures { result ≡ caret_event click place }
-{
-    let (x, y) = place;
-    match click {
-        Click::Mark => Event::Mark { x, y },
-        Click::Keys(keys) => Event::Point {
-            keys,
-            x0: x,
-            y0: y,
-            x1: x,
-            y1: y,
-        },
     }
 }
 
@@ -612,13 +721,25 @@ fn reach_plan(from: Place, screen: &Screen) -> Plan
     }
 }
 
-/// The presses that scroll, where there are any to be found.
-fn scroll_plan(presses: Option<Vec<Event>>) -> Plan
-    ensures { seen_plan result ≡ scroll_plan (option_map (λ events. events.items) presses) }
+/// The presses that scroll for a wish, where there are any to be found.
+fn scroll_plan(wish: Wish, presses: Option<Vec<Event>>) -> Plan
+    ensures { seen_plan result ≡ scroll_plan wish (option_map (λ events. events.items) presses) }
 {
     match presses {
         None => Plan::Refused(Saying::NoScroll),
-        Some(events) => Plan::Events(events, None),
+        Some(events) => Plan::Events(events, shown_then(wish)),
+    }
+}
+
+/// What is left to do after the presses for a wish: where it is a line by its number, or the last one, the text comes
+/// into sight.
+fn shown_then(wish: Wish) -> Option<Task>
+    ensures { result ≡ shown_then wish }
+{
+    match wish {
+        Wish::Line(_) => Some(Task::Show { at_end: false }),
+        Wish::End => Some(Task::Show { at_end: true }),
+        Wish::Up(_) | Wish::Down(_) | Wish::PageUp | Wish::PageDown => None,
     }
 }
 
@@ -657,17 +778,26 @@ fn shift_plan(at: Place, deletes: bool, presses: Option<Vec<Event>>) -> Plan
     }
 }
 
-/// What a scroll wishes of a viewer's text. The wheel moves it by three lines.
-fn wish_of(scroll: Scroll) -> Wish
-    ensures { result ≡ wish_of_scroll scroll }
+/// What a scroll does to the viewer at a cell, or to that of the caret, where this part of the display is in sight. The
+/// wheel moves the text by three lines.
+fn scroll_task(at: Option<Place>, scroll: Scroll, sight: Sight) -> Task
+    ensures { result ≡ scroll_task at scroll sight }
 {
     match scroll {
-        Scroll::WheelUp => Wish::Up(3),
-        Scroll::WheelDown => Wish::Down(3),
-        Scroll::PageUp => Wish::PageUp,
-        Scroll::PageDown => Wish::PageDown,
-        Scroll::First => Wish::Line(0),
-        Scroll::Last => Wish::End,
+        Scroll::WheelUp => Task::Scroll(at, Wish::Up(3)),
+        Scroll::WheelDown => Task::Scroll(at, Wish::Down(3)),
+        Scroll::PageUp => Task::Page {
+            at,
+            is_up: true,
+            sight,
+        },
+        Scroll::PageDown => Task::Page {
+            at,
+            is_up: false,
+            sight,
+        },
+        Scroll::First => Task::Scroll(at, Wish::Line(0)),
+        Scroll::Last => Task::Scroll(at, Wish::End),
     }
 }
 

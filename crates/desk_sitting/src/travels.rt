@@ -131,6 +131,7 @@ impl Sitting {
         }
         self.saying = Saying::DidAgain(deed);
         self.rings = false;
+        self.changed = true;
         self.again.come_to(to);
         self.past.name(deed);
     }

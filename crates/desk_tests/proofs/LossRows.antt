@@ -1,5 +1,6 @@
 -- What clicks would lose, and what is told beside it, proved by computing.
-use Rattle.std.specs.Prelude.{◌≡◌, ℕ, true, false, List, [], ◌∷◌, ◌++◌, map, replicate, Option, Some, None, codes, refl}
+use Rattle.std.specs.Prelude.{◌≡◌, ℕ, Bool, true, false, List, [], ◌∷◌, ◌++◌, map, replicate, codes, refl}
+use Rattle.std.specs.Prelude.{Option, Some, None, option_map}
 use Rattle.piece_ring.specs.Text.{Text}
 use Rattle.viewer_tracks.specs.declared.display.Track.TheVariants.{User}
 use Rattle.viewer_tracks.specs.declared.tracks.Place.{Place}
@@ -22,7 +23,7 @@ use Rattle.desk_views.specs.declared.losses.Loss.{Loss}
 use Rattle.desk_views.specs.declared.losses.Loss.TheVariants.{Closed, Taken, Rivalled}
 use Rattle.desk_views.specs.Unstored.{is_same_text, is_its_own, is_unstored}
 use Rattle.desk_views.specs.Losses.{taken_by, is_rivalled, lost_by, lost_by_call, lost_by_click, loss_at}
-use Rattle.desk_views.specs.Info.{shown_place, desk_info, last_log_line}
+use Rattle.desk_views.specs.Info.{shown_viewer, place_at, desk_info, last_log_line}
 use Rattle.desk_tests.proofs.StepWords.{chars, empty, entry, columns, viewer, closed}
 use Rattle.desk_tests.proofs.ScreenRows.{in_user, line}
 
@@ -130,20 +131,45 @@ place bottom top = Some (record { x = 0; bottom = bottom; top = top })
 
 -- of viewers 1 and 2
 abbrev pub places : Desktop → List (Option Place)
-places d = shown_place d 1 ∷ shown_place d 2 ∷ []
+places d = option_map (λ v. v.place) (shown_viewer d 1) ∷ option_map (λ v. v.place) (shown_viewer d 2) ∷ []
 
 pub places_are_told : places rivals ++ places covered ++ places gone
     ≡ place 0 16 ∷ place 16 32 ∷ place 0 32 ∷ None ∷ place 0 32 ∷ None ∷ []
-unfolding shown_place track_of empty_desktop
+unfolding shown_viewer track_of empty_desktop
 places_are_told = refl
+
+-- at cells of a menu and of a text, on the empty display, and off it
+abbrev pub places_at : Desktop → List (Option Place)
+places_at d = map (place_at d) ((0, 31) ∷ (49, 0) ∷ (3, 16) ∷ (50, 0) ∷ (3, 32) ∷ (80, 0) ∷ [])
+
+pub places_at_cells : places_at rivals ++ places_at covered
+    ≡ place 16 32 ∷ place 0 16 ∷ place 16 32 ∷ None ∷ None ∷ None
+    ∷ place 0 32 ∷ place 0 32 ∷ place 0 32 ∷ None ∷ None ∷ None ∷ []
+unfolding place_at viewer_at track_of empty_desktop
+places_at_cells = refl
+
+-- whether they show the log
+abbrev pub shows_log : Desktop → ℕ → Option Bool
+shows_log d v = option_map (λ w. w.is_log) (shown_viewer d v)
+
+abbrev pub beside_log : Desktop
+beside_log = both (viewer 4 0 0) halves
+
+pub logs_are_told : shows_log beside_log 1 ∷ shows_log beside_log 2 ∷ shows_log beside_log 7 ∷ []
+    ≡ Some false ∷ Some true ∷ None ∷ []
+unfolding shown_viewer track_of empty_desktop
+logs_are_told = refl
 
 abbrev pub told_of : Desktop → DeskInfo
 told_of d = desk_info d
 
-pub info_is_told : map told_of (hello ∷ record gone { marker = Some (0, 0) } ∷ record empty { texts = (0, chars "ab\r") ∷ [] } ∷ [])
-    ≡ record { next_viewer = 0; closed_viewer = None; is_marked = false; log_length = 0 }
-    ∷ record { next_viewer = 0; closed_viewer = Some 2; is_marked = true; log_length = 0 }
-    ∷ record { next_viewer = 0; closed_viewer = None; is_marked = false; log_length = 3 } ∷ []
+abbrev pub info : Option ℕ → Option ℕ → Bool → ℕ → DeskInfo
+info closed caret marked long =
+    record { next_viewer = 0; closed_viewer = closed; caret_viewer = caret; is_marked = marked; log_length = long }
+
+pub info_is_told : map told_of (hello ∷ record gone { marker = Some (0, 0) } ∷ record empty { texts = (0, chars "ab\r") ∷ [] } ∷
+    record hello { caret = Some (record { viewer = 1; position = 0 }) } ∷ [])
+    ≡ info None None false 0 ∷ info (Some 2) None true 0 ∷ info None None false 3 ∷ info None (Some 1) false 0 ∷ []
 unfolding desk_info empty_desktop
 info_is_told = refl
 

@@ -1,19 +1,22 @@
 //! What a desk tells of itself before and after a command is called.
-ghost use Rattle.std.specs.Prelude.{◌≡◌, ◌+◌, ◌≤◌, ℕ, List, length, take, slice_range, IfOk};
+ghost use Rattle.std.specs.Prelude.{◌≡◌, ◌+◌, ◌<◌, ◌≤◌, ℕ, List, length, take, slice_range, option_map, IfOk};
 ghost use Rattle.readers_scanners.specs.Words.{ReadsOrFails, flat, AreWithin, bytes_of_text};
-ghost use Rattle.desk_core.specs.Words.{COLUMNS, IsKeptWhole, IsOver, kept_desktop, seen, TellsAs};
-ghost use Rattle.desk_views.specs.Info.{shown_place, desk_info, last_line, last_log_line};
+ghost use Rattle.desk_core.specs.Words.{COLUMNS, ROWS, IsKeptWhole, IsOver, kept_desktop, seen, TellsAs};
+ghost use Rattle.viewer_tracks.specs.Columns.{seen_at};
+ghost use Rattle.desk_views.specs.Info.{shown_viewer, place_at, viewer_place, desk_info, last_line, last_log_line};
 
 use crate::unstored::closed_id;
 use arrayvec::ArrayVec;
 use char_file::{CharSource, Fault};
 use desk_core::desk::Desk;
 use desk_core::tables::unused_id;
+use desk_core::viewers::viewer_or_none;
 use desk_core::views::text_there;
+use desktop_definitions::Caret;
 use readers_scanners::Reader;
 use text_core::Text;
 use text_frames::line_start;
-use viewer_tracks::{COLUMNS, Place, ViewerId};
+use viewer_tracks::{COLUMNS, Place, ROWS, ViewerId};
 
 /// How many bytes of a line are told at most: as many as a row of the display shows.
 const LONGEST: usize = COLUMNS as usize;
@@ -28,20 +31,72 @@ pub struct DeskInfo {
     pub next_viewer: u16,
     /// The id of the viewer that was closed last, which has it again where it is recalled.
     pub closed_viewer: Option<u16>,
+    /// The id of the viewer that has the caret.
+    pub caret_viewer: Option<u16>,
     /// Whether the marker is set.
     pub is_marked: bool,
     /// How many characters the log has.
     pub log_length: u32,
 }
 
-/// Where the viewer of an id stands, if it stands in a track that is shown. None where no viewer of that id does.
-pub fn shown_place(desk: &Desk, id: u16) -> Option<Place>
-    ensures { result ≡ shown_place (kept_desktop desk.now) id }
+/// A viewer that stands in a track that is shown.
+#[derive(Clone, Copy, Debug, PartialEq, Eq)]
+pub struct ShownViewer {
+    /// Where it stands.
+    pub place: Place,
+    /// Whether its main text is the log.
+    pub is_log: bool,
+}
+
+/// The viewer of an id, if it stands in a track that is shown. None where no viewer of that id does.
+pub fn shown_viewer(desk: &Desk, id: u16) -> Option<ShownViewer>
+    ensures { result ≡ shown_viewer (kept_desktop desk.now) id }
 {
     if !desk.tracks.is_on_top(ViewerId(id)) {
         return None;
     }
-    Some(desk.tracks.place_of(ViewerId(id)))
+    let place = desk.tracks.place_of(ViewerId(id));
+    let viewer = viewer_or_none(&desk.viewers, id);
+    Some(ShownViewer {
+        place,
+        is_log: viewer.main == 0,
+    })
+}
+
+/// Where the viewer stands that is seen at a cell, by its column and row. None where none is, and off the display.
+#[tactic(auto, unfolding(crate::specs::Info::place_at))]
+pub fn place_at(desk: &Desk, cell: (u8, u8)) -> Option<Place>
+    ensures { result ≡ place_at (kept_desktop desk.now) cell }
+{
+    let (x, y) = cell;
+    if x < COLUMNS && y < ROWS {
+        seen_place(desk, x, y)
+    } else {
+        None
+    }
+}
+
+/// The same within the display.
+fn seen_place(desk: &Desk, x: u8, y: u8) -> Option<Place>
+    requires column { x < COLUMNS }
+    requires row { y < ROWS }
+    ensures { result ≡ option_map (viewer_place (kept_desktop desk.now))
+        (seen_at (kept_desktop desk.now).columns x y) }
+{
+    match desk.tracks.at(x, y) {
+        None => None,
+        Some(id) => Some(desk.tracks.place_of(id)),
+    }
+}
+
+/// The id of the viewer that has the caret.
+fn caret_id(caret: Option<Caret>) -> Option<u16>
+    ensures { result ≡ option_map (λ c. c.viewer) caret }
+{
+    match caret {
+        None => None,
+        Some(caret) => Some(caret.viewer),
+    }
 }
 
 /// What the desk says of itself.
@@ -52,6 +107,7 @@ pub fn desk_info(desk: &Desk) -> DeskInfo
     DeskInfo {
         next_viewer: unused_id(desk.viewers.as_slice()),
         closed_viewer: closed_id(desk.closed),
+        caret_viewer: caret_id(desk.caret),
         is_marked: desk.marker.is_some(),
         log_length: text_there(&desk.texts, 0).len(),
     }

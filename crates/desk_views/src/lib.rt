@@ -8,7 +8,7 @@ mod rivals;
 mod unstored;
 mod views;
 
-pub use info::{DeskInfo, LogRow, desk_info, last_log_line, shown_place};
+pub use info::{DeskInfo, LogRow, ShownViewer, desk_info, last_log_line, place_at, shown_viewer};
 pub use losses::{Loss, lost_by, taken_viewers_go};
 pub use unstored::same_texts_are_equal;
 pub use views::{list_column, paint};

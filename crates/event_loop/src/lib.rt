@@ -19,7 +19,7 @@ pub use desk_bringing::Document;
 pub use desk_core::stop::{NoMemory, Stop};
 pub use desk_image::{ByteSink, ByteSource, ImageFault};
 pub use desk_input::{MOST_PRESSES, Wish};
-pub use desk_views::{DeskInfo, LogRow, Loss};
+pub use desk_views::{DeskInfo, LogRow, Loss, ShownViewer};
 pub use desktop::Desktop;
 pub use desktop_definitions::{Entry, Reply, codes};
 pub use viewer_tracks::Place;

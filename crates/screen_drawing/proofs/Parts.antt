@@ -12,6 +12,8 @@ use Rattle.byte_streams.proofs.Taking.{HasTaken, front_part, taken_all, taken_pa
 use Rattle.screen_drawing.specs.declared.face.Face.{Face}
 use Rattle.screen_drawing.specs.declared.pen.Pen.{Pen}
 use Rattle.screen_drawing.specs.Drawn.{drawn_start, drawn_stretch, is_start, pen_at, stretch_at}
+use Rattle.screen_drawing.specs.declared.operation.Operation.{Operation}
+use Rattle.screen_drawing.specs.Spelling.{operation_bytes, spelled_all}
 use Rattle.screen_drawing.specs.Strokes.{joined_pieces}
 
 -- a part more of what is left, or a front of it
@@ -36,6 +38,13 @@ pub next_piece : (pieces : List (Bor (List ℕ))) (i : ℕ) (d : Bor (List ℕ))
 next_piece pieces i d within =
     ap joined_pieces (drop-cons pieces i d within)
     ∙ ap (λ n. (get_or pieces i d).now ++ joined_pieces (drop n pieces)) (sym (add-one i))
+
+-- the spelled operations from an index on
+pub next_operation : (operations : List Operation) (i : ℕ) (d : Operation) → i < length operations
+    → spelled_all (drop i operations) ≡ operation_bytes (get_or operations i d) ++ spelled_all (drop (i + 1) operations)
+next_operation operations i d within =
+    ap spelled_all (drop-cons operations i d within)
+    ∙ ap (λ n. operation_bytes (get_or operations i d) ++ spelled_all (drop n operations)) (sym (add-one i))
 
 -- what is made of the numbers from x on
 pub next_number : (f : ℕ → List ℕ) (x n : ℕ) → x < n

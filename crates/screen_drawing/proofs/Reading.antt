@@ -48,18 +48,18 @@ scene_row_shown scene g y s h =
     omega (arith, h, long (height_of scene) (scene_row scene)) in
     subst (λ l. ShowsFrom (y + 1) 1 l g) (at (height_of scene) (scene_row scene) y [] h) (s y inside)
 
-above : (y n : ℕ) → y < n → nat_lt y n ≡ true
+pub above : (y n : ℕ) → y < n → nat_lt y n ≡ true
 above y n h = grind (arith, nat_tests)
 
-not_above : (y n : ℕ) → n ≤ y → nat_lt y n ≡ false
+pub not_above : (y n : ℕ) → n ≤ y → nat_lt y n ≡ false
 not_above y n h = grind (arith, nat_tests)
 
-seen : (scene : Scene) (y : ℕ) → y < scene.rows → scene_row scene y ≡ seen_cells scene (seen_row scene y)
+pub seen : (scene : Scene) (y : ℕ) → y < scene.rows → scene_row scene y ≡ seen_cells scene (seen_row scene y)
 unfolding scene_row
 seen scene y h =
     ap (λ b. cond b (seen_cells scene (seen_row scene y)) (seen_letters scene (text_below scene.below))) (above y scene.rows h)
 
-told_below : (scene : Scene) (y : ℕ) → scene.rows ≤ y → scene_row scene y ≡ seen_letters scene (text_below scene.below)
+pub told_below : (scene : Scene) (y : ℕ) → scene.rows ≤ y → scene_row scene y ≡ seen_letters scene (text_below scene.below)
 unfolding scene_row
 told_below scene y h =
     ap (λ b. cond b (seen_cells scene (seen_row scene y)) (seen_letters scene (text_below scene.below)))

@@ -3,6 +3,7 @@ pub mod Grid
 pub mod Spelling
 pub mod Changes
 pub mod Shows
+pub mod Seen
 pub mod Scene
 pub mod Painting
 pub mod Strokes

@@ -10,7 +10,8 @@ use Rattle.screen_pictures.specs.Screen.{column_at, row_at, values}
 use Rattle.screen_drawing.specs.declared.face.Face.{Face}
 use Rattle.screen_drawing.specs.declared.scene.Scene.{Scene}
 use Rattle.screen_drawing.specs.declared.pen.TheConstants.{WHITE}
-use Rattle.screen_drawing.specs.Pen.{blank_face, face_of, plain_pen, sent_byte}
+use Rattle.screen_drawing.specs.Pen.{face_of, plain_pen, sent_byte}
+use Rattle.screen_drawing.specs.Seen.{cells_seen, face_seen}
 
 -- the rows in sight are rows of the screen, the columns are columns of it, and they fit into the terminal
 pub record IsInSight (scene : Scene) : Type 0 where
@@ -48,13 +49,11 @@ row_of_cells cells = values COLUMNS (λ x. face_of x (column_at cells x))
 
 -- what a terminal shows of a row of cells at a column: those in sight, and beside them nothing
 abbrev pub seen_face : Scene → List Cell → ℕ → Face
-seen_face scene cells x =
-    if nat_lt x scene.columns then face_of (scene.left + x) (column_at cells (scene.left + x))
-    else blank_face WHITE
+seen_face scene cells = face_seen scene.left scene.columns cells
 
 -- a row of cells, and a text, as far as a terminal shows them
 abbrev pub seen_cells : Scene → List Cell → List Face
-seen_cells scene cells = values scene.width (seen_face scene cells)
+seen_cells scene cells = cells_seen scene.left scene.columns scene.width cells
 
 abbrev pub seen_letters : Scene → List ℕ → List Face
 seen_letters scene text = values scene.width (letter_face text)

@@ -1,5 +1,5 @@
 //! What turns a row of a terminal into another.
-ghost use Rattle.std.specs.Prelude.{◌≡◌, ◌++◌, ◌+◌, ◌≤◌, length, true};
+ghost use Rattle.std.specs.Prelude.{◌≡◌, ◌++◌, ◌+◌, ◌≤◌, length};
 ghost use Rattle.std.specs.List.{list_all};
 ghost use Rattle.arrayvec.specs.ArrayVec.{array_vec_len};
 ghost use Rattle.viewer_tracks.specs.declared.display.TheConstants.{COLUMNS as columns};
@@ -51,19 +51,6 @@ pub fn row_changes(row: u8, olds: &[Face], news: &[Face]) -> Changes
         });
     }
     operations
-}
-
-/// Whether two rows look the same.
-pub(crate) fn are_same(olds: &[Face], news: &[Face]) -> bool
-    requires { length olds.now ≡ length news.now }
-    ensures { result ≡ true → olds.now ≡ news.now }
-{
-    for x in 0..news.len() {
-        if !olds[x].is_same(news[x]) {
-            return false;
-        }
-    }
-    true
 }
 
 /// Whether all of the faces are blank, on white paper.

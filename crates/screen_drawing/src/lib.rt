@@ -19,6 +19,7 @@ mod pen;
 mod pieces;
 mod row;
 mod scene;
+mod seen_row;
 mod sending;
 mod shapes;
 mod spelling;

@@ -3,13 +3,11 @@ ghost use Rattle.std.specs.Prelude.{◌≡◌, ◌+◌, ◌-◌, ◌<◌, ◌≤
 ghost use Rattle.viewer_tracks.specs.declared.display.TheConstants.{COLUMNS as columns, ROWS as rows};
 ghost use Rattle.screen_pictures.specs.declared.cell.Mark.{Mark as AMark};
 ghost use Rattle.screen_pictures.specs.Screen.{column_at};
-ghost use Rattle.screen_drawing.specs.Scene.{IsCaretCell, IsCursorCell, seen_pointer, scene_row, height_of, IsInSight};
-ghost use Rattle.screen_drawing.specs.Scene.{row_of_cells, seen_cells, seen_face, seen_letters, text_below};
-ghost use Rattle.screen_drawing.specs.Scene.{letter_face};
+ghost use Rattle.screen_drawing.specs.Scene.{IsCaretCell, IsCursorCell, seen_pointer, height_of, IsInSight};
+ghost use Rattle.screen_drawing.specs.Scene.{row_of_cells, seen_row, text_below};
 
-use crate::face::{Face, WIDTH, sent_byte};
-use crate::pen::{Pen, WHITE};
-use crate::row::Row;
+use crate::face::{Face, WIDTH};
+use crate::pen::WHITE;
 use screen_pictures::{Cell, Mark};
 use viewer_tracks::{COLUMNS, ROWS};
 
@@ -51,58 +49,17 @@ impl Scene<'_> {
         }
     }
 
-    /// What is to be shown in the row `y` from the top.
-    #[tactic(auto, unfolding(crate::specs::Scene::scene_row))]
-    pub(crate) fn row(&self, y: u8) -> Row
+    /// The row of the screen in sight that is to be shown in the row `y` from the top.
+    pub(crate) fn seen(&self, y: u8) -> &[Cell; WIDTH]
         requires in_sight { IsInSight self.now }
-        requires within { y < height_of self.now }
-        ensures value { result ≡ scene_row self.now y }
+        requires within { y < self.now.rows }
+        ensures { result.now ≡ seen_row self.now y }
     {
-        if y < self.rows {
-            return self.cells(&self.screen[usize::from(ROWS - 1 - self.first - y)]);
-        }
-        self.letters(self.text())
-    }
-
-    /// What is shown of a row of cells.
-    fn cells(&self, cells: &[Cell; WIDTH]) -> Row
-        requires { IsInSight self.now }
-        ensures { result ≡ seen_cells self.now cells.now }
-    {
-        let mut row = Row::new();
-        for x in 0..self.width {
-            row.add(self.face(cells, x));
-        }
-        row
-    }
-
-    /// What is shown of a row of cells at a column of the terminal.
-    fn face(&self, cells: &[Cell; WIDTH], x: u8) -> Face
-        requires { IsInSight self.now }
-        ensures { result ≡ seen_face self.now cells.now x }
-    {
-        if x < self.columns {
-            let column = self.left + x;
-            Face::of(&cells[usize::from(column)], column)
-        } else {
-            Face::blank(WHITE)
-        }
-    }
-
-    /// What is shown of a text, cut off at the right edge.
-    fn letters(&self, text: &[u8]) -> Row
-        requires { IsInSight self.now }
-        ensures { result ≡ seen_letters self.now text.now }
-    {
-        let mut row = Row::new();
-        for x in 0..self.width {
-            row.add(letter_face(text, x));
-        }
-        row
+        &self.screen[usize::from(ROWS - 1 - self.first - y)]
     }
 
     /// The text of the line below.
-    fn text(&self) -> &[u8]
+    pub(crate) fn text(&self) -> &[u8]
         ensures { result.now ≡ text_below self.now.below }
     {
         match self.below {
@@ -144,8 +101,7 @@ impl Scene<'_> {
         ensures within { IfSome result (λ place. (place.0 < columns) × (place.1 < rows)) }
     {
         for y in 0..self.rows {
-            let cells = &self.screen[usize::from(ROWS - 1 - self.first - y)];
-            if let Some(x) = caret_in(cells, self.left, self.columns) {
+            if let Some(x) = caret_in(self.seen(y), self.left, self.columns) {
                 return Some((x, y));
             }
         }
@@ -162,16 +118,6 @@ pub fn row_of_cells(cells: &[Cell; WIDTH]) -> [Face; WIDTH]
         row[usize::from(x)] = Face::of(&cells[usize::from(x)], x);
     }
     row
-}
-
-/// What is shown of a text at a column.
-fn letter_face(text: &[u8], x: u8) -> Face
-    ensures { result ≡ letter_face text.now x }
-{
-    Face {
-        byte: sent_byte(text.get(usize::from(x)).copied().unwrap_or(b' ')),
-        pen: Pen::plain(WHITE),
-    }
 }
 
 /// The column of the first caret in so many columns of a row, counted from `left`.

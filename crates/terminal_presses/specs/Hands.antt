@@ -37,7 +37,7 @@ use Rattle.terminal_presses.specs.declared.hand.TheConstants.{CONTROL_C, CONTROL
 use Rattle.terminal_presses.specs.declared.hand.TheConstants.{CONTROL_R, CONTROL_S, CONTROL_T, CONTROL_V, CONTROL_W, CONTROL_X, CONTROL_Y, CONTROL_Z}
 use Rattle.terminal_presses.specs.Gestures.{no_buttons, is_none_down, is_down, with_button, pressed_more, released}
 use Rattle.terminal_presses.specs.Gestures.{released_at}
-use Rattle.terminal_presses.specs.Pointers.{nowhere, moved_to, laid_aside, toggled, started, spot_moved, begins_at, pointed_cell}
+use Rattle.terminal_presses.specs.Pointers.{nowhere, moved_to, laid_aside, toggled, started, spot_moved, begins_at, pointed_cell, unpointed}
 use Rattle.terminal_presses.specs.Asking.{Asked, answered, is_no_digit, line_meant, pasted_name}
 use Rattle.terminal_presses.specs.Pastes.{line_feed, return, typing_action, new_paste, dropped, pasted_on}
 
@@ -354,3 +354,7 @@ dropping hand = record hand { paste = option_map dropped hand.paste }
 abbrev pub with_pointer : ℕ × ℕ → Hand → Hand
 with_pointer at hand =
     record hand { pointer = moved_to (record { x = at.0; y = at.1 }) hand.pointer }
+
+-- and nothing is pointed at any more
+abbrev pub without_pointer : Hand → Hand
+without_pointer hand = record hand { pointer = unpointed hand.pointer }

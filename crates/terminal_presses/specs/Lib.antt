@@ -8,3 +8,4 @@ pub mod Pointers
 pub mod Runs
 pub mod Sights
 pub mod Singles
+pub mod Windows

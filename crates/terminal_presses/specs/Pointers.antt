@@ -28,6 +28,12 @@ moved_to at pointer = record pointer { shown = Some at }
 abbrev pub laid_aside : Pointer → Pointer
 laid_aside pointer = record pointer { shown = None; left = pointer.shown; start = None }
 
+-- nothing is pointed at any more: it is put away, where it is shown, and the place of the mouse counts no longer
+unfoldable pub unpointed : Pointer → Pointer
+unpointed pointer = record (if is_some pointer.shown then laid_aside pointer else pointer) {
+  mouse = None;
+}
+
 -- it is shown where it wasn't, and is put away where it was
 unfoldable pub toggled : Sight → Pointer → Pointer
 toggled sight pointer = if is_some pointer.shown then laid_aside pointer

@@ -1,7 +1,8 @@
 //! The events that presses make.
 ghost use Rattle.std.specs.Prelude.{◌≡◌, ◌<◌, ◌↔◌, Some, None, IsNone, IfSome};
 ghost use Rattle.terminal_presses.specs.Hands.{new_hand, handled, pasting as pasting_by, fresh, hand_after_escape as escaped_by};
-ghost use Rattle.terminal_presses.specs.Hands.{answering as answering_by, pasting_name as pasting_name_by, dropping, with_pointer};
+ghost use Rattle.terminal_presses.specs.Hands.{answering as answering_by, pasting_name as pasting_name_by, dropping};
+ghost use Rattle.terminal_presses.specs.Hands.{with_pointer, without_pointer};
 ghost use Rattle.terminal_presses.specs.Hands.{by_question as question_says, pastes_text};
 ghost use Rattle.terminal_presses.specs.Hands.{controlled as controlled_by, control as control_says, by_function};
 ghost use Rattle.terminal_presses.specs.Hands.{hand_after_report as reported_by, hand_after_wheel as wheeled_by, hand_after_button as buttoned_by};
@@ -134,6 +135,14 @@ impl Hand {
         ensures { self.new ≡ with_pointer at self.old }
     {
         self.pointer = self.pointer.moved_to(Spot { x: at.0, y: at.1 });
+    }
+
+    /// Nothing is pointed at any more: the pointer that keys move is put away, where it is shown, and the place counts no
+    /// longer at which the mouse has pointed last.
+    pub fn point_nowhere(&mut self)
+        ensures { self.new ≡ without_pointer self.old }
+    {
+        self.pointer = self.pointer.unpointed();
     }
 
     /// What a press comes to, where this part of the display is in sight.

@@ -1,6 +1,6 @@
 //! Where one points: with the mouse, or with a pointer that keys move.
 ghost use Rattle.std.specs.Prelude.{◌≡◌, ◌+◌, ◌<◌, min, IfSome};
-ghost use Rattle.terminal_presses.specs.Pointers.{nowhere, middle_of, appears, toggled as toggled_by, laid_aside};
+ghost use Rattle.terminal_presses.specs.Pointers.{nowhere, middle_of, appears, toggled as toggled_by, laid_aside, unpointed};
 ghost use Rattle.terminal_presses.specs.Pointers.{spot_moved, moved_to, begins_at, started, pointed_cell, pointer_cell};
 
 use crate::action::Click;
@@ -59,6 +59,22 @@ impl Pointer {
             left: self.shown,
             start: None,
             ..self
+        }
+    }
+
+    /// Nothing is pointed at any more: it is put away, where it is shown, and the place of the mouse counts no longer.
+    #[tactic(auto, unfolding(crate::specs::Pointers::unpointed))]
+    pub fn unpointed(self) -> Pointer
+        ensures { result ≡ unpointed self }
+    {
+        let away = if self.shown.is_some() {
+            self.put_away()
+        } else {
+            self
+        };
+        Pointer {
+            mouse: None,
+            ..away
         }
     }
 

@@ -1,11 +1,11 @@
 //! What a store tells of its desktop before and after a command is called.
 ghost use Rattle.std.specs.Prelude.{◌≡◌, true, false, Ok, Err, IfOk};
 ghost use Rattle.desk_views.specs.Losses.{loss_at};
-ghost use Rattle.desk_views.specs.Info.{shown_place, desk_info, last_log_line};
+ghost use Rattle.desk_views.specs.Info.{shown_viewer, place_at, desk_info, last_log_line};
 ghost use Rattle.desk_journal.specs.Looking.{OnlyLooks};
 
 use super::Store;
-use desk_slots::{DeskInfo, Error, LogRow, Loss, Place};
+use desk_slots::{DeskInfo, Error, LogRow, Loss, Place, ShownViewer};
 use sector_disk::Disk;
 
 impl<D: Disk> Store<D> {
@@ -40,23 +40,37 @@ impl<D: Disk> Store<D> {
         self.desktop.loss_at(marked, from, to, &mut self.disk)
     }
 
-    /// Where the viewer of an id stands, if it is shown on the display: in columns and rows, with its menu as the topmost
-    /// row. None where no viewer has that id, and where it is closed or covered.
+    /// The viewer of an id, if it is shown on the display: where it stands, in columns and rows, with its menu as the
+    /// topmost row, and whether it shows the log. None where no viewer has that id, and where it is closed or covered.
     ///
     /// Error: `MustReopen`.
-    pub fn shown_place(&self, id: u16) -> Result<Option<Place>, Error>
+    pub fn shown_viewer(&self, id: u16) -> Result<Option<ShownViewer>, Error>
         ensures value { self.now.must_reopen ≡ false
-            → result ≡ Ok (shown_place self.now.desktop id) }
+            → result ≡ Ok (shown_viewer self.now.desktop id) }
         ensures reopen { self.now.must_reopen ≡ true → result ≡ Err Error.MustReopen }
     {
         if self.must_reopen {
             return Err(Error::MustReopen);
         }
-        Ok(self.desktop.shown_place(id))
+        Ok(self.desktop.shown_viewer(id))
     }
 
-    /// What the desktop says of itself: the id of the next viewer that opens and that of the one that was closed last,
-    /// whether the marker is set, and how many characters the log has.
+    /// Where the viewer stands that is seen at a cell, by its column and row. None on the empty display, and off it.
+    ///
+    /// Error: `MustReopen`.
+    pub fn place_at(&self, cell: (u8, u8)) -> Result<Option<Place>, Error>
+        ensures value { self.now.must_reopen ≡ false
+            → result ≡ Ok (place_at self.now.desktop cell) }
+        ensures reopen { self.now.must_reopen ≡ true → result ≡ Err Error.MustReopen }
+    {
+        if self.must_reopen {
+            return Err(Error::MustReopen);
+        }
+        Ok(self.desktop.place_at(cell))
+    }
+
+    /// What the desktop says of itself: the id of the next viewer that opens, that of the one that was closed last and
+    /// that of the one with the caret, whether the marker is set, and how many characters the log has.
     ///
     /// Error: `MustReopen`.
     pub fn desk_info(&self) -> Result<DeskInfo, Error>

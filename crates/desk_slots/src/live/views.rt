@@ -1,7 +1,7 @@
 //! What a desktop on a disk tells before and after a command is called.
 ghost use Rattle.std.specs.Prelude.{◌≡◌, ◌≤◌, IfOk};
 ghost use Rattle.desk_views.specs.Losses.{loss_at};
-ghost use Rattle.desk_views.specs.Info.{shown_place, desk_info, last_log_line};
+ghost use Rattle.desk_views.specs.Info.{shown_viewer, place_at, desk_info, last_log_line};
 ghost use Rattle.desk_slots.specs.Errors.{OfDesktop};
 ghost use Rattle.desk_slots.specs.Live.{seen_live, IsLive, IsLiveOn, StaysLive};
 ghost use Rattle.desk_slots.specs.Words.{Content, Nowhere, now, IsConfined, FailsAs};
@@ -9,7 +9,7 @@ ghost use Rattle.desk_slots.specs.Words.{Content, Nowhere, now, IsConfined, Fail
 use super::LiveDesktop;
 use crate::Error;
 use crate::over::{log_line_over, loss_over};
-use event_loop::{DeskInfo, LogRow, Loss, Place};
+use event_loop::{DeskInfo, LogRow, Loss, Place, ShownViewer};
 use sector_disk::Disk;
 use store_layout::STORE_SECTORS;
 
@@ -35,11 +35,18 @@ impl LiveDesktop {
         Ok(loss_over(&mut self.desktop, marked, from, to, disk, &mut self.pages)?)
     }
 
-    /// Where the viewer of an id stands, if it is shown on the display.
-    pub fn shown_place(&self, id: u16) -> Option<Place>
-        ensures { (c : Content) → result ≡ shown_place (seen_live c self.now) id }
+    /// The viewer of an id, if it is shown on the display.
+    pub fn shown_viewer(&self, id: u16) -> Option<ShownViewer>
+        ensures { (c : Content) → result ≡ shown_viewer (seen_live c self.now) id }
     {
-        self.desktop.shown_place(id)
+        self.desktop.shown_viewer(id)
+    }
+
+    /// Where the viewer stands that is seen at a cell.
+    pub fn place_at(&self, cell: (u8, u8)) -> Option<Place>
+        ensures { (c : Content) → result ≡ place_at (seen_live c self.now) cell }
+    {
+        self.desktop.place_at(cell)
     }
 
     /// What the desktop says of itself before a command is called.

@@ -2,13 +2,15 @@
 ghost use Rattle.std.specs.Prelude.{◌≡◌, ℕ, List, IfOk};
 ghost use Rattle.desk_core.specs.Words.{FailsAs, OnlyReads, seen, IsKeptWhole, IsOver, IsStop};
 ghost use Rattle.desk_views.specs.Losses.{loss_at};
-ghost use Rattle.desk_views.specs.Info.{shown_place, desk_info, last_log_line};
+ghost use Rattle.desk_views.specs.Info.{shown_viewer, place_at, desk_info, last_log_line};
 
 use super::Desktop;
 use crate::losses::loss_at;
 use char_file::CharSource;
 use desk_core::stop::Stop;
-use desk_views::{DeskInfo, LogRow, Loss, desk_info, last_log_line, shown_place};
+use desk_views::{
+    DeskInfo, LogRow, Loss, ShownViewer, desk_info, last_log_line, place_at, shown_viewer,
+};
 use viewer_tracks::Place;
 
 impl Desktop {
@@ -36,15 +38,22 @@ impl Desktop {
         Ok(loss_at(&mut self.desk, marked, from, to, source)?)
     }
 
-    /// Where the viewer of an id stands, if it stands in a track that is shown. None where no viewer of that id does.
-    pub fn shown_place(&self, id: u16) -> Option<Place>
-        ensures { (characters : List ℕ) → result ≡ shown_place (seen characters self.now) id }
+    /// The viewer of an id, if it stands in a track that is shown. None where no viewer of that id does.
+    pub fn shown_viewer(&self, id: u16) -> Option<ShownViewer>
+        ensures { (characters : List ℕ) → result ≡ shown_viewer (seen characters self.now) id }
     {
-        shown_place(&self.desk, id)
+        shown_viewer(&self.desk, id)
     }
 
-    /// The id of the next viewer that opens and that of the one that was closed last, whether the marker is set, and how
-    /// many characters the log has.
+    /// Where the viewer stands that is seen at a cell, by its column and row. None where none is, and off the display.
+    pub fn place_at(&self, cell: (u8, u8)) -> Option<Place>
+        ensures { (characters : List ℕ) → result ≡ place_at (seen characters self.now) cell }
+    {
+        place_at(&self.desk, cell)
+    }
+
+    /// The id of the next viewer that opens, that of the one that was closed last and that of the one with the caret,
+    /// whether the marker is set, and how many characters the log has.
     pub fn info(&self) -> DeskInfo
         requires { IsKeptWhole self.now }
         ensures { (characters : List ℕ) → result ≡ desk_info (seen characters self.now) }

@@ -1,4 +1,5 @@
 use Rattle.std.proofs.Common.{◌≡◌, ◌∙◌, arith, refl}
+use Rattle.std.proofs.lemmas.Bool.{true≢false}
 use Rattle.desk_sitting.specs.declared.serving.TheConstants.{MOST_TURNS}
 use Rattle.desk_sitting.proofs.Turning.{output_calm, output_ends, too_long_no_output}
 use Rattle.desk_sitting.proofs.Whole.{come_none, come_more, sat_to_end, sat_too_long}
@@ -7,7 +8,8 @@ use Rattle.desk_sitting.proofs.serving.serve.Goals as goal
 pub loop-count-init : goal.loop-count-init
 loop-count-init g c = record {
   come = rw (c.new-parser.ensures, c.new-sitting.ensures, c.new-painter.ensures)
-      (come_none g.D.Disk (c.shows_what_crashes_leave.ensures.durable c.requires) c.requires);
+      (come_none g.D.Disk (c.shows_what_crashes_leave.ensures.durable c.requires) c.requires
+      (λ due. absurd (true≢false due)));
   calm = refl;
 }
 

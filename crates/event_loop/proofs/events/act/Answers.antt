@@ -24,4 +24,4 @@ pub returns-in-Point : goal.returns-in-Point
 returns-in-Point g c = rw c.in-Point.is c.point.ensures
 
 pub returns-in-File : goal.returns-in-File
-returns-in-File g c = rw c.in-File.is (does_file g.S.CharSource _ _ _ c.put_file.ensures)
+returns-in-File g c = rw c.in-File.is (does_file g.S.CharSource _ _ _ c.do_file.ensures)

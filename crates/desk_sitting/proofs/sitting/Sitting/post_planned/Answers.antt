@@ -21,6 +21,14 @@ pub returns-in-Aims-clause-does : goal.returns-in-Aims-clause-does
 returns-in-Aims-clause-does g c = rw c.in-Aims.is (alone_press g.D.Disk _ _ _ c.args.store.now c.requires
     (ap (λ (s : Sitting). seat_of s c.args.store.now) c.aim.ensures))
 
+pub returns-in-Shows-clause-does : goal.returns-in-Shows-clause-does
+returns-in-Shows-clause-does g c = rw c.in-Shows.is (alone_press g.D.Disk _ _ _ c.args.store.now c.requires
+    (ap (λ (s : Sitting). seat_of s c.args.store.now) c.show_cell.ensures))
+
+pub returns-in-PutsAway-clause-does : goal.returns-in-PutsAway-clause-does
+returns-in-PutsAway-clause-does g c = rw c.in-PutsAway.is (alone_press g.D.Disk _ _ _ c.args.store.now c.requires
+    (ap (λ (s : Sitting). seat_of s c.args.store.now) c.put_pointer_away.ensures))
+
 pub returns-in-Next-clause-does : goal.returns-in-Next-clause-does
 returns-in-Next-clause-does g c = rw c.in-Next.is (alone_press g.D.Disk _ _ _ c.args.store.now c.requires refl)
 
