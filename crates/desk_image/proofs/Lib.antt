@@ -14,6 +14,7 @@ pub mod ViewersFit
 pub mod Bytes
 pub mod Loop
 pub mod Parts
+pub mod ReadLast
 pub mod Rising
 pub mod Sections
 pub mod Tables

@@ -1,10 +1,10 @@
 -- What a call leaves of what is kept, put together of what it does to the page. `d` is what is known of the disk.
 use Rattle.std.proofs.Common.{◌≡◌, sym, subst, ℕ, List, Option, Some, Ok}
 use Rattle.sector_disk.specs.declared.disk.Disk.{Ghosts}
-use Rattle.recorded_disk.specs.Recording.{Recording}
 use Rattle.desktop_definitions.specs.declared.reply.Reply.{Reply}
 use Rattle.desktop_definitions.specs.declared.reply.Reply.TheVariants.{Done}
 use Rattle.store_documents.specs.HostText.{imported}
+use Rattle.desk_page.specs.Recording.{Recording}
 use Rattle.desk_page.specs.declared.kept.Kept.{Kept}
 use Rattle.desk_page.specs.declared.scene.Scene.{Scene}
 use Rattle.desk_page.specs.Calls.{IsBegun, IsPressed, IsBrought}

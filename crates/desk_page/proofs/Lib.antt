@@ -1,3 +1,6 @@
+pub mod Spellings
+pub mod Repeated
+pub mod Recorded
 pub mod Beginnings
 pub mod Values
 pub mod Places

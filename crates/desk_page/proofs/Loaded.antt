@@ -6,7 +6,7 @@ use Rattle.sector_disk.specs.Trail.{Moment, now, written, after_sync}
 use Rattle.sector_disk.specs.Memory.{trail_of, zeros}
 use Rattle.sector_disk.proofs.Replay.{now_after}
 use Rattle.sector_disk.specs.declared.file.TheConstants.{FILE_SECTORS}
-use Rattle.recorded_disk.specs.Recording.{Recording, blank_recording, recorded, forgotten}
+use Rattle.desk_page.specs.Recording.{Recording, blank_recording, recorded, forgotten}
 use Rattle.desk_page.specs.Loading.{HasLoaded, ReadsAs, sector_of, whole_sectors}
 
 pub none_yet : (bytes : List ℕ) (disk : Recording) → disk ≡ blank_recording FILE_SECTORS → ReadsAs bytes 0 disk

@@ -1,8 +1,6 @@
 -- What a call does to a page, put together of what the calls below it do. `d` is what is known of the disk.
 use Rattle.std.proofs.Common.{◌≡◌, ◌∙◌, ap, subst, List, ℕ, Result, Ok, Err, IfOk, is_none, true, false}
 use Rattle.sector_disk.specs.declared.disk.Disk.{Ghosts}
-use Rattle.recorded_disk.specs.Recording.{Recording}
-use Rattle.recorded_disk.specs.Spelling.{spelling_of_calls}
 use Rattle.desktop_definitions.specs.Desktop.{Desktop}
 use Rattle.desktop_definitions.specs.Shown.{shown_screen}
 use Rattle.desk_journal.specs.Errors.{Error}
@@ -11,6 +9,8 @@ use Rattle.terminal_presses.specs.declared.press.Heard.{Heard}
 use Rattle.terminal_keyboard.specs.Presses.{parser_after, presses_heard}
 use Rattle.desk_sitting.specs.Sittings.{looked}
 use Rattle.screen_drawing.specs.Drawn.{drawing_of}
+use Rattle.desk_page.specs.Recording.{Recording}
+use Rattle.desk_page.specs.Spelling.{spelling_of_calls}
 use Rattle.desk_page.specs.Hearing.{Hears, heard_of}
 use Rattle.desk_page.specs.Lines.{page_line}
 use Rattle.desk_page.specs.declared.scene.Scene.{Scene}

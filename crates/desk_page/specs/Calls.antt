@@ -1,12 +1,12 @@
 -- What an exported call leaves of what is kept. `d` is what is known of the disk.
 use Rattle.std.specs.Prelude.{◌≡◌, ◌==◌, ◌+◌, ◌*◌, ℕ, List, [], Bool, false, Option, option_map, Some, None, Ok, map, if◌then◌else◌}
 use Rattle.sector_disk.specs.declared.disk.Disk.{Ghosts}
-use Rattle.recorded_disk.specs.Recording.{Recording}
 use Rattle.desktop_definitions.specs.declared.reply.Reply.TheVariants.{Done}
 use Rattle.desktop_definitions.specs.Desktop.{file_of}
 use Rattle.store_documents.specs.HostText.{exported, imported}
 use Rattle.terminal_presses.specs.Pointers.{pointer_cell}
 use Rattle.viewer_tracks.specs.declared.display.TheConstants.{COLUMNS}
+use Rattle.desk_page.specs.Recording.{Recording}
 use Rattle.desk_page.specs.declared.kept.Kept.{Kept}
 use Rattle.desk_page.specs.declared.kept.Made.{Made}
 use Rattle.desk_page.specs.declared.kept.Made.TheVariants.{Drawing, Line, Calls, Text}

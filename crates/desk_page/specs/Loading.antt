@@ -4,7 +4,7 @@ use Rattle.sector_disk.specs.declared.disk.TheConstants.{SECTOR_BYTES}
 use Rattle.sector_disk.specs.declared.file.TheConstants.{FILE_SECTORS}
 use Rattle.sector_disk.specs.Trail.{now}
 use Rattle.sector_disk.specs.Memory.{trail_of, zeros}
-use Rattle.recorded_disk.specs.Recording.{Recording}
+use Rattle.desk_page.specs.Recording.{Recording}
 
 -- the bytes that stand where sector n has its place
 abbrev pub sector_of : List ℕ → ℕ → List ℕ

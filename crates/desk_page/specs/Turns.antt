@@ -1,8 +1,6 @@
 -- What a call does to a page, and what a host is handed of it. `d` is what is known of the disk.
 use Rattle.std.specs.Prelude.{◌≡◌, ◌≢◌, ℕ, List, [], ◌∷◌, is_none, true, false}
 use Rattle.sector_disk.specs.declared.disk.Disk.{Ghosts}
-use Rattle.recorded_disk.specs.Recording.{Recording}
-use Rattle.recorded_disk.specs.Spelling.{spelling_of_calls}
 use Rattle.desktop_definitions.specs.declared.reply.Reply.{Reply}
 use Rattle.desktop_definitions.specs.Desktop.{empty_desktop}
 use Rattle.desktop_definitions.specs.Shown.{shown_screen}
@@ -17,6 +15,8 @@ use Rattle.desk_sayings.specs.declared.saying.Saying.TheVariants.{Greeting}
 use Rattle.desk_sitting.specs.Sittings.{looked, new_sitting}
 use Rattle.desk_sitting.specs.Travels.{IsTravelled}
 use Rattle.screen_drawing.specs.Drawn.{drawing_of}
+use Rattle.desk_page.specs.Recording.{Recording}
+use Rattle.desk_page.specs.Spelling.{spelling_of_calls}
 use Rattle.desk_page.specs.declared.page.Page.{Page}
 use Rattle.viewer_tracks.specs.declared.display.TheConstants.{COLUMNS}
 use Rattle.desk_page.specs.declared.page.TheConstants.{HEIGHT}

@@ -4,13 +4,13 @@ ghost use Rattle.store_documents.specs.HostText.{imported};
 ghost use Rattle.desk_page.specs.Calls.{IsBegun, IsPressed, IsBrought, IsGiven, made_by, has_left, made_numbered};
 ghost use Rattle.desk_page.specs.Calls.{pointer_number};
 
+use crate::disk::RecordedDisk;
 use crate::documents::give;
 use crate::scene::{HostPage, Scene, begun, brought, pressed, settled};
 use crate::status::{DONE, GONE, NO_DOCUMENT, NO_NAME, NO_ROOM, status_of, status_of_unfit};
 use desk_bringing::Document;
 use desktop_definitions::Reply;
 use event_bytes::Name;
-use recorded_disk::RecordedDisk;
 use sector_disk::Disk;
 use std::alloc::Global;
 use store_documents::document;

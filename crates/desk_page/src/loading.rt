@@ -4,7 +4,7 @@ ghost use Rattle.sector_disk.specs.Trail.{now, written};
 ghost use Rattle.sector_disk.specs.Memory.{trail_of};
 ghost use Rattle.desk_page.specs.Loading.{HasLoaded, sector_of, whole_sectors};
 
-use recorded_disk::RecordedDisk;
+use crate::disk::RecordedDisk;
 use sector_disk::{Disk, FILE_SECTORS, NoMemory, Sector};
 use std::alloc::Global;
 

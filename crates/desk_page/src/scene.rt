@@ -1,10 +1,11 @@
 //! What a host is handed of a page, and what a call does to a page.
 ghost use Rattle.std.specs.Prelude.{◌≡◌, is_none, true, false, IfOk, IsOk, OnOk};
-ghost use Rattle.recorded_disk.specs.Spelling.{spelling_of_calls};
 ghost use Rattle.desk_journal.specs.Opening.{IsOpened};
 ghost use Rattle.desk_journal.specs.View.{IsDurable};
+ghost use Rattle.desk_page.specs.Spelling.{spelling_of_calls};
 ghost use Rattle.desk_page.specs.Turns.{AreTravelled, Begins, Presses, Brings, IsOpenedAnew, IsHanded};
 
+use crate::disk::RecordedDisk;
 use crate::documents::bring;
 use crate::heard::{hear, hearing};
 use crate::loading::disk_of;
@@ -13,7 +14,6 @@ use desk_bringing::Document;
 use desk_journal::{Error, Store};
 use desk_sitting::{MOST_TURNS, Sitting, travel};
 use desktop_definitions::Reply;
-use recorded_disk::RecordedDisk;
 use sector_disk::{Disk, FILE_SECTORS};
 use std::alloc::Global;
 use store_layout::showing_law;

@@ -6,7 +6,8 @@ use Rattle.event_bytes.specs.declared.keys.Keys.TheVariants.{Middle}
 use Rattle.desktop_definitions.specs.Limits.{no_file}
 use Rattle.viewer_tracks.specs.declared.display.TheConstants.{COLUMNS}
 use Rattle.desk_sayings.specs.declared.saying.Saying.{Saying}
-use Rattle.desk_sayings.specs.declared.saying.Saying.TheVariants.{CutShort, Fills, FillsNot, NoDocument, OneSide, Refused}
+use Rattle.desk_sayings.specs.declared.saying.Saying.TheVariants.{CutShort, Fills, FillsNot, NoDocument, OneSide}
+use Rattle.desk_sayings.specs.declared.saying.Saying.TheVariants.{Refused}
 use Rattle.desk_sayings.specs.declared.saying.Saying.TheVariants.{ToolFiled, TooLow, TooNarrow}
 
 -- in the beginning: where a terminal has fewer columns than the display, how the other side comes into sight

@@ -4,10 +4,10 @@ use Rattle.event_bytes.specs.declared.event.Event.{Event}
 use Rattle.event_bytes.specs.declared.event.Event.TheVariants as event
 use Rattle.event_bytes.specs.declared.keys.Keys.TheVariants.{Middle}
 use Rattle.screen_pictures.specs.declared.cell.Cell.{Cell}
-use Rattle.desk_presses.specs.Aims.{caret_cell}
-use Rattle.desk_presses.specs.Menus.{word_call}
-use Rattle.desk_presses.specs.declared.menus.MenuWord.TheVariants as word
-use Rattle.desk_presses.specs.declared.menus.WordCall.{WordCall}
+use Rattle.screen_reading.specs.Aims.{caret_cell}
+use Rattle.screen_reading.specs.Menus.{word_call}
+use Rattle.screen_reading.specs.declared.menus.MenuWord.TheVariants as word
+use Rattle.screen_reading.specs.declared.menus.WordCall.{WordCall}
 use Rattle.terminal_presses.specs.declared.action.Click.{Click as AClick}
 use Rattle.terminal_presses.specs.declared.action.Click.TheVariants.{Mark, Keys}
 use Rattle.terminal_presses.specs.declared.action.Action.{Action}

@@ -1,4 +1,5 @@
 pub mod Choosing
 pub mod Clicks
+pub mod Deeds
 pub mod Question
 pub mod Sayings

@@ -1,5 +1,6 @@
 -- What the line below the screen says.
-use Rattle.std.specs.Prelude.{ℕ, ◌-◌, ◌==◌, if◌then◌else◌, List, [], ◌∷◌, ◌++◌, Option, Some, None, codes, drop, length, slice_get}
+use Rattle.std.specs.Prelude.{ℕ, ◌-◌, ◌==◌, if◌then◌else◌, List, [], ◌∷◌, ◌++◌, Option, Some, None, codes, drop}
+use Rattle.std.specs.Prelude.{length, slice_get}
 use Rattle.desktop_definitions.specs.Limits.{no_file}
 use Rattle.std.specs.Prelude.{Bool, true, false, unwrap_or}
 use Rattle.std.specs.Fmt.{decimal}
@@ -9,17 +10,21 @@ use Rattle.event_bytes.specs.declared.keys.Keys.TheVariants.{MiddleRight, Right,
 use Rattle.terminal_presses.specs.declared.action.Click.{Click}
 use Rattle.terminal_presses.specs.declared.action.Click.TheVariants.{Mark, Keys}
 use Rattle.desk_sayings.specs.declared.saying.Saying.{Saying}
-use Rattle.desk_sayings.specs.declared.saying.Saying.TheVariants.{Greeting, Unproved, InMemory, Keys as ForKeys, Pointing, Asks, NoKey, NoText, NoScroll}
-use Rattle.desk_sayings.specs.declared.saying.Saying.TheVariants.{NothingAfter, NoWord, NoCommand, NoSearch, NothingTyped, Fills, FillsNot, ToolFiled, Refused, CutShort, OneSide, NoDocument}
-use Rattle.desk_sayings.specs.declared.saying.Saying.TheVariants.{Worn, Unread, Unfinished, TooNarrow, TooLow, TookBack, DidAgain}
+use Rattle.desk_sayings.specs.declared.saying.Saying.TheVariants.{Greeting, Unproved, InMemory, Keys as ForKeys}
+use Rattle.desk_sayings.specs.declared.saying.Saying.TheVariants.{Pointing, Asks, NoKey, NoText, NoScroll}
+use Rattle.desk_sayings.specs.declared.saying.Saying.TheVariants.{NothingAfter, NoWord, NoCommand, NoSearch}
+use Rattle.desk_sayings.specs.declared.saying.Saying.TheVariants.{NothingTyped, Fills, FillsNot, ToolFiled, Refused}
+use Rattle.desk_sayings.specs.declared.saying.Saying.TheVariants.{CutShort, OneSide, NoDocument}
+use Rattle.desk_sayings.specs.declared.saying.Saying.TheVariants.{Worn, Unread, Unfinished, TooNarrow, TooLow}
+use Rattle.desk_sayings.specs.declared.saying.Saying.TheVariants.{TookBack, DidAgain}
 use Rattle.desk_sayings.specs.declared.saying.Saying.TheVariants.{NothingBack, NothingAgain, NotBack, Logged}
 use Rattle.desk_sayings.specs.declared.question.Question.{Question}
 use Rattle.desk_sayings.specs.declared.question.Question.TheVariants.{Leaving, Closing, Taking, Rivalled}
-use Rattle.desk_presses.specs.declared.deed.Deed.{Deed}
-use Rattle.desk_presses.specs.declared.deed.Deed.TheVariants as deed
+use Rattle.desk_sayings.specs.declared.deed.Deed.{Deed}
+use Rattle.desk_sayings.specs.declared.deed.Deed.TheVariants as deed
 use Rattle.screen_pictures.specs.declared.cell.Cell.{Cell}
-use Rattle.desk_presses.specs.Called.{called_word, parameter_word, word_from}
-use Rattle.desk_presses.specs.Deeds.{deed_words}
+use Rattle.screen_reading.specs.Called.{called_word, parameter_word, word_from}
+use Rattle.desk_sayings.specs.Deeds.{deed_words}
 
 -- why an event is refused, by the code of the refusal from 0 on
 abbrev pub reasons : List (List ℕ)

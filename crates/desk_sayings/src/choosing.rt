@@ -1,6 +1,7 @@
 //! Which saying is due, by what came about.
 ghost use Rattle.std.specs.Prelude.{◌≡◌};
-ghost use Rattle.desk_sayings.specs.Choosing.{came_to, done_saying, fill_saying, first_saying, fitted_saying, refused_saying};
+ghost use Rattle.desk_sayings.specs.Choosing.{came_to, done_saying, fill_saying, first_saying, fitted_saying};
+ghost use Rattle.desk_sayings.specs.Choosing.{refused_saying};
 
 use crate::Saying;
 use desktop_definitions::codes::NO_FILE;

@@ -1,11 +1,12 @@
 //! The click of the middle button that a press makes, about which it may be asked first.
 ghost use Rattle.std.specs.Prelude.{◌≡◌, false, List, option_map};
 ghost use Rattle.screen_pictures.specs.declared.cell.Cell.{Cell};
-ghost use Rattle.desk_sayings.specs.Clicks.{calling_click, caret_event, click_at, click_made, is_by_screen, middle_click};
+ghost use Rattle.desk_sayings.specs.Clicks.{calling_click, caret_event, click_at, click_made, is_by_screen};
+ghost use Rattle.desk_sayings.specs.Clicks.{middle_click};
 
-use desk_presses::{MenuWord, WordCall, caret_of};
 use event_bytes::{Event, Keys};
 use screen_cells::Screen;
+use screen_reading::{MenuWord, WordCall, caret_of};
 use terminal_presses::{Action, Click};
 
 /// A click of the middle button.

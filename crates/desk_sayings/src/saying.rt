@@ -1,17 +1,20 @@
 //! What the line below the screen says.
 ghost use Rattle.std.specs.Prelude.{◌≡◌, ◌≤◌, length, option_map};
-ghost use Rattle.desk_sayings.specs.Sayings.{asked_words, click_words, closing_words, cut_short, keys_words, line_by_hand};
+ghost use Rattle.desk_sayings.specs.Sayings.{asked_words, click_words, closing_words, cut_short, keys_words};
+ghost use Rattle.desk_sayings.specs.Sayings.{line_by_hand};
 ghost use Rattle.desk_sayings.specs.Sayings.{line_of, no_document, question, question_words, reason};
 ghost use Rattle.desk_sayings.specs.Sayings.{is_in_memory as memory_said, resting_of as rest_after};
 ghost use Rattle.desk_sayings.specs.Sayings.{said_by_pointer as by_pointer};
-ghost use Rattle.desk_sayings.specs.Sayings.{called, rivalled_words, short_reason, taking_words, told, told_back, words};
+ghost use Rattle.desk_sayings.specs.Sayings.{called, rivalled_words, short_reason, taking_words, told, told_back};
+ghost use Rattle.desk_sayings.specs.Sayings.{words};
 
+use crate::deed::Deed;
 use crate::question::Question;
 use arrayvec::ArrayVec;
-use desk_presses::{Deed, called_word, parameter_word, word_from};
 use desktop_definitions::codes::NO_FILE;
 use event_bytes::Keys;
 use screen_cells::Screen;
+use screen_reading::{called_word, parameter_word, word_from};
 use terminal_presses::Click;
 
 /// What the line below the screen says, where it neither asks for a name nor says what the next click is.

@@ -1,5 +1,6 @@
 -- The events of presses that are accepted lead to the desktop after them.
-use Rattle.std.proofs.Common.{◌≡◌, ◌≤◌, inl, inr, ℕ, zero, suc, Bool, true, false, [], ◌∷◌, ◌++◌, Option, Some, None, refl, sym}
+use Rattle.std.proofs.Common.{◌≡◌, ◌≤◌, inl, inr, ℕ, zero, suc, Bool, true, false, [], ◌∷◌, ◌++◌, Option, Some, None}
+use Rattle.std.proofs.Common.{refl, sym}
 use Rattle.std.proofs.Common.{◌∙◌, ap, arith, length, append_assoc, append-nil}
 use Rattle.std.specs.Prelude.{if◌then◌else◌, ◌&&◌, List}
 use Rattle.std.proofs.lemmas.Bool.{cond-true, cond-false}
@@ -12,13 +13,16 @@ use Rattle.terminal_presses.specs.declared.press.Press.{Press}
 use Rattle.terminal_presses.specs.declared.action.Action.{Action}
 use Rattle.terminal_presses.specs.declared.hand.Hand.{Hand}
 use Rattle.terminal_presses.specs.Hands.{handled}
-use Rattle.desk_sitting.specs.declared.task.Task.{Task}
+use Rattle.desk_tasks.specs.declared.task.Task.{Task}
 use Rattle.desk_sitting.specs.Sittings.{most_plans}
 use Rattle.desk_sitting.specs.Questions.{unasked}
-use Rattle.desk_sitting.specs.Tasks.{Plan, Aims, Events, PutsAway, Refused as NotDone, Says, Shows, plan_of}
-use Rattle.desk_sitting.specs.Sittings.{Seat, accepted_as, accepted_by, accepted_in, accepted_one, accepted_stage, acted}
-use Rattle.desk_sitting.specs.Sittings.{accepted_unasked, after_planned, after_post, after_posts, after_press, after_stage}
-use Rattle.desk_sitting.specs.Sittings.{after_task, asks_first, does, does_all, done_by, done_so, noted_at, task_in, task_left, planned, with_hand}
+use Rattle.desk_tasks.specs.Plans.{Plan, Aims, Events, PutsAway, Refused as NotDone, Says, Shows, plan_of}
+use Rattle.desk_sitting.specs.Sittings.{Seat, accepted_as, accepted_by, accepted_in, accepted_one, accepted_stage}
+use Rattle.desk_sitting.specs.Sittings.{acted}
+use Rattle.desk_sitting.specs.Sittings.{accepted_unasked, after_planned, after_post, after_posts, after_press}
+use Rattle.desk_sitting.specs.Sittings.{after_stage}
+use Rattle.desk_sitting.specs.Sittings.{after_task, asks_first, does, does_all, done_by, done_so, noted_at, task_in}
+use Rattle.desk_sitting.specs.Sittings.{task_left, planned, with_hand}
 use Rattle.desk_sitting.specs.Sittings.{accepted_events, accepted_of, PressesAreSteps}
 
 -- ---- one event

@@ -1,5 +1,6 @@
 -- A task is done plan by plan.
-use Rattle.std.proofs.Common.{◌≡◌, ◌≤◌, ℕ, zero, suc, true, false, List, [], ◌∷◌, ◌++◌, Some, None, Ok, Err, refl, sym, ◌∙◌, ap, subst}
+use Rattle.std.proofs.Common.{◌≡◌, ◌≤◌, ℕ, zero, suc, true, false, List, [], ◌∷◌, ◌++◌, Some, None, Ok, Err, refl}
+use Rattle.std.proofs.Common.{sym, ◌∙◌, ap, subst}
 use Rattle.std.proofs.Common.{append_assoc, append-nil, arith}
 use Rattle.std.specs.Prelude.{Bool, ◌&&◌, not, if◌then◌else◌, Option, is_some, Result}
 use Rattle.std.proofs.lemmas.Bool.{false≢true}
@@ -9,17 +10,21 @@ use Rattle.desk_journal.specs.Errors.{Error}
 use Rattle.desk_journal.specs.Looking.{OnlyLooks}
 use Rattle.desk_journal.specs.Session.{session_of}
 use Rattle.desk_journal.specs.View.{StoreView, IsDurable}
-use Rattle.desk_presses.specs.declared.deed.Deed.{Deed}
+use Rattle.desk_sayings.specs.declared.deed.Deed.{Deed}
 use Rattle.desk_sitting.specs.declared.sitting.Sitting.{Sitting}
-use Rattle.desk_sitting.specs.declared.task.Task.{Task}
-use Rattle.desk_sitting.specs.declared.task.TheConstants.{MOST_PLANS}
+use Rattle.desk_tasks.specs.declared.task.Task.{Task}
+use Rattle.desk_tasks.specs.declared.task.TheConstants.{MOST_PLANS}
 use Rattle.desk_sitting.specs.Sittings.{most_plans}
 use Rattle.desk_sitting.specs.Doing.{ComesToSeat, DoesPress, seat_of}
-use Rattle.desk_sitting.specs.Sittings.{Seat, accepted_by, accepted_in, accepted_stage, after_planned, after_post, after_posts}
-use Rattle.desk_sitting.specs.Sittings.{after_stage, after_task, does, kept_follows, left_by, task_left, planned, went_on}
-use Rattle.desk_sitting.specs.Tasks.{Plan, deed_of_task, plan_of}
+use Rattle.desk_sitting.specs.Sittings.{Seat, accepted_by, accepted_in, accepted_stage, after_planned, after_post}
+use Rattle.desk_sitting.specs.Sittings.{after_posts}
+use Rattle.desk_sitting.specs.Sittings.{after_stage, after_task, does, kept_follows, left_by, task_left, planned}
+use Rattle.desk_sitting.specs.Sittings.{went_on}
+use Rattle.desk_tasks.specs.Tasks.{deed_of_task}
+use Rattle.desk_tasks.specs.Plans.{Plan, plan_of}
 use Rattle.desk_sitting.proofs.Accepted.{alone_accepted, alone_posted, none_accepted}
-use Rattle.desk_sitting.proofs.Pressed.{alone_press, event_press, look_press, press_both, press_same, press_short, unseen_press}
+use Rattle.desk_sitting.proofs.Pressed.{alone_press, event_press, look_press, press_both, press_same, press_short}
+use Rattle.desk_sitting.proofs.Pressed.{unseen_press}
 use Rattle.desk_sitting.proofs.Taking.{same_session}
 
 -- ---- plans, one after another

@@ -11,7 +11,6 @@ pub mod Turning
 pub mod Whole
 mod Found
 mod Asked
-mod Planning
 mod Questions
 mod Told
 mod Travelling

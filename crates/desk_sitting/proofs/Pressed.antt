@@ -1,5 +1,6 @@
 -- What a crash leaves of the events of a press, and what a press promises that has one event, or several.
-use Rattle.std.proofs.Common.{◌≡◌, ◌≤◌, ◌+◌, ◌<◌, ℕ, Bool, true, false, List, [], ◌∷◌, ◌++◌, length, get_or, take, drop, inl, inr}
+use Rattle.std.proofs.Common.{◌≡◌, ◌≤◌, ◌+◌, ◌<◌, ℕ, Bool, true, false, List, [], ◌∷◌, ◌++◌, length, get_or, take}
+use Rattle.std.proofs.Common.{drop, inl, inr}
 use Rattle.std.proofs.Common.{Ok, Err, refl, sym, ◌∙◌, ap, subst, append_assoc, append-nil, arith}
 use Rattle.std.specs.Prelude.{◌&&◌, if◌then◌else◌, Result}
 use Rattle.std.proofs.lemmas.Bool.{cond-false, false≢true}
@@ -22,7 +23,8 @@ use Rattle.desk_journal.proofs.Passing.{at_start, shows_means}
 use Rattle.desk_journal.proofs.Prefixes.{steps_both, whole_prefix, no_prefix, fewer_acknowledged, prefix_of_more}
 use Rattle.desk_journal.proofs.Prefixes.{prefix_behind}
 use Rattle.desk_sitting.specs.declared.sitting.Sitting.{Sitting}
-use Rattle.desk_sitting.specs.Doing.{ComesToSeat, DoesPress, GoesBy, IsDone, IsPressDone, IsPressUndone, IsUndone, OfPresses}
+use Rattle.desk_sitting.specs.Doing.{ComesToSeat, DoesPress, GoesBy, IsDone, IsPressDone, IsPressUndone, IsUndone}
+use Rattle.desk_sitting.specs.Doing.{OfPresses}
 use Rattle.desk_sitting.specs.Doing.{SittingSurvives, seat_of}
 use Rattle.desk_sitting.specs.Sittings.{Seat, accepted_by, accepted_one, after_post, after_posts, does, does_all}
 use Rattle.desk_sitting.specs.Serving.{IsLookedAt}

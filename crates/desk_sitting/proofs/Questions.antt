@@ -12,7 +12,8 @@ use Rattle.desk_sayings.specs.declared.question.Question.TheVariants.{Leaving, C
 use Rattle.desk_sitting.specs.declared.sitting.Sitting.{Sitting}
 use Rattle.desk_sitting.specs.Questions.{questioned, question_of}
 use Rattle.desk_sayings.specs.Question.{comes_first, is_same_question}
-use Rattle.desk_sitting.specs.Sittings.{Seat, QuestionsComeOnce, QuestionsPostNothing, acted, after_press, with_question}
+use Rattle.desk_sitting.specs.Sittings.{Seat, QuestionsComeOnce, QuestionsPostNothing, acted, after_press}
+use Rattle.desk_sitting.specs.Sittings.{with_question}
 use Rattle.desk_sitting.specs.Sittings.{asks_first, question_at, with_hand}
 use Rattle.desk_sitting.proofs.Accepted.{hand_asks}
 

@@ -1,5 +1,6 @@
 -- What was sent last has the terminal show the scene of the desktop that stands, unless a scene is due.
-use Rattle.std.proofs.Common.{◌≡◌, ◌∙◌, ℕ, zero, suc, Bool, true, false, List, [], ◌∷◌, Option, Some, None, inl, inr, refl, sym, ap, subst}
+use Rattle.std.proofs.Common.{◌≡◌, ◌∙◌, ℕ, zero, suc, Bool, true, false, List, [], ◌∷◌, Option, Some, None, inl, inr}
+use Rattle.std.proofs.Common.{refl, sym, ap, subst}
 use Rattle.std.specs.Prelude.{◌||◌, ◌&&◌, ◌==◌, ◌⊎◌, not, is_some, length, if◌then◌else◌}
 use Rattle.std.proofs.lemmas.Bool.{cond-true, cond-false, or_parts, or_from, or_left, or_right, and_parts, true≢false}
 use Rattle.store_layout.proofs.Bits.{true_or_false}
@@ -21,13 +22,13 @@ use Rattle.terminal_presses.specs.declared.press.Press.{Press}
 use Rattle.terminal_presses.specs.Hands.{handled}
 use Rattle.terminal_presses.specs.Pointers.{pointer_cell}
 use Rattle.terminal_presses.specs.Sights.{terminal_place}
-use Rattle.terminal_presses.specs.Windows.{following_sight}
+use Rattle.screen_reading.specs.Windows.{following_sight}
 use Rattle.desk_journal.specs.Session.{Session, is_worn}
 use Rattle.desk_journal.specs.View.{StoreView}
-use Rattle.desk_presses.specs.declared.again.Place.{Place}
-use Rattle.desk_presses.specs.declared.deed.Deed.{Deed}
-use Rattle.desk_presses.specs.Past.{with_refused}
-use Rattle.desk_presses.specs.Replacing.{noted}
+use Rattle.desk_tasks.specs.declared.again.StorePlace.{StorePlace}
+use Rattle.desk_sayings.specs.declared.deed.Deed.{Deed}
+use Rattle.desk_tasks.specs.Past.{with_refused}
+use Rattle.desk_tasks.specs.Replacing.{noted}
 use Rattle.desk_sayings.specs.declared.question.Question.{Question}
 use Rattle.desk_sayings.specs.declared.saying.Saying.{Saying}
 use Rattle.desk_sayings.specs.declared.saying.Saying.TheVariants.{Asks, NothingAgain, NothingBack, Worn}
@@ -35,18 +36,23 @@ use Rattle.desk_sayings.specs.Choosing.{refused_saying}
 use Rattle.desk_sayings.specs.Question.{asks_to_leave, comes_first}
 use Rattle.desk_sayings.specs.Sayings.{line_of, said_by_pointer}
 use Rattle.desk_sitting.specs.declared.sitting.Sitting.{Sitting}
-use Rattle.desk_sitting.specs.declared.task.Task.{Task}
+use Rattle.desk_tasks.specs.declared.task.Task.{Task}
 use Rattle.desk_sitting.specs.Doing.{DoesPresses, seat_of}
 use Rattle.desk_sitting.specs.Doing.{none as no_press, one_more as one_press}
 use Rattle.desk_sayings.specs.Clicks.{click_made}
 use Rattle.desk_sitting.specs.Questions.{forgetful, is_nothing, is_of_terminal, questioned, unasked}
 use Rattle.desk_sitting.specs.Scenes.{◌>>=◌, IsSceneOf, IsSeen, known_by}
-use Rattle.desk_sitting.specs.Serving.{IsSeenUnlessDue, IsShownIfDue, TurnState, Turns, anew, sitting_shown, still, store_screen}
-use Rattle.desk_sitting.specs.Sittings.{Seat, acted, acted_alone, after_fetch, after_planned, after_post, after_posts, after_press}
-use Rattle.desk_sitting.specs.Sittings.{after_stage, after_task, asks_first, does, done_by, done_so, fetched, followed_cell, is_scene_due}
-use Rattle.desk_sitting.specs.Sittings.{is_still, is_unseen, looked, most_plans, noted_at, noted_in, question_at, refused, replied}
+use Rattle.desk_sitting.specs.Serving.{IsSeenUnlessDue, IsShownIfDue, TurnState, Turns, anew, sitting_shown, still}
+use Rattle.desk_sitting.specs.Serving.{store_screen}
+use Rattle.desk_sitting.specs.Sittings.{Seat, acted, acted_alone, after_fetch, after_planned, after_post, after_posts}
+use Rattle.desk_sitting.specs.Sittings.{after_press}
+use Rattle.desk_sitting.specs.Sittings.{after_stage, after_task, asks_first, does, done_by, done_so, fetched}
+use Rattle.desk_sitting.specs.Sittings.{followed_cell, is_scene_due}
+use Rattle.desk_sitting.specs.Sittings.{is_still, is_unseen, looked, most_plans, noted_at, noted_in, question_at}
+use Rattle.desk_sitting.specs.Sittings.{refused, replied}
 use Rattle.desk_sitting.specs.Sittings.{task_in, task_left, turned_away, turned_by, unplaced, with_hand}
-use Rattle.desk_sitting.specs.Tasks.{Plan, Aims, Events, PutsAway, Refused as NotDone, Says, Shows, plan_of, task_of}
+use Rattle.desk_tasks.specs.Tasks.{task_of}
+use Rattle.desk_tasks.specs.Plans.{Plan, Aims, Events, PutsAway, Refused as NotDone, Says, Shows, plan_of}
 use Rattle.desk_sitting.specs.Travelling.{IsBetween}
 use Rattle.desk_sitting.specs.Travels.{Travelled, did_again, goes_again, is_unmoved, settled, store_place, took_back}
 use Rattle.desk_sitting.specs.Travels.{none as not_asked, back, nothing, again}
@@ -416,11 +422,11 @@ post_due event seat = either_due (is_worn seat.session) (turned_away Worn seat.s
     (turned_due seat.sitting.typed Worn (unplaced seat.sitting))
     (replied_due event (step seat.session.desktop event).reply seat.sitting)
 
-back_due : (events : List Event) (from to : Place) (s : Sitting) → IsDue (took_back events from to s)
+back_due : (events : List Event) (from to : StorePlace) (s : Sitting) → IsDue (took_back events from to s)
 back_due events from to s =
     either_due (length events == 0) (refused NothingBack s) _ (rings_due (refused NothingBack s) refl) (follows_due _ refl)
 
-again_due : (deed : Deed) (from to : Place) (s : Sitting) → IsDue s → IsDue (did_again deed from to s)
+again_due : (deed : Deed) (from to : StorePlace) (s : Sitting) → IsDue s → IsDue (did_again deed from to s)
 again_due deed from to s due = either_due (is_unmoved from to) s _ due (changed_due _ refl)
 
 module _ {D : Type 0} (d : Ghosts D) {s s' : Sitting} {old new : StoreView D} where

@@ -12,8 +12,10 @@ use Rattle.desk_sitting.specs.Doing.{Breaks, DoesPresses, GoesBy, IsPressDone, S
 use Rattle.desk_sitting.specs.Doing.{none as no_press, one_more as one_press}
 use Rattle.desk_sitting.specs.Sittings.{Seat, PressesAreSteps, accepted_events, accepted_of, after_press, after_presses}
 use Rattle.desk_sitting.specs.declared.ending.SittingEnd.{SittingEnd}
-use Rattle.desk_sitting.specs.declared.ending.SittingEnd.TheVariants.{Left, Closed, Input, TooLong, Output, Fault, Memory}
-use Rattle.desk_sitting.specs.Serving.{TurnState, IsLookedAt, Turns, IsTurnRun, Broke, SittingStops, Ends, sitting_shown}
+use Rattle.desk_sitting.specs.declared.ending.SittingEnd.TheVariants.{Left, Closed, Input, TooLong, Output, Fault}
+use Rattle.desk_sitting.specs.declared.ending.SittingEnd.TheVariants.{Memory}
+use Rattle.desk_sitting.specs.Serving.{TurnState, IsLookedAt, Turns, IsTurnRun, Broke, SittingStops, Ends}
+use Rattle.desk_sitting.specs.Serving.{sitting_shown}
 use Rattle.desk_sitting.specs.Serving.{none as no_turn, one_more as one_more_turn}
 use Rattle.desk_sitting.specs.Serving.{left, closed, unheard, unseen, faulty, starved, faulty_press, starved_press}
 use Rattle.desk_sitting.specs.Serving.{stopped, too_long}

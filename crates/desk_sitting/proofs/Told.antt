@@ -13,22 +13,25 @@ use Rattle.terminal_presses.specs.declared.action.Action.TheVariants as action
 use Rattle.terminal_presses.specs.declared.action.Click.{Click as AClick}
 use Rattle.desk_journal.specs.Session.{Session, is_worn, taken}
 use Rattle.desk_journal.specs.Views.{DeskInfo, ShownViewer, desk_info, last_log_line}
-use Rattle.desk_presses.specs.Aims.{caret_cell}
-use Rattle.desk_presses.specs.Deeds.{is_middle}
-use Rattle.desk_presses.specs.Filling.{filling}
-use Rattle.desk_presses.specs.Frames.{text_start}
-use Rattle.desk_presses.specs.declared.filling.Filling.{Filling}
-use Rattle.desk_presses.specs.declared.filling.Filling.TheVariants.{Plain, Ended, Broken}
-use Rattle.desk_presses.specs.declared.menus.WordCall.{WordCall}
+use Rattle.screen_reading.specs.Aims.{caret_cell}
+use Rattle.desk_sayings.specs.Deeds.{is_middle}
+use Rattle.screen_reading.specs.Filling.{filling}
+use Rattle.screen_reading.specs.Frames.{text_start}
+use Rattle.screen_reading.specs.declared.filling.Filling.{Filling}
+use Rattle.screen_reading.specs.declared.filling.Filling.TheVariants.{Plain, Ended, Broken}
+use Rattle.screen_reading.specs.declared.menus.WordCall.{WordCall}
 use Rattle.desk_sayings.specs.declared.clicks.MiddleClick.{MiddleClick}
 use Rattle.desk_sayings.specs.Clicks.{calling_click, caret_event, click_at, click_made, middle_click}
-use Rattle.desk_sitting.specs.declared.task.Task.{Task}
-use Rattle.desk_sitting.specs.declared.task.Task.TheVariants as kind
-use Rattle.desk_sitting.specs.Listed.{event_meant, lacks_tool}
-use Rattle.desk_sitting.specs.Tasks.{Plan, Aims, Events, PutsAway, Refused as NotDone, Says, Shows, answer_plan, at_caret_plan, call_marked, call_plan}
-use Rattle.desk_sitting.specs.Tasks.{click_of, enter_plan, is_call, opened_viewer, plan_of, plan_on}
-use Rattle.desk_sitting.specs.Tasks.{posted_plan, posting, task_of, type_plan}
-use Rattle.desk_sitting.specs.Sittings.{Seat, ClicksAreTold, IsClickTold, accepted_as, accepted_by, accepted_in, accepted_stage, after_stage}
+use Rattle.desk_tasks.specs.declared.task.Task.{Task}
+use Rattle.desk_tasks.specs.declared.task.Task.TheVariants as kind
+use Rattle.desk_tasks.specs.Listed.{event_meant, lacks_tool}
+use Rattle.desk_tasks.specs.Plans.{Plan, Aims, Events, PutsAway, Refused as NotDone, Says, Shows, answer_plan}
+use Rattle.desk_tasks.specs.Plans.{at_caret_plan, call_marked, call_plan}
+use Rattle.desk_tasks.specs.Plans.{click_of, enter_plan, is_call, opened_viewer, plan_of, plan_on}
+use Rattle.desk_tasks.specs.Tasks.{posting, task_of}
+use Rattle.desk_tasks.specs.Plans.{posted_plan, type_plan}
+use Rattle.desk_sitting.specs.Sittings.{Seat, ClicksAreTold, IsClickTold, accepted_as, accepted_by, accepted_in}
+use Rattle.desk_sitting.specs.Sittings.{accepted_stage, after_stage}
 use Rattle.desk_sitting.specs.Sittings.{does, does_all, left_by, most_plans, noted_at, planned, task_left}
 
 module _ (told : Option MiddleClick) where

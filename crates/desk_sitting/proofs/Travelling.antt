@@ -1,8 +1,8 @@
 -- What taking back and doing again come to.
 use Rattle.std.proofs.Common.{◌≡◌, ◌≢◌, inl, inr, ℕ, List, false, refl, sym, ap, ◌∙◌}
 use Rattle.std.proofs.Common.{Option, Some, None, subst}
-use Rattle.desk_presses.specs.declared.again.NextEvent.{NextEvent}
-use Rattle.desk_presses.specs.Past.{back_count}
+use Rattle.desk_tasks.specs.declared.again.NextEvent.{NextEvent}
+use Rattle.desk_tasks.specs.Past.{back_count}
 use Rattle.std.specs.Prelude.{Result, Ok, Err, OnOk, IfErr}
 use Rattle.std.proofs.lemmas.Bool.{false≢true}
 use Rattle.sector_disk.specs.declared.disk.Disk.{Ghosts}
@@ -20,8 +20,8 @@ use Rattle.desk_journal.proofs.Passing.{at_start, shows_means}
 use Rattle.desk_sayings.specs.declared.saying.Saying.TheVariants.{NothingAgain}
 use Rattle.desk_sitting.specs.declared.sitting.Sitting.{Sitting}
 use Rattle.desk_sitting.specs.declared.sitting.Travel.TheVariants.{Back, Again}
-use Rattle.desk_presses.specs.Again.{next_event}
-use Rattle.desk_presses.specs.declared.again.Place.{Place}
+use Rattle.desk_tasks.specs.Again.{next_event}
+use Rattle.desk_tasks.specs.declared.again.StorePlace.{StorePlace}
 use Rattle.desk_sitting.specs.Doing.{IsUndone, OfPresses, ComesToSeat, seat_of}
 use Rattle.desk_sitting.specs.Sittings.{after_post, refused}
 use Rattle.desk_sitting.specs.Travels.{Travelled, Travels, did_again, goes_again, store_place, settled, took_back}
@@ -66,7 +66,7 @@ module _ {D : Type 0} (d : Ghosts D) where
       (asked : s.travels ≡ Some Back) (usable : old.must_reopen ≡ false)
       (moments : LeavesUndone d count old new) (device : IsSameDevice d old.disk new.disk) where
     -- the events of the last press were taken back
-    pub goes_back : {T U : Type 0} (value : T) (x : U) (events : List Event) (from to : Place)
+    pub goes_back : {T U : Type 0} (value : T) (x : U) (events : List Event) (from to : StorePlace)
         → IsTakenBack d count events old new
         → FailsAs {T = U} Fault OfUndo (Ok x) (d.failures old.disk) (d.failures new.disk)
         → from ≡ store_place old → to ≡ store_place new
@@ -123,7 +123,7 @@ module _ {D : Type 0} (d : Ghosts D) where
     }
 
   -- nothing can be done again
-  pub nothing_again : {T : Type 0} (value : T) {s s' : Sitting} (store : StoreView D) (from : Place)
+  pub nothing_again : {T : Type 0} (value : T) {s s' : Sitting} (store : StoreView D) (from : StorePlace)
       (gone : Sitting) (found : Option NextEvent) → s.travels ≡ Some Again → store.must_reopen ≡ false
       → from ≡ store_place store → found ≡ next_event from s.again → found ≡ None → gone ≡ goes_again from s
       → s' ≡ refused NothingAgain gone → Travels d (Ok value) s s' store store
@@ -132,7 +132,7 @@ module _ {D : Type 0} (d : Ghosts D) where
       (ap (λ p. next_event p s.again) (sym at) ∙ sym found_is ∙ none_left)
       (is ∙ ap (refused NothingAgain) (left ∙ ap (λ p. goes_again p s) at)) refl)
 
-  module _ (s mid : Sitting) (old new : StoreView D) (asked : s.travels ≡ Some Again) (event : NextEvent) (from : Place)
+  module _ (s mid : Sitting) (old new : StoreView D) (asked : s.travels ≡ Some Again) (event : NextEvent) (from : StorePlace)
       (gone : Sitting) (found : Option NextEvent) (at : from ≡ store_place old)
       (found_is : found ≡ next_event from s.again) (is_event : found ≡ Some event) (left : gone ≡ goes_again from s) where
     there : next_event (store_place old) s.again ≡ Some event
@@ -143,7 +143,7 @@ module _ {D : Type 0} (d : Ghosts D) where
     same = left ∙ ap (λ p. goes_again p s) at
 
     -- the event is done again
-    pub goes_on : {T U : Type 0} (value : T) (x : U) {s' : Sitting} (to : Place) → to ≡ store_place new
+    pub goes_on : {T U : Type 0} (value : T) (x : U) {s' : Sitting} (to : StorePlace) → to ≡ store_place new
         → ComesToSeat d {T = U} (after_post event.event (seat_of gone old)) (Ok x) mid old new
         → s' ≡ did_again event.deed from to mid → Travels d (Ok value) s s' old new
     goes_on value x to come takes is = record {

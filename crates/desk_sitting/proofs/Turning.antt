@@ -27,11 +27,13 @@ use Rattle.desk_sitting.specs.declared.sitting.Sitting.{Sitting}
 use Rattle.desk_sitting.specs.Doing.{Breaks, DoesPresses, OfPresses, seat_of}
 use Rattle.desk_sitting.specs.Sittings.{accepted_events, is_scene_due, looked}
 use Rattle.desk_sitting.specs.declared.ending.SittingEnd.{SittingEnd}
-use Rattle.desk_sitting.specs.declared.ending.SittingEnd.TheVariants.{Left, Closed, Input, TooLong, Output, Fault, Memory}
+use Rattle.desk_sitting.specs.declared.ending.SittingEnd.TheVariants.{Left, Closed, Input, TooLong, Output, Fault}
+use Rattle.desk_sitting.specs.declared.ending.SittingEnd.TheVariants.{Memory}
 use Rattle.desk_sitting.specs.Endings.{EndsBy, IsOfNoKeyboard, sitting_end_of, end_of_keyboard}
 use Rattle.desk_sitting.specs.Scenes.{IsScenePainted, IsSceneShown, IsUnshown, after_scene, behind_it, known_by}
 use Rattle.desk_sitting.specs.Serving.{TurnState, IsFetched, IsLookedAt, HearsAfterScene, IsDeaf, Broke}
-use Rattle.desk_sitting.specs.Serving.{HasTurned, HasStopped, TakesTurn, CountsEnding, IsUsableAt, store_screen, sitting_shown}
+use Rattle.desk_sitting.specs.Serving.{HasTurned, HasStopped, TakesTurn, CountsEnding, IsUsableAt, store_screen}
+use Rattle.desk_sitting.specs.Serving.{sitting_shown}
 use Rattle.desk_sitting.specs.Serving.{CountsOutput, left, closed}
 use Rattle.desk_sitting.specs.Serving.{unheard, unseen, faulty, starved, faulty_press, starved_press}
 use Rattle.desk_sitting.specs.Serving.{IsSeenUnlessDue, IsShownIfDue, StaysInUse}

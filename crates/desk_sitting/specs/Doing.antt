@@ -9,15 +9,11 @@ use Rattle.desktop_definitions.specs.Step.{steps}
 use Rattle.store_layout.specs.Meaning.{Means, MeansEither}
 use Rattle.desk_journal.specs.Device.{IsSameDevice}
 use Rattle.desk_journal.specs.Errors.{Error, NoMemory, Fault}
-use Rattle.desk_journal.specs.Looking.{OnlyLooks}
 use Rattle.desk_journal.specs.Prefixes.{MeansPrefix}
 use Rattle.desk_journal.specs.View.{StoreView, IsDurable}
 use Rattle.terminal_presses.specs.declared.action.Action.{Action}
 use Rattle.terminal_presses.specs.declared.press.Press.{Press}
 use Rattle.desk_sitting.specs.declared.sitting.Sitting.{Sitting}
-use Rattle.desk_sitting.specs.declared.task.Plan.{Plan as MadePlan}
-use Rattle.desk_sitting.specs.declared.task.Task.{Task}
-use Rattle.desk_sitting.specs.Tasks.{plan_of, seen_plan}
 use Rattle.desk_journal.specs.Session.{session_of}
 use Rattle.desk_sitting.specs.Sittings.{Seat, accepted_as, accepted_of, after_press, done_by, does}
 
@@ -64,12 +60,6 @@ module _ {D : Type 0} (d : Ghosts D) where
   abbrev pub TellsDone : Event → Result Bool Error → StoreView D → Type 0
   TellsDone event result old =
       IfOk result (λ done. d.honest old.disk → done ≡ does (session_of old) event)
-
-  -- All that a call promises that is to make the plan of a task: it only looks at the store.
-  pub record Plans (task : Task) (result : Result MadePlan Error) (old new : StoreView D)
-      : Type 0 where
-    pub exact : IfOk result (λ plan. d.honest old.disk → seen_plan plan ≡ plan_of task old.desktop)
-    pub looks : OnlyLooks d result old new
 
   -- ---- the events of a press
 

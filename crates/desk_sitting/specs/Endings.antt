@@ -4,7 +4,8 @@ use Rattle.desk_journal.specs.Errors.{Error, NoMemory}
 use Rattle.terminal_keyboard.specs.declared.keyboard.KeyboardEnd.{KeyboardEnd}
 use Rattle.terminal_keyboard.specs.declared.keyboard.KeyboardEnd.TheVariants as keyboard
 use Rattle.desk_sitting.specs.declared.ending.SittingEnd.{SittingEnd}
-use Rattle.desk_sitting.specs.declared.ending.SittingEnd.TheVariants.{Left, Closed, Input, TooLong, Output, Fault, Memory}
+use Rattle.desk_sitting.specs.declared.ending.SittingEnd.TheVariants.{Left, Closed, Input, TooLong, Output, Fault}
+use Rattle.desk_sitting.specs.declared.ending.SittingEnd.TheVariants.{Memory}
 
 -- where a call of the store fails
 abbrev pub sitting_end_of : Error → SittingEnd

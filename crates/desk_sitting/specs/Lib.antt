@@ -1,13 +1,11 @@
 pub mod Doing
 pub mod Endings
 pub mod Files
-pub mod Listed
 pub mod Questions
 pub mod Scenes
 pub mod Serving
 pub mod Sitting
 pub mod Sittings
 pub mod Surviving
-pub mod Tasks
 pub mod Travelling
 pub mod Travels

@@ -17,7 +17,8 @@ use Rattle.desk_sayings.specs.Sayings.{line_of, said_by_pointer}
 use Rattle.desk_sitting.specs.declared.sitting.Sitting.{Sitting}
 use Rattle.desk_sitting.specs.Sittings.{looked}
 use Rattle.desk_sitting.specs.declared.ending.SittingEnd.{SittingEnd}
-use Rattle.desk_sitting.specs.declared.ending.SittingEnd.TheVariants.{Left, Closed, Input, TooLong, Output, Fault, Memory}
+use Rattle.desk_sitting.specs.declared.ending.SittingEnd.TheVariants.{Left, Closed, Input, TooLong, Output, Fault}
+use Rattle.desk_sitting.specs.declared.ending.SittingEnd.TheVariants.{Memory}
 
 -- where in the terminal the pointer is that keys move, while it is shown
 abbrev pub pointer_of : Sitting → Option (ℕ × ℕ)

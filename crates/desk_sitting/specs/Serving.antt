@@ -20,7 +20,8 @@ use Rattle.desk_sitting.specs.declared.sitting.Sitting.{Sitting}
 use Rattle.desk_sitting.specs.Doing.{Breaks, DoesPresses, seat_of}
 use Rattle.desk_sitting.specs.Sittings.{accepted_events, after_fetch, is_scene_due, looked, new_sitting}
 use Rattle.desk_sitting.specs.declared.ending.SittingEnd.{SittingEnd}
-use Rattle.desk_sitting.specs.declared.ending.SittingEnd.TheVariants.{Left, Closed, Input, TooLong, Output, Fault, Memory}
+use Rattle.desk_sitting.specs.declared.ending.SittingEnd.TheVariants.{Left, Closed, Input, TooLong, Output, Fault}
+use Rattle.desk_sitting.specs.declared.ending.SittingEnd.TheVariants.{Memory}
 use Rattle.desk_sitting.specs.Scenes.{IsSceneShown, IsSceneCutShort, IsSeen}
 
 -- where a sitting stands between two turns: the parser, the sitting, the store, all that was heard so far, what is

@@ -1,5 +1,6 @@
 -- What presses come to, one after another: a sitting, and the session of the store before which it is.
-use Rattle.std.specs.Prelude.{◌≡◌, ℕ, zero, suc, ◌-◌, Bool, true, false, ◌&&◌, ◌||◌, not, if◌then◌else◌, List, [], ◌∷◌, ◌++◌}
+use Rattle.std.specs.Prelude.{◌≡◌, ℕ, zero, suc, ◌-◌, Bool, true, false, ◌&&◌, ◌||◌, not, if◌then◌else◌, List, []}
+use Rattle.std.specs.Prelude.{◌∷◌, ◌++◌}
 use Rattle.std.specs.Prelude.{Option, Some, None, All, IfSome, is_some, min, option_map, unwrap_or}
 use Rattle.event_bytes.specs.declared.event.Event.{Event}
 use Rattle.screen_pictures.specs.declared.cell.Cell.{Cell}
@@ -20,26 +21,28 @@ use Rattle.desk_sayings.specs.declared.clicks.MiddleClick.{MiddleClick}
 use Rattle.desk_sayings.specs.Clicks.{click_made, is_by_screen, middle_click}
 use Rattle.desk_sayings.specs.declared.question.Question.{Question}
 use Rattle.desk_sayings.specs.declared.saying.Saying.{Saying}
-use Rattle.desk_sayings.specs.declared.saying.Saying.TheVariants.{NoKey, Worn, Unread, Unfinished, Logged, NoSearch, NothingTyped}
+use Rattle.desk_sayings.specs.declared.saying.Saying.TheVariants.{NoKey, Worn, Unread, Unfinished, Logged, NoSearch}
+use Rattle.desk_sayings.specs.declared.saying.Saying.TheVariants.{NothingTyped}
 use Rattle.desk_sitting.specs.declared.sitting.Sitting.{Sitting}
 use Rattle.desk_sitting.specs.declared.sitting.Travel.TheVariants.{Back, Again}
-use Rattle.desk_presses.specs.Again.{no_again}
-use Rattle.desk_presses.specs.declared.deed.Deed.{Deed}
-use Rattle.desk_presses.specs.Deeds.{typed_more}
-use Rattle.desk_presses.specs.Replacing.{ReplacingView, is_untouched, left_place, no_replacing, noted, replacement}
-use Rattle.desk_presses.specs.Past.{PastView, past_after, named, no_past, with_refused}
+use Rattle.desk_tasks.specs.Again.{no_again}
+use Rattle.desk_sayings.specs.declared.deed.Deed.{Deed}
+use Rattle.desk_sayings.specs.Deeds.{typed_more}
+use Rattle.desk_tasks.specs.Replacing.{ReplacingView, is_untouched, left_place, no_replacing, noted, replacement}
+use Rattle.desk_tasks.specs.Past.{PastView, past_after, named, no_past, with_refused}
 use Rattle.desk_sitting.specs.Questions.{is_nothing, questioned, question_of, unasked}
 use Rattle.desk_sayings.specs.Question.{asks_to_leave, comes_first}
 use Rattle.desk_sayings.specs.Choosing.{came_to, done_saying, first_saying, fitted_saying, fill_saying, refused_saying}
 use Rattle.desk_sayings.specs.Sayings.{resting_of}
-use Rattle.desk_presses.specs.Aims.{caret_cell, or_else}
-use Rattle.desk_sitting.specs.declared.task.Task.{Task}
-use Rattle.desk_sitting.specs.declared.task.TheConstants.{MOST_PLANS}
-use Rattle.desk_sitting.specs.Tasks.{Plan, deed_of_task, keeps_sight, plan_of, task_of}
-use Rattle.desk_sitting.specs.Tasks.{Aims, Events, PutsAway, Refused as NotDone, Says, Shows}
+use Rattle.screen_reading.specs.Aims.{caret_cell, or_else}
+use Rattle.desk_tasks.specs.declared.task.Task.{Task}
+use Rattle.desk_tasks.specs.declared.task.TheConstants.{MOST_PLANS}
+use Rattle.desk_tasks.specs.Tasks.{deed_of_task, keeps_sight, task_of}
+use Rattle.desk_tasks.specs.Plans.{Plan, plan_of}
+use Rattle.desk_tasks.specs.Plans.{Aims, Events, PutsAway, Refused as NotDone, Says, Shows}
 use Rattle.desk_journal.specs.Session.{Session, is_worn, taken}
-use Rattle.terminal_presses.specs.Windows.{fitted, following_sight, height_told, is_low, is_narrow, moved_sight}
-use Rattle.terminal_presses.specs.Windows.{width_told}
+use Rattle.screen_reading.specs.Windows.{fitted, following_sight, height_told, is_low, is_narrow, moved_sight}
+use Rattle.screen_reading.specs.Windows.{width_told}
 
 -- a sitting, and the session of the store before which it is
 pub record Seat : Type 0 where
@@ -197,12 +200,12 @@ brought_in_sight cell s = record s {
   follows = false;
 }
 
--- the pointer that keys move is put away
+-- nothing is pointed at any more, by keys or by the mouse
 abbrev pub pointed_no_more : Sitting → Sitting
 pointed_no_more s = record s { hand = without_pointer s.hand }
 
 -- what is done by a plan: the terminal rings for the reason, events are posted, a line of the log is said, the pointer or
--- the rows in sight go to a cell, or the pointer is put away
+-- the rows in sight go to a cell, or nothing is pointed at any more
 abbrev pub after_planned : Plan → Seat → Seat
 after_planned (NotDone why) seat =
     record seat { sitting = refused why (unplaced seat.sitting) }

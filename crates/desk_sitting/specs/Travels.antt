@@ -10,23 +10,23 @@ use Rattle.desk_journal.specs.Device.{IsSameDevice}
 use Rattle.desk_journal.specs.Errors.{Error, Fault}
 use Rattle.desk_journal.specs.Undoing.{IsTakenBack, LeavesUndone}
 use Rattle.desk_journal.specs.View.{StoreView, IsDurable}
-use Rattle.desk_presses.specs.declared.again.Place.{Place}
+use Rattle.desk_tasks.specs.declared.again.StorePlace.{StorePlace}
 use Rattle.desk_sayings.specs.declared.saying.Saying.TheVariants.{TookBack, DidAgain, NothingBack, NothingAgain}
 use Rattle.desk_sitting.specs.declared.sitting.Sitting.{Sitting}
 use Rattle.desk_sitting.specs.declared.sitting.Travel.TheVariants.{Back, Again}
-use Rattle.desk_presses.specs.declared.again.NextEvent.{NextEvent}
-use Rattle.desk_presses.specs.declared.deed.Deed.{Deed}
+use Rattle.desk_tasks.specs.declared.again.NextEvent.{NextEvent}
+use Rattle.desk_sayings.specs.declared.deed.Deed.{Deed}
 use Rattle.desk_sitting.specs.declared.sitting.Travel.{Travel}
-use Rattle.desk_presses.specs.Again.{kept_at, next_event, rest_at, taken_press}
-use Rattle.desk_presses.specs.Past.{back_count, back_deed, left_past, named}
+use Rattle.desk_tasks.specs.Again.{kept_at, next_event, rest_at, taken_press}
+use Rattle.desk_tasks.specs.Past.{back_count, back_deed, left_past, named}
 use Rattle.desk_sitting.specs.Doing.{IsUndone, OfPresses, seat_of}
 use Rattle.desk_sitting.specs.Sittings.{after_post, refused}
 
 -- where a store stands
-abbrev pub store_place : {D : Type 0} → StoreView D → Place
+abbrev pub store_place : {D : Type 0} → StoreView D → StorePlace
 store_place store = record { epoch = store.epoch; events = store.events }
 
-abbrev pub is_unmoved : Place → Place → Bool
+abbrev pub is_unmoved : StorePlace → StorePlace → Bool
 is_unmoved from to = (from.epoch == to.epoch) && (from.events == to.events)
 
 -- nothing is asked for any more
@@ -34,7 +34,7 @@ abbrev pub settled : Sitting → Sitting
 settled s = record s { travels = None }
 
 -- the sitting after these events were taken back, which led from one place to another
-abbrev pub took_back : List Event → Place → Place → Sitting → Sitting
+abbrev pub took_back : List Event → StorePlace → StorePlace → Sitting → Sitting
 took_back events from to s = if length events == 0 then refused NothingBack s else record s {
   saying = TookBack (back_deed events s.past);
   follows = true;
@@ -48,14 +48,14 @@ on_to None = None
 on_to (Some event) = if event.is_last then None else Some Again
 
 -- the sitting from which the next event is done again
-abbrev pub goes_again : Place → Sitting → Sitting
+abbrev pub goes_again : StorePlace → Sitting → Sitting
 goes_again place s = record s {
   travels = on_to (next_event place s.again);
   again = rest_at place s.again;
 }
 
 -- The sitting after an event was done again, of a press that did this. Where the store took it, that is said, and known.
-abbrev pub did_again : Deed → Place → Place → Sitting → Sitting
+abbrev pub did_again : Deed → StorePlace → StorePlace → Sitting → Sitting
 did_again deed from to s =
     if is_unmoved from to then s else record s {
       saying = DidAgain deed;

@@ -2,8 +2,8 @@
 //!
 //! What is heard becomes presses (the crate `terminal_presses`), and each press an event that is posted, or something
 //! that the sitting does alone (`specs/Sittings.antt`). `do_presses` does presses one after another over a store
-//! (`specs/Doing.antt`). Which cell an arrow means, which rows are in sight, and what was done and taken back is known in
-//! `desk_presses`, and what the line below says in `desk_sayings`.
+//! (`specs/Doing.antt`). Which cell an arrow means, and which rows are in sight, is known in `screen_reading`; the events
+//! of a press, what was done and what was taken back in `desk_tasks`; and what the line below says in `desk_sayings`.
 //!
 //! `serve` goes on turn by turn (`specs/Serving.antt`): a scene is shown (`specs/Scenes.antt`), something is heard, and
 //! what is pressed by it is done, each event acknowledged before the next scene. A whole sitting is `Sits` of
@@ -15,11 +15,9 @@ mod asking;
 mod doing;
 mod ending;
 mod laws;
-mod listed;
 mod serving;
 mod serving_laws;
 mod sitting;
-mod task;
 mod travels;
 
 pub use desk_sayings::{Question, Saying, SayingLine};

@@ -13,7 +13,8 @@ ghost use Rattle.desk_sitting.specs.declared.ending.SittingEnd.TheVariants.{Outp
 ghost use Rattle.screen_drawing.specs.Scene.{IsInSight};
 ghost use Rattle.desk_sitting.specs.Scenes.{IsSceneOf, IsHalfPainted, IsScenePainted, IsSceneShown, IsUnshown};
 ghost use Rattle.desk_sitting.specs.Endings.{EndsBy, IsOfNoKeyboard};
-ghost use Rattle.desk_sitting.specs.Scenes.{pointer_of as pointer_at, after_scene, bell_bytes, known_by, request, size_request};
+ghost use Rattle.desk_sitting.specs.Scenes.{pointer_of as pointer_at, after_scene, bell_bytes, known_by, request};
+ghost use Rattle.desk_sitting.specs.Scenes.{size_request};
 ghost use Rattle.desk_sitting.specs.Serving.{CountsEnding, CountsOutput, CountsTurn, IsFetched, IsLookedAt};
 ghost use Rattle.desk_sitting.specs.Serving.{IsShownIfDue, IsUsableAt};
 ghost use Rattle.desk_sitting.specs.Serving.{StaysInUse, TakesTurn, first_place, turn_state_of, store_screen};

@@ -6,30 +6,36 @@ ghost use Rattle.desk_sitting.specs.Doing.{ComesToSeat, DoesAction, DoesPress, T
 ghost use Rattle.desk_sitting.specs.Scenes.{sitting_line};
 ghost use Rattle.desk_sitting.specs.Questions.{is_nothing, is_of_terminal, questioned, unasked};
 ghost use Rattle.desk_journal.specs.View.{IsDurable};
-ghost use Rattle.desk_sitting.specs.Sittings.{followed_cell, acted, acted_alone, after_press, after_fetch, looked, new_sitting};
-ghost use Rattle.desk_sitting.specs.Sittings.{after_post, is_done, is_filling, refused, replied, ring_reason, turned_away};
-ghost use Rattle.desk_sitting.specs.Sittings.{accepted_by, accepted_of, accepted_unasked, after_posts, does_all, went_on};
-ghost use Rattle.desk_sitting.specs.Sittings.{accepted_in, accepted_stage, after_planned, after_stage, after_task, kept_follows, left_by};
-ghost use Rattle.desk_sitting.specs.Sittings.{aimed_at, most_plans, noted_in, task_left, unplaced, why_unreplaced, with_log_line};
-ghost use Rattle.desk_sitting.specs.Sittings.{brought_in_sight, is_scene_due, is_unseen, planned, pointed_no_more, with_hand};
-ghost use Rattle.desk_sitting.specs.Tasks.{seen_plan};
+ghost use Rattle.desk_sitting.specs.Sittings.{followed_cell, acted, acted_alone, after_press, after_fetch, looked};
+ghost use Rattle.desk_sitting.specs.Sittings.{new_sitting};
+ghost use Rattle.desk_sitting.specs.Sittings.{after_post, is_done, is_filling, refused, replied, ring_reason};
+ghost use Rattle.desk_sitting.specs.Sittings.{turned_away};
+ghost use Rattle.desk_sitting.specs.Sittings.{accepted_by, accepted_of, accepted_unasked, after_posts, does_all};
+ghost use Rattle.desk_sitting.specs.Sittings.{went_on};
+ghost use Rattle.desk_sitting.specs.Sittings.{accepted_in, accepted_stage, after_planned, after_stage, after_task};
+ghost use Rattle.desk_sitting.specs.Sittings.{kept_follows, left_by};
+ghost use Rattle.desk_sitting.specs.Sittings.{aimed_at, most_plans, noted_in, task_left, unplaced, why_unreplaced};
+ghost use Rattle.desk_sitting.specs.Sittings.{with_log_line};
+ghost use Rattle.desk_sitting.specs.Sittings.{brought_in_sight, is_scene_due, is_unseen, planned, pointed_no_more};
+ghost use Rattle.desk_sitting.specs.Sittings.{with_hand};
+ghost use Rattle.desk_tasks.specs.Plans.{seen_plan};
 
-use crate::task::{MOST_PLANS, Plan, Task};
 use desk_journal::{Error, Store};
-use desk_presses::{Again, Deed, Past, Replacing, caret_of, typed_more};
 use desk_sayings::{
-    Question, Saying, SayingLine, asks_to_leave, came_to, comes_first, done_saying, fill_saying,
-    first_saying, fitted_saying, line_of, refused_saying, resting_of, said_by_pointer,
+    Deed, Question, Saying, SayingLine, asks_to_leave, came_to, comes_first, done_saying,
+    fill_saying, first_saying, fitted_saying, line_of, refused_saying, resting_of, said_by_pointer,
+    typed_more,
 };
+use desk_tasks::{Again, MOST_PLANS, Past, Plan, Replacing, Task};
 use desktop_definitions::Reply;
 use event_bytes::Event;
 use screen_cells::Screen;
+use screen_reading::{
+    caret_of, fitted, followed, height_told, is_low, is_narrow, moved, width_told,
+};
 use sector_disk::Disk;
 use std::alloc::Global;
-use terminal_presses::{
-    Action, Hand, HostName, Press, Sight, fitted, followed, height_told, is_low, is_narrow, moved,
-    width_told,
-};
+use terminal_presses::{Action, Hand, HostName, Press, Sight};
 use viewer_tracks::{ROWS, Track};
 
 /// What is asked for beside a press: to take the last one back, or to do again what was taken back last.

@@ -2,15 +2,15 @@
 ghost use Rattle.std.specs.Prelude.{◌≡◌, ◌≢◌, false, Some, None, OnOk, IfErr, IfOk};
 ghost use Rattle.desk_sitting.specs.declared.sitting.Travel.TheVariants.{Back, Again as Forth};
 ghost use Rattle.desk_sayings.specs.declared.saying.Saying.TheVariants.{NotBack};
-ghost use Rattle.desk_presses.specs.Again.{next_event};
+ghost use Rattle.desk_tasks.specs.Again.{next_event};
 ghost use Rattle.desk_sitting.specs.Doing.{OfPresses, ComesToSeat, seat_of};
 ghost use Rattle.desk_sitting.specs.Sittings.{after_post, refused};
 ghost use Rattle.desk_sitting.specs.Travels.{Travels, did_again, goes_again, on_to, store_place, settled, took_back};
 
 use crate::sitting::{Doing, Sitting, Travel};
 use desk_journal::{Error, Store};
-use desk_presses::{Deed, NextEvent, Place, TakenPress};
-use desk_sayings::Saying;
+use desk_sayings::{Deed, Saying};
+use desk_tasks::{NextEvent, StorePlace, TakenPress};
 use event_bytes::Event;
 use sector_disk::Disk;
 use std::alloc::Global;
@@ -30,12 +30,12 @@ pub fn travel<D: Disk>(alloc: Global, sitting: &mut Sitting, store: &mut Store<D
 }
 
 /// Where a store stands.
-fn place<D: Disk>(store: &Store<D>) -> Place
+fn place<D: Disk>(store: &Store<D>) -> StorePlace
     requires { store.now.must_reopen ≡ false }
     ensures { result ≡ store_place store.now }
 {
     match store.info() {
-        Ok(info) => Place {
+        Ok(info) => StorePlace {
             epoch: info.epoch,
             events: info.events,
         },
@@ -82,7 +82,7 @@ fn do_again<D: Disk>(alloc: Global, sitting: &mut Sitting, store: &mut Store<D>)
 
 impl Sitting {
     /// The next event that is to be done again, at this place. While others of its press are left, they are asked for.
-    fn next_again(&mut self, place: Place) -> Option<NextEvent>
+    fn next_again(&mut self, place: StorePlace) -> Option<NextEvent>
         ensures event { result ≡ next_event place self.old.again }
         ensures sitting { self.new ≡ goes_again place self.old }
     {
@@ -92,7 +92,7 @@ impl Sitting {
     }
 
     /// These events were taken back.
-    fn took_back(&mut self, events: Vec<Event>, from: Place, to: Place)
+    fn took_back(&mut self, events: Vec<Event>, from: StorePlace, to: StorePlace)
         ensures { self.new ≡ took_back events.items from to (settled self.old) }
     {
         self.travels = None;
@@ -123,7 +123,7 @@ impl Sitting {
 
     /// An event was done again, of a press that did this, which led from one place to another. Where the store took it,
     /// that is said, and it doesn't ring for an event that is refused again.
-    fn did_again(&mut self, deed: Deed, from: Place, to: Place)
+    fn did_again(&mut self, deed: Deed, from: StorePlace, to: StorePlace)
         ensures { self.new ≡ did_again deed from to self.old }
     {
         if from.epoch == to.epoch && from.events == to.events {

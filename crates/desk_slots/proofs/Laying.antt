@@ -6,7 +6,9 @@ use Rattle.command_table.specs.Versions.{version_number}
 use Rattle.command_table.specs.declared.version.Version.{Version}
 use Rattle.command_table.specs.declared.version.Version.TheVariants.{V1, V2, V3}
 use Rattle.std.proofs.lemmas.List.{get_or-take}
-use Rattle.sector_disk.specs.Trail.{Moment, Trail, now, written, after_sync, Touches, Only}
+use Rattle.sector_disk.specs.declared.disk.Disk.{Ghosts}
+use Rattle.sector_disk.specs.Confined.{IsConfined}
+use Rattle.sector_disk.specs.Trail.{Moment, Trail, now, written, after_sync, Touches, Nowhere, Only}
 use Rattle.sector_disk.proofs.Touching.{still_reads}
 use Rattle.sector_disk.specs.Stored.{stored, byte_of}
 use Rattle.sector_disk.proofs.StoredLaws.{stored_by_index, none_stored}
@@ -28,6 +30,7 @@ use Rattle.store_layout.specs.Meaning.{MakesDesktop, full_sectors}
 use Rattle.store_layout.specs.Kept.{IsNewSlot, ShowsSettled}
 use Rattle.store_layout.proofs.StandingLaws.{image_stays}
 use Rattle.desk_slots.specs.Written.{HasGate, IsFilled}
+use Rattle.desk_slots.proofs.Calls.{wrote, none_wrote, both_kept}
 use Rattle.desk_slots.proofs.NewSlot.{filled_as}
 
 -- ---- the empty desktop
@@ -173,6 +176,35 @@ module _ (before one two three four last : Moment) (image head_bytes shut label 
 
   pub slot_started : IsFilled last 0 version 0 1 [] empty_desktop
   slot_started = filled_as four last new_head synced fresh here refl refl (none_stored last.reads (area_start 0))
+
+-- the label is there
+pub labelled : (three four last : Moment) (label : List ℕ) → is_label label ≡ true → four ≡ written three LABEL label
+    → last ≡ after_sync four → is_label (last.reads LABEL) ≡ true
+labelled three four last label is wrote synced =
+    ap is_label (ap (λ m. m.reads LABEL) (synced ∙ ap after_sync wrote) ∙ reads_here three LABEL label) ∙ is
+
+-- where all this is written: a store, without the gate of slot 1
+abbrev InStart : ℕ → Type 0
+InStart n = (n < STORE_SECTORS) × ¬ (n ≡ slot_gate 1)
+
+abbrev Keeps : {D : Type 0} → Ghosts D → (ℕ → Type 0) → D → D → Type 0
+Keeps d area old new = IsConfined d.size d.honest d.trail area old new
+
+module _ {D : Type 0} (d : Ghosts D) {old new : D} where
+  pub image_kept : {n : ℕ} → n ≡ image_at 0 → Keeps d (Only n) old new → Keeps d InStart old new
+  image_kept is run = wrote d is (omega arith, λ e. omega (arith, e)) run
+
+  pub head_kept : {mid : D} {n : ℕ} → Keeps d InStart old mid → n ≡ slot_head 0 → Keeps d (Only n) mid new → Keeps d InStart old new
+  head_kept first is run = both_kept d first (wrote d is (omega arith, λ e. omega (arith, e)) run)
+
+  pub gate_kept : {mid : D} {n : ℕ} → Keeps d InStart old mid → n ≡ gate 0 0 → Keeps d (Only n) mid new → Keeps d InStart old new
+  gate_kept first is run = both_kept d first (wrote d is (omega arith, λ e. omega (arith, e)) run)
+
+  pub label_kept : {mid : D} → Keeps d InStart old mid → Keeps d (Only LABEL) mid new → Keeps d InStart old new
+  label_kept first run = both_kept d first (wrote d refl (omega arith, λ e. omega (arith, e)) run)
+
+  pub sync_kept : {mid : D} → Keeps d InStart old mid → Keeps d Nowhere mid new → Keeps d InStart old new
+  sync_kept first run = both_kept d first (none_wrote d run)
 
 -- ---- the whole
 

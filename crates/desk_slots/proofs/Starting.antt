@@ -4,6 +4,7 @@ use Rattle.std.proofs.Common.{length, take, drop, length-append, append_assoc}
 use Rattle.std.proofs.Common.{sym, ◌∙◌, ap, subst, arith}
 use Rattle.std.specs.Prelude.{set}
 use Rattle.std.proofs.lemmas.List.{take_more_set, take_at, drop_at, length-take-le}
+use Rattle.sector_disk.specs.declared.disk.TheConstants.{SECTOR_BYTES}
 use Rattle.sector_disk.specs.Trail.{Content}
 use Rattle.sector_disk.specs.Stored.{stored}
 use Rattle.desk_image.specs.Image.{Spells}
@@ -46,6 +47,13 @@ all_taken old tail rest count was room = record {
   where
     front : length (take count tail) ≡ count
     front = length-take-le count tail room
+
+-- the same where the loop over them has ended
+pub taken_to : (old tail rest : List ℕ) (i count : ℕ) → old ≡ take i tail ++ rest → count ≤ i → i ≤ count
+    → count < SECTOR_BYTES → length tail ≡ SECTOR_BYTES → AreTaken old tail rest count
+taken_to old tail rest i count was above below few wide =
+    let here : i ≡ count = omega (arith, above, below) in
+    all_taken old tail rest count (subst (λ n. old ≡ take n tail ++ rest) here was) (omega (arith, few, wide))
 
 -- ---- the slot
 

@@ -159,6 +159,12 @@ module _ {c : Content} {slot end : ℕ} {events : List Event} (has : HasEvents c
 
 -- ---- reads before that
 
+pub events_still : {D : Type 0} (d : Ghosts D) {disk disk' : D} {slot end : ℕ} {all : List Event}
+    → IsConfined d.size d.honest d.trail Nowhere disk disk' → d.honest disk
+    → HasEvents (now (d.trail disk)).reads slot end all → HasEvents (now (d.trail disk')).reads slot end all
+events_still d {slot = slot} {end = end} {all = all} run honest has =
+    subst (λ (c : Content). HasEvents c slot end all) (sym (still_all _ _ (run.moments honest))) has
+
 module _ {D : Type 0} (d : Ghosts D) {disk disk' : D} {slot end : ℕ} {s : Standing}
     (at : IsUpTo (d.size disk) (d.trail disk) slot end s)
     (run : IsConfined d.size d.honest d.trail Nowhere disk disk') (honest : d.honest disk) where

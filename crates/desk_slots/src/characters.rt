@@ -1,6 +1,6 @@
 //! Loading what a slot starts from: its desktop, and the characters that its image has. Those of the area stay on the
 //! disk. Nothing is written.
-ghost use Rattle.std.specs.Prelude.{◌≡◌, ◌+◌, ◌*◌, ◌<◌, ◌≤◌, ◌++◌, ◌∷◌, ℕ, OnOk, IfOk, IsErrOf, length, take, drop};
+ghost use Rattle.std.specs.Prelude.{◌≡◌, ◌+◌, ◌*◌, ◌<◌, ◌≤◌, ◌++◌, ◌∷◌, [], ℕ, OnOk, IfOk, IsErrOf, length, take, drop};
 ghost use Rattle.sector_disk.specs.Trail.{Content};
 ghost use Rattle.sector_disk.specs.Stored.{stored};
 ghost use Rattle.store_layout.specs.Draining.{IsSectorLoaded, IsOnDisk, bytes_left};
@@ -41,6 +41,22 @@ fn error_of(fault: ImageFault, slot: u32) -> Error
     }
 }
 
+/// The next byte, of which there must be one.
+fn next_byte<S: ByteSource>(source: &mut S) -> Result<u8, ImageFault>
+    ensures next { IfOk result (λ byte. S.honest source.old → S.remaining source.old
+        ≡ byte ∷ S.remaining source.new) }
+    ensures damaged { IsErrOf result ImageFault.Damaged → S.honest source.old
+        → S.remaining source.old ≡ [] }
+    ensures only { OnlyGets S.honest S.same_ground source.old source.new }
+    ensures faults { FailsAs ImageFault.Fault IsImageFault result (S.failures source.old)
+        (S.failures source.new) }
+{
+    match source.get()? {
+        Some(byte) => Ok(byte),
+        None => Err(ImageFault::Damaged),
+    }
+}
+
 /// Reads so many bytes from the source, fewer than a sector has, to the front of a sector.
 fn read_tail<S: ByteSource>(
     source: &mut S,
@@ -60,10 +76,8 @@ fn read_tail<S: ByteSource>(
         (S.failures source.new) }
 {
     for i in 0..count {
-        match source.get()? {
-            Some(byte) => tail[i] = byte,
-            None => return Err(ImageFault::Damaged),
-        }
+        let byte = next_byte(source)?;
+        tail[i] = byte;
     }
     Ok(())
 }

@@ -20,6 +20,7 @@ mod over;
 mod place;
 mod reading;
 mod records;
+mod sector;
 mod slots;
 
 pub use checkpoint::renew;

@@ -18,13 +18,14 @@ ghost use Rattle.desk_slots.specs.Written.{HasJournalTo, HasSlot, IsInJournal};
 use crate::Error;
 use crate::characters::load_slot;
 use crate::live::LiveDesktop;
+use crate::sector::{blank_sector, is_open_at};
 use crate::slots::locate;
 use event_bytes::{Event, at_most_one_begins};
 use event_loop::{NEWEST, Version};
 use sector_disk::{Disk, SECTOR_BYTES};
 use std::alloc::Global;
 use store_layout::{
-    Head, JOURNAL_EVENTS, SLOTS, STORE_SECTORS, body, event_of, gate, is_open_gate, standing_law,
+    Head, JOURNAL_EVENTS, SLOTS, STORE_SECTORS, body, event_of, gate, standing_law,
 };
 
 /// What was loaded of a disk.
@@ -60,12 +61,11 @@ fn read_event<D: Disk>(disk: &mut D, slot: u32, k: u32) -> Result<Option<Event>,
         × ((event : Event) → BeginsWithEvent ((now (D.trail disk.old)).reads (body slot k)) event
         → ⊥) }
 {
-    let mut sector = [0; SECTOR_BYTES as usize];
-    disk.read(gate(slot, k), &mut sector)?;
-    if !is_open_gate(&sector) {
+    if !is_open_at(disk, gate(slot, k))? {
         return Ok(None);
     }
     let at = body(slot, k);
+    let mut sector = blank_sector();
     disk.read(at, &mut sector)?;
     match event_of(&sector) {
         Some(event) => Ok(Some(event)),
@@ -201,6 +201,24 @@ pub fn load_front<D: Disk>(alloc: Global, disk: &mut D, most: u32) -> Result<Liv
     Ok(desktop)
 }
 
+/// The event under gate k of a journal that has more. Where its gate is closed the store is damaged there.
+fn event_under<D: Disk>(disk: &mut D, slot: u32, k: u32) -> Result<Event, Error>
+    requires { IsInJournal (D.size disk.old) slot k }
+    ensures kept { IsConfined D.size D.honest D.trail Nowhere disk.old disk.new }
+    ensures faults { FailsAs Error.Fault OfReplay result (D.failures disk.old)
+        (D.failures disk.new) }
+    ensures begins { IfOk result (λ event. D.honest disk.old
+        → BeginsWithEvent ((now (D.trail disk.old)).reads (body slot k)) event) }
+    ensures damaged { (n : ℕ) → IsErrOf result (Error.Damaged n) → D.honest disk.old
+        → (end : ℕ) (all : List Event) → k < end
+        → HasEvents (now (D.trail disk.old)).reads slot end all → ⊥ }
+{
+    match read_event(disk, slot, k)? {
+        Some(event) => Ok(event),
+        None => Err(Error::Damaged(gate(slot, k))),
+    }
+}
+
 /// The events of the journal of a slot from gate k on, up to the last one, which stands before gate `end`.
 pub fn read_events<D: Disk>(
     alloc: Global,
@@ -224,10 +242,8 @@ pub fn read_events<D: Disk>(
     at_most_one_begins();
     let mut events = Vec::with_capacity(alloc, (end - k) as usize)?;
     for at in k..end {
-        match read_event(disk, slot, at)? {
-            Some(event) => events.push_reserved(event),
-            None => return Err(Error::Damaged(gate(slot, at))),
-        }
+        let event = event_under(disk, slot, at)?;
+        events.push_reserved(event);
     }
     Ok(events)
 }

@@ -8,10 +8,9 @@ ghost use Rattle.desk_slots.specs.Words.{Nowhere, now, IsConfined, FailsAs, OneO
 ghost use Rattle.desk_slots.specs.Written.{HasSlot};
 
 use crate::Error;
+use crate::sector::{blank_sector, head_in, is_open_at};
 use sector_disk::{Disk, SECTOR_BYTES};
-use store_layout::{
-    Head, LABEL, SLOTS, STORE_SECTORS, has_label, is_open_gate, slot_gate, slot_head,
-};
+use store_layout::{Head, LABEL, SLOTS, STORE_SECTORS, has_label, slot_gate, slot_head};
 
 /// Tests the label.
 fn check_label<D: Disk>(disk: &mut D) -> Result<(), Error>
@@ -24,7 +23,7 @@ fn check_label<D: Disk>(disk: &mut D) -> Result<(), Error>
     ensures foreign { IsErrOf result Error.NotAStore → D.honest disk.old
         → is_label ((now (D.trail disk.old)).reads LABEL) ≡ false }
 {
-    let mut sector = [0; SECTOR_BYTES as usize];
+    let mut sector = blank_sector();
     disk.read(LABEL, &mut sector)?;
     if !has_label(&sector) {
         return Err(Error::NotAStore);
@@ -50,14 +49,11 @@ pub fn read_slot<D: Disk>(disk: &mut D, slot: u32) -> Result<Option<Head>, Error
         × (is_open ((now (D.trail disk.old)).reads (slot_gate slot)) ≡ true)
         × (IsGoodHead (head (now (D.trail disk.old)).reads slot) → ⊥) }
 {
-    let mut sector = [0; SECTOR_BYTES as usize];
-    disk.read(slot_gate(slot), &mut sector)?;
-    if !is_open_gate(&sector) {
+    if !is_open_at(disk, slot_gate(slot))? {
         return Ok(None);
     }
     let at = slot_head(slot);
-    disk.read(at, &mut sector)?;
-    let head = Head::of(&sector);
+    let head = head_in(disk, at)?;
     if !head.is_good() {
         return Err(Error::Damaged(at));
     }

@@ -1,7 +1,7 @@
 -- What a host relies on at an exported call, said of the place of what is kept. `d` is what is known of the disk.
 use Rattle.std.specs.Prelude.{ℕ, List, [], Option, Some, None, if◌then◌else◌}
 use Rattle.sector_disk.specs.declared.disk.Disk.{Ghosts}
-use Rattle.recorded_disk.specs.Recording.{Recording}
+use Rattle.desk_page.specs.Recording.{Recording}
 use Rattle.desk_page.specs.declared.kept.Kept.{Kept}
 use Rattle.desk_page.specs.Calls.{IsBegun, IsPressed, IsBrought, IsGiven, has_left, made_if, made_numbered, pointer_number}
 

@@ -3,8 +3,7 @@ ghost use Rattle.std.specs.Prelude.{◌≡◌, ◌++◌, length, take, drop, min
 ghost use Rattle.desk_page.specs.Owning.{IsThere};
 ghost use Rattle.page_exports.specs.Exports.{Begun, Pressed, Brought, Given, handed, rings_of, leaves_of, pointer_told};
 
-use desk_page::{Held, Kept, Made, NO_MEMORY, put, take};
-use recorded_disk::RecordedDisk;
+use desk_page::{Held, Kept, Made, NO_MEMORY, RecordedDisk, put, take};
 use sector_disk::Disk;
 use std::alloc::Global;
 

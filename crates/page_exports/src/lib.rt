@@ -3,7 +3,7 @@
 //!
 //! What a call makes is kept, and copied out by `page_copy`: the drawing of the desktop, the line below it, and the calls
 //! of the disk. A host that repeats these calls on a medium of its own, each after the one before, has on it at each
-//! moment what the disk was at a moment of its own (`recorded_disk::repeating_law`). A call that fails says why by its
+//! moment what the disk was at a moment of its own (`desk_page::repeating_law`). A call that fails says why by its
 //! status: then the host opens the store anew, from its medium.
 #![tactic(auto)]
 

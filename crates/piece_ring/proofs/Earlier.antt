@@ -1,5 +1,5 @@
 -- Seams before what an edit changes.
-use Rattle.std.proofs.Common.{◌≡◌, ℕ, zero, suc, ◌+◌, ◌-◌, ◌<◌, ◌≤◌, List, [], ◌∷◌, ◌++◌, length, take, drop, refl, sym}
+use Rattle.std.proofs.Common.{◌≡◌, ℕ, zero, suc, ◌+◌, ◌-◌, ◌<◌, ◌≤◌, List, [], ◌∷◌, ◌++◌, length, take, drop, refl}
 use Rattle.std.proofs.Common.{ap, ◌∙◌, arith, add-one, append_assoc}
 use Rattle.std.proofs.lemmas.List.{length-map, length-take-le, take-append-le}
 use denote.RawPtr.{Ptr}
@@ -34,14 +34,14 @@ seam_order ns s t h g order = let a = h.upto in let b = g.upto in
     index_order (pieces_of ns) s.index t.index (omega arith)
 
 -- the nodes around a piece that is written
-take-with-node : (ns : List (Ptr × Piece)) (i : ℕ) (x : Piece) → i < length ns → (n : Ptr × Piece)
+pub take-with-node : (ns : List (Ptr × Piece)) (i : ℕ) (x : Piece) → i < length ns → (n : Ptr × Piece)
     × (take (suc i) (with_piece ns i x) ≡ take i ns ++ n ∷ [])
 take-with-node [] i x h = absurd (omega (arith, h))
 take-with-node (n ∷ ns) zero x h = ((n.0, x), refl)
 take-with-node (n ∷ ns) (suc i) x h = let r = take-with-node ns i x (omega (arith, h)) in
     (r.0, ap (λ l. n ∷ l) r.1)
 
-drop-with-past : (ns : List (Ptr × Piece)) (i k : ℕ) (x : Piece) → i < k → drop k (with_piece ns i x) ≡ drop k ns
+pub drop-with-past : (ns : List (Ptr × Piece)) (i k : ℕ) (x : Piece) → i < k → drop k (with_piece ns i x) ≡ drop k ns
 drop-with-past [] i k x h = refl
 drop-with-past (n ∷ ns) i zero x h = absurd (omega (arith, h))
 drop-with-past (n ∷ ns) zero (suc k) x h = refl

@@ -6,6 +6,7 @@ pub mod Earlier
 pub mod Joins
 pub mod Keeping
 pub mod Looks
+pub mod Marks
 pub mod Memory
 pub mod Merging
 pub mod Moving
@@ -16,7 +17,9 @@ pub mod Runs
 pub mod Seams
 pub mod Sharing
 pub mod Steps
+pub mod Tables
 pub mod Walking
+pub mod Windows
 pub mod Lengths
 pub mod Offsets
 pub mod Renaming

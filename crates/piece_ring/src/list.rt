@@ -1,7 +1,8 @@
 //! A list of pieces in a chain of nodes: first the trailer, a node without characters, then a node for each piece. This
 //! layer has no raw pointer: it names nodes by their spots and indexes, and goes through the calls of `Chain`.
 ghost use Rattle.std.specs.Prelude.{ℕ, ◌≡◌, ◌+◌, ◌-◌, ◌<◌, ◌≤◌, ◌∷◌, [], ◌++◌, ◌^◌, length, Some, slice_get, IfOk};
-ghost use Rattle.std.specs.Prelude.{OnErr, OnOk, take};
+ghost use Rattle.std.specs.Prelude.{OnErr, OnOk, take, true, false};
+ghost use Rattle.std.proofs.Props.{props};
 ghost use Rattle.piece_ring.specs.BackCursor.{IsBackCursor, text_before};
 ghost use Rattle.piece_ring.specs.declared.place.Seam.{Seam as ASeam};
 ghost use Rattle.piece_ring.specs.Flat.{flat, relooked_piece, IsWhole};
@@ -10,6 +11,7 @@ ghost use Rattle.piece_ring.specs.Merging.{AreUnited, Continues, IsMergedAt, Uni
 ghost use Rattle.piece_ring.specs.Nodes.{places, pieces, with_put_in, with_range};
 ghost use Rattle.piece_ring.specs.Place.{pieces_of, text_along, IsSeam, IsFound, IsPlace, IsOpenedAt};
 ghost use Rattle.piece_ring.specs.PieceList.{IsPieceList, IsStretch};
+ghost use Rattle.piece_ring.specs.Table.{CanHold, IsTable, KeepsRoom};
 ghost use Rattle.piece_ring.specs.Text.{inserted, deleted, stretch, looks_changed};
 
 use crate::chain::{Chain, Spot};
@@ -17,7 +19,11 @@ use crate::piece::{EMPTY, Look, Piece};
 use crate::place::{Found, RingPlace, Seam};
 use crate::spare::Spare;
 use crate::stretch::Stretch;
+use crate::table::Table;
 use std::alloc::{AllocError as NoMemory, Global};
+
+/// How many characters from the finger a walk starts there.
+const NEAR: u32 = 128;
 
 /// The trailer and the nodes of the pieces, with the number of the pieces and of their characters, and the finger,
 /// from which walks start: it is on the piece before the seam, or on the trailer.
@@ -27,8 +33,12 @@ pub(crate) struct PieceList {
     pub(crate) count: usize,
     pub(crate) len: u32,
     pub(crate) finger: Seam,
+    /// Its marks, from which walks start that would be long from the finger.
+    pub(crate) table: Table,
     ghost sound: { IsPieceList chain.nodes trailer.ptr count len },
     ghost keeps: { IsSeam chain.nodes finger },
+    ghost indexed: { IsTable chain.nodes table } by { Prim.hlevel props },
+    ghost room: { CanHold table count } by { Prim.hlevel props },
 }
 
 impl PieceList {
@@ -47,7 +57,24 @@ impl PieceList {
                 index: 0,
                 pos: 0,
             },
+            table: Table::new(),
         }
+    }
+
+    /// Takes the memory that the marks of so many further pieces want, where it isn't there.
+    pub(crate) fn reserve(&mut self, alloc: Global, more: usize) -> Result<(), NoMemory>
+        requires { more < 2 ^ 33 }
+        ensures same { self.new.chain.nodes ≡ self.old.chain.nodes }
+        ensures long { self.new.len ≡ self.old.len }
+        ensures count { self.new.count ≡ self.old.count }
+        ensures finger { self.new.finger ≡ self.old.finger }
+        ensures room { OnOk result (CanHold self.new.table (self.old.count + more)) }
+        ensures kept { KeepsRoom self.old.table self.new.table }
+    {
+        if self.table.has_room(self.count, more) {
+            return Ok(());
+        }
+        self.table.reserve(alloc, self.count, more)
     }
 
     /// The seam before the first piece.
@@ -126,7 +153,8 @@ impl PieceList {
         requires from { IsSeam self.now.chain.nodes from }
         requires order { from.pos ≤ pos }
         requires within { pos < self.now.len }
-        ensures { IsFound self.now.chain.nodes pos result }
+        ensures found { IsFound self.now.chain.nodes pos result }
+        ensures links { from.index + result.links ≡ result.after.index }
     {
         let mut before = from;
         let mut after = self.step(before);
@@ -146,7 +174,8 @@ impl PieceList {
     fn find_back(&self, from: Seam, pos: u32) -> Found
         requires from { IsSeam self.now.chain.nodes from }
         requires order { pos < from.pos }
-        ensures { IsFound self.now.chain.nodes pos result }
+        ensures found { IsFound self.now.chain.nodes pos result }
+        ensures links { result.after.index + result.links ≡ from.index + 1 }
     {
         let mut after = from;
         let mut before = self.step_back(after);
@@ -161,20 +190,36 @@ impl PieceList {
         }
     }
 
-    /// The piece that has the character at `pos`, by a walk from the finger, or from the beginning or the end where
-    /// that is nearer.
+    /// The piece that has the character at `pos`, by a walk from the nearer of the marks on its two sides.
+    fn find_far(&self, pos: u32) -> Found
+        requires { pos < self.now.len }
+        ensures found { IsFound self.now.chain.nodes pos result }
+        ensures short { result.links ≤ 128 }
+    {
+        let (low, high) = self
+            .table
+            .around(&self.chain, self.start(), self.end(), pos);
+        if pos - low.pos < high.pos - pos {
+            self.find_ahead(low, pos)
+        } else {
+            self.find_back(high, pos)
+        }
+    }
+
+    /// The piece that has the character at `pos`, by a walk from the finger where it is near, and from a mark elsewhere.
     pub(crate) fn find(&self, pos: u32) -> Found
         requires { pos < self.now.len }
         ensures found { IsFound self.now.chain.nodes pos result }
         ensures near { IsFingerAt (fingered self.now.chain.nodes self.now.finger) pos
             → result.links ≡ 0 }
+        ensures short { result.links ≤ 128 }
     {
         let finger = self.finger;
         if finger.pos <= pos {
-            if self.len - pos < pos - finger.pos {
-                return self.find_back(self.end(), pos);
+            if pos - finger.pos < NEAR {
+                return self.find_ahead(finger, pos);
             }
-            return self.find_ahead(finger, pos);
+            return self.find_far(pos);
         }
         let before = self.step_back(finger);
         if before.pos <= pos {
@@ -184,10 +229,10 @@ impl PieceList {
                 links: 0,
             };
         }
-        if pos < before.pos - pos {
-            return self.find_ahead(self.start(), pos);
+        if before.pos - pos < NEAR {
+            return self.find_back(before, pos);
         }
-        self.find_back(before, pos)
+        self.find_far(pos)
     }
 
     /// The seam at `pos`, or the piece that has it inside.
@@ -224,6 +269,18 @@ impl PieceList {
         }
     }
 
+    /// The place of the piece that follows `seam`, or of the trailer at the end.
+    fn place_after(&self, seam: Seam) -> Seam
+        requires { IsSeam self.now.chain.nodes seam }
+        ensures seam { IsSeam self.now.chain.nodes result }
+        ensures finger { IsFingerAt (fingered self.now.chain.nodes result) seam.pos }
+    {
+        if seam.index == self.count {
+            return self.start();
+        }
+        self.step(seam)
+    }
+
     /// The place of the piece that has the character at `pos`, or of the trailer at the end.
     fn place_to_point_at(&self, pos: u32) -> Seam
         requires { pos ≤ self.now.len }
@@ -250,12 +307,16 @@ impl PieceList {
     fn divide(&mut self, pos: u32, found: Found, spare: Spare) -> Seam
         requires found { IsFound self.old.chain.nodes pos found }
         requires inside { found.before.pos < pos }
+        requires room { CanHold self.old.table (self.old.count + 1) }
+        ensures grown { self.new.count ≡ self.old.count + 1 }
+        ensures room { KeepsRoom self.old.table self.new.table }
         ensures long { self.new.len ≡ self.old.len }
         ensures opened { IsOpenedAt self.old.chain.nodes self.new.chain.nodes pos result }
     {
         let Seam { at, index, pos: _ } = found.after;
         let keep = pos - found.before.pos;
         let Piece { off, len, look } = self.chain.piece(at, index);
+        self.table.open(&self.chain, found.before.index, index, self.count, self.len);
         let (mut node, second) = spare.into_node();
         node.set_piece(
             second,
@@ -277,6 +338,12 @@ impl PieceList {
         );
         self.chain.join(at, index, node, second);
         self.count += 1;
+        let start = Seam {
+            at: self.trailer,
+            index: 0,
+            pos: 0,
+        };
+        self.table.fill(&self.chain, start, self.count, self.len);
         self.finger = Seam { at, index, pos };
         self.finger
     }
@@ -291,10 +358,13 @@ impl PieceList {
         ensures kept { OnOk result ((s : ASeam) → s.pos ≤ pos → IsSeam self.old.chain.nodes s
             → IsSeam self.new.chain.nodes s) }
         ensures refused { OnErr result (self.new.chain.nodes ≡ self.old.chain.nodes) }
+        ensures room { (self.new.count ≤ self.old.count + 1)
+            × KeepsRoom self.old.table self.new.table }
     {
         match self.place(pos) {
             RingPlace::Between(seam) => Ok(seam),
             RingPlace::Inside(found) => {
+                self.reserve(alloc, 1)?;
                 let spare = Spare::new(alloc)?;
                 Ok(self.divide(pos, found, spare))
             }
@@ -303,7 +373,8 @@ impl PieceList {
 
     /// The seam at `pos`, with the spare node to cut a piece there.
     fn seam_with(&mut self, pos: u32, spare: Spare) -> Seam
-        requires { pos ≤ self.old.len }
+        requires within { pos ≤ self.old.len }
+        requires room { CanHold self.old.table (self.old.count + 1) }
         ensures long { self.new.len ≡ self.old.len }
         ensures opened { IsOpenedAt self.old.chain.nodes self.new.chain.nodes pos result }
     {
@@ -335,6 +406,7 @@ impl PieceList {
                 Ok((from, upto))
             }
             RingPlace::Inside(found) => {
+                self.reserve(alloc, 2)?;
                 let first = Spare::new(alloc)?;
                 let second = Spare::new(alloc)?;
                 let from = self.divide(beg, found, first);
@@ -348,6 +420,7 @@ impl PieceList {
     pub(crate) fn insert(&mut self, seam: Seam, other: Stretch) -> Seam
         requires seam { IsSeam self.old.chain.nodes seam }
         requires fits { self.old.len + other.len < 2 ^ 32 }
+        requires room { CanHold self.old.table (self.old.count + other.count) }
         ensures text { text_along self.new.chain.nodes
             ≡ inserted seam.pos (flat (pieces other.chain.nodes))
             (text_along self.old.chain.nodes) }
@@ -364,9 +437,19 @@ impl PieceList {
             len,
         } = other;
         let last = chain.prev(first, 0);
+        let missing = self
+            .table
+            .open_for(&self.chain, seam.index, count, self.count, self.len);
         self.chain.join(seam.at, seam.index, chain, first);
         self.count += count;
         self.len += len;
+        let start = Seam {
+            at: self.trailer,
+            index: 0,
+            pos: 0,
+        };
+        self.table
+            .fill_where(missing, &self.chain, start, self.count, self.len);
         self.finger = seam;
         Seam {
             at: last,
@@ -375,23 +458,56 @@ impl PieceList {
         }
     }
 
+    /// Puts pieces into an empty list.
+    pub(crate) fn put_all(&mut self, other: Stretch)
+        requires none { self.old.count ≡ 0 }
+        requires room { CanHold self.old.table other.count }
+        ensures text { text_along self.new.chain.nodes ≡ flat (pieces other.chain.nodes) }
+        ensures long { self.new.len ≡ other.len }
+    {
+        let Stretch {
+            chain,
+            first,
+            count,
+            len,
+        } = other;
+        self.chain.join(self.trailer, 0, chain, first);
+        self.count = count;
+        self.len = len;
+        let start = Seam {
+            at: self.trailer,
+            index: 0,
+            pos: 0,
+        };
+        self.table.fill(&self.chain, start, self.count, self.len);
+    }
+
     /// Takes the pieces between two seams out.
     pub(crate) fn take_out(&mut self, from: Seam, upto: Seam) -> Stretch
         requires from { IsSeam self.old.chain.nodes from }
         requires upto { IsSeam self.old.chain.nodes upto }
         requires order { from.pos < upto.pos }
         ensures kept { IsSeam self.new.chain.nodes from }
+        ensures count { from.index + result.count ≡ upto.index }
         ensures text { text_along self.new.chain.nodes
             ≡ deleted from.pos upto.pos (text_along self.old.chain.nodes) }
         ensures taken { flat (pieces result.chain.nodes)
             ≡ stretch from.pos upto.pos (text_along self.old.chain.nodes) }
     {
+        self.table
+            .open(&self.chain, from.index, upto.index, self.count, self.len);
         let first = self.chain.next(from.at, from.index);
         let chain = self.chain.split(from.at, from.index, upto.at, upto.index);
         let count = upto.index - from.index;
         let len = upto.pos - from.pos;
         self.count -= count;
         self.len -= len;
+        let start = Seam {
+            at: self.trailer,
+            index: 0,
+            pos: 0,
+        };
+        self.table.fill(&self.chain, start, self.count, self.len);
         self.finger = from;
         Stretch {
             chain,
@@ -423,16 +539,25 @@ impl PieceList {
         requires first { slice_get (pieces self.old.chain.nodes) seam.index ≡ Some first }
         requires second { slice_get (pieces self.old.chain.nodes) (seam.index + 1) ≡ Some second }
         requires continued { Continues first second }
-        ensures long { self.new.len ≡ self.old.len }
+        ensures left { (self.new.len ≡ self.old.len)
+            × IsFingerAt (fingered self.new.chain.nodes self.new.finger) seam.pos }
         ensures united { AreUnited self.old.chain.nodes self.new.chain.nodes seam.pos }
     {
         let Seam { at, index, pos } = seam;
         let len = first.len + second.len;
+        self.table
+            .open(&self.chain, index - 1, index + 1, self.count, self.len);
         self.chain.set_piece(at, index, Piece { len, ..first });
         self.chain
             .split(at, index, next, index + 1)
             .free(alloc, next);
         self.count -= 1;
+        let start = Seam {
+            at: self.trailer,
+            index: 0,
+            pos: 0,
+        };
+        self.table.fill(&self.chain, start, self.count, self.len);
         self.finger = Seam {
             at,
             index,
@@ -441,8 +566,8 @@ impl PieceList {
     }
 
     /// Makes one piece of the two that meet at `seam`, if the second continues the first in the file and has its look.
-    /// It takes no memory.
-    pub(crate) fn merge(&mut self, alloc: &Global, seam: Seam)
+    /// It takes no memory. Returns whether it did; the finger is on the one piece then.
+    pub(crate) fn merge(&mut self, alloc: &Global, seam: Seam) -> bool
         requires { IsSeam self.old.chain.nodes seam }
         ensures same { text_along self.new.chain.nodes ≡ text_along self.old.chain.nodes }
         ensures long { self.new.len ≡ self.old.len }
@@ -454,16 +579,21 @@ impl PieceList {
             → IsMergedAt (pieces_of self.new.chain.nodes) pos }
         ensures pieces { UnitesAtMost (pieces_of self.old.chain.nodes)
             (pieces_of self.new.chain.nodes) }
+        ensures told { (result ≡ true
+            → IsFingerAt (fingered self.new.chain.nodes self.new.finger) seam.pos)
+            × (result ≡ false → self.new.chain.nodes ≡ self.old.chain.nodes) }
     {
         if seam.index == 0 || seam.index == self.count {
-            return;
+            return false;
         }
         let next = self.chain.next(seam.at, seam.index);
         let first = self.chain.piece(seam.at, seam.index);
         let second = self.chain.piece(next, seam.index + 1);
-        if first.is_continued_by(second) {
-            self.unite(alloc, seam, next, first, second);
+        if !first.is_continued_by(second) {
+            return false;
         }
+        self.unite(alloc, seam, next, first, second);
+        true
     }
 
     /// Merges the neighbours that meet at `seam`, and keeps the place of the piece that has its position.
@@ -477,8 +607,10 @@ impl PieceList {
         ensures pieces { UnitesAtMost (pieces_of self.old.chain.nodes)
             (pieces_of self.new.chain.nodes) }
     {
-        self.merge(alloc, seam);
-        self.locate(seam.pos);
+        if self.merge(alloc, seam) {
+            return;
+        }
+        self.finger = self.place_after(seam);
     }
 
     /// Merges the neighbours that meet at `pos`, if pieces do, and keeps the place of the piece that has it.
@@ -496,15 +628,29 @@ impl PieceList {
     }
 
     /// The pieces, of which there is at least one. The trailer is freed.
-    pub(crate) fn into_stretch(mut self, alloc: &Global) -> Stretch
+    pub(crate) fn into_stretch(self, alloc: &Global) -> Stretch
         requires { 0 < self.len }
-        ensures { flat (pieces result.chain.nodes) ≡ text_along self.chain.nodes }
+        ensures text { flat (pieces result.chain.nodes) ≡ text_along self.chain.nodes }
+        ensures count { result.count ≡ self.count }
     {
-        let start = self.start();
-        let end = self.end();
-        let all = self.take_out(start, end);
-        self.destroy(alloc);
-        all
+        let PieceList {
+            mut chain,
+            trailer,
+            count,
+            len,
+            finger: _,
+            table: _,
+        } = self;
+        let first = chain.next(trailer, 0);
+        let last = chain.prev(trailer, 0);
+        let pieces = chain.split(trailer, 0, last, count);
+        chain.free(alloc, trailer);
+        Stretch {
+            chain: pieces,
+            first,
+            count,
+            len,
+        }
     }
 
     /// Frees all nodes, and says how many there were.
@@ -517,6 +663,7 @@ impl PieceList {
             count,
             len: _,
             finger: _,
+            table: _,
         } = self;
         let mut freed = 0;
         for _ in 0..count {

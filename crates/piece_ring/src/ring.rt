@@ -4,7 +4,7 @@
 //! character's offset and look alone. How a text is cut into pieces isn't promised, but for the cut
 //! that `split_at` makes, the pieces that `push` puts in, which `Cursor::next_piece` gives back, and
 //! how many `add` makes.
-ghost use Rattle.std.specs.Prelude.{◌≡◌, ◌+◌, ◌^◌, ◌<◌, ◌≤◌, ◌∷◌, ◌++◌, [], length, take, IfOk, IfErr, OnOk};
+ghost use Rattle.std.specs.Prelude.{◌≡◌, ◌+◌, ◌*◌, ◌/◌, ◌^◌, ◌<◌, ◌≤◌, ◌∷◌, ◌++◌, [], length, take, IfOk, IfErr, OnOk};
 ghost use Rattle.piece_ring.specs.Cut.{IsCutAt};
 ghost use Rattle.piece_ring.specs.Flat.{flat, characters_of};
 ghost use Rattle.piece_ring.specs.Finger.{IsFingerAt, IsSettledAt};
@@ -59,8 +59,16 @@ impl Ring {
         self.list.count as u32
     }
 
+    /// The number of chunks into which marks part the pieces. A walk to a place stays within one or two.
+    pub fn chunks(&self) -> u32
+        ensures few { result ≤ length self.now.pieces / 16 + 1 }
+        ensures enough { length self.now.pieces ≤ 128 * result }
+    {
+        self.list.table.len(&self.list.chain) as u32 + 1
+    }
+
     /// Keeps the place of the piece that has the character at `pos`, or of the trailer at the end.
-    /// Walks to a place start there, or at the beginning or the end where that is nearer.
+    /// Walks to places near it start there.
     pub fn locate(&mut self, pos: u32)
         requires { pos ≤ length (flat self.old.pieces) }
         ensures same { self.new.pieces ≡ self.old.pieces }
@@ -96,9 +104,9 @@ impl Ring {
             return Ok(taken);
         }
         let (from, upto) = self.list.seams(alloc, beg, end)?;
+        taken.list.reserve(alloc, upto.index - from.index)?;
         let pieces = self.list.take_out(from, upto);
-        let start = taken.list.start();
-        taken.list.insert(start, pieces);
+        taken.list.put_all(pieces);
         self.list.settle_at(&alloc, from);
         Ok(taken)
     }
@@ -118,6 +126,9 @@ impl Ring {
         if other.list.len == 0 {
             self.list.settle(&alloc, pos);
             return Ok(());
+        }
+        if let Err(refused) = self.list.reserve(alloc, other.list.count + 1) {
+            return Err((refused, other));
         }
         let seam = match self.list.seam_at(alloc, pos) {
             Ok(seam) => seam,
@@ -156,6 +167,7 @@ impl Ring {
         ensures settled { OnOk result (IsSettledAt self.new (length (flat self.old.pieces))) }
         ensures pieces { OnOk result (AddsAtMost self.old.pieces piece self.new.pieces) }
     {
+        self.list.reserve(alloc, 1)?;
         let one = Stretch::of_piece(&alloc, piece)?;
         let end = self.list.end();
         self.list.insert(end, one);
@@ -169,6 +181,7 @@ impl Ring {
         requires { HasRoomFor piece self.old.pieces }
         ensures { ChangesTo (self.old.pieces ++ piece ∷ []) result self.old.pieces self.new.pieces }
     {
+        self.list.reserve(alloc, 1)?;
         let alone = Stretch::of_piece(&alloc, piece)?;
         let end = self.list.end();
         self.list.insert(end, alone);
@@ -214,11 +227,12 @@ impl Ring {
     }
 
     /// A cursor before the character at `pos`, or at the end. It follows no link if the finger is there, and never
-    /// more than there are pieces.
+    /// more than there are pieces, nor more than 128.
     pub fn cursor(&self, pos: u32) -> Cursor<'_>
         requires { pos ≤ length (flat self.now.pieces) }
         ensures at { IsCursorAt pos self.now.pieces result }
         ensures near { IsFingerAt self.now pos → result.walked ≡ 0 }
+        ensures short { result.walked ≤ 128 }
     {
         if pos == self.list.len {
             return Cursor {

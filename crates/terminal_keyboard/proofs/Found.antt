@@ -14,13 +14,15 @@ use Rattle.terminal_presses.specs.declared.press.Arrow.TheVariants as arrow
 use Rattle.terminal_presses.specs.declared.press.Page.{Page as PageKey}
 use Rattle.terminal_presses.specs.declared.press.Page.TheVariants as page
 use Rattle.terminal_presses.specs.declared.press.FunctionKey.{FunctionKey}
-use Rattle.terminal_presses.specs.declared.press.FunctionKey.TheVariants.{F1, F2, F3, F4, F5, F6, F7, F8, F9, F10, F11, F12}
+use Rattle.terminal_presses.specs.declared.press.FunctionKey.TheVariants.{F1, F2, F3, F4, F5, F6, F7, F8, F9, F10}
+use Rattle.terminal_presses.specs.declared.press.FunctionKey.TheVariants.{F11, F12}
 use Rattle.terminal_presses.specs.declared.press.Scroll.{Scroll as ScrollKey}
 use Rattle.terminal_presses.specs.declared.press.Scroll.TheVariants.{WheelUp, WheelDown, PageUp, PageDown, First, Last}
 use Rattle.terminal_presses.specs.declared.press.MouseReport.{MouseReport}
 use Rattle.terminal_presses.specs.declared.press.WheelReport.{WheelReport}
 use Rattle.terminal_presses.specs.declared.press.Press.{Press}
-use Rattle.terminal_presses.specs.declared.press.Press.TheVariants.{Character, Foreign, Control, Back, Delete, Escape, Arrow}
+use Rattle.terminal_presses.specs.declared.press.Press.TheVariants.{Character, Foreign, Control, Back, Delete, Escape}
+use Rattle.terminal_presses.specs.declared.press.Press.TheVariants.{Arrow}
 use Rattle.terminal_presses.specs.declared.press.Press.TheVariants.{Page, Function, Mouse, PasteBegins, PasteEnds, Size}
 use Rattle.terminal_presses.specs.declared.press.Press.TheVariants.{Leap, Scroll, Wheel, FileFails, Unknown}
 use Rattle.terminal_presses.specs.declared.press.Presses.{Presses}
@@ -32,18 +34,25 @@ use Rattle.terminal_keyboard.specs.declared.place.Numbers.{Numbers}
 use Rattle.terminal_keyboard.specs.declared.place.SequencePlace.{SequencePlace}
 use Rattle.terminal_keyboard.specs.declared.place.SequencePlace.TheVariants as place
 use Rattle.terminal_keyboard.specs.declared.parser.Parser.{Parser}
-use Rattle.terminal_keyboard.specs.Presses.{grounded, preceded, press_alone, function_at, arrow_at, lettered, numbered_key}
-use Rattle.terminal_keyboard.specs.Presses.{longer, with_digit, with_number, mouse_mark, reported_press, moused, sized, unmarked_press}
+use Rattle.terminal_keyboard.specs.Presses.{grounded, preceded, press_alone, function_at, arrow_at, lettered}
+use Rattle.terminal_keyboard.specs.Presses.{numbered_key}
+use Rattle.terminal_keyboard.specs.Presses.{longer, with_digit, with_number, mouse_mark, reported_press, moused}
+use Rattle.terminal_keyboard.specs.Presses.{sized, unmarked_press}
 use Rattle.terminal_keyboard.specs.Presses.{sequence_end, after_ground, after_escape, after_shift, after_console}
-use Rattle.terminal_keyboard.specs.Presses.{after_sequence, after_byte, after_quiet, sequence_after, at_rest, heard_by, in_order}
-use Rattle.terminal_keyboard.specs.Presses.{parser_after, presses_heard, held_with, with_shift, with_alt, scroll_with_alt, with_control, arrow_with_control}
+use Rattle.terminal_keyboard.specs.Presses.{after_sequence, after_byte, after_quiet, sequence_after, at_rest}
+use Rattle.terminal_keyboard.specs.Presses.{heard_by, in_order}
+use Rattle.terminal_keyboard.specs.Presses.{parser_after, presses_heard, held_with, with_shift, with_alt}
+use Rattle.terminal_keyboard.specs.Presses.{scroll_with_alt, with_control, arrow_with_control}
 use Rattle.terminal_keyboard.specs.Presses.{arrow_with_alt}
 use Rattle.terminal_keyboard.specs.Presses.{wheel_press}
-use Rattle.terminal_keyboard.specs.Spelling.{value_from, IsNumeral, report_number, report_end, IsMouseText, IsReport, IsWheel, IsSize}
+use Rattle.terminal_keyboard.specs.Spelling.{value_from, IsNumeral, report_number, report_end, IsMouseText, IsReport}
+use Rattle.terminal_keyboard.specs.Spelling.{IsWheel, IsSize}
 use Rattle.terminal_keyboard.specs.Spelling.{IsControlSpelled, byte_with_alt, number_held, wheel_number}
 use Rattle.terminal_keyboard.specs.Spelling.{IsLongCharacter}
-use Rattle.terminal_keyboard.specs.Spelling.{is_control, arrow_spellings, leap_spellings, scroll_spellings, page_spelling}
-use Rattle.terminal_keyboard.specs.Spelling.{by_digit, function_spellings, key_sequence, IsOneOf, SpellsPress, bytes_heard, IsPressHeard}
+use Rattle.terminal_keyboard.specs.Spelling.{is_control, arrow_spellings, leap_spellings, scroll_spellings}
+use Rattle.terminal_keyboard.specs.Spelling.{page_spelling}
+use Rattle.terminal_keyboard.specs.Spelling.{by_digit, function_spellings, key_sequence, IsOneOf, SpellsPress}
+use Rattle.terminal_keyboard.specs.Spelling.{bytes_heard, IsPressHeard}
 use Rattle.terminal_keyboard.specs.Spelling.{is_alone_with_alt}
 use Rattle.terminal_keyboard.specs.Spelling.{AreHeard}
 use Rattle.terminal_presses.specs.Runs.{Corner, moved_with, report_with}

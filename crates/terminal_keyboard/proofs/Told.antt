@@ -11,7 +11,8 @@ use Rattle.terminal_keyboard.specs.Spelling.{bytes_heard}
 use Rattle.terminal_keyboard.specs.Spelling.{pasted}
 use Rattle.terminal_keyboard.specs.declared.paste.Stage.{Stage}
 use Rattle.terminal_keyboard.specs.declared.paste.Stage.TheVariants.{Begins, GoesOn, Ended, Broken}
-use Rattle.terminal_keyboard.specs.HostPastes.{TellsText, begins, goes_on, ends, breaks, AreTold, nothing, one_more, harmless}
+use Rattle.terminal_keyboard.specs.HostPastes.{TellsText, begins, goes_on, ends, breaks, AreTold, nothing, one_more}
+use Rattle.terminal_keyboard.specs.HostPastes.{harmless}
 use Rattle.terminal_keyboard.specs.HostPastes.{paste_begins, paste_ends, file_fails}
 
 bytes_both : (xs ys : List ℕ) → bytes_heard (xs ++ ys) ≡ bytes_heard xs ++ bytes_heard ys

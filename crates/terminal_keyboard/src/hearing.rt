@@ -2,7 +2,8 @@
 ghost use Rattle.std.specs.Prelude.{◌≡◌, ◌≤◌, [], ◌∷◌, ◌++◌, length, take};
 ghost use Rattle.terminal_presses.specs.declared.press.Heard.TheVariants.{Quiet};
 ghost use Rattle.terminal_keyboard.specs.Spelling.{bytes_heard};
-ghost use Rattle.terminal_keyboard.specs.Hearings.{IsWithinLine, is_line_end as line_ends, is_escape as escape_byte, kept_for_later};
+ghost use Rattle.terminal_keyboard.specs.Hearings.{IsWithinLine, is_line_end as line_ends, is_escape as escape_byte};
+ghost use Rattle.terminal_keyboard.specs.Hearings.{kept_for_later};
 ghost use Rattle.terminal_keyboard.specs.Hearings.{line_length as first_line};
 
 use std::marker::Model;

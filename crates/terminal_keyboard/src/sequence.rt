@@ -2,10 +2,13 @@
 ghost use Rattle.std.specs.Prelude.{◌≡◌, ◌<◌};
 ghost use Rattle.terminal_keyboard.specs.Presses.{function_at, arrow_at, lettered as letter_says};
 ghost use Rattle.terminal_keyboard.specs.Presses.{numbered_key as number_says, longer as longer_number, no_numbers};
-ghost use Rattle.terminal_keyboard.specs.Presses.{with_digit, with_number, mouse_mark, reported_press, moused, sized, unmarked_press};
+ghost use Rattle.terminal_keyboard.specs.Presses.{with_digit, with_number, mouse_mark, reported_press, moused, sized};
+ghost use Rattle.terminal_keyboard.specs.Presses.{unmarked_press};
 ghost use Rattle.terminal_keyboard.specs.Presses.{sequence_end, is_bare_sequence, wheel_press, held_with};
-ghost use Rattle.terminal_keyboard.specs.Presses.{with_alt as alt_says, with_control as control_says, with_shift as shift_says};
-ghost use Rattle.terminal_keyboard.specs.Presses.{arrow_with_alt as arrow_alternate, arrow_with_control as arrow_controlled};
+ghost use Rattle.terminal_keyboard.specs.Presses.{with_alt as alt_says, with_control as control_says};
+ghost use Rattle.terminal_keyboard.specs.Presses.{with_shift as shift_says};
+ghost use Rattle.terminal_keyboard.specs.Presses.{arrow_with_alt as arrow_alternate};
+ghost use Rattle.terminal_keyboard.specs.Presses.{arrow_with_control as arrow_controlled};
 ghost use Rattle.terminal_keyboard.specs.Presses.{scroll_with_alt as scroll_alternate};
 
 use crate::place::{Mark, Numbers, SequencePlace};

@@ -5,7 +5,8 @@ use Rattle.event_bytes.specs.declared.keys.Keys.TheVariants as keys
 use Rattle.terminal_presses.specs.declared.press.Button.{Button}
 use Rattle.terminal_presses.specs.declared.press.Button.TheVariants.{Left, Middle, Right}
 use Rattle.terminal_presses.specs.declared.press.FunctionKey.{FunctionKey}
-use Rattle.terminal_presses.specs.declared.press.FunctionKey.TheVariants.{F1, F2, F3, F4, F5, F6, F7, F8, F9, F10, F11, F12}
+use Rattle.terminal_presses.specs.declared.press.FunctionKey.TheVariants.{F1, F2, F3, F4, F5, F6, F7, F8, F9, F10}
+use Rattle.terminal_presses.specs.declared.press.FunctionKey.TheVariants.{F11, F12}
 use Rattle.event_bytes.specs.declared.event.Event.{Event}
 use Rattle.terminal_presses.specs.declared.press.Press.{Press}
 use Rattle.terminal_presses.specs.declared.press.Press.TheVariants.{Function}
@@ -15,10 +16,13 @@ use Rattle.terminal_presses.specs.declared.action.Click.TheVariants.{Mark, Keys}
 use Rattle.terminal_presses.specs.declared.action.Action.{Action}
 use Rattle.terminal_presses.specs.declared.action.Action.TheVariants.{Nothing}
 use Rattle.terminal_presses.specs.declared.hand.Hand.{Hand}
-use Rattle.terminal_presses.specs.Gestures.{no_buttons, with_button, keys_with_button, click_called, pressed_more, released, released_at}
-use Rattle.terminal_presses.specs.Hands.{resting, pointed_at, idle, by_function, armed_with, is_armed_with, click_meant, begun, gone_down, rested, gone_up, hand_after_button}
+use Rattle.terminal_presses.specs.Gestures.{no_buttons, with_button, keys_with_button, click_called, pressed_more}
+use Rattle.terminal_presses.specs.Gestures.{released, released_at}
+use Rattle.terminal_presses.specs.Hands.{resting, pointed_at, idle, by_function, armed_with, is_armed_with}
+use Rattle.terminal_presses.specs.Hands.{click_meant, begun, gone_down, rested, gone_up, hand_after_button}
 use Rattle.terminal_presses.specs.Hands.{fresh, by_question, handled}
-use Rattle.terminal_presses.specs.Runs.{events_of_action, hand_after, posted_events, MakesEvents, Corner, is_seen, down_with, down, up, button_alone, together}
+use Rattle.terminal_presses.specs.Runs.{events_of_action, hand_after, posted_events, MakesEvents, Corner, is_seen}
+use Rattle.terminal_presses.specs.Runs.{down_with, down, up, button_alone, together}
 use Rattle.terminal_presses.specs.Runs.{mouse_at, click_event, says, spot_at, AreThree}
 use Rattle.terminal_presses.specs.declared.spot.Spot.{Spot}
 use Rattle.terminal_presses.specs.declared.pointer.Pointer.{Pointer}

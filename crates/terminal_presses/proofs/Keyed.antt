@@ -1,13 +1,16 @@
 -- Clicks that keys make with a pointer.
-use Rattle.std.proofs.Common.{◌≡◌, ℕ, zero, suc, ◌+◌, ◌-◌, ◌<◌, ◌≤◌, true, List, [], ◌∷◌, ◌++◌, Some, None, refl, sym, ap, subst}
+use Rattle.std.proofs.Common.{◌≡◌, ℕ, zero, suc, ◌+◌, ◌-◌, ◌<◌, ◌≤◌, true, List, [], ◌∷◌, ◌++◌, Some, None, refl, sym}
+use Rattle.std.proofs.Common.{ap, subst}
 use Rattle.std.proofs.Common.{◌∙◌, arith, min}
 use Rattle.std.specs.Prelude.{Option, replicate}
 use Rattle.event_bytes.specs.declared.event.Event.{Event}
 use Rattle.event_bytes.specs.declared.keys.Keys.TheVariants as keys
 use Rattle.terminal_presses.specs.declared.press.Arrow.{Arrow as ArrowKey}
-use Rattle.terminal_presses.specs.declared.press.Arrow.TheVariants.{Up, Down, Right, Left, Home, End, WordRight, WordLeft}
+use Rattle.terminal_presses.specs.declared.press.Arrow.TheVariants.{Up, Down, Right, Left, Home, End, WordRight}
+use Rattle.terminal_presses.specs.declared.press.Arrow.TheVariants.{WordLeft}
 use Rattle.terminal_presses.specs.declared.press.FunctionKey.{FunctionKey}
-use Rattle.terminal_presses.specs.declared.press.FunctionKey.TheVariants.{F1, F2, F3, F4, F5, F6, F7, F8, F9, F10, F11, F12}
+use Rattle.terminal_presses.specs.declared.press.FunctionKey.TheVariants.{F1, F2, F3, F4, F5, F6, F7, F8, F9, F10}
+use Rattle.terminal_presses.specs.declared.press.FunctionKey.TheVariants.{F11, F12}
 use Rattle.terminal_presses.specs.declared.press.Press.{Press}
 use Rattle.terminal_presses.specs.declared.press.Press.TheVariants.{Arrow, Character, Escape, Function}
 use Rattle.terminal_presses.specs.declared.action.Click.{Click}
@@ -20,7 +23,8 @@ use Rattle.terminal_presses.specs.declared.pointer.Pointer.{Pointer}
 use Rattle.terminal_presses.specs.Sights.{Sight}
 use Rattle.terminal_presses.specs.Gestures.{released_at}
 use Rattle.terminal_presses.specs.Pointers.{appears, moved_to, laid_aside, toggled, started, spot_moved, begins_at}
-use Rattle.terminal_presses.specs.Hands.{resting, idle, hand_after_escape, hand_after_byte, hand_after_arrow, is_same_click, is_armed_with}
+use Rattle.terminal_presses.specs.Hands.{resting, idle, hand_after_escape, hand_after_byte, hand_after_arrow}
+use Rattle.terminal_presses.specs.Hands.{is_same_click, is_armed_with}
 use Rattle.terminal_presses.specs.Hands.{armed_with, by_function, fresh, by_question, handled}
 use Rattle.terminal_presses.specs.Pastes.{return}
 use Rattle.terminal_presses.specs.Runs.{hand_after, posted_events, MakesEvents, says, IsOnDisplay, keys_to, pointing_to}

@@ -18,7 +18,8 @@ use Rattle.terminal_presses.specs.Asking.{entered, lengthened, name_after_byte, 
 use Rattle.terminal_presses.specs.Hands.{idle, asking, answering, pasting_name, by_question, handled}
 use Rattle.terminal_presses.specs.Pastes.{new_paste}
 use Rattle.terminal_presses.specs.Singles.{single}
-use Rattle.terminal_presses.specs.Runs.{events_of_action, hand_after, posted_events, MakesEvents, name_byte, name_with, paste_of}
+use Rattle.terminal_presses.specs.Runs.{events_of_action, hand_after, posted_events, MakesEvents, name_byte}
+use Rattle.terminal_presses.specs.Runs.{name_with, paste_of}
 use Rattle.terminal_presses.proofs.Tests.{both, by_test}
 
 no_return : (b : ℕ) → is_host_byte b ≡ true → nat_eq b 13 ≡ false

@@ -11,7 +11,8 @@ use Rattle.event_bytes.specs.Bytes.{lies_within, is_text_byte}
 use Rattle.event_bytes.specs.declared.event.Event.{Event}
 use Rattle.event_bytes.specs.declared.event.Event.TheVariants.{Typed}
 use Rattle.terminal_presses.specs.declared.press.Press.{Press}
-use Rattle.terminal_presses.specs.declared.press.Press.TheVariants.{Character, Foreign, Control, Back, Delete, Escape, Arrow}
+use Rattle.terminal_presses.specs.declared.press.Press.TheVariants.{Character, Foreign, Control, Back, Delete, Escape}
+use Rattle.terminal_presses.specs.declared.press.Press.TheVariants.{Arrow}
 use Rattle.terminal_presses.specs.declared.press.Press.TheVariants.{Page, Function, Mouse, PasteBegins, PasteEnds, Size}
 use Rattle.terminal_presses.specs.declared.press.Press.TheVariants.{Leap, Scroll, Wheel, FileFails, Unknown}
 use Rattle.terminal_presses.specs.Sights.{Sight}
@@ -20,10 +21,12 @@ use Rattle.terminal_presses.specs.declared.action.Action.TheVariants.{Nothing, P
 use Rattle.terminal_presses.specs.declared.paste.Paste.{Paste}
 use Rattle.terminal_presses.specs.declared.hand.Hand.{Hand}
 use Rattle.terminal_presses.specs.Singles.{single}
-use Rattle.terminal_presses.specs.Pastes.{typing_action, added, in_profile, pasted_byte, with_byte, after_line_feed, pasted_more}
+use Rattle.terminal_presses.specs.Pastes.{typing_action, added, in_profile, pasted_byte, with_byte, after_line_feed}
+use Rattle.terminal_presses.specs.Pastes.{pasted_more}
 use Rattle.terminal_presses.specs.Pastes.{pasted_if_any, pasted_on}
 use Rattle.terminal_presses.specs.Hands.{idle, ends_paste, pasting, fresh, by_question, handled}
-use Rattle.terminal_presses.specs.Runs.{events_of_action, hand_after, posted_events, MakesEvents, typed_byte, line_ends, pasted_text}
+use Rattle.terminal_presses.specs.Runs.{events_of_action, hand_after, posted_events, MakesEvents, typed_byte}
+use Rattle.terminal_presses.specs.Runs.{line_ends, pasted_text}
 use Rattle.terminal_presses.specs.Runs.{paste_of, Types}
 use Rattle.terminal_presses.proofs.Tests.{both, is_not, by_test}
 

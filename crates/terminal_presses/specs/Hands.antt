@@ -8,7 +8,8 @@ use Rattle.event_bytes.specs.declared.keys.Keys.TheVariants as keys
 use Rattle.terminal_presses.specs.declared.press.Button.{Button}
 use Rattle.terminal_presses.specs.declared.press.Button.TheVariants.{Left, Middle, Right}
 use Rattle.terminal_presses.specs.declared.press.FunctionKey.{FunctionKey}
-use Rattle.terminal_presses.specs.declared.press.FunctionKey.TheVariants.{F1, F2, F3, F4, F5, F6, F7, F8, F9, F10, F11, F12}
+use Rattle.terminal_presses.specs.declared.press.FunctionKey.TheVariants.{F1, F2, F3, F4, F5, F6, F7, F8, F9, F10}
+use Rattle.terminal_presses.specs.declared.press.FunctionKey.TheVariants.{F11, F12}
 use Rattle.event_bytes.specs.Keys.{keys_number}
 use Rattle.terminal_presses.specs.declared.press.Arrow.{Arrow as ArrowKey}
 use Rattle.terminal_presses.specs.declared.press.Scroll.{Scroll as ScrollKey}
@@ -16,7 +17,8 @@ use Rattle.terminal_presses.specs.declared.press.Scroll.TheVariants.{WheelUp, Wh
 use Rattle.terminal_presses.specs.declared.press.MouseReport.{MouseReport}
 use Rattle.terminal_presses.specs.declared.press.WheelReport.{WheelReport}
 use Rattle.terminal_presses.specs.declared.press.Press.{Press}
-use Rattle.terminal_presses.specs.declared.press.Press.TheVariants.{Character, Foreign, Control, Back, Delete, Escape, Arrow}
+use Rattle.terminal_presses.specs.declared.press.Press.TheVariants.{Character, Foreign, Control, Back, Delete, Escape}
+use Rattle.terminal_presses.specs.declared.press.Press.TheVariants.{Arrow}
 use Rattle.terminal_presses.specs.declared.press.Press.TheVariants.{Page, Function, Mouse, PasteBegins, PasteEnds, Size}
 use Rattle.terminal_presses.specs.declared.press.Press.TheVariants.{Leap, Scroll, Wheel, FileFails, Unknown}
 use Rattle.terminal_presses.specs.Sights.{Sight, cell_shown, is_in_sight, spot_in}
@@ -33,11 +35,14 @@ use Rattle.terminal_presses.specs.declared.action.Action.TheVariants as action
 use Rattle.terminal_presses.specs.declared.gesture.Gesture.{Gesture}
 use Rattle.terminal_presses.specs.declared.paste.Paste.{Paste}
 use Rattle.terminal_presses.specs.declared.hand.Hand.{Hand}
-use Rattle.terminal_presses.specs.declared.hand.TheConstants.{CONTROL_C, CONTROL_E, CONTROL_F, CONTROL_G, CONTROL_L, CONTROL_O, CONTROL_Q}
-use Rattle.terminal_presses.specs.declared.hand.TheConstants.{CONTROL_R, CONTROL_S, CONTROL_T, CONTROL_V, CONTROL_W, CONTROL_X, CONTROL_Y, CONTROL_Z}
+use Rattle.terminal_presses.specs.declared.hand.TheConstants.{CONTROL_C, CONTROL_E, CONTROL_F, CONTROL_G, CONTROL_L}
+use Rattle.terminal_presses.specs.declared.hand.TheConstants.{CONTROL_O, CONTROL_Q}
+use Rattle.terminal_presses.specs.declared.hand.TheConstants.{CONTROL_R, CONTROL_S, CONTROL_T, CONTROL_V, CONTROL_W}
+use Rattle.terminal_presses.specs.declared.hand.TheConstants.{CONTROL_X, CONTROL_Y, CONTROL_Z}
 use Rattle.terminal_presses.specs.Gestures.{no_buttons, is_none_down, is_down, with_button, pressed_more, released}
 use Rattle.terminal_presses.specs.Gestures.{released_at}
-use Rattle.terminal_presses.specs.Pointers.{nowhere, moved_to, laid_aside, toggled, started, spot_moved, begins_at, pointed_cell, unpointed}
+use Rattle.terminal_presses.specs.Pointers.{nowhere, moved_to, laid_aside, toggled, started, spot_moved, begins_at}
+use Rattle.terminal_presses.specs.Pointers.{pointed_cell, unpointed}
 use Rattle.terminal_presses.specs.Asking.{Asked, answered, is_no_digit, line_meant, pasted_name}
 use Rattle.terminal_presses.specs.Pastes.{line_feed, return, typing_action, new_paste, dropped, pasted_on}
 

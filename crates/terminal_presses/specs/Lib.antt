@@ -8,4 +8,3 @@ pub mod Pointers
 pub mod Runs
 pub mod Sights
 pub mod Singles
-pub mod Windows

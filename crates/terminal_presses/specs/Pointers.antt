@@ -2,7 +2,8 @@
 use Rattle.std.specs.Prelude.{ℕ, ◌+◌, ◌-◌, ◌/◌, if◌then◌else◌, min, Option, Some, None, is_some, option_map, unwrap_or}
 use Rattle.viewer_tracks.specs.declared.display.TheConstants.{COLUMNS, ROWS}
 use Rattle.terminal_presses.specs.declared.press.Arrow.{Arrow as ArrowKey}
-use Rattle.terminal_presses.specs.declared.press.Arrow.TheVariants.{Up, Down, Right, Left, Home, End, WordRight, WordLeft}
+use Rattle.terminal_presses.specs.declared.press.Arrow.TheVariants.{Up, Down, Right, Left, Home, End, WordRight}
+use Rattle.terminal_presses.specs.declared.press.Arrow.TheVariants.{WordLeft}
 use Rattle.terminal_presses.specs.declared.action.Click.{Click}
 use Rattle.terminal_presses.specs.declared.action.Click.TheVariants.{Mark, Keys}
 use Rattle.terminal_presses.specs.declared.spot.Spot.{Spot}

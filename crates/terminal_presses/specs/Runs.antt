@@ -1,5 +1,6 @@
 -- Presses one after another, and the events that they make.
-use Rattle.std.specs.Prelude.{◌≡◌, ℕ, ◌-◌, ◌<◌, ◌≤◌, Bool, true, false, ◌==◌, ◌&&◌, ◌||◌, nat_lt, if◌then◌else◌, List, [], ◌∷◌}
+use Rattle.std.specs.Prelude.{◌≡◌, ℕ, ◌-◌, ◌<◌, ◌≤◌, Bool, true, false, ◌==◌, ◌&&◌, ◌||◌, nat_lt, if◌then◌else◌, List}
+use Rattle.std.specs.Prelude.{[], ◌∷◌}
 use Rattle.std.specs.Prelude.{◌++◌, length, replicate, Option, Some, None}
 use Rattle.std.specs.List.{filter_map}
 use Rattle.event_bytes.specs.Bytes.{lies_within, is_text_byte}
@@ -11,7 +12,8 @@ use Rattle.event_bytes.specs.declared.keys.Keys.TheVariants.{MiddleRight, Right,
 use Rattle.terminal_presses.specs.declared.press.Button.{Button}
 use Rattle.terminal_presses.specs.declared.press.Button.TheVariants as button
 use Rattle.terminal_presses.specs.declared.press.FunctionKey.{FunctionKey}
-use Rattle.terminal_presses.specs.declared.press.FunctionKey.TheVariants.{F1, F2, F3, F4, F5, F6, F7, F8, F9, F10, F11, F12}
+use Rattle.terminal_presses.specs.declared.press.FunctionKey.TheVariants.{F1, F2, F3, F4, F5, F6, F7, F8, F9, F10}
+use Rattle.terminal_presses.specs.declared.press.FunctionKey.TheVariants.{F11, F12}
 use Rattle.terminal_presses.specs.declared.press.MouseReport.{MouseReport}
 use Rattle.terminal_presses.specs.declared.press.Press.{Press}
 use Rattle.terminal_presses.specs.declared.press.Arrow.{Arrow as ArrowKey}

@@ -1,7 +1,8 @@
 //! Gestures of the mouse: from the first button that goes down to the last that goes up.
 ghost use Rattle.std.specs.Prelude.{◌≡◌};
 ghost use Rattle.terminal_presses.specs.Gestures.{no_buttons, is_none_down as none_down, is_down as down, with_button};
-ghost use Rattle.terminal_presses.specs.Gestures.{by_button as of_button, keys_with_button as joined_keys, click_called};
+ghost use Rattle.terminal_presses.specs.Gestures.{by_button as of_button, keys_with_button as joined_keys};
+ghost use Rattle.terminal_presses.specs.Gestures.{click_called};
 ghost use Rattle.terminal_presses.specs.Gestures.{pressed_more, released, released_at};
 
 use crate::action::{Action, Click};

@@ -1,17 +1,21 @@
 //! The events that presses make.
 ghost use Rattle.std.specs.Prelude.{◌≡◌, ◌<◌, ◌↔◌, Some, None, IsNone, IfSome};
-ghost use Rattle.terminal_presses.specs.Hands.{new_hand, handled, pasting as pasting_by, fresh, hand_after_escape as escaped_by};
+ghost use Rattle.terminal_presses.specs.Hands.{new_hand, handled, pasting as pasting_by, fresh};
+ghost use Rattle.terminal_presses.specs.Hands.{hand_after_escape as escaped_by};
 ghost use Rattle.terminal_presses.specs.Hands.{answering as answering_by, pasting_name as pasting_name_by, dropping};
 ghost use Rattle.terminal_presses.specs.Hands.{with_pointer, without_pointer};
 ghost use Rattle.terminal_presses.specs.Hands.{by_question as question_says, pastes_text};
 ghost use Rattle.terminal_presses.specs.Hands.{controlled as controlled_by, control as control_says, by_function};
-ghost use Rattle.terminal_presses.specs.Hands.{hand_after_report as reported_by, hand_after_wheel as wheeled_by, hand_after_button as buttoned_by};
+ghost use Rattle.terminal_presses.specs.Hands.{hand_after_report as reported_by, hand_after_wheel as wheeled_by};
+ghost use Rattle.terminal_presses.specs.Hands.{hand_after_button as buttoned_by};
 ghost use Rattle.terminal_presses.specs.Hands.{gone_down, gone_up, begun};
 ghost use Rattle.terminal_presses.specs.Hands.{click_meant as click_meant, with_asked, asks};
 ghost use Rattle.terminal_presses.specs.Hands.{pointed_at, wheel_action, scroll_place as place_of_scroll};
-ghost use Rattle.terminal_presses.specs.Hands.{hand_after_byte, hand_after_arrow, clicked, armed_with, arming, is_armed_with, is_same_click as are_same};
+ghost use Rattle.terminal_presses.specs.Hands.{hand_after_byte, hand_after_arrow, clicked, armed_with, arming};
+ghost use Rattle.terminal_presses.specs.Hands.{is_armed_with, is_same_click as are_same};
 ghost use Rattle.terminal_presses.specs.Pointers.{pointer_cell};
-ghost use Rattle.terminal_presses.specs.Asking.{answered, entered, lengthened, name_after_byte, shortened_name, controlled_name};
+ghost use Rattle.terminal_presses.specs.Asking.{answered, entered, lengthened, name_after_byte, shortened_name};
+ghost use Rattle.terminal_presses.specs.Asking.{controlled_name};
 ghost use Rattle.terminal_presses.specs.Asking.{by_function_amid, is_no_digit, line_meant, pasted_name};
 ghost use Rattle.terminal_presses.specs.Hands.{is_pasting, numbered as numbered_by};
 ghost use Rattle.terminal_presses.specs.Outcomes.{ComesTo};

@@ -21,9 +21,11 @@ ghost use Rattle.viewer_tracks.specs.declared.display.TheConstants.{COLUMNS};
 ghost use Rattle.terminal_presses.specs.Hands.{resting, pointed_at, idle, asking, handled};
 ghost use Rattle.terminal_presses.specs.HostNames.{is_host_name};
 ghost use Rattle.terminal_presses.specs.Pastes.{return};
-ghost use Rattle.terminal_presses.specs.Runs.{hand_after, posted_events, MakesEvents, Corner, is_seen, mouse_at, down_with, down, up, button_alone};
+ghost use Rattle.terminal_presses.specs.Runs.{hand_after, posted_events, MakesEvents, Corner, is_seen, mouse_at};
+ghost use Rattle.terminal_presses.specs.Runs.{down_with, down, up, button_alone};
 ghost use Rattle.terminal_presses.specs.Runs.{IsOnDisplay, drawing_by, drawn_event, drawn_pointer, pointing_to};
-ghost use Rattle.terminal_presses.specs.Runs.{name_with, together, click_event, says, AreThree, paste_of, pasted_text, Types};
+ghost use Rattle.terminal_presses.specs.Runs.{name_with, together, click_event, says, AreThree, paste_of};
+ghost use Rattle.terminal_presses.specs.Runs.{pasted_text, Types};
 
 /// It is one whether presses come in one piece or in two, and so in many: what both come to is what the first comes to,
 /// and then what the second comes to with the hand after it.

@@ -5,7 +5,6 @@
 //! pasted (`paste`), or something that the session does. It moves a pointer by keys (`pointer`), and takes the name of a host
 //! file, where one is asked for (`host_name`).
 //! It is told which rows of the display are in sight (`sight`), so that a click goes to the cell that is seen (`spot`).
-//! These rows follow a cell, and fit the terminal's window (`window`).
 //! What holds of all presses is in `laws`. Nothing here takes memory or knows a store.
 #![tactic(auto)]
 
@@ -20,7 +19,6 @@ mod press;
 mod sight;
 mod single;
 mod spot;
-mod window;
 
 pub use action::{Action, Click};
 pub use hand::{CONTROL_Y, Hand};
@@ -35,6 +33,3 @@ pub use press::{
 pub use sight::Sight;
 pub use single::ESCAPE;
 pub use spot::Spot;
-pub use window::{
-    LEAST_HEIGHT, LEAST_WIDTH, fitted, followed, height_told, is_low, is_narrow, moved, width_told,
-};

@@ -2,8 +2,10 @@
 ghost use Rattle.std.specs.Prelude.{◌≡◌, [], IsTrue};
 ghost use Rattle.event_bytes.specs.Bytes.{is_text_byte as text_byte};
 ghost use Rattle.terminal_presses.specs.Outcomes.{ComesTo};
-ghost use Rattle.terminal_presses.specs.Pastes.{typing_action as typed_by, added, in_profile as profile_byte, pasted_byte};
-ghost use Rattle.terminal_presses.specs.Pastes.{new_paste, dropped, with_byte, after_line_feed as line_fed, pasted_more};
+ghost use Rattle.terminal_presses.specs.Pastes.{typing_action as typed_by, added, in_profile as profile_byte};
+ghost use Rattle.terminal_presses.specs.Pastes.{pasted_byte};
+ghost use Rattle.terminal_presses.specs.Pastes.{new_paste, dropped, with_byte, after_line_feed as line_fed};
+ghost use Rattle.terminal_presses.specs.Pastes.{pasted_more};
 ghost use Rattle.terminal_presses.specs.Pastes.{pasted_on, pasted_if_any};
 
 use crate::action::Action;

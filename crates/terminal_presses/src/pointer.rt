@@ -1,6 +1,7 @@
 //! Where one points: with the mouse, or with a pointer that keys move.
 ghost use Rattle.std.specs.Prelude.{◌≡◌, ◌+◌, ◌<◌, min, IfSome};
-ghost use Rattle.terminal_presses.specs.Pointers.{nowhere, middle_of, appears, toggled as toggled_by, laid_aside, unpointed};
+ghost use Rattle.terminal_presses.specs.Pointers.{nowhere, middle_of, appears, toggled as toggled_by, laid_aside};
+ghost use Rattle.terminal_presses.specs.Pointers.{unpointed};
 ghost use Rattle.terminal_presses.specs.Pointers.{spot_moved, moved_to, begins_at, started, pointed_cell, pointer_cell};
 
 use crate::action::Click;

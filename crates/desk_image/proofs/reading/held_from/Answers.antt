@@ -1,5 +1,7 @@
 use Rattle.std.proofs.Common.{refl, ◌∙◌}
+use Rattle.std.proofs.lemmas.Result.{err_from_is_err_and}
 use Rattle.desk_image.specs.Steps.{held_at}
+use Rattle.desk_image.proofs.ReadLast.{without_deleted}
 use Rattle.desk_image.proofs.reading.held_from.Goals as goal
 
 pub returns-clause-reads : goal.returns-clause-reads
@@ -28,3 +30,13 @@ returns-clause-reads g c =
         errors = tt;
       };
     }
+
+pub returns-in_err-deleted-clause-reads : goal.returns-in_err-deleted-clause-reads
+returns-in_err-deleted-clause-reads g c =
+    let p = err_from_is_err_and c.from_residual-in_err-deleted.result c.from_residual-in_err-deleted.ensures.1 in
+    let files = rw c.in_ok-texts.ensures.left at c.in_ok-files.ensures.reads in
+    let copied = rw (c.in_ok-files.ensures.left, c.in_ok-texts.ensures.left) at c.in_ok-copied.ensures.reads in
+    let deleted = rw (c.in_ok-copied.ensures.left, c.in_ok-files.ensures.left, c.in_ok-texts.ensures.left) at
+    c.in_err-deleted.ensures.reads in
+    rw (p.1, p.2) (without_deleted _ g.met.S.ByteSource.ground_through c.args.written c.in_ok-texts.ensures.reads files
+    copied deleted)

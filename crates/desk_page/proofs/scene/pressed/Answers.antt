@@ -1,5 +1,5 @@
 use Rattle.std.proofs.Common.{refl, ◌∙◌}
-use Rattle.recorded_disk.specs.contracts.disk.RecordedDiskDisk.TheImpl.{ghosts}
+use Rattle.desk_page.specs.contracts.disk.RecordedDiskDisk.TheImpl.{ghosts}
 use Rattle.desk_page.proofs.Turning.{presses}
 use Rattle.desk_page.proofs.scene.pressed.Goals as goal
 

@@ -1,7 +1,7 @@
 use Rattle.std.proofs.Common.{◌≡◌, ap, refl, ◌∙◌}
 use Rattle.sector_disk.specs.Memory.{Recorded, trail_of}
-use Rattle.recorded_disk.specs.Recording.{Recording}
-use Rattle.recorded_disk.specs.contracts.disk.RecordedDiskDisk.TheImpl.{ghosts}
+use Rattle.desk_page.specs.Recording.{Recording}
+use Rattle.desk_page.specs.contracts.disk.RecordedDiskDisk.TheImpl.{ghosts}
 use Rattle.desk_page.proofs.Reopened.{shows_the_same}
 use Rattle.desk_page.proofs.scene.told.Goals as goal
 

@@ -2,7 +2,8 @@ use Rattle.std.proofs.Common.{◌∙◌, length}
 use Rattle.command_table.specs.Versions.{version_number}
 use Rattle.desk_image.specs.Laws.{empty_bytes}
 use Rattle.desk_slots.proofs.Fronts.{placed}
-use Rattle.desk_slots.proofs.Laying.{empty_spelled, few_bytes, slot_started, versions_known}
+use Rattle.desk_slots.proofs.Laying.{empty_spelled, few_bytes, slot_started, versions_known, labelled}
+use Rattle.desk_slots.proofs.Laying.{image_kept, head_kept, gate_kept, label_kept, sync_kept}
 use Rattle.desk_slots.proofs.format.write_start.Goals as goal
 
 pub returns-clause-start : goal.returns-clause-start
@@ -26,3 +27,51 @@ returns-clause-start g c = λ honest.
     (placed _ _ _ _ _ c.slot_head.ensures (c.in_ok-write-2.ensures.written second))
     (placed _ _ _ _ _ c.gate.ensures (c.in_ok-write-3.ensures.written third))
     (c.in_ok-write-4.ensures.written fourth) (c.in_ok-sync.ensures.settled fifth)
+
+pub returns-in_err-write-2-clause-kept : goal.returns-in_err-write-2-clause-kept
+returns-in_err-write-2-clause-kept g c =
+    let d = g.D.Disk in
+    let one = image_kept d c.image_at.ensures c.write.ensures.kept in
+    head_kept d one c.slot_head.ensures c.write-2.ensures.kept
+
+pub returns-in_err-write-3-clause-kept : goal.returns-in_err-write-3-clause-kept
+returns-in_err-write-3-clause-kept g c =
+    let d = g.D.Disk in
+    let one = image_kept d c.image_at.ensures c.write.ensures.kept in
+    let two = head_kept d one c.slot_head.ensures c.write-2.ensures.kept in
+    gate_kept d two c.gate.ensures c.write-3.ensures.kept
+
+pub returns-in_err-write-4-clause-kept : goal.returns-in_err-write-4-clause-kept
+returns-in_err-write-4-clause-kept g c =
+    let d = g.D.Disk in
+    let one = image_kept d c.image_at.ensures c.write.ensures.kept in
+    let two = head_kept d one c.slot_head.ensures c.write-2.ensures.kept in
+    let three = gate_kept d two c.gate.ensures c.write-3.ensures.kept in
+    label_kept d three c.write-4.ensures.kept
+
+pub returns-in_err-sync-clause-kept : goal.returns-in_err-sync-clause-kept
+returns-in_err-sync-clause-kept g c =
+    let d = g.D.Disk in
+    let one = image_kept d c.image_at.ensures c.write.ensures.kept in
+    let two = head_kept d one c.slot_head.ensures c.write-2.ensures.kept in
+    let three = gate_kept d two c.gate.ensures c.write-3.ensures.kept in
+    let four = label_kept d three c.write-4.ensures.kept in
+    sync_kept d four c.sync.ensures.kept
+
+pub returns-clause-kept : goal.returns-clause-kept
+returns-clause-kept g c =
+    let d = g.D.Disk in
+    let one = image_kept d c.image_at.ensures c.write.ensures.kept in
+    let two = head_kept d one c.slot_head.ensures c.write-2.ensures.kept in
+    let three = gate_kept d two c.gate.ensures c.write-3.ensures.kept in
+    let four = label_kept d three c.write-4.ensures.kept in
+    sync_kept d four c.sync.ensures.kept
+
+pub returns-clause-label : goal.returns-clause-label
+returns-clause-label g c = λ honest.
+    let second = c.write.ensures.kept.still honest in
+    let third = c.write-2.ensures.kept.still second in
+    let fourth = c.write-3.ensures.kept.still third in
+    let fifth = c.write-4.ensures.kept.still fourth in
+    labelled _ _ _ c.label.result c.label.ensures (c.in_ok-write-4.ensures.written fourth)
+    (c.in_ok-sync.ensures.settled fifth)

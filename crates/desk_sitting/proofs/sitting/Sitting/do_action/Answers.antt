@@ -1,6 +1,6 @@
 use Rattle.std.proofs.Common.{◌∙◌, ap, sym}
 use Rattle.desk_sitting.specs.Sittings.{is_filling}
-use Rattle.desk_sitting.specs.Tasks.{task_of}
+use Rattle.desk_tasks.specs.Tasks.{task_of}
 use Rattle.desk_sitting.proofs.Asked.{alone_action, task_press}
 use Rattle.desk_sitting.proofs.sitting.Sitting.do_action.Goals as goal
 

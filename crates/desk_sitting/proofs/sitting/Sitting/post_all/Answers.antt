@@ -1,6 +1,7 @@
 use Rattle.std.proofs.Common.{refl, true, false, Ok}
 use Rattle.std.proofs.lemmas.Result.{err_from_is_err_and}
-use Rattle.desk_sitting.proofs.Pressed.{all_next, next_posted, next_unposted, none_posted, not_all, press_told, stopped_at}
+use Rattle.desk_sitting.proofs.Pressed.{all_next, next_posted, next_unposted, none_posted, not_all, press_told}
+use Rattle.desk_sitting.proofs.Pressed.{stopped_at}
 use Rattle.desk_sitting.proofs.sitting.Sitting.post_all.Goals as goal
 
 pub loop-event-init : goal.loop-event-init

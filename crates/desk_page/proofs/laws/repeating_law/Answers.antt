@@ -1,0 +1,8 @@
+use Rattle.desk_page.proofs.Repeated as repeated
+use Rattle.desk_page.proofs.laws.repeating_law.Goals as goal
+
+pub returns-clause-moments : goal.returns-clause-moments
+returns-clause-moments c = repeated.moments
+
+pub returns-clause-whole : goal.returns-clause-whole
+returns-clause-whole c = repeated.whole

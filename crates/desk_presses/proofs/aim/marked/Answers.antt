@@ -1,7 +1,0 @@
-use Rattle.std.proofs.Common.{refl}
-use Rattle.desk_presses.specs.Aims.{cell_marked}
-use Rattle.desk_presses.proofs.aim.marked.Goals as goal
-
-pub returns-in-None-clause-value : goal.returns-in-None-clause-value
-unfolding cell_marked
-returns-in-None-clause-value c = rw (← c.rows-rows.ensures, ← c.in_ok-y.ensures.value, ← c.in-None.ensures.value) refl

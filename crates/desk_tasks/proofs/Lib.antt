@@ -1,0 +1,3 @@
+mod Meant
+mod Planning
+mod Popped

@@ -1,8 +1,0 @@
-use Rattle.recorded_disk.proofs.Repeated as repeated
-use Rattle.recorded_disk.proofs.laws.repeating_law.Goals as goal
-
-pub returns-clause-moments : goal.returns-clause-moments
-returns-clause-moments c = repeated.moments
-
-pub returns-clause-whole : goal.returns-clause-whole
-returns-clause-whole c = repeated.whole
