@@ -1,2 +1,3 @@
 pub mod Caching
+pub mod Occurring
 pub mod Paging

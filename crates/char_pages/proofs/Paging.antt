@@ -13,11 +13,15 @@ use Rattle.sector_disk.specs.Confined.{IsConfined}
 use Rattle.sector_disk.proofs.Touching.{still_all}
 use Rattle.char_file.specs.Source.{OnlyReads}
 use Rattle.char_pages.specs.declared.pages.Pages.{Pages}
-use Rattle.char_pages.specs.Cached.{AreTrue, AddsSector}
-use Rattle.char_pages.specs.Pages.{paged_characters, base_of, saved_of, rest_of, renewed_of, cached_of}
+use Rattle.char_pages.specs.Cached.{AddsSector}
+use Rattle.std.proofs.Common.{Some, Vec, Global, slice_get}
+use Rattle.std.proofs.lemmas.Option.{slice_get_within}
+use Rattle.char_pages.specs.Occurrences.{AreIndices}
+use Rattle.char_pages.specs.Found.{AreFound}
+use Rattle.char_pages.specs.Pages.{paged_characters, base_of, saved_of, saved_sectors, rest_of, renewed_of, cached_of, IsTrueOf}
 use Rattle.char_pages.specs.Ground.{OnlyLooked, OnSamePages}
 use Rattle.char_pages.specs.GroundLaws.{none_more}
-use Rattle.char_pages.proofs.Caching.{true_with}
+use Rattle.char_pages.proofs.Caching.{true_on, true_with}
 use Rattle.sector_disk.specs.Stored.{stored}
 use Rattle.sector_disk.proofs.StoredLaws.{stored_at, stored_same, length-stored}
 
@@ -88,6 +92,21 @@ pub paged_on : (c c' : Content) (base saved : ℕ) (rest : List ℕ) → saved %
 paged_on c c' base saved rest whole same = ap (λ l. l ++ rest) (stored_same c c' base saved
     (λ k low. same (base + k) (omega arith) (omega (arith, low, whole))))
 
+-- what is in memory of sectors is true of another content too, where those read the same
+pub told_on : {c c' : Content} (p : Pages)
+    → ((n : ℕ) → base_of p ≤ n → n < base_of p + saved_sectors p → c' n ≡ c n) → IsTrueOf c p → IsTrueOf c' p
+told_on {c} {c'} p same was = record {
+  cached = true_on p.below same was.cached;
+  found = λ n indices there. subst (λ bytes. AreIndices p.occurrences.wanted bytes indices.items)
+      (sym (same (p.base + n) (omega arith) (low n indices there))) (was.found n indices there);
+}
+  where
+    low : (n : ℕ) (indices : Vec ℕ Global) → slice_get p.occurrences.known.items n ≡ Some (Some indices)
+        → p.base + n < p.base + p.saved / SECTOR_BYTES
+    low n indices there =
+        let within = slice_get_within p.occurrences.known.items n (Some indices) there in
+        let few = p.known in omega (arith, within, few)
+
 -- where more of them stand on the disk by now, those needn't be in memory
 pub paged_settled : (c : Content) (base saved more : ℕ) (rest : List ℕ) → saved ≤ more
     → stored c base more ≡ take more (stored c base saved ++ rest)
@@ -122,13 +141,15 @@ no_fewer_by (Err e) rose = omega (arith, rose)
 
 -- a call that needed one sector only looked
 pub looked_up : {D : Type 0} {d : Ghosts D} {T E : Type 0} {result : Result T E} {old new : D} {p p' : Pages} {n : ℕ}
-    → AddsSector (d.honest old) (now (d.trail old)).reads n (cached_of p) (cached_of p') → base_of p' ≡ base_of p
+    → AddsSector (d.honest old) (now (d.trail old)).reads n (cached_of p) (cached_of p')
+    → (d.honest old → IsTrueOf (now (d.trail old)).reads p
+    → AreFound (now (d.trail old)).reads (base_of p') p'.occurrences) → base_of p' ≡ base_of p
     → saved_of p' ≡ saved_of p → rest_of p' ≡ rest_of p → renewed_of p' ≡ renewed_of p
     → IsConfined d.size d.honest d.trail Nowhere old new → CountsFault result (d.failures old) (d.failures new)
     → OnlyLooked d result old new p p'
-looked_up {p' = p'} adds base saved rest renewed kept cause = record {
-  cached = λ h true_of. subst (λ (content : Content). AreTrue content (cached_of p'))
-      (sym (still_all _ _ (kept.moments h))) (true_with adds h true_of);
+looked_up {p' = p'} adds found base saved rest renewed kept cause = record {
+  told = λ h true_of. subst (λ (content : Content). IsTrueOf content p') (sym (still_all _ _ (kept.moments h)))
+      (record { cached = true_with adds h true_of.cached; found = found h true_of });
   base = base;
   counted = saved;
   rest = rest;

@@ -45,10 +45,3 @@ abbrev pub TellsSector : {D T E : Type 0} → Ghosts D → ℕ → (List ℕ →
     → Type 0
 TellsSector d n P result disk cache = IfOk result (λ told. d.honest disk
     → AreTrue (now (d.trail disk)).reads cache.entries → P ((now (d.trail disk)).reads n) told)
-
--- a count in a part of it, which is no greater than the part whatever the disk tells
-abbrev pub TellsCount : {D E : Type 0} → Ghosts D → ℕ → Part → Result ℕ E → D → LruCache ℕ (List ℕ)
-    → Type 0
-TellsCount d n part result disk cache =
-    TellsSector d n (λ sector. IsCountIn sector part) result disk cache
-    × IfOk result (λ found. found ≤ part.few)

@@ -5,8 +5,7 @@ use Rattle.sector_disk.specs.declared.disk.Disk.{Ghosts}
 use Rattle.sector_disk.specs.Trail.{Nowhere, CountsFault, now}
 use Rattle.sector_disk.specs.Confined.{IsConfined}
 use Rattle.char_pages.specs.declared.pages.Pages.{Pages}
-use Rattle.char_pages.specs.Cached.{AreTrue}
-use Rattle.char_pages.specs.Pages.{base_of, saved_of, rest_of, renewed_of, cached_of}
+use Rattle.char_pages.specs.Pages.{base_of, saved_of, rest_of, renewed_of, IsTrueOf}
 
 -- a list, and perhaps more behind it
 abbrev pub IsLonger : List ℕ → List ℕ → Type 0
@@ -31,8 +30,8 @@ pub record OnSamePages {D : Type 0} (d : Ghosts D) (old new : D) (p p' : Pages)
 pub record OnlyLooked {D : Type 0} (d : Ghosts D) {T E : Type 0} (result : Result T E) (old new : D)
     (p p' : Pages)
     : Type 0 where
-  pub cached : d.honest old → AreTrue (now (d.trail old)).reads (cached_of p)
-      → AreTrue (now (d.trail new)).reads (cached_of p')
+  pub told : d.honest old → IsTrueOf (now (d.trail old)).reads p
+      → IsTrueOf (now (d.trail new)).reads p'
   pub base : base_of p' ≡ base_of p
   pub counted : saved_of p' ≡ saved_of p
   pub rest : rest_of p' ≡ rest_of p

@@ -1,9 +1,11 @@
 -- Characters of which the first stand on a disk.
-use Rattle.std.specs.Prelude.{◌+◌, ◌*◌, ◌/◌, ℕ, List, ◌++◌, length, Bool}
+use Rattle.std.specs.Prelude.{◌≡◌, ◌+◌, ◌*◌, ◌/◌, ℕ, List, ◌++◌, length, Bool}
 use Rattle.sector_disk.specs.declared.disk.TheConstants.{SECTOR_BYTES}
 use Rattle.sector_disk.specs.Trail.{Content}
 use Rattle.sector_disk.specs.Stored.{stored}
 use Rattle.char_pages.specs.declared.pages.Pages.{Pages}
+use Rattle.char_pages.specs.Cached.{AreTrue}
+use Rattle.char_pages.specs.Found.{AreFound}
 
 -- the first sector of those on the disk
 abbrev pub base_of : Pages → ℕ
@@ -39,3 +41,13 @@ held_in p = length (rest_of p) + SECTOR_BYTES * length (cached_of p)
 -- all characters, where the disk reads this
 abbrev pub paged_characters : Content → Pages → List ℕ
 paged_characters c p = stored c (base_of p) (saved_of p) ++ rest_of p
+
+-- what is in memory of the sectors on the disk, and what is known of them, is as this reads them
+pub record IsTrueOf (c : Content) (p : Pages) : Type 0 where
+  pub cached : AreTrue c (cached_of p)
+  pub found : AreFound c (base_of p) p.occurrences
+
+-- what is in memory of them stays so
+pub record KeepsRead (old new : Pages) : Type 0 where
+  pub cached : cached_of new ≡ cached_of old
+  pub told : (c : Content) → IsTrueOf c old → IsTrueOf c new

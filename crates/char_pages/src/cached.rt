@@ -3,7 +3,7 @@ ghost use Rattle.std.specs.Prelude.{◌≡◌, ◌<◌, ◌≤◌, ◌+◌, get_
 ghost use Rattle.sector_disk.specs.declared.disk.TheConstants.{SECTOR_BYTES};
 ghost use Rattle.sector_disk.specs.Trail.{Content, CountsFault, Nowhere, now};
 ghost use Rattle.sector_disk.specs.Confined.{IsConfined};
-ghost use Rattle.char_pages.specs.Cached.{AreTrue, AddsSector, LooksUp, IsCountIn, TellsSector, TellsCount};
+ghost use Rattle.char_pages.specs.Cached.{AreTrue, AddsSector, LooksUp, IsCountIn, TellsSector};
 
 use crate::part::Part;
 use char_file::count_range;
@@ -96,52 +96,9 @@ pub(crate) fn byte_of<D: Disk>(
 }
 
 /// How many bytes of a part of a sector are the wanted byte.
-fn count_in(sector: &Sector, part: Part) -> u32
+pub(crate) fn count_in(sector: &Sector, part: Part) -> u32
     ensures count { IsCountIn sector.now part result }
     ensures most { result ≤ part.few }
 {
     count_range(sector, part.at as usize, part.few, part.wanted)
-}
-
-/// The same of sector n, if that is the sector that was asked for last. It looks nothing up and moves nothing.
-fn newest_count(cache: &Cache, n: u32, part: Part) -> Option<u32>
-    ensures count { IfSome result (λ found. (c : Content) → AreTrue c cache.now.entries
-        → IsCountIn (c n) part found) }
-    ensures most { IfSome result (λ found. found ≤ part.few) }
-{
-    if let Some((number, sector)) = cache.peek_mru() {
-        if *number == n {
-            return Some(count_in(sector, part));
-        }
-    }
-    None
-}
-
-/// The same of sector n, which mostly isn't the one that was asked for last. It is compiled apart, as `looked_up` is.
-#[inline(never)]
-fn counted<D: Disk>(disk: &mut D, cache: &mut Cache, n: u32, part: Part) -> Result<u32, Fault>
-    requires { n < D.size disk.old }
-    ensures value { TellsCount D.Disk n part result disk.old cache.old }
-    ensures looked { LooksUp D.Disk n result disk.old disk.new cache.old cache.new }
-{
-    let sector = sector_of(disk, cache, n)?;
-    Ok(count_in(&sector, part))
-}
-
-/// How many bytes of a part of sector n are the wanted byte. A sector that the cache doesn't hold is read from the disk
-/// and put into it. Where there is no memory to put it there, its bytes are counted all the same.
-pub(crate) fn count_of<D: Disk>(
-    disk: &mut D,
-    cache: &mut Cache,
-    n: u32,
-    part: Part,
-) -> Result<u32, Fault>
-    requires { n < D.size disk.old }
-    ensures value { TellsCount D.Disk n part result disk.old cache.old }
-    ensures looked { LooksUp D.Disk n result disk.old disk.new cache.old cache.new }
-{
-    match newest_count(cache, n, part) {
-        Some(found) => Ok(found),
-        None => counted(disk, cache, n, part),
-    }
 }

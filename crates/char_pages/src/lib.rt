@@ -7,6 +7,7 @@
 #![tactic(auto)]
 
 mod cached;
+mod occurrences;
 mod paged;
 mod pages;
 mod part;

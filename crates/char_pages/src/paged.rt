@@ -1,8 +1,7 @@
 //! A source of characters over a disk, for the time of a call.
 ghost use Rattle.std.specs.Prelude.{◌≡◌, ◌≤◌, ◌+◌};
 ghost use Rattle.sector_disk.specs.Trail.{now};
-ghost use Rattle.char_pages.specs.Cached.{AreTrue};
-ghost use Rattle.char_pages.specs.Pages.{base_of, saved_sectors, cached_of};
+ghost use Rattle.char_pages.specs.Pages.{base_of, saved_sectors, IsTrueOf};
 
 use crate::pages::Pages;
 use char_file::{CharSource, NoMemory};
@@ -16,7 +15,7 @@ pub struct Paged<'a, D: Disk> {
     disk: &'a mut D,
     pages: &'a mut Pages,
     ghost on_disk: { base_of pages.now + saved_sectors pages.now ≤ D.size disk.now },
-    ghost told: { D.honest disk.now → AreTrue (now (D.trail disk.now)).reads (cached_of pages.now) },
+    ghost told: { D.honest disk.now → IsTrueOf (now (D.trail disk.now)).reads pages.now },
 }
 
 impl<'a, D: Disk> Paged<'a, D> {
@@ -24,7 +23,7 @@ impl<'a, D: Disk> Paged<'a, D> {
     pub fn over(disk: &'a mut D, pages: &'a mut Pages) -> Self
         requires on_disk { base_of pages.old + saved_sectors pages.old ≤ D.size disk.old }
         requires told { D.honest disk.old
-            → AreTrue (now (D.trail disk.old)).reads (cached_of pages.old) }
+            → IsTrueOf (now (D.trail disk.old)).reads pages.old }
         ensures disk { result.disk ≡ disk.entry }
         ensures pages { result.pages ≡ pages.entry }
     {

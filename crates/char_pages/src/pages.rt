@@ -6,7 +6,8 @@ ghost use Rattle.char_file.specs.declared.source.TheConstants.{MOST_CHARACTERS};
 ghost use Rattle.char_pages.specs.declared.pages.TheConstants.{CACHED_SECTORS};
 ghost use Rattle.char_pages.specs.Cached.{AreBelow};
 
-use crate::cached::{Cache, byte_of, count_of};
+use crate::cached::{Cache, byte_of, count_in, sector_of};
+use crate::occurrences::Occurrences;
 use crate::part::Part;
 use char_file::{MOST_CHARACTERS, NoMemory, count_range};
 use lru::LruCache;
@@ -33,12 +34,16 @@ pub struct Pages {
     /// Sectors that were read from the disk.
     cache: Cache,
 
+    /// Where the byte that was counted last occurs in sectors of the disk.
+    occurrences: Occurrences,
+
     /// Whether all characters were exchanged since the disk was said to hold some.
     renewed: bool,
     ghost whole: { saved % SECTOR_BYTES ≡ 0 },
     ghost few: { saved + length rest.items ≤ MOST_CHARACTERS },
     ghost room: { cache.cap ≡ CACHED_SECTORS },
     ghost below: { AreBelow base (saved / SECTOR_BYTES) cache.entries },
+    ghost known: { length occurrences.known.items ≤ saved / SECTOR_BYTES },
     ghost anew: { renewed ≡ true → saved ≡ 0 },
 }
 
@@ -64,12 +69,12 @@ fn drop_front(bytes: &mut Vec<u8>, n: usize)
 
 impl Pages {
     ghost use Rattle.std.specs.Prelude.{◌-◌, ◌<◌, ◌++◌, [], get_or, IfOk, OnOk, OnErr, false};
-    ghost use Rattle.sector_disk.specs.Trail.{now};
-    ghost use Rattle.char_pages.specs.Cached.{AreTrue};
+    ghost use Rattle.sector_disk.specs.Trail.{Content, now};
+    ghost use Rattle.char_pages.specs.Cached.{IsCountIn};
     ghost use Rattle.char_pages.specs.Ground.{OnlyLooked};
     ghost use Rattle.char_pages.specs.Pages.{base_of, saved_of, saved_sectors, rest_of, many_of, cached_of, held_in};
     ghost use Rattle.char_pages.specs.Pages.{renewed_of};
-    ghost use Rattle.char_pages.specs.Pages.{paged_characters};
+    ghost use Rattle.char_pages.specs.Pages.{paged_characters, IsTrueOf, KeepsRead};
     ghost use Rattle.char_file.specs.Source.{IsCountedFrom};
 
     /// The first `saved` characters stand on a disk from sector `base` on, and `tail` are the others. No sector is in
@@ -81,6 +86,7 @@ impl Pages {
         ensures saved { IfOk result (λ p. saved_of p ≡ saved) }
         ensures rest { IfOk result (λ p. rest_of p ≡ tail.now) }
         ensures cached { IfOk result (λ p. cached_of p ≡ []) }
+        ensures told { IfOk result (λ p. (c : Content) → IsTrueOf c p) }
         ensures renewed { IfOk result (λ p. renewed_of p ≡ false) }
     {
         let cache = LruCache::new(alloc, capacity())?;
@@ -91,6 +97,7 @@ impl Pages {
             saved,
             rest,
             cache,
+            occurrences: Occurrences::new(alloc),
             renewed: false,
         })
     }
@@ -146,7 +153,7 @@ impl Pages {
         ensures base { base_of self.new ≡ base }
         ensures saved { saved_of self.new ≡ saved }
         ensures rest { rest_of self.new ≡ drop (saved - saved_of self.old) (rest_of self.old) }
-        ensures cached { cached_of self.new ≡ cached_of self.old }
+        ensures read { KeepsRead self.old self.new }
         ensures renewed { renewed_of self.new ≡ false }
     {
         let gone = (saved - self.saved) as usize;
@@ -161,7 +168,7 @@ impl Pages {
         requires on_disk { base_of self.old + saved_sectors self.old ≤ D.size disk.old }
         requires within { offset < many_of self.old }
         ensures value { IfOk result (λ byte. D.honest disk.old
-            → AreTrue (now (D.trail disk.old)).reads (cached_of self.old)
+            → IsTrueOf (now (D.trail disk.old)).reads self.old
             → byte ≡ get_or (paged_characters (now (D.trail disk.old)).reads self.old) offset 0) }
         ensures reads { OnlyLooked D.Disk result disk.old disk.new self.old self.new }
     {
@@ -190,7 +197,7 @@ impl Pages {
         requires some { 0 < most }
         requires within { offset + most ≤ many_of self.old }
         ensures looked { IfOk result (IsCountedFrom
-            (D.honest disk.old × AreTrue (now (D.trail disk.old)).reads (cached_of self.old))
+            (D.honest disk.old × IsTrueOf (now (D.trail disk.old)).reads self.old)
             (paged_characters (now (D.trail disk.old)).reads self.old) offset most wanted) }
         ensures reads { OnlyLooked D.Disk result disk.old disk.new self.old self.new }
     {
@@ -198,12 +205,44 @@ impl Pages {
             let at = (offset - self.saved) as usize;
             return Ok((most, count_range(&self.rest, at, most, wanted)));
         }
-        let _ = disk.sectors(); // it is below 2 ^ 32, and so is each sector's number
         let at = offset % SECTOR_BYTES;
         let few = most.min(SECTOR_BYTES - at);
-        let sector = self.base + offset / SECTOR_BYTES;
-        let found = count_of(disk, &mut self.cache, sector, Part { at, few, wanted })?;
+        let found = self.count_in_sector(disk, offset / SECTOR_BYTES, Part { at, few, wanted })?;
         Ok((few, found))
+    }
+
+    /// How often the wanted byte occurs in a part of the n-th of the sectors on the disk. `Fault`: the disk failed.
+    fn count_in_sector<D: Disk>(&mut self, disk: &mut D, n: u32, part: Part) -> Result<u32, Fault>
+        requires on_disk { base_of self.old + saved_sectors self.old ≤ D.size disk.old }
+        requires within { n < saved_sectors self.old }
+        ensures count { IfOk result (λ found. D.honest disk.old
+            → IsTrueOf (now (D.trail disk.old)).reads self.old
+            → IsCountIn ((now (D.trail disk.old)).reads (base_of self.old + n)) part found) }
+        ensures most { IfOk result (λ found. found ≤ part.few) }
+        ensures reads { OnlyLooked D.Disk result disk.old disk.new self.old self.new }
+    {
+        match self.occurrences.count(n as usize, part) {
+            Some(found) => Ok(found),
+            None => self.count_anew(disk, n, part),
+        }
+    }
+
+    /// The same of a sector of which that isn't known; from then on it is, if there is memory for it. It is compiled
+    /// apart, so that a count in another sector takes no room for one on the stack.
+    #[inline(never)]
+    fn count_anew<D: Disk>(&mut self, disk: &mut D, n: u32, part: Part) -> Result<u32, Fault>
+        requires on_disk { base_of self.old + saved_sectors self.old ≤ D.size disk.old }
+        requires within { n < saved_sectors self.old }
+        ensures count { IfOk result (λ found. D.honest disk.old
+            → IsTrueOf (now (D.trail disk.old)).reads self.old
+            → IsCountIn ((now (D.trail disk.old)).reads (base_of self.old + n)) part found) }
+        ensures most { IfOk result (λ found. found ≤ part.few) }
+        ensures reads { OnlyLooked D.Disk result disk.old disk.new self.old self.new }
+    {
+        let _ = disk.sectors(); // it is below 2 ^ 32, and so is each sector's number
+        let sector = sector_of(disk, &mut self.cache, self.base + n)?;
+        self.occurrences.note(n as usize, part.wanted, &sector);
+        Ok(count_in(&sector, part))
     }
 
     /// Adds characters at the end, in memory, and returns the offset of the first of them. `NoMemory`: none was added.
@@ -214,7 +253,7 @@ impl Pages {
         ensures refused { OnErr result (rest_of self.new ≡ rest_of self.old) }
         ensures base { base_of self.new ≡ base_of self.old }
         ensures counted { saved_of self.new ≡ saved_of self.old }
-        ensures cached { cached_of self.new ≡ cached_of self.old }
+        ensures read { KeepsRead self.old self.new }
         ensures renewed { renewed_of self.new ≡ renewed_of self.old }
     {
         let offset = self.len();
@@ -230,9 +269,11 @@ impl Pages {
         ensures counted { saved_of self.new ≡ 0 }
         ensures rest { rest_of self.new ≡ made.items }
         ensures cached { cached_of self.new ≡ [] }
+        ensures told { (c : Content) → IsTrueOf c self.new }
         ensures renewed { renewed_of self.new ≡ true }
     {
         self.cache.clear();
+        self.occurrences.clear();
         self.saved = 0;
         self.rest = made;
         self.renewed = true;

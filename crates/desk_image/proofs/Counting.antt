@@ -65,6 +65,7 @@ pub long_image : (version : ℕ) (i : Image) → length (image_bytes version i)
 unfolding image_bytes
 long_image version i =
     long_parts (look_bytes i.look) (counted_bytes byte i.pattern) (optional cell_bytes i.marker)
-    (listed_bytes word_bytes text_bytes i.texts) (listed_bytes word_bytes file_bytes i.files) (pieces_bytes i.copied) (pieces_bytes i.deleted)
+    (listed_bytes word_bytes text_bytes i.texts) (listed_bytes word_bytes file_bytes i.files)
+    (pieces_bytes i.copied) (pieces_bytes i.deleted)
     (viewers_bytes version i.viewers) (stack_bytes version i.user) (stack_bytes version i.system)
     (optional (closed_bytes version) i.closed)

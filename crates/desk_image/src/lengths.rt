@@ -13,7 +13,7 @@ use desktop_definitions::ClosedViewer;
 pub const LOOK_BYTES: usize = 3;
 
 /// How many bytes a piece has: its offset and its length, its look, and a zero.
-const PIECE_BYTES: usize = 12;
+pub(crate) const PIECE_BYTES: usize = 12;
 
 /// How many bytes a viewer of a track has: its id and its height.
 const ENTRY_BYTES: usize = 3;

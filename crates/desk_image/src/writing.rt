@@ -7,8 +7,9 @@ ghost use Rattle.desktop_definitions.specs.Looks.{IsLook, AreLooks};
 ghost use Rattle.desk_image.specs.Streams.{Puts};
 ghost use Rattle.desk_image.specs.Pictures.{entry_of_stretch};
 ghost use Rattle.desk_image.specs.Image.{look_bytes, piece_bytes, pieces_bytes, cell_bytes, ranked_bytes, viewer_bytes};
-ghost use Rattle.desk_image.specs.Image.{entry_bytes, closed_bytes, long, optional, AreSome};
+ghost use Rattle.desk_image.specs.Image.{entry_bytes, closed_bytes, long, offset_code, optional, AreSome};
 
+use crate::lengths::PIECE_BYTES;
 use crate::{ByteSink, Ranked, Stretch, ViewerPicture};
 use desktop_definitions::{ClosedViewer, LEAST_OFFSET};
 use piece_ring::{Cursor, Look, Piece};
@@ -51,13 +52,20 @@ fn put_bytes<K: ByteSink>(sink: &mut K, bytes: &[u8]) -> Result<(), Fault>
     sink.put(bytes)
 }
 
+/// The vertical offset of a look, counted from the least one.
+fn offset_byte(look: Look) -> u8
+    requires { IsLook look }
+    ensures { result ≡ offset_code look.voff }
+{
+    (look.voff - LEAST_OFFSET) as u8
+}
+
 /// Puts a look, its vertical offset counted from the least one.
 pub fn put_look<K: ByteSink>(sink: &mut K, look: Look) -> Result<(), Fault>
     requires { IsLook look }
     ensures { Puts K.ByteSink result (look_bytes look) sink.old sink.new }
 {
-    let shifted = (look.voff - LEAST_OFFSET) as u8;
-    sink.put(&[look.font, look.colour, shifted])
+    sink.put(&[look.font, look.colour, offset_byte(look)])
 }
 
 /// Puts a cell, if there is one.
@@ -70,15 +78,36 @@ pub fn put_cell<K: ByteSink>(sink: &mut K, cell: Option<(u8, u8)>) -> Result<(),
     }
 }
 
+/// The bytes of a piece.
+fn bytes_of_piece(piece: Piece) -> [u8; PIECE_BYTES]
+    requires { IsLook piece.look }
+    ensures { result ≡ piece_bytes piece }
+{
+    let [a, b, c, d] = piece.off.to_be_bytes();
+    let [e, f, g, h] = piece.len.to_be_bytes();
+    let Look { font, colour, .. } = piece.look;
+    [
+        a,
+        b,
+        c,
+        d,
+        e,
+        f,
+        g,
+        h,
+        font,
+        colour,
+        offset_byte(piece.look),
+        0,
+    ]
+}
+
 /// Puts a piece.
 fn put_piece<K: ByteSink>(sink: &mut K, piece: Piece) -> Result<(), Fault>
     requires { IsLook piece.look }
     ensures { Puts K.ByteSink result (piece_bytes piece) sink.old sink.new }
 {
-    put_long(sink, piece.off)?;
-    put_long(sink, piece.len)?;
-    put_look(sink, piece.look)?;
-    put_byte(sink, 0)
+    sink.put(&bytes_of_piece(piece))
 }
 
 /// Puts the pieces that are left to a cursor, of which there are so many, after their number. Once they were put none

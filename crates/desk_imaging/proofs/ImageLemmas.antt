@@ -116,7 +116,8 @@ pub image_in_three : (d : KeptDesktop)
 unfolding image_bytes image_of
 image_in_three d =
     grouped (look_bytes d.look) (counted_bytes byte d.pattern) (optional cell_bytes d.marker)
-    (listed_bytes word_bytes text_bytes d.texts) (listed_bytes word_bytes file_bytes d.files) (pieces_bytes d.copied) (pieces_bytes d.deleted)
+    (listed_bytes word_bytes text_bytes d.texts) (listed_bytes word_bytes file_bytes d.files)
+    (pieces_bytes d.copied) (pieces_bytes d.deleted)
     (viewers_bytes newest_version (map (picture_of d.caret d.selections) d.viewers))
     (stack_bytes newest_version (reverse (stack_of d.columns User)))
     (stack_bytes newest_version (reverse (stack_of d.columns System)))

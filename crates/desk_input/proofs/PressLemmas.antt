@@ -93,12 +93,14 @@ module _ (old : List ℕ) (d : KeptDesktop) (v rows : ℕ) (wish : Wish) (way : 
   unfolding seen bar_press
   told_some events passes is =
       ap (λ (l : List Event). Some l) (is ∙ ap (way_presses d v) way_is)
-      ∙ ap (λ (b : Bool). let o : Option (List Event) = if b then Some (way_presses d v (way_in (seen old d) v wish)) else None in o)
+      ∙ ap (λ (b : Bool).
+      let o : Option (List Event) = if b then Some (way_presses d v (way_in (seen old d) v wish)) else None in o)
       (passes_as true (sym passes))
 
   pub told_none : is_passable rows way ≡ false → None ≡ presses_in (seen old d) wish (Some v)
   unfolding seen bar_press
-  told_none stops = ap (λ (b : Bool). let o : Option (List Event) = if b then Some (way_presses d v (way_in (seen old d) v wish)) else None in o)
+  told_none stops = ap (λ (b : Bool).
+      let o : Option (List Event) = if b then Some (way_presses d v (way_in (seen old d) v wish)) else None in o)
       (passes_as false (sym stops))
 
 pub passes_high : (rows : ℕ) (way : Way) → is_passable rows way ≡ true → 1 < rows

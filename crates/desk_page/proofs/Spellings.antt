@@ -9,7 +9,8 @@ pub none : spelling_of_calls [] ≡ []
 unfolding spelling_of_calls
 none = refl
 
-pub spelling_more : (calls : List DiskCall) (call : DiskCall) → spelling_of_calls (calls ++ call ∷ []) ≡ spelling_of_calls calls ++ spelled call
+pub spelling_more : (calls : List DiskCall) (call : DiskCall) → spelling_of_calls (calls ++ call ∷ [])
+    ≡ spelling_of_calls calls ++ spelled call
 unfolding spelling_of_calls
 spelling_more [] call = append-nil (spelled call)
 spelling_more (first ∷ calls) call = ap (λ s. spelled first ++ s) (spelling_more calls call)

@@ -6,8 +6,7 @@ use Rattle.sector_disk.specs.Trail.{Trail, now, Nowhere, Touches}
 use Rattle.sector_disk.proofs.Touching.{still_reads}
 use Rattle.char_pages.specs.declared.pages.Pages.{Pages}
 use Rattle.char_pages.specs.Pages.{base_of, saved_of, saved_sectors, renewed_of, paged_characters}
-use Rattle.char_pages.proofs.Caching.{true_on}
-use Rattle.char_pages.proofs.Paging.{paged_on}
+use Rattle.char_pages.proofs.Paging.{paged_on, told_on}
 use Rattle.desktop_definitions.specs.declared.reply.Reply.{Reply}
 use Rattle.desktop_definitions.specs.Desktop.{Desktop, KeptDesktop}
 use Rattle.desktop_definitions.specs.Seen.{seen}
@@ -49,7 +48,7 @@ pub told_stays : {D : Type 0} (d : Ghosts D) {area : ℕ → Type 0} {disk disk'
     → IsConfined d.size d.honest d.trail area disk disk' → IsApart area p → AreTrueOver d disk p
     → AreTrueOver d disk' p
 told_stays d {disk = disk} {disk' = disk'} p run apart told = λ honest.
-    true_on p.below (λ n from to. still_reads (d.trail disk) (d.trail disk') (run.moments (run.already honest)) n
+    told_on p (λ n from to. still_reads (d.trail disk) (d.trail disk') (run.moments (run.already honest)) n
     (apart n from to)) (told (run.already honest))
 
 -- nothing of it is touched where nothing is written

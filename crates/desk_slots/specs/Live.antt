@@ -4,8 +4,7 @@ use Rattle.sector_disk.specs.declared.disk.Disk.{Ghosts}
 use Rattle.sector_disk.specs.declared.disk.TheConstants.{SECTOR_BYTES}
 use Rattle.sector_disk.specs.Confined.{IsConfined}
 use Rattle.sector_disk.specs.Trail.{Content, Nowhere, now}
-use Rattle.char_pages.specs.Cached.{AreTrue}
-use Rattle.char_pages.specs.Pages.{base_of, saved_of, saved_sectors, cached_of, renewed_of, paged_characters}
+use Rattle.char_pages.specs.Pages.{base_of, saved_of, saved_sectors, renewed_of, paged_characters, IsTrueOf, KeepsRead}
 use Rattle.char_pages.specs.declared.pages.Pages.{Pages}
 use Rattle.event_bytes.specs.declared.event.Event.{Event}
 use Rattle.piece_ring.specs.Text.{Text}
@@ -28,9 +27,9 @@ use Rattle.desk_slots.specs.declared.live.LiveDesktop.{LiveDesktop}
 abbrev pub IsOverPages : Pages → KeptDesktop → Type 0
 IsOverPages pages d = (c : Content) → IsOver (paged_characters c pages) d
 
--- where the disk is honest, the sectors that are in memory are as it reads
+-- where the disk is honest, what is in memory of its sectors is as it reads
 abbrev pub AreTrueOver : {D : Type 0} → Ghosts D → D → Pages → Type 0
-AreTrueOver d disk pages = d.honest disk → AreTrue (now (d.trail disk)).reads (cached_of pages)
+AreTrueOver d disk pages = d.honest disk → IsTrueOf (now (d.trail disk)).reads pages
 
 -- a desktop as its characters read through these pages
 abbrev pub seen_through : {D : Type 0} → Ghosts D → D → Pages → KeptDesktop → Desktop
@@ -68,7 +67,7 @@ pub record StandsUnder (h : Head) (live : LiveDesktop) : Type 0 where
 
 -- It has nothing in memory of the disk, and keeps no line.
 pub record HasEmptyCache (live : LiveDesktop) : Type 0 where
-  pub cached : cached_of live.pages ≡ []
+  pub told : (c : Content) → IsTrueOf c live.pages
   pub lines : (texts : ℕ → Text ℕ) → AreLinesOf texts live.lines
 
 -- The event was stepped with this reply, between a desktop over one disk and what became of both.
@@ -111,7 +110,7 @@ pub record IsSavedIn (place : ℕ) (old new : LiveDesktop) : Type 0 where
 -- The desktop is the same, and so is what it has in memory of the disk, and the lines that it keeps.
 pub record KeepsDesktop (old new : LiveDesktop) : Type 0 where
   pub desktop : new.desktop ≡ old.desktop
-  pub cached : cached_of new.pages ≡ cached_of old.pages
+  pub read : KeepsRead old.pages new.pages
   pub lines : new.lines ≡ old.lines
 
 -- The desktop that a call leaves to the slot in use: live on the disk, and if the head of the slot named what stands in

@@ -49,7 +49,8 @@ pub steps_are_done : map replied steps ≡ map wanted steps
 unfolding region_at resized after_move text_position scrolled_to_row scrolled_to_share drawn_in copied_to looks_taken
     taken_out sent_to_caret tool_opened pointed done_in_filler done_in_menu done_in_bar done_at done_with after_opening
     opening_on without_unshown opened_at after_change insertion deletion looks_set showing filed marked outcome_after raw step_in
-    step file_of characters_held after_typing without_marks after_key viewer_at opened replaced changed closed track_of after_open after_close
+    step file_of characters_held after_typing without_marks after_key viewer_at opened replaced changed closed
+    track_of after_open after_close
     columns_changed after_call menu_position word_begin called_at commands command_named is_name_byte is_letter is_digit
     logged all_logged value_of name_of number_called names_of file_opened document_opened log_opened put_away
     brought_back viewer_copied log_cleared directory_logged files_deleted after_store look_set selection_set after_search

@@ -2,8 +2,7 @@
 //! and then given up.
 ghost use Rattle.std.specs.Prelude.{◌≡◌, ◌≤◌, ◌+◌};
 ghost use Rattle.sector_disk.specs.Trail.{now};
-ghost use Rattle.char_pages.specs.Cached.{AreTrue};
-ghost use Rattle.char_pages.specs.Pages.{base_of, saved_sectors, cached_of};
+ghost use Rattle.char_pages.specs.Pages.{base_of, saved_sectors, IsTrueOf};
 
 use char_file::CharSource;
 use char_pages::{Paged, Pages};
@@ -98,7 +97,7 @@ fn counted<D: Disk>(
 fn count_over<D: Disk>(disk: &mut D, pages: &mut Pages, again: bool) -> (u32, u32, u32)
     requires on_disk { base_of pages.old + saved_sectors pages.old ≤ D.size disk.old }
     requires told { D.honest disk.old
-        → AreTrue (now (D.trail disk.old)).reads (cached_of pages.old) }
+        → IsTrueOf (now (D.trail disk.old)).reads pages.old }
 {
     let mut source = Paged::over(disk, pages);
     let first = count(&mut source);
@@ -131,11 +130,11 @@ fn one_failed_read_is_one_character_less(rt: HostRuntime) -> Result<(), Fail> {
 fn add_two<D: Disk>(disk: &mut D, pages: &mut Pages) -> Result<u32, Fail>
     requires on_disk { base_of pages.old + saved_sectors pages.old ≤ D.size disk.old }
     requires told { D.honest disk.old
-        → AreTrue (now (D.trail disk.old)).reads (cached_of pages.old) }
+        → IsTrueOf (now (D.trail disk.old)).reads pages.old }
     ensures large { D.size disk.new ≡ D.size disk.old }
     ensures base { base_of pages.new ≡ base_of pages.old }
     ensures told { D.honest disk.new
-        → AreTrue (now (D.trail disk.new)).reads (cached_of pages.new) }
+        → IsTrueOf (now (D.trail disk.new)).reads pages.new }
 {
     let mut source = Paged::over(disk, pages);
     if source.len() == 0 || source.len() > ALL {

@@ -121,7 +121,8 @@ module _ {S : Type 0} (s : Ghosts S) (ground_through : (a b c : S) → s.same_gr
   }
 
 -- a character of each was read
-module _ {S : Type 0} (s : Ghosts S) (ground_self : (a : S) → s.same_ground a a) (ground_through : (a b c : S) → s.same_ground a b → s.same_ground b c
+module _ {S : Type 0} (s : Ghosts S) (ground_self : (a : S) → s.same_ground a a)
+    (ground_through : (a b c : S) → s.same_ground a b → s.same_ground b c
     → s.same_ground a c) (start now mid later : S) (text other : Text ℕ) (reader beside next after : Reading) (at : ℕ)
     (first : IsAt s.characters s.failures s.honest s.same_ground start now text reader at)
     (second : IsAt s.characters s.failures s.honest s.same_ground start now other beside at) where
@@ -149,8 +150,10 @@ module _ {S : Type 0} (s : Ghosts S) (ground_self : (a : S) → s.same_ground a 
         ≡ (is_same_character c k && is_same_text (drop (suc at) (contents (s.characters start) text))
         (drop (suc at) (contents (s.characters start) other)))
     compared h = same_at _ _ at c k
-        (seen_character s.characters s.failures s.honest s.same_ground ground_self ground_through start now text reader at first c one.there h)
-        (seen_character s.characters s.failures s.honest s.same_ground ground_self ground_through start mid other beside at held k two.there h)
+        (seen_character s.characters s.failures s.honest s.same_ground ground_self ground_through start now text
+        reader at first c one.there h)
+        (seen_character s.characters s.failures s.honest s.same_ground ground_self ground_through start mid other
+        beside at held k two.there h)
 
     -- the first characters that differ
     pub differs : s.honest start → is_same_character c k ≡ false

@@ -436,7 +436,8 @@ module _ (d : Desktop) (menu : Text ℕ) (cell : ℕ × ℕ) (apart : IsApart d 
   pub held_opening_on : (main org : ℕ)
       → ((k : ℕ) → list_any (λ j. j == k) (keys_of d.texts) ≡ true
       → staying main gone d.viewers k ≡ (k == 0) || by_others gone d.viewers k)
-      → characters_held (without_unshown (opening_on d menu main org cell)) ≡ characters_held (without_unshown (without_viewer d gone)) + length menu
+      → characters_held (without_unshown (opening_on d menu main org cell))
+      ≡ characters_held (without_unshown (without_viewer d gone)) + length menu
   held_opening_on main org stays =
       let is = ap (λ (x : Desktop). characters_held (without_unshown x)) (opening_on_is d menu main org cell) in
       let all = held_one_more d menu main org gone apart (after_open d.columns (new_id d) cell.0 cell.1) in

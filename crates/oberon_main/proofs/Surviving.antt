@@ -104,7 +104,8 @@ more_follow : (size : ℕ) (s : Session) (answered lines more : List (List ℕ))
     → MeansLines size s answered lines c → MeansLines size s answered (lines ++ more) c
 more_follow size s answered lines more c p =
     subst (λ es. MeansPrefix size s.desktop (accepted_of_lines s answered) es c) (sym (accepted_both s lines more))
-    (prefix_of_more size s.desktop (accepted_of_lines s answered) (accepted_of_lines s lines) (accepted_of_lines (after_all s lines) more) c p)
+    (prefix_of_more size s.desktop (accepted_of_lines s answered) (accepted_of_lines s lines)
+    (accepted_of_lines (after_all s lines) more) c p)
 
 -- lines went before
 lines_behind : (size : ℕ) (s : Session) (lines answered more : List (List ℕ)) (c : Content)
@@ -187,7 +188,8 @@ module _ {D : Type 0} (d : Ghosts D) where
         any_moment = chained
             (weakened before.any_moment (λ c p. more_follow size s [] lines more c p))
             (weakened following.any_moment
-            (λ c p. fewer_acknowledged size s.desktop (accepted_of_lines s (lines ++ [])) (accepted_of_lines s (lines ++ more)) c (seen [] c p)));
+            (λ c p. fewer_acknowledged size s.desktop (accepted_of_lines s (lines ++ []))
+            (accepted_of_lines s (lines ++ more)) c (seen [] c p)));
         at_last = λ c image. seen answered c (following.at_last c image);
       }
 

@@ -426,24 +426,6 @@ follows_long i (x ∷ ms) n = let r = follows_long x.index ms n.2 in let a = n.1
 pub near_long : (i : ℕ) (ms : List Mark) → AreNear i ms → top i ms ≤ i + 128 * length ms
 near_long i ms n = follows_long i ms (follows i ms n)
 
--- no marks
-pub no-marks : (ns : List (Ptr × Piece)) (front back : List Mark) → front ≡ [] → back ≡ [] → 0 < length ns
-    → length ns ≤ 129 → AreSeamMarks ns front back
-no-marks ns front back e f some few =
-    let none : AreSeamMarks ns [] [] = record {
-      parted = record {
-        front_near = near 0 [] tt;
-        back_near = near 0 [] tt;
-        front_seams = λ k d w. absurd (omega (arith, w));
-        back_seams = λ k d w. absurd (omega (arith, w));
-        meets = omega (arith, some);
-        few = omega arith;
-      };
-      close = omega (arith, few);
-      least = omega (arith, some);
-    } in
-    subst (λ l. AreSeamMarks ns l back) (sym e) (subst (λ l. AreSeamMarks ns [] l) (sym f) none)
-
 -- the seam of the mark before that of index n, or the start
 module _ (ms : List Mark) (start low : Seam) where
   pub nth_top : (n : ℕ) → start.index ≡ 0 → (n ≡ 0 → low ≡ start)
@@ -482,10 +464,6 @@ pub past_some : (ms : List Mark) → 0 < length ms → past_top ms ≡ top 0 ms 
 past_some [] h = absurd (omega (arith, h))
 past_some (m ∷ ms) h = refl
 
-pub past_most : (ms : List Mark) → past_top ms ≤ top 0 ms + 1
-past_most [] = omega arith
-past_most (m ∷ ms) = omega arith
-
 pub held : (ns : List (Ptr × Piece)) (front back : List Mark) (a b count : ℕ) → IsParted ns front back
     → length ns ≡ count + 1 → top 0 front ≤ a → b + past_top back ≤ count → IsEdgeMoved ns front back a b
 held ns front back a b count p counted low high = record {
@@ -495,21 +473,6 @@ held ns front back a b count p counted low high = record {
       let h = below_top 0 back p.back_near k d w in let e = past_some back (omega (arith, w)) in
       omega (arith, high, counted);
 }
-
-pub filled : (ns : List (Ptr × Piece)) (front back : List Mark) (count : ℕ) → IsParted ns front back
-    → length ns ≡ count + 1 → IsWindowFilled front back count → AreSeamMarks ns front back
-filled ns front back count p counted f =
-    let a = f.close in let b = f.least in
-    record { parted = p; close = omega (arith, counted); least = omega (arith, counted) }
-
--- without marks the start and the end are around each place
-pub around_none : (ns : List (Ptr × Piece)) (front back : List Mark) (start end : Seam) (pos : ℕ) → front ≡ []
-    → back ≡ [] → IsMeasured ns end.index end.pos → AreSeamMarks ns front back → IsWalkStart ns start → IsSeam ns end
-    → pos < end.pos → IsAround ns pos (start, end)
-around_none ns front back start end pos e f v t s h w =
-    let a = ap (top 0) e in let b = ap (top 0) f in let close = t.close in let counted = v.counted in
-    let first = s.first in let none = s.none in
-    record { low = s.seam; high = h; from = omega arith; upto = w; near = omega arith }
 
 -- a stack without marks
 pub none_parted : (ns : List (Ptr × Piece)) → 0 < length ns → IsParted ns [] []

@@ -356,7 +356,8 @@ ended scene (Some place) g higher fits stands s =
     }
 
 ending_leads : (old new : Option (List ℕ)) (scene : Scene) (caret : Option (ℕ × ℕ)) → scene.rows ≤ height_of scene
-    → scene.rows ≤ 32 → scene.columns ≤ scene.width → scene.width ≤ 80 → IsCursorCell scene caret → Appends old new (spelled_all (ending caret))
+    → scene.rows ≤ 32 → scene.columns ≤ scene.width → scene.width ≤ 80 → IsCursorCell scene caret → Appends old new
+    (spelled_all (ending caret))
     → Leads (ending caret) old new (IsShown scene.width (height_of scene) (scene_rows scene)) (IsPainted scene)
 ending_leads old new scene caret higher few fits narrow stands sent = record {
   sendable = sendable caret stands;

@@ -28,7 +28,8 @@ module _ (calls new : List DiskCall) (n : ℕ) (bytes : List ℕ) (is : new ≡ 
     ];
   }
 
-  pub kept_written : (old sectors : Sectors) → moment_of sectors ≡ written (moment_of old) n bytes → synced_content sectors ≡ synced_content old
+  pub kept_written : (old sectors : Sectors) → moment_of sectors ≡ written (moment_of old) n bytes
+      → synced_content sectors ≡ synced_content old
       → IsLeftBy calls old → IsLeftBy new sectors
   kept_written old sectors reads settled was = record {
     moment = was.moment;
@@ -40,7 +41,8 @@ module _ (calls new : List DiskCall) (n : ℕ) (bytes : List ℕ) (is : new ≡ 
 
 -- a sync
 module _ (calls new : List DiskCall) (is : new ≡ calls ++ Sync ∷ []) where
-  pub kept_synced : (old sectors : Sectors) → moment_of sectors ≡ after_sync (moment_of old) → synced_content sectors ≡ (moment_of old).reads
+  pub kept_synced : (old sectors : Sectors) → moment_of sectors ≡ after_sync (moment_of old)
+      → synced_content sectors ≡ (moment_of old).reads
       → IsLeftBy calls old → IsLeftBy new sectors
   kept_synced old sectors reads settles was = record {
     moment = length new;

@@ -109,7 +109,8 @@ end_is_later column [] = omega arith
 end_is_later column (b ∷ text) =
     by_case (b == carriage_return) (b == blank_byte) (end_is_later (column_after column b) text)
   where
-    by_case : (r s : Bool) → column_after column b ≤ unit_end (column_after column b) text → column ≤ cond r column (cond s (column + 1) (unit_end (column_after column b) text))
+    by_case : (r s : Bool) → column_after column b ≤ unit_end (column_after column b) text
+        → column ≤ cond r column (cond s (column + 1) (unit_end (column_after column b) text))
     by_case true s later = omega arith
     by_case false true later = omega arith
     by_case false false later =
@@ -143,8 +144,11 @@ next_fits width column b text first fits whole = by_case (b == carriage_return) 
         → (s && has_wide_unit width (column + 1) text) ≡ false
         → (cond r 0 (column_after column b) ≤ width) × (unit_end (cond r 0 (column_after column b)) text ≤ width)
     by_case true s is within whole = (omega arith, first)
-    by_case false true is within whole = let same = sym (after_space column b is) in
-        (subst (λ (n : ℕ). n ≤ width) same within, subst (λ (n : ℕ). unit_end n text ≤ width) same (unit_fits width (column + 1) _ within whole))
+    by_case false true is within whole = let same = sym (after_space column b is) in (
+      subst (λ (n : ℕ). n ≤ width) same within,
+      subst (λ (n : ℕ). unit_end n text ≤ width) same
+          (unit_fits width (column + 1) _ within whole),
+    )
     by_case false false is within whole =
         let later : column_after column b ≤ unit_end (column_after column b) text = end_is_later (column_after column b) text in
         (omega arith, within)

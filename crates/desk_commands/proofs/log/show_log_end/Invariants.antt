@@ -11,7 +11,8 @@ invariant-loop-at g l =
     let s = g.S.CharSource in
     let old = s.characters l.fn.source in
     record {
-      shown : IsChanged (s.honest l.fn.source) old (kept_desktop l.fn.desk) (kept_desktop l.desk) (shown_to old (kept_desktop l.fn.desk) l.at)
+      shown : IsChanged (s.honest l.fn.source) old (kept_desktop l.fn.desk) (kept_desktop l.desk)
+          (shown_to old (kept_desktop l.fn.desk) l.at)
           0 0;
       reads : OnlyReads s.characters s.failures s.honest s.same_ground l.fn.source l.source;
       calm : s.failures l.source ≡ s.failures l.fn.source;

@@ -36,7 +36,10 @@ pub lift_spec : {M : Type 1} → statement M
 lift_spec 𝓤 𝓛 𝓜 𝓡 wired =
     let H = 𝓛.H in let 𝓣 = tables 𝓤 H 𝓜 𝓡 𝓡.env in let R : RattleType = kept.the_row in let Z : RattleType = heap.the_row in
     let LZ = heap_laws.the_row_laws in let c = clauses 𝓛 𝓜.mem 𝓡.returns in let fn = code.function in
-    let hs : Stays ended.signature.params ended.kept = (stay_dropped (plain (λ _. Z)) yes, (stay_dropped (plain (λ _. held.the_row)) yes, tt)) in
+    let hs : Stays ended.signature.params ended.kept = (
+      stay_dropped (plain (λ _. Z)) yes,
+      (stay_dropped (plain (λ _. held.the_row)) yes, tt),
+    ) in
     proved_at 𝓛 ended hs c 𝓜 𝓡
     (Goes-dropped 𝓛 0 (plain (λ _. Z)) yes (λ κs x f. refl), (Goes-dropped 𝓛 0 (plain (λ _. held.the_row)) yes (λ κs x f. refl), tt))
     #self fn (code.unfolded 𝓤 H 𝓜 𝓡 wired) (λ z are.
@@ -44,11 +47,13 @@ lift_spec 𝓤 𝓛 𝓜 𝓡 wired =
     let Run : List Val → SProp 𝓤 = λ ws. WpFn 𝓤 H 𝓣.C 𝓣.Λ fn ws Post in
     let a = z.0.3.0 in let d = z.0.3.1.0 in
     qed 𝓛 ((‵ ftrue ⊛ ‵ (owns (types_at ended.signature.params z.0.0) z.0.3 z.0.4)) ∷ raw (fact 𝓤 (IsThere d.kept)) ∷ []) ∵
-    move ! (1 ∷ []) $ heard ! (IsThere d.kept) (λ there. let x = (found d.kept there).0 in let is = (found d.kept there).1 in split ! $ drop ! $ fsplit ! $
+    move ! (1 ∷ []) $ heard ! (IsThere d.kept) (λ there.
+    let x = (found d.kept there).0 in let is = (found d.kept there).1 in split ! $ drop ! $ fsplit ! $
     handle_tells (allocator R Z LZ ghosts) ! a z.0.4.0 (λ h ea fits. move ! (1 ∷ []) $ fsplit ! $
     held_out ! d z.0.4.1.0 x is (λ b o e ws. move ! (0 ∷ 2 ∷ []) $
     let u : Val = one_field (vptr b o) in let w : Val = beside (vptr b o) h in
-    suffices ! (Run (h ∷ u ∷ [])) (subst (λ (us : List Val). ent 𝓤 (Run (h ∷ u ∷ [])) (Run us)) (sym (λ i. ea i ++ (ws i ++ []))) (id⊢ 𝓤 (Run (h ∷ u ∷ [])))) $
+    suffices ! (Run (h ∷ u ∷ [])) (subst (λ (us : List Val). ent 𝓤 (Run (h ∷ u ∷ [])) (Run us))
+    (sym (λ i. ea i ++ (ws i ++ []))) (id⊢ 𝓤 (Run (h ∷ u ∷ [])))) $
     enter ! 𝓣.C 𝓣.Λ fn (h ∷ u ∷ []) Post $ alloc_all ! (λ l. pass_all ! refl (fits, ((tt, (tt, tt)), tt)) $
     sets ! (of_opd ! (get_in ! (fld ! refl (stop !)) (sub ! 0 refl (whole !)))) refl (tt, tt) $
     sets ! (of_opd ! (get ! refl)) refl (tt, tt) $

@@ -4,8 +4,6 @@ use Rattle.sector_disk.specs.Stored.{stored}
 use Rattle.desk_image.specs.Image.{Spells}
 use Rattle.store_layout.specs.Layout.{image_at}
 use Rattle.store_layout.specs.Meaning.{left_over}
-use Rattle.char_pages.specs.Cached.{AreTrue}
-use Rattle.char_pages.proofs.Caching.{none_true}
 use Rattle.sector_disk.proofs.Touching.{still_all}
 use Rattle.desk_slots.proofs.Starting.{shown_by}
 use Rattle.desk_slots.proofs.characters.load_slot.Goals as goal
@@ -16,8 +14,7 @@ returns-in_ok-with_pages-in-Ok-clause-left g c =
     record {
       live = p.live;
       told = record {
-        pages = λ honest.
-            subst (AreTrue (now (g.D.Disk.trail c.load_start.new.disk)).reads) (sym p.empty.cached) (none_true _);
+        pages = λ honest. p.empty.told _;
         lines = λ honest. p.empty.lines _;
       };
     }

@@ -1,9 +1,9 @@
-use Rattle.std.proofs.Common.{◌≡◌, ◌%◌, ◌*◌, ◌++◌, length, take, ◌∙◌, ap, arith}
+use Rattle.std.proofs.Common.{◌≡◌, ◌%◌, ◌*◌, ◌++◌, length, take, ◌∙◌, ap, sym, subst, arith}
 use Rattle.std.proofs.lemmas.List.{length-take-le}
 use Rattle.sector_disk.specs.declared.disk.TheConstants.{SECTOR_BYTES}
 use Rattle.sector_disk.specs.Stored.{stored}
 use Rattle.char_pages.specs.declared.pages.Pages.{Pages}
-use Rattle.char_pages.specs.Pages.{paged_characters}
+use Rattle.char_pages.specs.Pages.{paged_characters, IsTrueOf}
 use Rattle.store_layout.specs.Layout.{area_start}
 use Rattle.store_layout.specs.Meaning.{full_sectors, left_over}
 use Rattle.desk_slots.proofs.Counting.{few_written, over_pages}
@@ -32,3 +32,9 @@ returns-clause-characters c = λ content.
     let rest : p.rest.items ≡ take (left_over c.args.head.now.written) c.args.tail.now = e.rest in
     ap (λ (x : Pages). paged_characters content x) c.over.ensures.pages
     ∙ (λ i. stored content (base i) (full i) ++ rest i)
+
+pub returns-clause-empty : goal.returns-clause-empty
+returns-clause-empty c = record {
+  told = λ content. subst (IsTrueOf content) (sym c.over.ensures.pages) (c.in_ok-pages.ensures.told content);
+  lines = c.over.ensures.lines;
+}

@@ -1,6 +1,5 @@
 use Rattle.std.proofs.Common.{sym, subst, arith}
 use Rattle.sector_disk.specs.Trail.{now}
-use Rattle.char_pages.specs.Cached.{AreTrue}
 use Rattle.store_layout.specs.declared.layout.TheConstants.{LAYOUT}
 use Rattle.store_layout.specs.Kept.{ShowsSettled}
 use Rattle.desk_slots.proofs.Renewing.{shown_settled, named_settled}
@@ -33,8 +32,7 @@ returns-clause-left g c =
       told = λ told.
           lines_stay g.D.Disk c.args.desktop.now c.settle.new.self c.change_slot.ensures.kept shown
           c.settle.ensures.stays.lines told
-          (λ honest. subst (λ l. AreTrue (now (g.D.Disk.trail c.change_slot.new.disk)).reads l)
-          (sym c.settle.ensures.stays.cached)
+          (λ honest. c.settle.ensures.stays.read.told _
           (told_stays g.D.Disk c.args.desktop.now.pages c.change_slot.ensures.kept
           (apart_renewal c.args.desktop.now c.args.place c.requires.live c.requires.goes) told.pages honest));
       named = λ honest.

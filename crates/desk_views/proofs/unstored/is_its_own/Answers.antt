@@ -6,5 +6,6 @@ use Rattle.desk_views.proofs.unstored.is_its_own.Goals as goal
 
 pub returns : goal.returns
 returns c = λ characters. c.is_single.ensures
-    ∙ own_as characters (kept_desktop c.args.desk.now) c.args.id _ _ _ _ (ap (λ (viewer : Viewer). viewer.main) c.viewer_or_none-number.ensures) c.main_text.ensures
+    ∙ own_as characters (kept_desktop c.args.desk.now) c.args.id _ _ _ _
+    (ap (λ (viewer : Viewer). viewer.main) c.viewer_or_none-number.ensures) c.main_text.ensures
     c.len-len.ensures c.is_shown_too.ensures

@@ -26,14 +26,16 @@ bring_some-requires g c = durable_on g.D.Disk c.requires c.sort.ensures.looked
 
 pub returns-in_err-reply-clause-any_moment : goal.returns-in_err-reply-clause-any_moment
 returns-in_err-reply-clause-any_moment g c =
-    same_moments g.D.Disk c.args.store.now c.bring_some.new.store c.as_slice.result.now (coming_ones c.args.store.now.desktop c.args.documents.items)
+    same_moments g.D.Disk c.args.store.now c.bring_some.new.store c.as_slice.result.now
+    (coming_ones c.args.store.now.desktop c.args.documents.items)
     (λ honest. c.as_slice.ensures.value
     ∙ (together_are _ _ _ _ (c.in_ok-sorted.ensures.sorted honest) c.in_ok-coming.ensures).all)
     (all_behind g.D.Disk c.bring_some.new.store c.as_slice.result.now c.requires c.sort.ensures.looked c.bring_some.ensures.any_moment)
 
 pub returns-clause-any_moment : goal.returns-clause-any_moment
 returns-clause-any_moment g c =
-    same_moments g.D.Disk c.args.store.now c.bring_some.new.store c.as_slice.result.now (coming_ones c.args.store.now.desktop c.args.documents.items)
+    same_moments g.D.Disk c.args.store.now c.bring_some.new.store c.as_slice.result.now
+    (coming_ones c.args.store.now.desktop c.args.documents.items)
     (λ honest. c.as_slice.ensures.value
     ∙ (together_are _ _ _ _ (c.in_ok-sorted.ensures.sorted honest) c.in_ok-coming.ensures).all)
     (all_behind g.D.Disk c.bring_some.new.store c.as_slice.result.now c.requires c.sort.ensures.looked c.bring_some.ensures.any_moment)

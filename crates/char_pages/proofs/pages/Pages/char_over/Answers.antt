@@ -12,14 +12,14 @@ returns-then-offset-self-clause-value g c =
     let p = c.args.self.now in
     let reads = (now (g.D.Disk.trail c.args.disk.now)).reads in
     IfOk-weaker c.byte_of.result _ _
-    (λ byte value. λ h true_of. value h true_of
+    (λ byte value. λ h true_of. value h true_of.cached
     ∙ sym (paged_in_area reads p.base p.saved p.rest.items c.args.offset c.if-offset-self.true))
     c.byte_of.ensures.value
 
 pub returns-then-offset-self-clause-reads : goal.returns-then-offset-self-clause-reads
 returns-then-offset-self-clause-reads g c =
     let looked = c.byte_of.ensures.looked in
-    looked_up looked.cached refl refl refl refl looked.kept looked.cause
+    looked_up looked.cached (λ h true_of. true_of.found) refl refl refl refl looked.kept looked.cause
 
 pub returns-else-offset-self-clause-value : goal.returns-else-offset-self-clause-value
 returns-else-offset-self-clause-value g c = λ h true_of.

@@ -23,25 +23,6 @@ returns-then-offset-self-clause-looked g c =
       few = c.count_range.ensures.few;
     }
 
-pub invariant_of-self-clause-below : goal.invariant_of-self-clause-below
-invariant_of-self-clause-below g c =
-    let p = c.args.self.now in
-    let before = c.if-offset-self.false in
-    let whole : p.saved % SECTOR_BYTES ≡ 0 = p.whole in
-    below_with c.count_of.ensures.looked.cached (omega arith) (omega (arith, before, whole)) p.below
-
-pub returns-in_err-found-clause-reads : goal.returns-in_err-found-clause-reads
-returns-in_err-found-clause-reads g c =
-    let fault = err_from_is_err_and c.from_residual.result c.from_residual.ensures.1 in
-    looked_up c.count_of.ensures.looked.cached refl refl refl refl c.count_of.ensures.looked.kept
-    (subst (λ result. CountsFault result (g.D.Disk.failures c.args.disk.now) (g.D.Disk.failures c.count_of.new.disk))
-    (sym fault.1) c.in_err-found.ensures.looked.cause)
-
-pub returns-clause-reads : goal.returns-clause-reads
-returns-clause-reads g c =
-    let looked = c.count_of.ensures.looked in
-    looked_up looked.cached refl refl refl refl looked.kept c.in_ok-found.ensures.looked.cause
-
 pub returns-clause-looked : goal.returns-clause-looked
 returns-clause-looked g c =
     let p = c.args.self.now in
@@ -55,8 +36,8 @@ returns-clause-looked g c =
       some = omega (arith, least, some);
       most = omega (arith, least);
       exact = λ h.
-          let is = c.in_ok-found.ensures.value.0 h.0 h.1 in
+          let is = c.in_ok-found.ensures.count h.0 h.1 in
           is.exact ∙ ap (count_by (λ b. b == c.args.wanted))
           (sym (range_in_area reads p.base p.saved p.rest.items c.args.offset c.min-few.result whole low within is.whole));
-      few = c.in_ok-found.ensures.value.1;
+      few = c.in_ok-found.ensures.most;
     }

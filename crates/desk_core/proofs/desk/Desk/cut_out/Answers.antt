@@ -18,7 +18,8 @@ pub returns-clause-changed : goal.returns-clause-changed
 returns-clause-changed g c =
     let reads = c.in_ok-taken.ensures.reads in
     cut_out_changed (g.S.CharSource.characters c.args.source.now) (g.S.CharSource.characters c.delete.new.source)
-    (kept_desktop c.args.self.now) (kept_desktop c.delete.new.self) (kept_desktop c.show_caret.new.self) reads.still reads.as_long reads.same
+    (kept_desktop c.args.self.now) (kept_desktop c.delete.new.self) (kept_desktop c.show_caret.new.self) reads.still
+    reads.as_long reads.same
     c.args.selection c.main_of-number.result c.main_of-number.ensures
     c.in_ok-taken.ensures.changed c.in_ok-show_caret.ensures.changed
 

@@ -29,6 +29,7 @@ pub returns-clause-changed : goal.returns-clause-changed
 returns-clause-changed g c =
     let reads = c.in_ok-insert.ensures.reads in
     put_in_changed (g.S.CharSource.characters c.args.source.now) (g.S.CharSource.characters c.insert.new.source)
-    (kept_desktop c.args.self.now) (kept_desktop c.insert.new.self) (kept_desktop c.show_caret.new.self) reads.still reads.as_long reads.same
+    (kept_desktop c.args.self.now) (kept_desktop c.insert.new.self) (kept_desktop c.show_caret.new.self) reads.still
+    reads.as_long reads.same
     c.args.id c.args.pos c.main_of-number.result c.len-len.result c.args.buffer.now c.main_of-number.ensures
     c.len-len.ensures c.in_ok-insert.ensures.changed c.in_ok-show_caret.ensures.changed

@@ -7,7 +7,8 @@ pub returns-clause-does : goal.returns-clause-does
 returns-clause-does g c = stage_done g.D.Disk c.in_ok-plan.plan c.args.task (seen_plan c.in_ok-plan.plan) c.args.self.now
     c.requires c.in_ok-plan.ensures.looks c.in_ok-plan.ensures.exact c.in_ok-next.next c.post_planned.new.self
     c.went_on.new.self
-    (went_so c.args.task c.args.self.now c.post_planned.new.self c.deed-deed.ensures c.kept_follows-follows.ensures c.went_on.ensures) c.in_ok-next.ensures.does
+    (went_so c.args.task c.args.self.now c.post_planned.new.self c.deed-deed.ensures c.kept_follows-follows.ensures
+    c.went_on.ensures) c.in_ok-next.ensures.does
 
 pub returns-clause-left : goal.returns-clause-left
 returns-clause-left g c = stage_left g.D.Disk c.in_ok-plan.plan c.args.task (seen_plan c.in_ok-plan.plan) c.args.self.now

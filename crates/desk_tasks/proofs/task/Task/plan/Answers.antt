@@ -26,7 +26,8 @@ pub returns-in_ok-presses-in-Scroll : goal.returns-in_ok-presses-in-Scroll
 unfolding plan_of
 returns-in_ok-presses-in-Scroll g c = rw c.in-Scroll.is (plans_seen g.D.Disk c.in_ok-presses-in-Scroll.presses c.scroll_plan.result
     c.in_ok-presses-in-Scroll.ensures.looks
-    (plans_by_presses g.D.Disk (kind.Scroll c.in-Scroll.at c.in-Scroll.wish) c.scroll_plan.result (scroll_plan c.in-Scroll.wish) c.args.store.now (λ desktop. refl) c.scroll_plan.ensures
+    (plans_by_presses g.D.Disk (kind.Scroll c.in-Scroll.at c.in-Scroll.wish) c.scroll_plan.result
+    (scroll_plan c.in-Scroll.wish) c.args.store.now (λ desktop. refl) c.scroll_plan.ensures
     c.in_ok-presses-in-Scroll.ensures.scrolls))
 
 pub returns-in_err-presses-in-Scroll : goal.returns-in_err-presses-in-Scroll
@@ -38,7 +39,8 @@ pub returns-in_ok-presses-in-Below : goal.returns-in_ok-presses-in-Below
 unfolding plan_of
 returns-in_ok-presses-in-Below g c = rw c.in-Below.is (plans_seen g.D.Disk c.in_ok-presses-in-Below.presses c.below_plan.result
     c.in_ok-presses-in-Below.ensures.looks
-    (plans_by_presses g.D.Disk (kind.Below c.in-Below.at c.in-Below.deletes) c.below_plan.result (below_plan c.in-Below.at c.in-Below.deletes) c.args.store.now (λ desktop. refl) c.below_plan.ensures
+    (plans_by_presses g.D.Disk (kind.Below c.in-Below.at c.in-Below.deletes) c.below_plan.result
+    (below_plan c.in-Below.at c.in-Below.deletes) c.args.store.now (λ desktop. refl) c.below_plan.ensures
     c.in_ok-presses-in-Below.ensures.scrolls))
 
 pub returns-in_err-presses-in-Below : goal.returns-in_err-presses-in-Below
@@ -50,7 +52,8 @@ pub returns-in_ok-presses-in-Shift : goal.returns-in_ok-presses-in-Shift
 unfolding plan_of
 returns-in_ok-presses-in-Shift g c = rw c.in-Shift.is (plans_seen g.D.Disk c.in_ok-presses-in-Shift.presses c.shift_plan.result
     c.in_ok-presses-in-Shift.ensures.looks
-    (plans_by_presses g.D.Disk (kind.Shift c.in-Shift.at c.in-Shift.wish c.in-Shift.deletes) c.shift_plan.result (shift_plan c.in-Shift.at c.in-Shift.deletes) c.args.store.now (λ desktop. refl) c.shift_plan.ensures
+    (plans_by_presses g.D.Disk (kind.Shift c.in-Shift.at c.in-Shift.wish c.in-Shift.deletes) c.shift_plan.result
+    (shift_plan c.in-Shift.at c.in-Shift.deletes) c.args.store.now (λ desktop. refl) c.shift_plan.ensures
     c.in_ok-presses-in-Shift.ensures.scrolls))
 
 pub returns-in_err-presses-in-Shift : goal.returns-in_err-presses-in-Shift
