@@ -3,6 +3,7 @@ which rows are in sight and what the line below says, is here once more (crates/
 import itertools
 import subprocess
 
+import leading
 import scrolling
 from presses import FILES, spelled, told
 
@@ -595,97 +596,41 @@ class Model:
         return None
 
     def step(self, word):
-        """A left click beside the caret, where a text is shown there."""
-        screen = self.screen()
-        start = screen.place('c') or screen.place('m')
-        self.saying = NO_TEXT
-        if not start:
-            return
-        x, y = start
-        if word in ('home', 'end', 'word right', 'word left'):
-            x = self.along(screen, x, y, word)
-        else:
-            x, y = {'up': (x, y + 1), 'down': (x, y - 1), 'right': (x + 1, y), 'left': (x - 1, y)}[word]
-        if self.shows_text(screen, x, y):
-            self.left_click(x, y)
-            if word == 'right' and start == screen.caret():
-                self.pass_tabulator(start)
-        elif start == screen.caret() and (word == 'down' or word == 'up' and self.is_menu(x, y)):
-            if self.shift(word, NO_TEXT):
-                self.left_click(*start)
-        self.name_press('the caret, or a viewer that was drawn')
-
-    def left_click(self, x, y):
-        return self.post(f'point l {x} {y} {x} {y}')
-
-    def shows_text(self, screen, x, y):
-        return 0 <= x < COLUMNS and 0 <= y < ROWS and self.is_text(screen, x, y)
-
-    def is_menu(self, x, y):
-        viewer = y < ROWS and self.viewer_at(x, y)
-        return viewer and y == viewer[2] - 1 and self.screen().mark(x, y) == '.'
-
-    def pass_tabulator(self, start):
-        """Clicks further on in the row, while the caret stands before a blank where it stood. The first was made."""
-        for x in range(start[0] + 2, min(start[0] + 5, COLUMNS)):
-            screen = self.screen()
-            blank = screen.rows[ROWS - 1 - start[1]].ljust(COLUMNS)[start[0]] == ' '
-            if screen.caret() != start or not blank or not self.is_text(screen, x, start[1]):
-                return
-            self.left_click(x, start[1])
-
-    def shift(self, word, why_not):
-        """Whether the text of the viewer of the caret moves by a line."""
-        viewer = self.viewer_of_caret()
-        if not viewer or word == 'down' and scrolling.presses(self.oberon, self.store, viewer, 'last') == []:
-            self.saying = why_not
-            return False
-        lines = scrolling.presses(self.oberon, self.store, viewer, ('line', word))
-        for line in lines or []:
-            self.post(line)
-        if not lines:
-            self.saying = why_not
-        return bool(lines)
+        """The caret goes a step, with its line in sight."""
+        if self.lead(lambda text, width, position: leading.stepped(text, width, position, word), NO_TEXT):
+            self.name_press('the caret, or a viewer that was drawn')
 
     def delete(self):
-        """The character after the caret is deleted, or the end of its line."""
-        screen = self.screen()
-        start = screen.caret()
-        if not start or not self.shows_text(screen, start[0] + 1, start[1]):
-            self.saying = NOTHING_AFTER
-            return
-        self.left_click(start[0] + 1, start[1])
-        self.pass_tabulator(start)
-        if self.screen().caret() == start:
-            x, y = start[0], start[1] - 1
-            screen = self.screen()
-            if not self.shows_text(screen, x, y):
-                if self.shift('down', NOTHING_AFTER):
-                    self.delete()
-                self.name_press('the caret, or a viewer that was drawn')
-                return
-            self.left_click(self.along(screen, x, y, 'home'), y)
-            if self.screen().caret() == start:
-                self.saying = NOTHING_AFTER
-                self.name_press('the caret, or a viewer that was drawn')
-                return
-        self.post('key back')
-        self.name_press('a character deleted')
+        """The character behind the caret is deleted: the caret goes behind it, where it can be seen, and a Backspace."""
+        def behind(text, width, position):
+            return position + 1 if position < len(text) and leading.column(text, position + 1) < width else None
 
-    def along(self, screen, x, y, word):
-        """The column to which a key leads that goes to an end of a row's text or to one of its words."""
-        def is_shown(at):
-            return 0 <= at < COLUMNS and (screen.mark(at, y) == 'c' or self.is_text(screen, at, y))
+        if self.lead(behind, NOTHING_AFTER) and self.post('key back'):
+            self.name_press('a character deleted')
 
-        row = screen.rows[ROWS - 1 - y].ljust(COLUMNS)
-        first, last = x, x
-        while is_shown(first - 1):
-            first -= 1
-        while is_shown(last + 1):
-            last += 1
-        begins = [at for at in range(first, last + 1) if row[at] != ' ' and (at == first or row[at - 1] == ' ')]
-        return {'home': first, 'end': last, 'word left': max([at for at in begins if at < x], default=first),
-                'word right': min([at for at in begins if at > x], default=last)}[word]
+    def lead(self, wish, no_caret):
+        """Whether the caret goes to the position that is wished, as near as it has a cell."""
+        viewer = self.viewer_of_caret()
+        if not viewer:
+            has_caret = scrolling.played(self.oberon, self.store, ['type x'])[0] == 'ok'
+            self.saying = NO_SCROLL if has_caret else no_caret
+            return False
+        left, bottom, top, _ = viewer
+        height, width = top - bottom - 1, WIDTHS[left] - 1
+        text, org = scrolling.text_shown(self.oberon, self.store, viewer)
+        position = wish(text, width, leading.caret_position(self.oberon, self.store, viewer))
+        if position is None:
+            self.saying = no_caret
+            return False
+        first = leading.org_for(text, height, org, position)
+        pressed = [] if first == org else scrolling.rows_pressed(text, height, org, first) if height > 1 else None
+        if pressed is None:
+            self.saying = NO_SCROLL
+            return False
+        x = left + 1 + min(leading.column(text, position), width - 1)
+        cells = [(keys, left, top - 2 - row) for keys, row in pressed]
+        cells.append(('l', x, top - 2 - text.count(b'\r', first, position)))
+        return self.post_all([f'point {keys} {x} {y} {x} {y}' for keys, x, y in cells])
 
     def is_text(self, screen, x, y):
         if screen.mark(x, y) != '.':

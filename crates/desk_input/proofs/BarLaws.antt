@@ -1,6 +1,6 @@
 -- Where the scroll bar of a viewer is seen.
 use Rattle.std.proofs.Common.{◌≡◌, ℕ, suc, ◌+◌, ◌-◌, ◌<◌, ◌≤◌, Bool, true, false, cond, not, nat_le, List, [], ◌∷◌}
-use Rattle.std.proofs.Common.{length, refl, ap, subst, ◌∙◌, arith, Some}
+use Rattle.std.proofs.Common.{length, refl, sym, ap, subst, ◌∙◌, arith, Some}
 use Rattle.std.specs.Prelude.{◌==◌}
 use Rattle.std.specs.List.{position_or_len}
 use Rattle.std.proofs.lemmas.Bool.{eqb-true, lt-ltb, le-leb, lt-leb}
@@ -143,3 +143,10 @@ seen_left c v y sound top from before =
       seen = ap (λ (k : Track). viewer_at (shown_track c k) y) (track_at_left k) ∙ is.seen;
       top = (let fits = is.top in omega (arith, high, fits));
     }
+
+-- at any column of its track it is
+pub seen_across : (c : Columns) (v x y : ℕ) → IsColumns c → IsOnTop v c → track_at x ≡ track_of c v
+    → placed_bottom c v ≤ y → y < placed_top c v → seen_at c x y ≡ Some v
+seen_across c v x y sound top is from before =
+    ap (λ (k : Track). viewer_at (shown_track c k) y) (is ∙ sym (track_at_left (track_of c v)))
+    ∙ (seen_left c v y sound top from before).seen

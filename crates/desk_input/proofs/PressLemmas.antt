@@ -21,7 +21,7 @@ use Rattle.desk_input.specs.declared.way.Way.{Way}
 use Rattle.desk_input.specs.declared.wish.Wish.{Wish}
 use Rattle.desk_input.specs.Lines.{wished, way_to}
 use Rattle.desk_input.specs.Scrolling.{viewer_meant, bar_press, share_presses, rest_presses, way_presses}
-use Rattle.desk_input.specs.Scrolling.{way_in, wished_in, is_passable, presses_in, presses_to, Scrolls}
+use Rattle.desk_input.specs.Scrolling.{way_in, wished_in, is_passable, line_presses, presses_in, presses_to, Scrolls}
 use Rattle.desk_input.proofs.ScrollLaws.{meant_shown, told_scroll}
 
 -- ---- lists
@@ -75,32 +75,34 @@ module _ (old : List ℕ) (d : KeptDesktop) (v h org : ℕ) (text : List Piece) 
   bytes_are : bytes_of_text old (flat text) ≡ bytes_of (main_of (seen old d) v)
   bytes_are = ap (λ (t : List Piece). bytes_of_text old (flat t)) text_is ∙ sym (bytes_read old d v)
 
-  pub way_read : (wish : Wish)
-      → way_to (bytes_of_text old (flat text)) h org (wished (bytes_of_text old (flat text)) h org wish)
-      ≡ way_in (seen old d) v wish
-  unfolding way_in wished_in seen
-  way_read wish = λ k. way_to (bytes_are k) (rows_is k) (org_is k) (wished (bytes_are k) (rows_is k) (org_is k) wish)
+  pub way_read : (t : ℕ) → way_to (bytes_of_text old (flat text)) h org t ≡ way_in (seen old d) v t
+  unfolding way_in seen
+  way_read t = λ k. way_to (bytes_are k) (rows_is k) (org_is k) t
+
+  pub wished_read : (wish : Wish) → wished (bytes_of_text old (flat text)) h org wish ≡ wished_in (seen old d) v wish
+  unfolding wished_in seen
+  wished_read wish = λ k. wished (bytes_are k) (rows_is k) (org_is k) wish
 
 -- ---- presses as they are told
 
-module _ (old : List ℕ) (d : KeptDesktop) (v rows : ℕ) (wish : Wish) (way : Way) (rows_is : rows ≡ rows_of d v)
-    (way_is : way ≡ way_in (seen old d) v wish) where
-  passes_as : (b : Bool) → b ≡ is_passable rows way → b ≡ is_passable (rows_of d v) (way_in (seen old d) v wish)
+module _ (old : List ℕ) (d : KeptDesktop) (v rows t : ℕ) (way : Way) (rows_is : rows ≡ rows_of d v)
+    (way_is : way ≡ way_in (seen old d) v t) where
+  passes_as : (b : Bool) → b ≡ is_passable rows way → b ≡ is_passable (rows_of d v) (way_in (seen old d) v t)
   passes_as b is = is ∙ (λ k. is_passable (rows_is k) (way_is k))
 
   pub told_some : (events : List Event) → is_passable rows way ≡ true → events ≡ way_presses d v way
-      → Some events ≡ presses_in (seen old d) wish (Some v)
+      → Some events ≡ line_presses (seen old d) v t
   unfolding seen bar_press
   told_some events passes is =
       ap (λ (l : List Event). Some l) (is ∙ ap (way_presses d v) way_is)
       ∙ ap (λ (b : Bool).
-      let o : Option (List Event) = if b then Some (way_presses d v (way_in (seen old d) v wish)) else None in o)
+      let o : Option (List Event) = if b then Some (way_presses d v (way_in (seen old d) v t)) else None in o)
       (passes_as true (sym passes))
 
-  pub told_none : is_passable rows way ≡ false → None ≡ presses_in (seen old d) wish (Some v)
+  pub told_none : is_passable rows way ≡ false → None ≡ line_presses (seen old d) v t
   unfolding seen bar_press
   told_none stops = ap (λ (b : Bool).
-      let o : Option (List Event) = if b then Some (way_presses d v (way_in (seen old d) v wish)) else None in o)
+      let o : Option (List Event) = if b then Some (way_presses d v (way_in (seen old d) v t)) else None in o)
       (passes_as false (sym stops))
 
 pub passes_high : (rows : ℕ) (way : Way) → is_passable rows way ≡ true → 1 < rows

@@ -42,7 +42,7 @@ use Rattle.desktop_definitions.proofs.StepLaws.{settled_done}
 use Rattle.desk_input.specs.declared.wish.Wish.{Wish}
 use Rattle.desk_input.specs.Lines.{wished, share_start, share_row, way_by_share, way_or, way_to}
 use Rattle.desk_input.specs.Scrolling.{viewer_meant, bar_press, rest_presses, down_presses, way_presses, wished_in}
-use Rattle.desk_input.specs.Scrolling.{way_in, is_passable, presses_in, presses_to, LeadTo, Scrolls}
+use Rattle.desk_input.specs.Scrolling.{way_in, is_passable, line_presses, presses_in, presses_to, LeadTo, Scrolls}
 use Rattle.desk_input.proofs.LineLaws.{line_at, on_way, ends_split, no_ends, wished_begins, wished_within, share_low}
 use Rattle.desk_input.proofs.LineLaws.{share_row_low}
 use Rattle.desk_input.proofs.BarLaws.{seen_left, left_within}
@@ -97,13 +97,13 @@ set_again v (e ∷ es) x y = (elim (is_at (nat_cmp v) e.0) as (λ (b : Bool). is
 
 -- a viewer that is there
 module _ (d : Desktop) (v : ℕ) (there : IsSome (viewer_in d.viewers v)) where
-  org_own : with_org d v (viewer_of d v).org ≡ d
+  pub org_own : with_org d v (viewer_of d v).org ≡ d
   org_own = λ k. record d {
     viewers = set_value_same (is_at (nat_cmp v)) d.viewers (viewer_of d v)
         (is_there (viewer_in d.viewers v) bare_viewer there) k;
   }
 
-  org_found : (a : ℕ) → viewer_of (with_org d v a) v ≡ record (viewer_of d v) { org = a }
+  pub org_found : (a : ℕ) → viewer_of (with_org d v a) v ≡ record (viewer_of d v) { org = a }
   org_found a = ap (λ (found : Option Viewer). unwrap_or found bare_viewer)
       (set_same d.viewers v (record (viewer_of d v) { org = a }) there)
 
@@ -151,7 +151,7 @@ module _ (d : Desktop) (v : ℕ) (there : IsSome (viewer_in d.viewers v)) where
 
 -- ---- presses one after another
 
-step_leads : (d new last : Desktop) (event : Event) (more : List Event) → step d event ≡ outcome_of new Done
+pub step_leads : (d new last : Desktop) (event : Event) (more : List Event) → step d event ≡ outcome_of new Done
     → LeadTo new more last → LeadTo d (event ∷ more) last
 step_leads d new last event more is rest = (
   ap (λ (o : Outcome). o.reply) is,
@@ -164,7 +164,7 @@ leads_steps d last [] lead = lead
 leads_steps d last (event ∷ more) lead = leads_steps (step d event).desktop last more lead.1
 
 module _ (d : Desktop) (v : ℕ) (sound : IsSound d) (top : IsOnTop v d.columns) where
-  there : IsSome (viewer_in d.viewers v)
+  pub there : IsSome (viewer_in d.viewers v)
   there = placed_there sound.shaped.places v (on_top_placed d.columns v top)
 
   org_fits : (b : ℕ) → fits (with_org d v b) ≡ true
@@ -223,9 +223,8 @@ module _ (d : Desktop) (v : ℕ) (sound : IsSound d) (top : IsOnTop v d.columns)
         let low = mod-lt n some in
         pages_lead page some (omega (arith, high)) (n / page) (n % page) a from (sym parts) (omega (arith, low))
 
-    way_leads : 1 < rows_of d v → LeadTo d
-        (way_presses d v (way_to (bytes_of (main_of d v)) (rows_of d v) (viewer_of d v).org t)) (with_org d v t)
-    unfolding way_to
+    way_leads : 1 < rows_of d v → LeadTo d (way_presses d v (way_in d v t)) (with_org d v t)
+    unfolding way_to way_in
     way_leads high =
         let bs = bytes_of (main_of d v) in
         let h : ℕ = rows_of d v in
@@ -244,17 +243,26 @@ module _ (d : Desktop) (v : ℕ) (sound : IsSound d) (top : IsOnTop v d.columns)
               (down_leads (share_start bs h row) (share_low bs h t) high)
         ]) refl)
 
-  wish_leads : (wish : Wish) → 1 < rows_of d v
-      → LeadTo d (way_presses d v (way_in d v wish)) (with_org d v (wished_in d v wish))
-  unfolding way_in wished_in
-  wish_leads wish high =
+    -- The presses for a line lead to it.
+    pub line_leads : IfSome (line_presses d v t) (λ events. LeadTo d events (with_org d v t))
+    line_leads = (elim (is_passable (rows_of d v) (way_in d v t)) as (λ (b : Bool).
+        is_passable (rows_of d v) (way_in d v t) ≡ b
+        → IfSome (if b then Some (way_presses d v (way_in d v t)) else None) (λ events. LeadTo d events (with_org d v t))) [
+          | true ↦ λ is. way_leads (ltb-true 1 (rows_of d v) (and_parts _ _ is).0)
+          | false ↦ λ is. tt
+        ]) refl
+
+  wish_leads : (wish : Wish)
+      → IfSome (line_presses d v (wished_in d v wish)) (λ events. LeadTo d events (with_org d v (wished_in d v wish)))
+  unfolding wished_in
+  wish_leads wish =
       let bs = bytes_of (main_of d v) in
       let org : ℕ = (viewer_of d v).org in
       let long : length bs ≡ length (main_of d v) = length-map (main_of d v) (λ (c : ℕ × Look). c.0) in
       let found = is_there (viewer_in d.viewers v) bare_viewer there in
       let low = (sound.shaped.viewers.each v (viewer_of d v) found).org in
-      way_leads (wished bs (rows_of d v) org wish) (wished_within bs (rows_of d v) org wish (omega (arith, long, low)))
-      (wished_begins bs (rows_of d v) org wish) high
+      line_leads (wished bs (rows_of d v) org wish) (wished_within bs (rows_of d v) org wish (omega (arith, long, low)))
+      (wished_begins bs (rows_of d v) org wish)
 
 -- ---- the theorem of scrolling
 
@@ -281,13 +289,7 @@ module _ (d : Desktop) (sound : IsSound d) where
   leads_in : (wish : Wish) (meant : Option ℕ) → IfSome meant (λ v. IsOnTop v d.columns)
       → IfSome meant (λ v. IfSome (presses_in d wish meant) (λ events. LeadTo d events (with_org d v (wished_in d v wish))))
   leads_in wish None shown = tt
-  leads_in wish (Some v) shown = (elim (is_passable (rows_of d v) (way_in d v wish)) as (λ (b : Bool).
-      is_passable (rows_of d v) (way_in d v wish) ≡ b
-      → IfSome (if b then Some (way_presses d v (way_in d v wish)) else None)
-      (λ events. LeadTo d events (with_org d v (wished_in d v wish)))) [
-        | true ↦ λ is. wish_leads d v sound shown wish (ltb-true 1 (rows_of d v) (and_parts _ _ is).0)
-        | false ↦ λ is. tt
-      ]) refl
+  leads_in wish (Some v) shown = wish_leads d v sound shown wish
 
   -- The presses for a wish scroll.
   pub presses_scroll : (at : Option (ℕ × ℕ)) (wish : Wish) → Scrolls d at wish (presses_to d at wish)

@@ -44,24 +44,26 @@ module _ {T : Type 0} where
   abbrev pub way_presses : DesktopOf T → ℕ → Way → List Event
   way_presses d v way = share_presses d v way.share ++ down_presses d v (rows_of d v) way.lines
 
--- where the line starts that is wished of a viewer, and the way there
+-- where the line starts that is wished of a viewer
 unfoldable pub wished_in : Desktop → ℕ → Wish → ℕ
 wished_in d v wish = wished (bytes_of (main_of d v)) (rows_of d v) (viewer_of d v).org wish
 
-unfoldable pub way_in : Desktop → ℕ → Wish → Way
-way_in d v wish =
-    way_to (bytes_of (main_of d v)) (rows_of d v) (viewer_of d v).org (wished_in d v wish)
+-- the way of a viewer to the line that starts at t
+unfoldable pub way_in : Desktop → ℕ → ℕ → Way
+way_in d v t = way_to (bytes_of (main_of d v)) (rows_of d v) (viewer_of d v).org t
 
 -- whether a viewer of h rows can go a way: it has two rows, and it isn't too far
 abbrev pub is_passable : ℕ → Way → Bool
 is_passable h way = nat_lt 1 h && nat_le (way.lines / (h - 1)) MOST_PRESSES
 
+-- the presses that lead there, where it can go that way
+abbrev pub line_presses : Desktop → ℕ → ℕ → Option (List Event)
+line_presses d v t =
+    if is_passable (rows_of d v) (way_in d v t) then Some (way_presses d v (way_in d v t)) else None
+
 abbrev pub presses_in : Desktop → Wish → Option ℕ → Option (List Event)
 presses_in d wish None = None
-presses_in d wish (Some v) =
-    if is_passable (rows_of d v) (way_in d v wish)
-    then Some (way_presses d v (way_in d v wish))
-    else None
+presses_in d wish (Some v) = line_presses d v (wished_in d v wish)
 
 -- the presses for a wish; none where no viewer is meant, or where it can't go that way
 unfoldable pub presses_to : Desktop → Option (ℕ × ℕ) → Wish → Option (List Event)

@@ -8,8 +8,8 @@
 //! (`specs/Stale.antt`); `laws` has that it leaves all others, and what stands before that position.
 //!
 //! No event scrolls to a line. But the left button in a scroll bar takes the line in its row to the top, and the middle
-//! one the line at a share of the text; so a few presses lead to any line. `presses_to` works them out, and changes
-//! nothing. `specs/Scrolling.antt` has what is wished and which presses lead there, and `proofs/ScrollLaws.antt` that
+//! one the line at a share of the text; so a few presses lead to any line. `presses_to` and `line_presses` work them out,
+//! and change nothing. `specs/Scrolling.antt` has what is wished and which presses lead there, and `proofs/ScrollLaws.antt` that
 //! their steps leave the desktop with that line first, and nothing else changed.
 #![tactic(auto)]
 
@@ -27,6 +27,7 @@ mod wish;
 pub use laws::{
     other_texts_stay, position_whatever_is_read, stale_whatever_is_read, texts_keep_their_front,
 };
-pub use presses::{MOST_PRESSES, presses_to};
+pub use lines::{line_above, line_below, lines_in_sight, start_below};
+pub use presses::{MOST_PRESSES, line_presses, presses_to};
 pub use stale::Stale;
 pub use wish::Wish;

@@ -1,5 +1,5 @@
 //! Which line of a text is wished, and which way leads there.
-ghost use Rattle.std.specs.Prelude.{◌≡◌, ◌*◌, ◌/◌, ◌<◌, ◌≤◌, length, IfOk};
+ghost use Rattle.std.specs.Prelude.{◌≡◌, ◌*◌, ◌/◌, ◌<◌, ◌≤◌, length, IfOk, IfSome};
 ghost use Rattle.readers_scanners.specs.Words.{ReadsOrFails, flat, AreWithin, bytes_of_text};
 ghost use Rattle.text_frames.specs.Walks.{CanWalk};
 ghost use Rattle.text_frames.specs.Lines.{line_above, ends_between};
@@ -20,7 +20,7 @@ const STRETCH: u32 = 512;
 
 /// Where the line starts in the row below that of the position; below the last line, where that starts. `Fault`: the
 /// source failed in this call.
-fn start_below<S: CharSource>(text: &Text, pos: u32, source: &mut S) -> Result<u32, Fault>
+pub fn start_below<S: CharSource>(text: &Text, pos: u32, source: &mut S) -> Result<u32, Fault>
     requires { CanWalk (S.characters source.old) (flat text.now) 0 pos }
     ensures start { IfOk result (λ start. S.honest source.old
         → start ≡ start_below (bytes_of_text (S.characters source.old) (flat text.now)) pos) }
@@ -40,7 +40,7 @@ fn start_below<S: CharSource>(text: &Text, pos: u32, source: &mut S) -> Result<u
 
 /// Where the line starts that stands `lines` lines below that of the position, or the last line where there are fewer.
 /// `Fault`: the source failed in this call.
-fn line_below<S: CharSource>(
+pub fn line_below<S: CharSource>(
     text: &Text,
     lines: u32,
     pos: u32,
@@ -66,7 +66,7 @@ fn line_below<S: CharSource>(
 
 /// Where the line starts that stands `lines` lines above that of the position, 0 where there are fewer. `Fault`: the
 /// source failed in this call.
-fn line_above<S: CharSource>(
+pub fn line_above<S: CharSource>(
     text: &Text,
     lines: u32,
     pos: u32,
@@ -202,7 +202,7 @@ fn share_row<S: CharSource>(
 
 /// How many lines a target in sight stands below the one at `org`. None where it isn't in one of `h` rows. `Fault`: the
 /// source failed in this call.
-fn lines_in_sight<S: CharSource>(
+pub fn lines_in_sight<S: CharSource>(
     text: &Text,
     h: u8,
     org: u32,
@@ -212,6 +212,8 @@ fn lines_in_sight<S: CharSource>(
     requires { CanWalk (S.characters source.old) (flat text.now) 0 target }
     ensures lines { IfOk result (λ lines. S.honest source.old → lines
         ≡ lines_in_sight (bytes_of_text (S.characters source.old) (flat text.now)) h org target) }
+    ensures from { IfOk result (λ lines. IfSome lines (λ lines. org ≤ target)) }
+    ensures few { IfOk result (λ lines. IfSome lines (λ lines. lines < h)) }
     ensures source { ReadsOrFails S.CharSource result source.old source.new }
 {
     if target < org {

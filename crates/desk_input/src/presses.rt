@@ -1,11 +1,11 @@
 //! The presses that lead a viewer to a line.
 ghost use Rattle.std.specs.Prelude.{◌≡◌, ◌++◌, ◌%◌, ◌<◌, replicate, Some, OnOk, IfOk, option_map};
 ghost use Rattle.desktop_definitions.specs.Viewers.{rows_of};
-ghost use Rattle.desk_core.specs.Words.{FailsAs, OnlyReads, IsOnTop, IsOver, kept_desktop, seen, IsStop};
+ghost use Rattle.desk_core.specs.Words.{FailsAs, OnlyReads, IsOnTop, IsOver, IsPosition, kept_desktop, seen, IsStop};
 ghost use Rattle.desk_core.specs.Words.{TellsValue};
 ghost use Rattle.event_bytes.specs.declared.keys.Keys.TheVariants.{Left};
 ghost use Rattle.desk_input.specs.Scrolling.{viewer_meant, bar_press, share_presses, rest_presses, way_presses};
-ghost use Rattle.desk_input.specs.Scrolling.{way_in, is_passable, presses_in, Scrolls};
+ghost use Rattle.desk_input.specs.Scrolling.{wished_in, way_in, is_passable, line_presses, presses_in, Scrolls};
 
 use crate::lines::{way_to, wished};
 use crate::places::frame_row;
@@ -157,17 +157,31 @@ fn way_presses(desk: &Desk, id: u16, way: Way) -> Result<Vec<Event>, NoMemory>
     Ok(events)
 }
 
-/// The way to the line that is wished of a viewer. `Fault`: the source failed in this call.
-fn way_in<S: CharSource>(desk: &Desk, id: u16, wish: Wish, source: &mut S) -> Result<Way, Fault>
+/// Where the line starts that is wished of a viewer. `Fault`: the source failed in this call.
+fn wished_in<S: CharSource>(desk: &Desk, id: u16, wish: Wish, source: &mut S) -> Result<u32, Fault>
     requires over { IsOver (S.characters source.old) (kept_desktop desk.now) }
     requires placed { IsOnTop id (kept_desktop desk.now).columns }
-    ensures { TellsValue S.CharSource result (λ d. way_in d id wish) source.old source.new
+    ensures told { TellsValue S.CharSource result (λ d. wished_in d id wish) source.old source.new
         (kept_desktop desk.now) }
+    ensures within { IfOk result (IsPosition (kept_desktop desk.now) id) }
 {
     let h = desk.rows_of(id);
     let frame = desk.main_frame(id);
     let text = desk.main_text(id);
     let target = wished(text, h, frame.org, wish, source)?;
+    Ok(target)
+}
+
+/// The way of a viewer to the line that starts at the target. `Fault`: the source failed in this call.
+fn way_in<S: CharSource>(desk: &Desk, id: u16, target: u32, source: &mut S) -> Result<Way, Fault>
+    requires over { IsOver (S.characters source.old) (kept_desktop desk.now) }
+    requires at { IsPosition (kept_desktop desk.now) id target }
+    ensures { TellsValue S.CharSource result (λ d. way_in d id target) source.old source.new
+        (kept_desktop desk.now) }
+{
+    let h = desk.rows_of(id);
+    let frame = desk.main_frame(id);
+    let text = desk.main_text(id);
     let way = way_to(text, h, frame.org, target, source)?;
     Ok(way)
 }
@@ -177,6 +191,34 @@ fn is_passable(rows: u8, way: Way) -> bool
     ensures { result ≡ is_passable rows way }
 {
     rows > 1 && way.lines / (rows - 1) as u32 <= MOST_PRESSES
+}
+
+/// The presses in a viewer's scroll bar after which it shows the line first that starts at the target. None where it
+/// shows fewer than two rows of its text, or where it would take more than `MOST_PRESSES` presses that go down a page.
+/// NoMemory where an allocation is refused; Fault where a character could not be read.
+pub fn line_presses<S: CharSource>(
+    desk: &Desk,
+    id: u16,
+    target: u32,
+    source: &mut S,
+) -> Result<Option<Vec<Event>>, Stop>
+    requires over { IsOver (S.characters source.old) (kept_desktop desk.now) }
+    requires at { IsPosition (kept_desktop desk.now) id target }
+    ensures told { IfOk result (λ presses. S.honest source.old
+        → option_map (λ events. events.items) presses
+        ≡ line_presses (seen (S.characters source.old) (kept_desktop desk.now)) id target) }
+    ensures reads { OnlyReads S.characters S.failures S.honest S.same_ground source.old
+        source.new }
+    ensures faults { FailsAs Stop.Fault IsStop result (S.failures source.old)
+        (S.failures source.new) }
+{
+    let rows = desk.rows_of(id);
+    let way = way_in(desk, id, target, source)?;
+    if is_passable(rows, way) {
+        let events = way_presses(desk, id, way)?;
+        return Ok(Some(events));
+    }
+    Ok(None)
 }
 
 /// The presses that lead to the line that is wished of a viewer. None where it can't go that way.
@@ -196,13 +238,8 @@ fn presses_in<S: CharSource>(
     ensures faults { FailsAs Stop.Fault IsStop result (S.failures source.old)
         (S.failures source.new) }
 {
-    let rows = desk.rows_of(id);
-    let way = way_in(desk, id, wish, source)?;
-    if is_passable(rows, way) {
-        let events = way_presses(desk, id, way)?;
-        return Ok(Some(events));
-    }
-    Ok(None)
+    let target = wished_in(desk, id, wish, source)?;
+    line_presses(desk, id, target, source)
 }
 
 /// The presses after which the viewer at a cell, or the one with the caret where no cell is meant, shows the line first

@@ -12,5 +12,6 @@ pub mod Prefixes
 pub mod Files
 pub mod Undoing
 pub mod Scrolling
+pub mod Leading
 pub mod Losses
 pub mod Views

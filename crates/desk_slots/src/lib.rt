@@ -25,7 +25,9 @@ mod slots;
 
 pub use checkpoint::renew;
 pub use error::Error;
-pub use event_loop::{DeskInfo, Document, LogRow, Loss, MOST_PRESSES, Place, ShownViewer, Wish};
+pub use event_loop::{
+    DeskInfo, Document, KeyWish, LogRow, Loss, MOST_PRESSES, Place, ShownViewer, Step, WhyNot, Wish,
+};
 pub use format::lay_out;
 pub use former::{Earlier, load_earlier, read_history};
 pub use leaving::undo_to;

@@ -14,17 +14,21 @@ ghost use Rattle.desk_slots.specs.Live.{IsLiveOn, IsLiveStep, IsLiveBringing, Is
 ghost use Rattle.piece_ring.specs.Text.{Text as AText};
 ghost use Rattle.screen_cells.specs.Lines.{AreLinesOf};
 ghost use Rattle.desk_input.specs.Scrolling.{Scrolls};
+ghost use Rattle.caret_moves.specs.Leading.{Leads};
+ghost use Rattle.std.specs.Result.{result_map_both};
 ghost use Rattle.desk_slots.specs.Words.{Nowhere, now, IsConfined, FailsAs, entries_of, shown_screen};
 ghost use Rattle.desk_slots.specs.Words.{Content, ListsUnread};
 
 mod views;
 
 use crate::Error;
-use crate::over::{bring_over, list_over, read_over, screen_over, scroll_over, step_over};
+use crate::over::{
+    bring_over, lead_over, list_over, read_over, screen_over, scroll_over, step_over,
+};
 use char_pages::Pages;
 use desk_image::ByteSink;
 use event_bytes::{Event, Name};
-use event_loop::{Desktop, Document, Entry, Reply, Version, Wish};
+use event_loop::{Desktop, Document, Entry, KeyWish, Reply, Version, WhyNot, Wish};
 use piece_ring::Look;
 use screen_cells::{KeptLines, Screen};
 use sector_disk::{Disk, Fault, SECTOR_BYTES};
@@ -249,6 +253,26 @@ impl LiveDesktop {
             (D.failures disk.new) }
     {
         Ok(scroll_over(alloc, &mut self.desktop, at, wish, disk, &mut self.pages)?)
+    }
+
+    /// The events after which what is wished of the caret is done, or why there are none.
+    pub fn lead<D: Disk>(
+        &mut self,
+        alloc: Global,
+        wish: KeyWish,
+        disk: &mut D,
+    ) -> Result<Result<Vec<Event>, WhyNot>, Error>
+        requires on { IsLiveOn D.Disk disk.old self.old }
+        requires room { STORE_SECTORS ≤ D.size disk.old }
+        ensures leads { IfOk result (λ told. D.honest disk.old
+            → Leads (seen_live (now (D.trail disk.old)).reads self.old) wish
+            (result_map_both (λ events. events.items) (λ why. why) told)) }
+        ensures same { StaysLive D.Disk disk.old disk.new self.old self.new }
+        ensures disk { IsConfined D.size D.honest D.trail Nowhere disk.old disk.new }
+        ensures faults { FailsAs Error.Fault OfDesktop result (D.failures disk.old)
+            (D.failures disk.new) }
+    {
+        Ok(lead_over(alloc, &mut self.desktop, wish, disk, &mut self.pages)?)
     }
 
     /// Gives up the characters in memory that fill whole sectors of that area by now, in which all that are on the disk

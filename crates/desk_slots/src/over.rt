@@ -8,6 +8,8 @@ ghost use Rattle.desktop_definitions.specs.Stepped.{IsStep};
 ghost use Rattle.desk_bringing.specs.Bringing.{IsBringing};
 ghost use Rattle.screen_cells.specs.Lines.{AreLinesOf};
 ghost use Rattle.desk_input.specs.Scrolling.{Scrolls};
+ghost use Rattle.caret_moves.specs.Leading.{Leads};
+ghost use Rattle.std.specs.Result.{result_map_both};
 ghost use Rattle.event_loop.specs.Keeping.{KeepsLines};
 ghost use Rattle.desk_views.specs.Losses.{loss_at};
 ghost use Rattle.desk_views.specs.Info.{last_log_line};
@@ -18,7 +20,9 @@ ghost use Rattle.desk_slots.specs.Words.{ListsUnread, AreWithin, contents, flat}
 use crate::reading::read_all;
 use char_pages::{Paged, Pages};
 use event_bytes::Event;
-use event_loop::{Desktop, Document, Entry, LogRow, Loss, Reply, Stop, Version, Wish};
+use event_loop::{
+    Desktop, Document, Entry, KeyWish, LogRow, Loss, Reply, Stop, Version, WhyNot, Wish,
+};
 use piece_ring::Look;
 use screen_cells::{KeptLines, Screen};
 use sector_disk::Disk;
@@ -151,6 +155,26 @@ pub(crate) fn scroll_over<D: Disk>(
 {
     let mut source = Paged::over(disk, pages);
     desktop.scroll(alloc, at, wish, &mut source)
+}
+
+/// The events that do what is wished of the caret.
+pub(crate) fn lead_over<D: Disk>(
+    alloc: Global,
+    desktop: &mut Desktop,
+    wish: KeyWish,
+    disk: &mut D,
+    pages: &mut Pages,
+) -> Result<Result<Vec<Event>, WhyNot>, Stop>
+    requires { CanStepThrough D.Disk disk.old pages.old desktop.old }
+    ensures leads { IfOk result (λ told. D.honest disk.old
+        → Leads (seen_through D.Disk disk.old pages.old desktop.old) wish
+        (result_map_both (λ events. events.items) (λ why. why) told)) }
+    ensures unchanged { desktop.new ≡ desktop.old }
+    ensures looks { LooksThrough D.Disk disk.old disk.new pages.old pages.new }
+    ensures faults { FailsAs Stop.Fault IsStop result (D.failures disk.old) (D.failures disk.new) }
+{
+    let mut source = Paged::over(disk, pages);
+    desktop.lead(alloc, wish, &mut source)
 }
 
 /// What a click would lose, once the marker was set.

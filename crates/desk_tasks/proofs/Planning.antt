@@ -1,5 +1,6 @@
 -- The plan of a task is made by one look at the store.
 use Rattle.std.proofs.Common.{◌≡◌, ◌≢◌, Bool, true, false, refl, sym, ◌∙◌, ap, Ok, Err, List, []}
+use Rattle.std.specs.Prelude.{Result}
 use Rattle.std.specs.Prelude.{ℕ, nat_lt, Option, Some, None}
 use Rattle.std.proofs.lemmas.Bool.{cond-true, cond-false, false≢true}
 use Rattle.sector_disk.specs.declared.disk.Disk.{Ghosts}
@@ -8,6 +9,9 @@ use Rattle.desktop_definitions.specs.Desktop.{Desktop}
 use Rattle.desktop_definitions.specs.Shown.{shown_screen}
 use Rattle.desk_journal.specs.Errors.{Error}
 use Rattle.desk_journal.specs.Looking.{OnlyLooks}
+use Rattle.caret_moves.specs.declared.wish.KeyWish.{KeyWish}
+use Rattle.caret_moves.specs.declared.wish.WhyNot.{WhyNot}
+use Rattle.desk_journal.specs.Leading.{Leads, led}
 use Rattle.desk_journal.specs.Scrolling.{Scrolls, Wish, presses_to}
 use Rattle.desk_journal.specs.View.{StoreView}
 use Rattle.desk_journal.specs.Views.{DeskInfo, ShownViewer, desk_info, last_log_line}
@@ -17,45 +21,37 @@ use Rattle.desk_tasks.specs.declared.task.Task.{Task}
 use Rattle.desk_tasks.specs.declared.task.Task.TheVariants as kind
 use Rattle.desk_tasks.specs.declared.plan.Plan.{Plan as MadePlan}
 use Rattle.desk_tasks.specs.Plans.{Plans}
-use Rattle.desk_tasks.specs.Plans.{Plan, Events, Says, answer_plan, opened_plan, opened_viewer, plan_of, plan_on}
+use Rattle.desk_tasks.specs.Plans.{Plan, Events, Says, answer_plan, lead_plan, opened_plan, opened_viewer, plan_of, plan_on}
 use Rattle.desk_tasks.specs.Plans.{seen_plan}
 
 -- what is neither an event of the hand, nor a scroll, nor what follows one or a call is planned by the screen
 pub by_screen : (task : Task) (d : Desktop) → ((event : Event) → task ≢ kind.Post event)
     → ((at : Option (ℕ × ℕ)) (wish : Wish) → task ≢ kind.Scroll at wish)
-    → ((at : ℕ × ℕ) (deletes : Bool) → task ≢ kind.Below at deletes)
-    → ((at : ℕ × ℕ) (wish : Wish) (deletes : Bool) → task ≢ kind.Shift at wish deletes)
+    → ((wish : KeyWish) → task ≢ kind.Lead wish)
     → ((before : DeskInfo) → task ≢ kind.After before)
     → ((cell : ℕ × ℕ) → task ≢ kind.Enter cell)
     → ((at : Option (ℕ × ℕ)) (is_up : Bool) (sight : Sight) → task ≢ kind.Page at is_up sight)
     → ((at_end : Bool) → task ≢ kind.Show at_end)
     → plan_of task d ≡ plan_on task (shown_screen d)
 unfolding plan_of
-by_screen (kind.Post event) d post scroll below shift after enter page show = absurd (post event refl)
-by_screen (kind.Scroll at wish) d post scroll below shift after enter page show = absurd (scroll at wish refl)
-by_screen (kind.Step arrow) d post scroll below shift after enter page show = refl
-by_screen (kind.Click place) d post scroll below shift after enter page show = refl
-by_screen kind.Delete d post scroll below shift after enter page show = refl
-by_screen (kind.Pass from column deletes) d post scroll below shift after enter page show = refl
-by_screen (kind.Below at deletes) d post scroll below shift after enter page show = absurd (below at deletes refl)
-by_screen (kind.Shift at wish deletes) d post scroll below shift after enter page show = absurd (shift at wish deletes refl)
-by_screen (kind.Reach place) d post scroll below shift after enter page show = refl
-by_screen kind.Rub d post scroll below shift after enter page show = refl
-by_screen (kind.AtCaret click) d post scroll below shift after enter page show = refl
-by_screen (kind.Compose event) d post scroll below shift after enter page show = refl
-by_screen (kind.Break event next) d post scroll below shift after enter page show = refl
-by_screen (kind.Rejoin event next) d post scroll below shift after enter page show = refl
-by_screen (kind.Call word) d post scroll below shift after enter page show = refl
-by_screen (kind.Seek at) d post scroll below shift after enter page show = refl
-by_screen (kind.Replace t fills) d post scroll below shift after enter page show = refl
-by_screen (kind.Wrap next t fills) d post scroll below shift after enter page show = refl
-by_screen (kind.Resume event t fills) d post scroll below shift after enter page show = refl
-by_screen (kind.After before) d post scroll below shift after enter page show = absurd (after before refl)
-by_screen (kind.Enter cell) d post scroll below shift after enter page show = absurd (enter cell refl)
-by_screen (kind.Page at is_up sight) d post scroll below shift after enter page show = absurd (page at is_up sight refl)
-by_screen (kind.Show at_end) d post scroll below shift after enter page show = absurd (show at_end refl)
-by_screen (kind.Last place) d post scroll below shift after enter page show = refl
-by_screen (kind.Reveal cell) d post scroll below shift after enter page show = refl
+by_screen (kind.Post event) d post scroll lead after enter page show = absurd (post event refl)
+by_screen (kind.Scroll at wish) d post scroll lead after enter page show = absurd (scroll at wish refl)
+by_screen (kind.Lead wish) d post scroll lead after enter page show = absurd (lead wish refl)
+by_screen (kind.AtCaret click) d post scroll lead after enter page show = refl
+by_screen (kind.Compose event) d post scroll lead after enter page show = refl
+by_screen (kind.Break event next) d post scroll lead after enter page show = refl
+by_screen (kind.Rejoin event next) d post scroll lead after enter page show = refl
+by_screen (kind.Call word) d post scroll lead after enter page show = refl
+by_screen (kind.Seek at) d post scroll lead after enter page show = refl
+by_screen (kind.Replace t fills) d post scroll lead after enter page show = refl
+by_screen (kind.Wrap next t fills) d post scroll lead after enter page show = refl
+by_screen (kind.Resume event t fills) d post scroll lead after enter page show = refl
+by_screen (kind.After before) d post scroll lead after enter page show = absurd (after before refl)
+by_screen (kind.Enter cell) d post scroll lead after enter page show = absurd (enter cell refl)
+by_screen (kind.Page at is_up sight) d post scroll lead after enter page show = absurd (page at is_up sight refl)
+by_screen (kind.Show at_end) d post scroll lead after enter page show = absurd (show at_end refl)
+by_screen (kind.Last place) d post scroll lead after enter page show = refl
+by_screen (kind.Reveal cell) d post scroll lead after enter page show = refl
 
 -- what is left to do once a word was called
 module _ (before : DeskInfo) (d : Desktop) where
@@ -157,3 +153,10 @@ module _ {D : Type 0} (d : Ghosts D) where
       → d.honest store.disk → seen_plan plan ≡ plan_of task store.desktop
   plans_by_presses task plan of store means is scrolls honest =
       is ∙ ap of (scrolls honest).exact ∙ sym (means store.desktop)
+
+  -- of what the store told about a wish
+  pub plans_by_lead : (wish : KeyWish) (plan : MadePlan) {told : Result (List Event) WhyNot} (store : StoreView D)
+      → seen_plan plan ≡ lead_plan wish told → (d.honest store.disk → Leads store.desktop wish told)
+      → d.honest store.disk → seen_plan plan ≡ plan_of (kind.Lead wish) store.desktop
+  unfolding plan_of
+  plans_by_lead wish plan store is leads honest = is ∙ ap (lead_plan wish) (leads honest).exact

@@ -1,6 +1,6 @@
 -- What a task becomes over a desktop.
 use Rattle.std.specs.Prelude.{ℕ, ◌+◌, ◌-◌, Bool, true, false, ◌==◌, nat_lt, if◌then◌else◌, max, List, [], ◌∷◌}
-use Rattle.std.specs.Prelude.{◌≡◌, Option, Some, None, option_map, Result, IfOk}
+use Rattle.std.specs.Prelude.{◌≡◌, Option, Some, None, option_map, Result, Ok, Err, IfOk}
 use Rattle.std.specs.List.{list_any}
 use Rattle.sector_disk.specs.declared.disk.Disk.{Ghosts}
 use Rattle.event_bytes.specs.declared.event.Event.{Event}
@@ -13,6 +13,11 @@ use Rattle.desktop_definitions.specs.declared.entry.Entry.{Entry}
 use Rattle.desktop_definitions.specs.Shown.{shown_screen}
 use Rattle.desk_journal.specs.Errors.{Error}
 use Rattle.desk_journal.specs.Looking.{OnlyLooks}
+use Rattle.caret_moves.specs.declared.wish.KeyWish.{KeyWish}
+use Rattle.caret_moves.specs.declared.wish.KeyWish.TheVariants.{Step, DeleteNext}
+use Rattle.caret_moves.specs.declared.wish.WhyNot.{WhyNot}
+use Rattle.caret_moves.specs.declared.wish.WhyNot.TheVariants as why
+use Rattle.desk_journal.specs.Leading.{led}
 use Rattle.desk_journal.specs.Scrolling.{Wish, presses_to}
 use Rattle.desk_journal.specs.Scrolling as wish
 use Rattle.desk_journal.specs.View.{StoreView}
@@ -21,8 +26,6 @@ use Rattle.first_desk.specs.FirstDesk.{tool_event}
 use Rattle.terminal_presses.specs.Sights.{Sight}
 use Rattle.terminal_presses.specs.declared.action.Click.{Click as AClick}
 use Rattle.desk_sayings.specs.Clicks.{caret_event}
-use Rattle.terminal_presses.specs.declared.press.Arrow.{Arrow}
-use Rattle.terminal_presses.specs.declared.press.Arrow.TheVariants as arrow
 use Rattle.screen_reading.specs.CommandWords.{next_command}
 use Rattle.desk_sayings.specs.Deeds.{is_middle}
 use Rattle.screen_reading.specs.Filling.{filling, line_end}
@@ -31,14 +34,13 @@ use Rattle.screen_reading.specs.declared.filling.Filling.{Filling}
 use Rattle.screen_reading.specs.declared.filling.Filling.TheVariants.{Plain, Ended, Broken}
 use Rattle.screen_reading.specs.declared.menus.WordCall.{WordCall}
 use Rattle.screen_reading.specs.Menus.{word_call}
-use Rattle.screen_reading.specs.Aims.{aimed, caret_cell, edge_of, further, is_caret_at, or_else, row_below}
+use Rattle.screen_reading.specs.Aims.{caret_cell, or_else}
 use Rattle.screen_reading.specs.Frames.{text_end, text_rows_in_sight, text_start}
 pub use Rattle.event_bytes.specs.Parts.{◌>>=◌}
 use Rattle.desk_sayings.specs.declared.saying.Saying.{Saying}
 use Rattle.desk_sayings.specs.declared.saying.Saying.TheVariants.{NoText, NoScroll, NothingAfter, NoWord, NoCommand}
 use Rattle.desk_tasks.specs.declared.task.Task.{Task}
-use Rattle.desk_tasks.specs.declared.task.Task.TheVariants.{Post, Scroll, Step, AtCaret, Click, Delete, Pass, Below}
-use Rattle.desk_tasks.specs.declared.task.Task.TheVariants.{Shift, Reach, Rub}
+use Rattle.desk_tasks.specs.declared.task.Task.TheVariants.{Post, Scroll, Lead, AtCaret}
 use Rattle.desk_tasks.specs.declared.task.Task.TheVariants.{Compose, Break, Rejoin, Call, After, Seek, Replace, Wrap}
 use Rattle.desk_tasks.specs.declared.task.Task.TheVariants.{Resume}
 use Rattle.desk_tasks.specs.declared.task.Task.TheVariants.{Page, Show, Last, Reveal, Enter}
@@ -75,9 +77,17 @@ unfoldable pub at_caret_plan : AClick → Option (ℕ × ℕ) → Plan
 at_caret_plan click None = Refused NoText
 at_caret_plan click (Some place) = Events [] (Some (Post (caret_event click place)))
 
--- why nothing is done, by whether something was to be deleted
-abbrev pub why_not : Bool → Saying
-why_not deletes = if deletes then NothingAfter else NoText
+-- what is said where no events do what is wished of the caret
+unfoldable pub why_not : KeyWish → WhyNot → Saying
+why_not wish why.NoRow = NoScroll
+why_not wish why.TooFar = NoScroll
+why_not (Step step) reason = NoText
+why_not DeleteNext reason = NothingAfter
+
+-- the events for what is wished of the caret
+abbrev pub lead_plan : KeyWish → Result (List Event) WhyNot → Plan
+lead_plan wish (Ok events) = Events events None
+lead_plan wish (Err reason) = Refused (why_not wish reason)
 
 -- where a viewer was to show a line by its number, or its last one, that comes into sight
 abbrev pub shown_then : Wish → Option Task
@@ -118,69 +128,6 @@ abbrev pub shown_plan : Bool → Option Place → Plan
 shown_plan at_end None = Events [] None
 shown_plan at_end (Some place) =
     if at_end then Events [] (Some (Last place)) else show_plan (text_start place)
-
--- Right may have to pass the cells of a tabulator: the caret is before it after a click in any of them
-unfoldable pub passing : Arrow → List (List Cell) → Option Task
-passing arrow.Right screen =
-    option_map (λ (at : ℕ × ℕ). Pass at (at.0 + 2) false) (caret_cell screen)
-passing _ screen = None
-
--- at an edge of a viewer its text moves
-unfoldable pub at_edge : Arrow → Option (ℕ × ℕ) → Plan
-at_edge arrow.Up (Some at) = Events [] (Some (Shift at (wish.Up 1) false))
-at_edge arrow.Down (Some at) = Events [] (Some (Below at false))
-at_edge _ _ = Refused NoText
-
-abbrev pub step_to : Arrow → Option (ℕ × ℕ) → List (List Cell) → Plan
-step_to arrow None screen = at_edge arrow (edge_of arrow screen)
-step_to arrow (Some place) screen = Events (click_of place ∷ []) (passing arrow screen)
-
--- a click where an arrow leads
-unfoldable pub step_plan : Arrow → List (List Cell) → Plan
-step_plan arrow screen = step_to arrow (aimed arrow screen) screen
-
--- a click beside the caret
-abbrev pub beside : Option (ℕ × ℕ) → Option (ℕ × ℕ) → Plan
-beside (Some from) (Some place) = Events (click_of place ∷ []) (Some (Pass from (from.0 + 2) true))
-beside _ _ = Refused NothingAfter
-
-unfoldable pub delete_plan : List (List Cell) → Plan
-delete_plan screen = beside (caret_cell screen) (aimed arrow.Right screen)
-
--- The character that was passed is deleted. Where none was, the line ends there, and the next one is to be reached.
-abbrev pub to_next_line : ℕ × ℕ → Option (ℕ × ℕ) → Plan
-to_next_line from (Some place) = Events (click_of place ∷ []) (Some (Reach from))
-to_next_line from None = Events [] (Some (Below from true))
-
-unfoldable pub rest_of_pass : ℕ × ℕ → List (List Cell) → Plan
-rest_of_pass from screen =
-    if is_caret_at from screen then to_next_line from (row_below screen) else Events [] (Some Rub)
-
--- a click further, where the caret stands before a tabulator still
-abbrev pub passed_to : ℕ × ℕ → Bool → Option (ℕ × ℕ) → List (List Cell) → Plan
-passed_to from deletes (Some place) screen =
-    Events (click_of place ∷ []) (Some (Pass from (place.0 + 1) deletes))
-passed_to from deletes None screen =
-    if deletes then rest_of_pass from screen else Events [] None
-
-unfoldable pub pass_plan : ℕ × ℕ → ℕ → Bool → List (List Cell) → Plan
-pass_plan from column deletes screen = passed_to from deletes (further from column screen) screen
-
--- the end of a line is deleted, where the caret has reached the next one
-unfoldable pub reach_plan : ℕ × ℕ → List (List Cell) → Plan
-reach_plan from screen =
-    if is_caret_at from screen then Refused NothingAfter else Events [] (Some Rub)
-
--- The text is to move by a line, unless it shows its last line already, to which it goes by these presses.
-abbrev pub below_plan : ℕ × ℕ → Bool → Option (List Event) → Plan
-below_plan at deletes (Some []) = Refused (why_not deletes)
-below_plan at deletes _ = Events [] (Some (Shift at (wish.Down 1) deletes))
-
--- It moves, and the caret goes to the line that came into sight, or the deletion begins anew.
-abbrev pub shift_plan : ℕ × ℕ → Bool → Option (List Event) → Plan
-shift_plan at deletes (Some (event ∷ events)) =
-    Events (event ∷ events) (Some (if deletes then Delete else Click at))
-shift_plan at deletes _ = Refused (why_not deletes)
 
 -- What is typed: a blank at the edge ends its line. Another character there goes to a new line, with the word before it:
 -- a click behind the last blank, an end of line, a click where the caret was, and then what is typed.
@@ -279,13 +226,7 @@ plan_on (Replace t fills) screen = replace_plan (first_typed t) t fills screen
 plan_on (Wrap next t fills) screen =
     Events (line_end ∷ []) (Some (Resume (click_of next) t fills))
 plan_on (Resume event t fills) screen = Events (event ∷ []) (Some (Replace t fills))
-plan_on (Step arrow) screen = step_plan arrow screen
 plan_on (AtCaret click) screen = at_caret_plan click (caret_cell screen)
-plan_on (Click place) screen = Events (click_of place ∷ []) None
-plan_on Delete screen = delete_plan screen
-plan_on (Pass from column deletes) screen = pass_plan from column deletes screen
-plan_on (Reach from) screen = reach_plan from screen
-plan_on Rub screen = Events (event.Key key.Back ∷ []) None
 plan_on (Last place) screen = show_plan (text_end place screen)
 plan_on (Reveal cell) screen = Shows cell
 plan_on _ screen = Events [] None
@@ -297,8 +238,7 @@ plan_of (Enter cell) d = entry_plan (desk_info d).is_marked cell
 plan_of (Scroll at wish) d = scroll_plan wish (presses_to d at wish)
 plan_of (Page at is_up sight) d = page_plan at is_up sight d
 plan_of (Show at_end) d = shown_plan at_end (caret_place d)
-plan_of (Below at deletes) d = below_plan at deletes (presses_to d None wish.End)
-plan_of (Shift at wish deletes) d = shift_plan at deletes (presses_to d None wish)
+plan_of (Lead wish) d = lead_plan wish (led d wish)
 plan_of task d = plan_on task (shown_screen d)
 
 module _ {D : Type 0} (d : Ghosts D) where

@@ -5,10 +5,15 @@ use Rattle.event_bytes.specs.declared.event.Event.{Event}
 use Rattle.event_bytes.specs.declared.event.Event.TheVariants as event
 use Rattle.event_bytes.specs.declared.keys.Keys.TheVariants as keys
 use Rattle.event_bytes.specs.declared.keys.Key.TheVariants as key
+use Rattle.caret_moves.specs.declared.wish.Step.{Step as AStep}
+use Rattle.caret_moves.specs.declared.wish.Step.TheVariants as step
+use Rattle.caret_moves.specs.declared.wish.KeyWish.TheVariants.{Step, DeleteNext}
 use Rattle.desk_journal.specs.Scrolling as wish
 use Rattle.terminal_presses.specs.Sights.{Sight}
 use Rattle.terminal_presses.specs.declared.action.Action.{Action}
 use Rattle.terminal_presses.specs.declared.action.Action.TheVariants as action
+use Rattle.terminal_presses.specs.declared.press.Arrow.{Arrow}
+use Rattle.terminal_presses.specs.declared.press.Arrow.TheVariants as arrow
 use Rattle.terminal_presses.specs.declared.press.Scroll.{Scroll as ScrollKey}
 use Rattle.terminal_presses.specs.declared.press.Scroll.TheVariants.{WheelUp, WheelDown, PageUp, PageDown, First, Last}
 use Rattle.terminal_presses.specs.declared.spot.Spot.{Spot}
@@ -18,7 +23,7 @@ use Rattle.desk_sayings.specs.Deeds.{deed_of}
 use Rattle.desk_tasks.specs.Replacing.{TypingView}
 use Rattle.screen_reading.specs.declared.menus.MenuWord.TheVariants as word
 use Rattle.desk_tasks.specs.declared.task.Task.{Task}
-use Rattle.desk_tasks.specs.declared.task.Task.TheVariants.{Post, Scroll, Step, AtCaret, Delete, Rub}
+use Rattle.desk_tasks.specs.declared.task.Task.TheVariants.{Post, Scroll, Lead, AtCaret}
 use Rattle.desk_tasks.specs.declared.task.Task.TheVariants.{Compose, Break, Rejoin, Call, After, Seek, Replace, Wrap}
 use Rattle.desk_tasks.specs.declared.task.Task.TheVariants.{Resume}
 use Rattle.desk_tasks.specs.declared.task.Task.TheVariants.{Page, Show, Last, Reveal, Enter}
@@ -31,6 +36,17 @@ scroll_task at PageUp sight = Page at true sight
 scroll_task at PageDown sight = Page at false sight
 scroll_task at First sight = Scroll at (wish.Line 0)
 scroll_task at Last sight = Scroll at wish.End
+
+-- the step of an arrow
+unfoldable pub step_meant : Arrow → AStep
+step_meant arrow.Up = step.Up
+step_meant arrow.Down = step.Down
+step_meant arrow.Right = step.Right
+step_meant arrow.Left = step.Left
+step_meant arrow.Home = step.LineStart
+step_meant arrow.End = step.LineEnd
+step_meant arrow.WordRight = step.WordRight
+step_meant arrow.WordLeft = step.WordLeft
 
 abbrev pub cell_meant : Option Spot → Option (ℕ × ℕ)
 cell_meant at = option_map (λ spot. (spot.x, spot.y)) at
@@ -49,8 +65,8 @@ task_of fills replacement sight (action.Scroll at scroll) =
     Some (scroll_task (cell_meant at) scroll sight)
 task_of fills replacement sight (action.GoTo line) = Some (Scroll None (wish.Line (line - 1)))
 task_of fills replacement sight (action.Seek at) = Some (Seek (at.x, at.y))
-task_of fills replacement sight (action.Step arrow) = Some (Step arrow)
-task_of fills replacement sight action.Delete = Some Delete
+task_of fills replacement sight (action.Step arrow) = Some (Lead (Step (step_meant arrow)))
+task_of fills replacement sight action.Delete = Some (Lead DeleteNext)
 task_of fills replacement sight (action.AtCaret click) = Some (AtCaret click)
 task_of fills replacement sight action.Search = Some (Call word.Search)
 task_of fills replacement sight action.Store = Some (Call word.Store)
@@ -76,7 +92,7 @@ deed_of_task (Seek at) = None
 deed_of_task (Replace t fills) = Some deed.Replacement
 deed_of_task (Wrap next t fills) = Some deed.Replacement
 deed_of_task (Resume event t fills) = Some deed.Replacement
-deed_of_task Rub = Some (deed.Key key.Back)
+deed_of_task (Lead DeleteNext) = Some (deed.Key key.Back)
 deed_of_task _ = Some (deed.Click keys.Left)
 
 -- whether the rows in sight don't follow the caret for it

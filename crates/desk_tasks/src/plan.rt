@@ -1,17 +1,17 @@
 //! What a task becomes over a desktop.
 ghost use Rattle.std.specs.Prelude.{◌≡◌, true, false, None, option_map};
-ghost use Rattle.desk_tasks.specs.Plans.{Plans, below_plan, caret_place, empty_plan, entry_plan, is_call};
+ghost use Rattle.std.specs.Result.{result_map_both};
+ghost use Rattle.desk_tasks.specs.Plans.{Plans, caret_place, empty_plan, entry_plan, is_call, lead_plan};
 ghost use Rattle.desk_tasks.specs.Plans.{opened_plan, opened_viewer, page_plan, page_wish, place_meant, plan_of};
-ghost use Rattle.desk_tasks.specs.Plans.{plan_on, scroll_plan, seen_plan, shift_plan, shown_plan};
-ghost use Rattle.desk_tasks.specs.Plans.{shown_then};
+ghost use Rattle.desk_tasks.specs.Plans.{plan_on, scroll_plan, seen_plan, shown_plan, shown_then, why_not};
 ghost use Rattle.desk_journal.specs.Views.{desk_info};
 ghost use Rattle.desk_journal.specs.Views.{shown_viewer};
 ghost use Rattle.desktop_definitions.specs.Shown.{shown_screen};
 
-use crate::by_screen::{click, plan_on, show_plan, why_not};
+use crate::by_screen::{click, plan_on, show_plan};
 use crate::listed::{begins_in_viewer, has_tool, place_at, uncalled_event};
 use crate::task::{CellPlace, Task};
-use desk_journal::{DeskInfo, Error, ShownViewer, Store, Wish};
+use desk_journal::{DeskInfo, Error, KeyWish, ShownViewer, Store, WhyNot, Wish};
 use desk_sayings::{Saying, SayingLine};
 use desktop_definitions::Entry;
 use event_bytes::{Event, Key, Keys};
@@ -63,13 +63,9 @@ impl Task {
                 let presses = store.scroll(alloc, at, wish)?;
                 Ok(scroll_plan(wish, presses))
             }
-            Task::Below { at, deletes } => {
-                let presses = store.scroll(alloc, None, Wish::End)?;
-                Ok(below_plan(at, deletes, &presses))
-            }
-            Task::Shift { at, wish, deletes } => {
-                let presses = store.scroll(alloc, None, wish)?;
-                Ok(shift_plan(at, deletes, presses))
+            Task::Lead(wish) => {
+                let told = store.lead(alloc, wish)?;
+                Ok(lead_plan(wish, told))
             }
             seen => plan_seen(alloc, seen, store),
         }
@@ -300,37 +296,25 @@ fn shown_then(wish: Wish) -> Option<Task>
     }
 }
 
-/// The text is to move by a line. Where it shows its last line already, by these presses to it, there is none below.
-fn below_plan(at: CellPlace, deletes: bool, presses: &Option<Vec<Event>>) -> Plan
+/// The events for what is wished of the caret, or why there are none.
+fn lead_plan(wish: KeyWish, told: Result<Vec<Event>, WhyNot>) -> Plan
     ensures { seen_plan result
-        ≡ below_plan at deletes (option_map (λ events. events.items) presses.now) }
+        ≡ lead_plan wish (result_map_both (λ events. events.items) (λ why. why) told) }
 {
-    match presses {
-        Some(events) if events.as_slice().is_empty() => Plan::Refused(why_not(deletes)),
-        _ => Plan::Next(Some(Task::Shift {
-            at,
-            wish: Wish::Down(1),
-            deletes,
-        })),
+    match told {
+        Ok(events) => Plan::Events(events, None),
+        Err(why) => Plan::Refused(why_not(wish, why)),
     }
 }
 
-/// The text moves by these presses, and then the caret goes to the line that came into sight, or the deletion goes on.
-fn shift_plan(at: CellPlace, deletes: bool, presses: Option<Vec<Event>>) -> Plan
-    ensures { seen_plan result
-        ≡ shift_plan at deletes (option_map (λ events. events.items) presses) }
+/// What is said where no events do what is wished of the caret.
+#[tactic(auto, unfolding(crate::specs::Plans::why_not))]
+fn why_not(wish: KeyWish, why: WhyNot) -> Saying
+    ensures { result ≡ why_not wish why }
 {
-    match presses {
-        Some(events) if !events.as_slice().is_empty() => {
-            Plan::Events(
-                events,
-                Some(if deletes {
-                    Task::Delete
-                } else {
-                    Task::Click(at)
-                }),
-            )
-        }
-        _ => Plan::Refused(why_not(deletes)),
+    match (wish, why) {
+        (_, WhyNot::NoRow | WhyNot::TooFar) => Saying::NoScroll,
+        (KeyWish::Step(_), _) => Saying::NoText,
+        (KeyWish::DeleteNext, _) => Saying::NothingAfter,
     }
 }

@@ -5,10 +5,10 @@
 //! `plan_of` in `specs/Plans.antt`, and what does it here; each plan is made by one look at the store.
 ghost use Rattle.std.specs.Prelude.{◌≡◌, Some, None, IfOk, IfErr};
 ghost use Rattle.desk_tasks.specs.Tasks.{cell_meant as cell_of_spot, deed_of_task, keeps_sight, posting, scroll_task};
-ghost use Rattle.desk_tasks.specs.Tasks.{task_of};
+ghost use Rattle.desk_tasks.specs.Tasks.{step_meant as step_of_arrow, task_of};
 
 use crate::replacing::Typing;
-use desk_journal::{DeskInfo, Wish};
+use desk_journal::{DeskInfo, KeyWish, Step, Wish};
 use desk_sayings::Deed;
 use event_bytes::{Event, Key, Keys};
 use screen_reading::MenuWord;
@@ -62,36 +62,10 @@ pub enum Task {
     Last(viewer_tracks::Place),
     /// A cell comes into sight.
     Reveal(CellPlace),
-    /// The caret goes where an arrow leads.
-    Step(Arrow),
     /// A click at the cell of the caret.
     AtCaret(Click),
-    /// A left click at a cell.
-    Click(CellPlace),
-    /// The character after the caret is deleted.
-    Delete,
-    /// The caret stood at a cell when a click was made beside it. If it stands there still, a click at that column of the
-    /// row passes what is there, to go on or to delete it.
-    Pass {
-        from: CellPlace,
-        column: u8,
-        deletes: bool,
-    },
-    /// The caret stands at a cell in the lowest row of its viewer. If a line stands below, the text moves.
-    Below {
-        at: CellPlace,
-        deletes: bool,
-    },
-    /// The text moves of the viewer in which the caret stands at a cell.
-    Shift {
-        at: CellPlace,
-        wish: Wish,
-        deletes: bool,
-    },
-    /// A click was made in the row below the caret at a cell. If it has left that, what stands before it is deleted.
-    Reach(CellPlace),
-    /// The character before the caret is deleted.
-    Rub,
+    /// What is wished of the caret by a key.
+    Lead(KeyWish),
 }
 
 impl Task {
@@ -113,8 +87,8 @@ impl Task {
             Action::Post(event) => Ok(posting(fills, event)),
             Action::Scroll(at, scroll) => Ok(scroll_task(cell_meant(at), scroll, sight)),
             Action::GoTo(line) => Ok(Task::Scroll(None, Wish::Line(line.saturating_sub(1)))),
-            Action::Step(arrow) => Ok(Task::Step(arrow)),
-            Action::Delete => Ok(Task::Delete),
+            Action::Step(arrow) => Ok(Task::Lead(KeyWish::Step(step_meant(arrow)))),
+            Action::Delete => Ok(Task::Lead(KeyWish::DeleteNext)),
             Action::AtCaret(click) => Ok(Task::AtCaret(click)),
             Action::Search => Ok(Task::Call(MenuWord::Search)),
             Action::Store => Ok(Task::Call(MenuWord::Store)),
@@ -148,7 +122,7 @@ impl Task {
             )),
             Task::Call(_) => Some(Deed::Click(Keys::Middle)),
             Task::Scroll(_, _) | Task::Page { .. } => Some(Deed::Scroll),
-            Task::Rub => Some(Deed::Key(Key::Back)),
+            Task::Lead(KeyWish::DeleteNext) => Some(Deed::Key(Key::Back)),
             _ => Some(Deed::Click(Keys::Left)),
         }
     }
@@ -191,6 +165,23 @@ fn scroll_task(at: Option<CellPlace>, scroll: Scroll, sight: Sight) -> Task
         },
         Scroll::First => Task::Scroll(at, Wish::Line(0)),
         Scroll::Last => Task::Scroll(at, Wish::End),
+    }
+}
+
+/// The step of an arrow.
+#[tactic(auto, unfolding(crate::specs::Tasks::step_meant))]
+fn step_meant(arrow: Arrow) -> Step
+    ensures { result ≡ step_of_arrow arrow }
+{
+    match arrow {
+        Arrow::Up => Step::Up,
+        Arrow::Down => Step::Down,
+        Arrow::Right => Step::Right,
+        Arrow::Left => Step::Left,
+        Arrow::Home => Step::LineStart,
+        Arrow::End => Step::LineEnd,
+        Arrow::WordRight => Step::WordRight,
+        Arrow::WordLeft => Step::WordLeft,
     }
 }
 

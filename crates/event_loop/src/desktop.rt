@@ -15,6 +15,8 @@ ghost use Rattle.desk_image.specs.Image.{Spells, image_of, image_bytes, IsSpella
 ghost use Rattle.desk_image.specs.Passing.{OnlyGets};
 ghost use Rattle.desktop_definitions.specs.Viewers.{text_of};
 ghost use Rattle.desk_input.specs.Scrolling.{Scrolls};
+ghost use Rattle.caret_moves.specs.Leading.{Leads};
+ghost use Rattle.std.specs.Result.{result_map_both};
 ghost use Rattle.screen_cells.specs.Lines.{AreLinesOf};
 ghost use Rattle.event_loop.specs.Keeping.{KeepsLines};
 ghost use Rattle.desk_core.specs.Words.{FailsAs, OnlyReads, flat, AreWithin, seen, IsKeptWhole, IsOver, IsStop};
@@ -24,6 +26,7 @@ mod views;
 use crate::events::act;
 use crate::regions::region_of;
 use crate::stale::{forget, stale_from, stale_of};
+use caret_moves::{KeyWish, WhyNot, lead};
 use char_file::{CharSource, Fault};
 use command_table::Version;
 use desk_bringing::{Document, bring};
@@ -272,6 +275,31 @@ impl Desktop {
     {
         self.desk.alloc = alloc;
         presses_to(&self.desk, at, wish, source)
+    }
+
+    /// The events after which what is wished of the caret is done, and nothing else is changed; or why there are none. Done
+    /// in their order, none is refused.
+    ///
+    /// NoMemory where an allocation is refused; Fault where a character could not be read. The desktop stays, whatever
+    /// is returned.
+    pub fn lead<S: CharSource>(
+        &mut self,
+        alloc: Global,
+        wish: KeyWish,
+        source: &mut S,
+    ) -> Result<Result<Vec<Event>, WhyNot>, Stop>
+        requires { IsOver (S.characters source.old) self.old }
+        ensures leads { IfOk result (λ told. S.honest source.old
+            → Leads (seen (S.characters source.old) self.old) wish
+            (result_map_both (λ events. events.items) (λ why. why) told)) }
+        ensures unchanged { self.new ≡ self.old }
+        ensures reads { OnlyReads S.characters S.failures S.honest S.same_ground source.old
+            source.new }
+        ensures faults { FailsAs Stop.Fault IsStop result (S.failures source.old)
+            (S.failures source.new) }
+    {
+        self.desk.alloc = alloc;
+        lead(&self.desk, wish, source)
     }
 
     /// Puts the image of the desktop in the newest version, the bytes that say how it is kept, and returns how many

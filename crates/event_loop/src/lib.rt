@@ -14,6 +14,7 @@ mod losses;
 mod regions;
 mod stale;
 
+pub use caret_moves::{KeyWish, Step, WhyNot};
 pub use command_table::{NEWEST, Version};
 pub use desk_bringing::Document;
 pub use desk_core::stop::{NoMemory, Stop};

@@ -1,6 +1,6 @@
--- The places of a row to which the caret goes by its ends and by words.
+-- What stands in a row of the screen, by the kinds of its cells.
 use Rattle.std.specs.Prelude.{ℕ, zero, suc, ◌+◌, Bool, true, false, ◌==◌, not, if◌then◌else◌, List, length, drop}
-use Rattle.std.specs.Prelude.{min, max, position, unwrap_or}
+use Rattle.std.specs.Prelude.{position, unwrap_or}
 use Rattle.event_bytes.specs.Bytes.{is_name_byte}
 use Rattle.screen_pictures.specs.declared.cell.Cell.{Cell}
 use Rattle.screen_pictures.specs.declared.cell.Mark.{Mark}
@@ -44,12 +44,3 @@ begin_of kind row (suc x) = if is_of kind (column_at row x) then begin_of kind r
 -- the last column of the text around column x
 abbrev pub last_of : List Cell → ℕ → ℕ
 last_of row x = x + kind_run Text (drop (x + 1) row)
-
--- Where the next word begins: behind the one that stands there and the blanks after it. Behind the last one it is the
--- end of the text.
-abbrev pub next_word : List Cell → ℕ → ℕ
-next_word row x = min (end_of Blank row (end_of Letter row x)) (last_of row x)
-
--- where the word before begins; before the first one it is the beginning of the text
-abbrev pub word_before : List Cell → ℕ → ℕ
-word_before row x = max (begin_of Letter row (begin_of Blank row x)) (begin_of Text row x)

@@ -1,11 +1,9 @@
-//! The places of a row to which the caret goes by its ends and by words.
+//! What stands in a row of the screen, by the kinds of its cells.
 ghost use Rattle.std.specs.Prelude.{◌≡◌, ◌<◌, ◌≤◌, length, not, position, IfSome};
 ghost use Rattle.screen_pictures.specs.Screen.{column_at};
 ghost use Rattle.viewer_tracks.specs.declared.display.TheConstants.{COLUMNS};
 ghost use Rattle.screen_reading.specs.Along.{begin_of as first_of_kind, end_of as behind_kind, is_of as of_kind};
-ghost use Rattle.screen_reading.specs.Along.{shows_text, is_text};
-ghost use Rattle.screen_reading.specs.Along.{last_of as end_of_text, next_word as word_behind, kind_run as run_of};
-ghost use Rattle.screen_reading.specs.Along.{word_before as word_in_front};
+ghost use Rattle.screen_reading.specs.Along.{shows_text, last_of as end_of_text, kind_run as run_of};
 
 use event_bytes::is_name_byte;
 use screen_pictures::{Cell, Mark};
@@ -25,13 +23,6 @@ pub(crate) enum Kind {
     Blank,
     /// A byte of a name is there.
     Name,
-}
-
-/// Whether a text is shown there, and no caret.
-pub(crate) fn is_text(mark: Mark) -> bool
-    ensures { result ≡ is_text mark }
-{
-    matches!(mark, Mark::Text | Mark::Selected | Mark::Marker)
 }
 
 /// Whether a cell is of a kind.
@@ -114,24 +105,4 @@ pub(crate) fn last_of(row: &Row, x: usize) -> usize
     ensures within { result < COLUMNS }
 {
     x + run(Kind::Text, &row[x + 1..])
-}
-
-/// Where the next word begins, or else the text ends.
-pub(crate) fn next_word(row: &Row, x: usize) -> usize
-    requires { x < COLUMNS }
-    ensures value { result ≡ word_behind row.now x }
-    ensures within { result < COLUMNS }
-{
-    let gap = end_of(Kind::Letter, row, x);
-    end_of(Kind::Blank, row, gap).min(last_of(row, x))
-}
-
-/// Where the word before begins, or else the text.
-pub(crate) fn word_before(row: &Row, x: usize) -> usize
-    requires { x < COLUMNS }
-    ensures value { result ≡ word_in_front row.now x }
-    ensures within { result < COLUMNS }
-{
-    let gap = begin_of(Kind::Blank, row, x);
-    begin_of(Kind::Letter, row, gap).max(begin_of(Kind::Text, row, x))
 }

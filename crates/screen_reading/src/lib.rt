@@ -1,10 +1,10 @@
 //! What is seen on a screen, and what a press means by it.
 //!
-//! A key that moves the caret means a cell of the screen (`aim`): beside it, at an end of its row or a word further
-//! (`along`). The name of a command is read from the screen that was clicked (`called`), and so are those to which the
-//! pointer goes by a key (`command_words`), and the words of a menu (`menus`). Where a viewer's text stands is in
-//! `frames`, and where a line is broken that is typed beyond its edge in `filling`. The rows in sight follow a cell, and
-//! fit the terminal's window (`window`). Nothing here knows a store.
+//! Where the caret is seen is in `aim`, and what stands in a row in `along`. The name of a command is read from the
+//! screen that was clicked (`called`), and so are those to which the pointer goes by a key (`command_words`), and the
+//! words of a menu (`menus`). Where a viewer's text stands is in `frames`, and where a line is broken that is typed
+//! beyond its edge in `filling`. The rows in sight follow a cell, and fit the terminal's window (`window`). Nothing here
+//! knows a store.
 #![tactic(auto)]
 
 mod aim;
@@ -16,7 +16,7 @@ mod frames;
 mod menus;
 mod window;
 
-pub use aim::{aimed, caret_of, edge_of, further, is_caret_at, row_below};
+pub use aim::caret_of;
 pub use called::{MOST_WORD, called_word, parameter_word, word_from};
 pub use command_words::next_command;
 pub use filling::{Break, Filling, line_end};

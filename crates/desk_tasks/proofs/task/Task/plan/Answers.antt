@@ -3,8 +3,8 @@ use Rattle.std.proofs.lemmas.Result.{err_from_is_err_and}
 use Rattle.desk_tasks.specs.declared.task.Task.TheVariants as kind
 use Rattle.std.specs.Prelude.{Option}
 use Rattle.desk_journal.specs.Views.{DeskInfo, Place}
-use Rattle.desk_tasks.specs.Plans.{below_plan, entry_plan, plan_of, scroll_plan, shift_plan, shown_plan}
-use Rattle.desk_tasks.proofs.Planning.{by_screen, plans_at_once, plans_by_presses, plans_seen, plans_unseen}
+use Rattle.desk_tasks.specs.Plans.{entry_plan, plan_of, scroll_plan, shown_plan}
+use Rattle.desk_tasks.proofs.Planning.{by_screen, plans_at_once, plans_by_lead, plans_by_presses, plans_seen, plans_unseen}
 use Rattle.desk_tasks.proofs.task.Task.plan.Goals as goal
 
 pub returns-in-Enter : goal.returns-in-Enter
@@ -35,33 +35,18 @@ returns-in_err-presses-in-Scroll g c =
     let p = err_from_is_err_and c.from_residual.result c.from_residual.ensures.1 in
     rw (p.1, p.2) (plans_unseen g.D.Disk c.in_err-presses-in-Scroll.ensures.looks)
 
-pub returns-in_ok-presses-in-Below : goal.returns-in_ok-presses-in-Below
-unfolding plan_of
-returns-in_ok-presses-in-Below g c = rw c.in-Below.is (plans_seen g.D.Disk c.in_ok-presses-in-Below.presses c.below_plan.result
-    c.in_ok-presses-in-Below.ensures.looks
-    (plans_by_presses g.D.Disk (kind.Below c.in-Below.at c.in-Below.deletes) c.below_plan.result
-    (below_plan c.in-Below.at c.in-Below.deletes) c.args.store.now (λ desktop. refl) c.below_plan.ensures
-    c.in_ok-presses-in-Below.ensures.scrolls))
+pub returns-in_ok-told-in-Lead : goal.returns-in_ok-told-in-Lead
+returns-in_ok-told-in-Lead g c = rw c.in-Lead.is (plans_seen g.D.Disk c.in_ok-told-in-Lead.told c.lead_plan.result
+    c.in_ok-told-in-Lead.ensures.looks
+    (plans_by_lead g.D.Disk c.in-Lead.wish c.lead_plan.result c.args.store.now c.lead_plan.ensures
+    c.in_ok-told-in-Lead.ensures.leads))
 
-pub returns-in_err-presses-in-Below : goal.returns-in_err-presses-in-Below
-returns-in_err-presses-in-Below g c =
-    let p = err_from_is_err_and c.from_residual-in_err-presses-in-Below.result c.from_residual-in_err-presses-in-Below.ensures.1 in
-    rw (p.1, p.2) (plans_unseen g.D.Disk c.in_err-presses-in-Below.ensures.looks)
-
-pub returns-in_ok-presses-in-Shift : goal.returns-in_ok-presses-in-Shift
-unfolding plan_of
-returns-in_ok-presses-in-Shift g c = rw c.in-Shift.is (plans_seen g.D.Disk c.in_ok-presses-in-Shift.presses c.shift_plan.result
-    c.in_ok-presses-in-Shift.ensures.looks
-    (plans_by_presses g.D.Disk (kind.Shift c.in-Shift.at c.in-Shift.wish c.in-Shift.deletes) c.shift_plan.result
-    (shift_plan c.in-Shift.at c.in-Shift.deletes) c.args.store.now (λ desktop. refl) c.shift_plan.ensures
-    c.in_ok-presses-in-Shift.ensures.scrolls))
-
-pub returns-in_err-presses-in-Shift : goal.returns-in_err-presses-in-Shift
-returns-in_err-presses-in-Shift g c =
-    let p = err_from_is_err_and c.from_residual-in_err-presses-in-Shift.result c.from_residual-in_err-presses-in-Shift.ensures.1 in
-    rw (p.1, p.2) (plans_unseen g.D.Disk c.in_err-presses-in-Shift.ensures.looks)
+pub returns-in_err-told-in-Lead : goal.returns-in_err-told-in-Lead
+returns-in_err-told-in-Lead g c =
+    let p = err_from_is_err_and c.from_residual-in_err-told-in-Lead.result c.from_residual-in_err-told-in-Lead.ensures.1 in
+    rw (p.1, p.2) (plans_unseen g.D.Disk c.in_err-told-in-Lead.ensures.looks)
 
 pub plan_seen-requires-clause-seen : goal.plan_seen-requires-clause-seen
 plan_seen-requires-clause-seen g c = by_screen _ c.args.store.now.desktop c.in_default.not-Post c.in_default.not-Scroll
-    c.in_default.not-Below c.in_default.not-Shift c.in_default.not-After c.in_default.not-Enter c.in_default.not-Page
+    c.in_default.not-Lead c.in_default.not-After c.in_default.not-Enter c.in_default.not-Page
     c.in_default.not-Show

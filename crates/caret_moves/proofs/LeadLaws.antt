@@ -1,0 +1,340 @@
+-- The events for a wish lead the caret where it is wished, and change nothing else.
+use Rattle.std.specs.Prelude.{◌≡◌, ℕ, zero, suc, ◌+◌, ◌-◌, ◌<◌, ◌≤◌, ◌==◌, ◌&&◌, nat_le, nat_lt, min, max, Bool, true, false, cond}
+use Rattle.std.specs.Prelude.{◌⊎◌, if◌then◌else◌, List, [], ◌∷◌, ◌++◌, length, Option, Some, None, IfSome, IsSome, Result, Ok, Err, IfOk}
+use Rattle.std.specs.Option.{option_map, unwrap_or, ok_or}
+use Rattle.std.proofs.Common.{refl, sym, ap, subst, ◌∙◌, inl, inr, arith}
+use Rattle.std.proofs.lemmas.Bool.{eq-eqb, eqb-true, lt-ltb, le-ltb, le-leb, leb-true, ltb-true, and_parts}
+use Rattle.std.proofs.lemmas.Bool.Decides.{eqb_tells, leb_tells}
+use Rattle.std.proofs.lemmas.List.{length-map}
+use Rattle.event_bytes.specs.declared.keys.Keys.TheVariants.{Left}
+use Rattle.event_bytes.specs.declared.keys.Key.TheVariants.{Back}
+use Rattle.event_bytes.specs.declared.event.Event.{Event}
+use Rattle.event_bytes.specs.declared.event.Event.TheVariants.{Key, Point}
+use Rattle.piece_ring.specs.declared.piece.Look.{Look}
+use Rattle.viewer_tracks.specs.declared.display.Track.{Track}
+use Rattle.viewer_tracks.specs.declared.display.Track.TheVariants.{User, System}
+use Rattle.viewer_tracks.specs.declared.display.TheConstants.{ROWS, COLUMNS, SYSTEM_LEFT}
+use Rattle.viewer_tracks.specs.Display.{track_at, left_of}
+use Rattle.viewer_tracks.specs.Columns.{IsColumns, IsOnTop, track_of, placed_top, placed_bottom, seen_at}
+use Rattle.screen_pictures.specs.Picture.{width_of}
+use Rattle.text_frames.specs.Lines.{begins_line}
+use Rattle.text_frames.specs.Cells.{column_of, row_of, position_at}
+use Rattle.text_frames.specs.Rules.{is_in_rows}
+use Rattle.desktop_definitions.specs.declared.region.Region.{Region}
+use Rattle.desktop_definitions.specs.declared.region.Region.TheVariants.{Menu, Bar, Body}
+use Rattle.desktop_definitions.specs.declared.reply.Reply.TheVariants.{Done}
+use Rattle.desktop_definitions.specs.declared.viewer.Viewer.{Viewer}
+use Rattle.desktop_definitions.specs.declared.viewer.Caret.{Caret}
+use Rattle.desktop_definitions.specs.Limits.{newest_version, most_written, most_held, outside, no_caret}
+use Rattle.desktop_definitions.specs.Needs.{needs, unless}
+use Rattle.desktop_definitions.specs.Tables.{text_numbered}
+use Rattle.desktop_definitions.specs.Desktop.{Desktop, characters_held}
+use Rattle.desktop_definitions.specs.Viewers.{bare_viewer, viewer_in, viewer_of, main_of, text_in, text_of, rows_of}
+use Rattle.desktop_definitions.specs.Viewers.{with_org, with_caret}
+use Rattle.desktop_definitions.specs.Change.{bytes_of, caret_shown, deletion}
+use Rattle.desktop_definitions.specs.Changed.{CountsHeld}
+use Rattle.desktop_definitions.specs.Gesture.{is_on_display, left, width, part_of, region_at, frame_row, text_column}
+use Rattle.desktop_definitions.specs.Gesture.{text_row, text_position, pointed, done_at}
+use Rattle.desktop_definitions.specs.Keys.{after_key, without_character_before}
+use Rattle.desktop_definitions.specs.Step.{step, step_in, raw, outcome_after, Outcome, outcome_of, fits}
+use Rattle.desktop_definitions.specs.Sound.{IsSound}
+use Rattle.desktop_definitions.proofs.ChangeLaws.{with_org_counts, with_caret_counts, counts_further, deletion_counts}
+use Rattle.desktop_definitions.proofs.ChangeLaws.{caret_shown_counts, is_there}
+use Rattle.desktop_definitions.proofs.RowLaws.{shown_rest, fit_sound}
+use Rattle.desktop_definitions.proofs.StepLaws.{settled_done}
+use Rattle.desk_input.specs.Lines.{lines_in_sight}
+use Rattle.desk_input.specs.Scrolling.{line_presses, LeadTo}
+use Rattle.desk_input.proofs.BarLaws.{seen_left, seen_across}
+use Rattle.desk_input.proofs.ScrollLaws.{line_leads, org_found, org_own, step_leads, there}
+use Rattle.caret_moves.specs.declared.wish.Step.{Step as AStep}
+use Rattle.caret_moves.specs.declared.wish.KeyWish.{KeyWish}
+use Rattle.caret_moves.specs.declared.wish.KeyWish.TheVariants.{Step, DeleteNext}
+use Rattle.caret_moves.specs.declared.wish.WhyNot.{WhyNot}
+use Rattle.caret_moves.specs.declared.wish.WhyNot.TheVariants.{NoCaret, NoRow, TooFar, NothingBehind, PastEdge}
+use Rattle.caret_moves.specs.Steps.{column_cut, org_for, landing, stepped}
+use Rattle.caret_moves.specs.Leading.{text_width, text_click, stepped_in, org_in, has_column, landing_in, stood, after_wish}
+use Rattle.caret_moves.specs.Leading.{click_at, org_presses, events_to, with_back, delete_led, led_from, led_by, led, Leads}
+use Rattle.caret_moves.proofs.RowLaws.{org_shown, org_begins, org_from, sight_is, lands_there}
+use Rattle.caret_moves.proofs.StepLaws.{stepped_within}
+
+-- ---- events one after another
+
+pub leads_on : (d mid last : Desktop) (xs ys : List Event) → LeadTo d xs mid → LeadTo mid ys last → LeadTo d (xs ++ ys) last
+leads_on d mid last [] ys first rest = subst (λ (x : Desktop). LeadTo x ys last) (sym first) rest
+leads_on d mid last (x ∷ xs) ys first rest = (first.0, leads_on (step d x).desktop mid last xs ys first.1 rest)
+
+leads_more : (d mid last : Desktop) (event : Event) (events : Option (List Event))
+    → IfSome events (λ events. LeadTo d events mid) → step mid event ≡ outcome_of last Done
+    → IfSome (option_map (λ events. events ++ event ∷ []) events) (λ events. LeadTo d events last)
+leads_more d mid last event None lead is = tt
+leads_more d mid last event (Some events) lead is =
+    leads_on d mid last events (event ∷ []) lead (step_leads mid last last event [] is refl)
+
+-- ---- a click in a viewer's text
+
+in_track : (k : Track) (column : ℕ) → column + 1 < width_of k → track_at (left_of k + 1 + column) ≡ k
+in_track User column low = ap (λ (b : Bool). if b then User else System)
+    (lt-ltb (0 + 1 + column) SYSTEM_LEFT (omega (arith, low)))
+in_track System column low = ap (λ (b : Bool). if b then User else System)
+    (le-ltb (SYSTEM_LEFT + 1 + column) SYSTEM_LEFT (omega arith))
+
+in_display : (k : Track) (column : ℕ) → column + 1 < width_of k → left_of k + 1 + column < COLUMNS
+in_display User column low = omega (arith, low)
+in_display System column low = omega (arith, low)
+
+module _ (d : Desktop) (v column row : ℕ) (columns : IsColumns d.columns) (top : IsOnTop v d.columns)
+    (narrow : column + 1 < width d v) (low : row < rows_of d v) where
+  is_body : region_at d (left d v + 1 + column) (frame_row d v row) ≡ Body v
+  unfolding region_at
+  is_body =
+      let x = left d v + 1 + column in
+      let y = frame_row d v row in
+      let seen : seen_at d.columns x y ≡ Some v = seen_across d.columns v x y columns top
+      (in_track (track_of d.columns v) column narrow) (omega (arith, low)) (omega (arith, low)) in
+      let below : (y + 1 == placed_top d.columns v) ≡ false = elim (eqb_tells (y + 1) (placed_top d.columns v)) [
+        | inl same ↦ absurd (let no : ⊥ = omega (arith, same.1, low) in no)
+        | inr other ↦ other.0
+      ] in
+      let right : (x == left d v) ≡ false = elim (eqb_tells x (left d v)) [
+        | inl same ↦ absurd (let no : ⊥ = omega (arith, same.1) in no)
+        | inr other ↦ other.0
+      ] in
+      ap (part_of d x y) seen ∙ (λ k. if below k then Menu v else (if right k then Bar v else Body v))
+
+  on_display : is_on_display (left d v + 1 + column) (frame_row d v row) ≡ true
+  on_display =
+      let y = frame_row d v row in
+      let here = seen_left d.columns v y columns top (omega (arith, low)) (omega (arith, low)) in
+      λ k. lt-ltb (left d v + 1 + column) COLUMNS (in_display (track_of d.columns v) column narrow) k
+      && lt-ltb y ROWS (let fits = here.top in omega (arith, low, fits)) k
+
+  column_is : text_column d v (left d v + 1 + column) ≡ column
+  column_is = omega (arith, narrow)
+
+  row_is : text_row d v (frame_row d v row) ≡ row
+  row_is = omega (arith, low)
+
+  is_done_at : raw newest_version d (text_click d v column row)
+      ≡ Ok (with_caret d v (position_at (bytes_of (main_of d v)) (viewer_of d v).org column row))
+  unfolding raw pointed text_click text_position done_at
+  is_done_at =
+      let x = left d v + 1 + column in
+      let y = frame_row d v row in
+      (λ k. unless (on_display k && on_display k) outside (pointed newest_version d (is_body k) Left x y x y))
+      ∙ (λ k. Ok (with_caret d v (position_at (bytes_of (main_of d v)) (viewer_of d v).org (column_is k) (row_is k))))
+
+module _ (d : Desktop) (v : ℕ) (sound : IsSound d) (top : IsOnTop v d.columns) where
+  caret_fits : (b p : ℕ) → fits (with_caret (with_org d v b) v p) ≡ true
+  caret_fits b p =
+      let counts = with_org_counts d v b in
+      let more = with_caret_counts (with_org d v b) v p in
+      let held : characters_held (with_caret (with_org d v b) v p) ≡ characters_held d =
+      (let c = counts.counted in let m = more.counted in omega (arith, c, m)) in
+      (λ k. nat_le ((more.written ∙ counts.written) k) most_written && nat_le (held k) most_held) ∙ fit_sound d sound
+
+  click_steps : (t column row : ℕ) → column + 1 < width d v → row < rows_of d v
+      → step (with_org d v t) (text_click d v column row)
+      ≡ outcome_of (with_caret (with_org d v t) v (position_at (bytes_of (main_of d v)) t column row)) Done
+  unfolding step step_in text_click
+  click_steps t column row narrow low =
+      let x : Desktop = with_org d v t in
+      let p : ℕ = position_at (bytes_of (main_of d v)) t column row in
+      let counts = counts_further d x (with_caret x v p) 0 0 0 0 (with_org_counts d v t) (with_caret_counts x v p) in
+      ap (outcome_after x) (is_done_at x v column row sound.shaped.places.columns_hold top narrow low
+      ∙ ap (λ (w : Viewer). Ok (with_caret x v (position_at (bytes_of (text_in d.texts w.main)) w.org column row)))
+      (org_found d v (there d v sound top) t))
+      ∙ settled_done x (with_caret x v p) (shown_rest d (with_caret x v p) counts.numbers counts.viewers sound.shown)
+      (caret_fits t p)
+
+  module _ (p : ℕ) (within : p ≤ length (main_of d v)) where
+    bytes_long : length (bytes_of (main_of d v)) ≡ length (main_of d v)
+    bytes_long = length-map (main_of d v) (λ (c : ℕ × Look). c.0)
+
+    p_within : p ≤ length (bytes_of (main_of d v))
+    p_within = omega (arith, within, bytes_long)
+
+    pub org_low : org_in d v p ≤ length (bytes_of (main_of d v))
+    unfolding org_in
+    org_low = let is = org_from (bytes_of (main_of d v)) (rows_of d v) (viewer_of d v).org p p_within in omega (arith, is, p_within)
+
+    org_or : (org_in d v p ≡ (viewer_of d v).org) ⊎ (begins_line (bytes_of (main_of d v)) (org_in d v p) ≡ true)
+    unfolding org_in
+    org_or = org_begins (bytes_of (main_of d v)) (rows_of d v) (viewer_of d v).org p p_within
+
+    org_leads : IfSome (org_presses d v (org_in d v p)) (λ events. LeadTo d events (with_org d v (org_in d v p)))
+    unfolding org_presses
+    org_leads =
+        let t : ℕ = org_in d v p in
+        let org : ℕ = (viewer_of d v).org in
+        (elim (t == org) as (λ (b : Bool). (t == org) ≡ b
+        → IfSome (if b then Some [] else line_presses d v t) (λ events. LeadTo d events (with_org d v t))) [
+          | true ↦ λ is. sym (ap (λ (org : ℕ). with_org d v org) (eqb-true t org is) ∙ org_own d v (there d v sound top))
+          | false ↦ λ is. line_leads d v sound top t org_low (elim org_or [
+            | inl same ↦ absurd (let no : true ≡ false = sym (eq-eqb t org same) ∙ is in cc no)
+            | inr begins ↦ begins
+          ])
+        ]) refl
+
+    -- The events lead the caret there.
+    pub events_lead : 0 < rows_of d v → IfSome (events_to d v p) (λ events. LeadTo d events (stood d v p))
+    unfolding events_to stood landing_in click_at org_in
+    events_lead some =
+        let bs = bytes_of (main_of d v) in
+        let t : ℕ = org_in d v p in
+        let shown : is_in_rows bs (rows_of d v) t p ≡ true =
+        org_shown bs (rows_of d v) (viewer_of d v).org p p_within some in
+        let row : unwrap_or (lines_in_sight bs (rows_of d v) t p) 0 ≡ row_of bs t p = sight_is bs (rows_of d v) t p shown in
+        let low : row_of bs t p < rows_of d v = ltb-true _ _ (and_parts _ _ shown).1 in
+        leads_more d (with_org d v t) (stood d v p) (click_at d v t p) (org_presses d v t) org_leads
+        (ap (λ (r : ℕ). step (with_org d v t) (text_click d v (column_cut bs (text_width d v) t p) r)) row
+        ∙ click_steps t (column_cut bs (text_width d v) t p) (row_of bs t p) (cut_narrow (track_of d.columns v)) low)
+      where
+        cut_narrow : (k : Track) → min (column_of (bytes_of (main_of d v)) (org_in d v p) p) (width_of k - 1 - 1) + 1 < width_of k
+        cut_narrow User = omega arith
+        cut_narrow System = omega arith
+
+    -- It stands at the very position where that has a column.
+    pub lands_in : has_column d v p ≡ true → landing_in d v p ≡ p
+    unfolding has_column landing_in org_in
+    lands_in is = lands_there (bytes_of (main_of d v)) (org_in d v p) p
+        (org_from (bytes_of (main_of d v)) (rows_of d v) (viewer_of d v).org p p_within) p_within (text_width d v)
+        (ltb-true _ _ is)
+
+  -- ---- the character before the caret is deleted
+
+  module _ (t p : ℕ) (some : p + 1 ≤ length (main_of d v)) where
+    abbrev seat : Desktop
+    seat = with_caret (with_org d v t) v (p + 1)
+
+    abbrev place : Caret
+    place = record { viewer = v; position = p + 1 }
+
+    main_is : (viewer_of seat v).main ≡ (viewer_of d v).main
+    main_is = ap (λ (w : Viewer). w.main) (org_found d v (there d v sound top) t)
+
+    main_there : IsSome (text_numbered seat.texts (viewer_of seat v).main)
+    main_there = subst (λ (n : ℕ). IsSome (text_numbered d.texts n)) (sym main_is)
+        (sound.shaped.viewers.each v (viewer_of d v)
+        (is_there (viewer_in d.viewers v) bare_viewer (there d v sound top))).main
+
+    main_long : p + 1 ≤ length (text_of seat (viewer_of seat v).main)
+    main_long = subst (λ (n : ℕ). p + 1 ≤ length (text_in d.texts n)) (sym main_is) some
+
+    done_by : (new : Desktop) (fewer : ℕ) → CountsHeld d new 0 fewer → outcome_after seat (Ok new) ≡ outcome_of new Done
+    done_by new fewer counts =
+        let c = counts.counted in let h = sound.held_within in let w = sound.written_within in let e = counts.written in
+        settled_done seat new (shown_rest d new counts.numbers counts.viewers sound.shown)
+        (λ k. le-leb new.written most_written (omega (arith, w, e)) k
+        && le-leb (characters_held new) most_held (omega (arith, c, h)) k)
+
+    seat_counts : CountsHeld d seat 0 0
+    seat_counts = counts_further d (with_org d v t) seat 0 0 0 0 (with_org_counts d v t)
+        (with_caret_counts (with_org d v t) v (p + 1))
+
+    pub back_steps : step seat (Key Back) ≡ outcome_of (without_character_before seat place) Done
+    unfolding step step_in raw after_key
+    back_steps =
+        let n : ℕ = (viewer_of seat v).main in
+        let cut : Desktop = deletion seat n (p + 1 - 1) (p + 1) in
+        let new : Desktop = caret_shown cut v (p + 1 - 1) in
+        elim (p + 1 == 0) as (λ (b : Bool). outcome_after seat (Ok (if b then seat else new))
+        ≡ outcome_of (if b then seat else new) Done) [
+          | true ↦ done_by seat 0 seat_counts
+          | false ↦ done_by new (0 + (p + 1 - (p + 1 - 1)) + 0)
+              (counts_further d cut new 0 (0 + (p + 1 - (p + 1 - 1))) 0 0
+              (counts_further d seat cut 0 0 0 (p + 1 - (p + 1 - 1)) seat_counts
+              (deletion_counts seat n (p + 1 - 1) (p + 1) main_there (omega arith) main_long))
+              (caret_shown_counts cut v (p + 1 - 1)))
+        ]
+
+-- ---- the theorem of wishes
+
+if_ok_or : {X E : Type 0} (P : X → Type 0) (o : Option X) (e : E) → IfSome o P → IfOk (ok_or o e) P
+if_ok_or P None e holds = tt
+if_ok_or P (Some x) e holds = holds
+
+module _ (d : Desktop) (sound : IsSound d) (c : Caret) (is : d.caret ≡ Some c) where
+  c_top : IsOnTop c.viewer d.columns
+  c_top = (sound.shaped.marks.caret_stands c is).placed
+
+  c_within : c.position ≤ length (main_of d c.viewer)
+  c_within = (sound.shaped.marks.caret_stands c is).within
+
+  step_led : (s : AStep) → 0 < rows_of d c.viewer
+      → IfOk (led_from d c.viewer c.position (Step s)) (λ events. LeadTo d events (after_wish d c (Step s)))
+  unfolding led_from after_wish stepped_in
+  step_led s some =
+      let bs = bytes_of (main_of d c.viewer) in
+      let long : length bs ≡ length (main_of d c.viewer) = length-map (main_of d c.viewer) (λ (x : ℕ × Look). x.0) in
+      let low = stepped_within bs (text_width d c.viewer) (rows_of d c.viewer) c.position s (omega (arith, c_within, long)) in
+      if_ok_or (λ events. LeadTo d events (stood d c.viewer (stepped_in d c.viewer c.position s)))
+      (events_to d c.viewer (stepped_in d c.viewer c.position s)) TooFar
+      (events_lead d c.viewer sound c_top (stepped_in d c.viewer c.position s) (omega (arith, low, long)) some)
+
+  next_led : 0 < rows_of d c.viewer → c.position + 1 ≤ length (main_of d c.viewer) → has_column d c.viewer (c.position + 1) ≡ true
+      → IfSome (with_back (events_to d c.viewer (c.position + 1))) (λ events. LeadTo d events (after_wish d c DeleteNext))
+  unfolding after_wish stood
+  next_led some low column =
+      let p = c.position in
+      let t : ℕ = org_in d c.viewer (p + 1) in
+      let lands = lands_in d c.viewer sound c_top (p + 1) low column in
+      let spot : Caret = record { viewer = c.viewer; position = p + 1 } in
+      leads_more d (stood d c.viewer (p + 1)) (without_character_before (stood d c.viewer (p + 1)) spot) (Key Back) (events_to d c.viewer (p + 1))
+      (events_lead d c.viewer sound c_top (p + 1) low some)
+      (subst (λ (q : ℕ). step (with_caret (with_org d c.viewer t) c.viewer q) (Key Back)
+      ≡ outcome_of (without_character_before (with_caret (with_org d c.viewer t) c.viewer q) spot) Done) (sym lands)
+      (back_steps d c.viewer sound c_top t p low))
+
+  delete_leads : 0 < rows_of d c.viewer
+      → IfOk (led_from d c.viewer c.position DeleteNext) (λ events. LeadTo d events (after_wish d c DeleteNext))
+  unfolding led_from
+  delete_leads some = (elim (nat_lt c.position (length (main_of d c.viewer))) as (λ (b : Bool).
+      nat_lt c.position (length (main_of d c.viewer)) ≡ b
+      → IfOk (if b then (if has_column d c.viewer (c.position + 1) then ok_or (with_back (events_to d c.viewer (c.position + 1))) TooFar
+      else Err PastEdge) else Err NothingBehind) (λ events. LeadTo d events (after_wish d c DeleteNext))) [
+        | true ↦ λ more. (elim (has_column d c.viewer (c.position + 1)) as (λ (b : Bool). has_column d c.viewer (c.position + 1) ≡ b
+            → IfOk (if b then ok_or (with_back (events_to d c.viewer (c.position + 1))) TooFar else Err PastEdge)
+            (λ events. LeadTo d events (after_wish d c DeleteNext))) [
+              | true ↦ λ column. if_ok_or (λ events. LeadTo d events (after_wish d c DeleteNext))
+                  (with_back (events_to d c.viewer (c.position + 1))) TooFar
+                  (next_led some (let low = ltb-true _ _ more in omega (arith, low)) column)
+              | false ↦ λ none. tt
+            ]) refl
+        | false ↦ λ none. tt
+      ]) refl
+
+  wish_led : (wish : KeyWish) → 0 < rows_of d c.viewer
+      → IfOk (led_from d c.viewer c.position wish) (λ events. LeadTo d events (after_wish d c wish))
+  wish_led (Step s) some = step_led s some
+  wish_led DeleteNext some = delete_leads some
+
+  leads_from : (wish : KeyWish) → IfOk (led_by d (Some c) wish) (λ events. LeadTo d events (after_wish d c wish))
+  leads_from wish = (elim (rows_of d c.viewer == 0) as (λ (b : Bool). (rows_of d c.viewer == 0) ≡ b
+      → IfOk (if b then Err NoRow else led_from d c.viewer c.position wish)
+      (λ events. LeadTo d events (after_wish d c wish))) [
+        | true ↦ λ none. tt
+        | false ↦ λ other. wish_led wish (some_row (rows_of d c.viewer) other)
+      ]) refl
+    where
+      some_row : (n : ℕ) → (n == 0) ≡ false → 0 < n
+      some_row zero other = absurd (cc other)
+      some_row (suc n) other = omega arith
+
+module _ (d : Desktop) (sound : IsSound d) (wish : KeyWish) where
+  by_caret : (caret : Option Caret) → d.caret ≡ caret
+      → IfSome caret (λ c. IfOk (led_by d caret wish) (λ events. LeadTo d events (after_wish d c wish)))
+  by_caret None is = tt
+  by_caret (Some c) is = leads_from d sound c is wish
+
+  all_land : (caret : Option Caret) → d.caret ≡ caret → IfSome caret (λ c. (p : ℕ) → p ≤ length (main_of d c.viewer)
+      → has_column d c.viewer p ≡ true → landing_in d c.viewer p ≡ p)
+  all_land None is = tt
+  all_land (Some c) is = λ p low column. lands_in d c.viewer sound (sound.shaped.marks.caret_stands c is).placed p low column
+
+  -- The events for a wish lead to it.
+  pub wish_leads : Leads d wish (led d wish)
+  unfolding led
+  wish_leads = record { exact = refl; lead = by_caret d.caret refl; lands = all_land d.caret refl }
+
+  pub told_leads : (told : Result (List Event) WhyNot) → told ≡ led d wish → Leads d wish told
+  told_leads told is = subst (λ (r : Result (List Event) WhyNot). Leads d wish r) (sym is) wish_leads

@@ -1,0 +1,165 @@
+-- What is wished of the caret, as it is told of a desktop that was read.
+use Rattle.std.specs.Prelude.{◌≡◌, ℕ, ◌+◌, ◌-◌, ◌<◌, ◌≤◌, ◌==◌, nat_lt, Bool, true, false, cond, if◌then◌else◌, List, [], ◌∷◌, ◌++◌}
+use Rattle.std.specs.Prelude.{length, Option, Some, None, is_some, option_map, ok_or, unwrap_or, Result, Ok, Err}
+use Rattle.std.specs.Result.{result_map_both}
+use Rattle.std.proofs.Common.{refl, sym, ap, ◌∙◌, arith}
+use Rattle.std.proofs.lemmas.Bool.{eq-eqb, ne_eqb, lt-ltb, le-ltb}
+use Rattle.event_bytes.specs.declared.event.Event.{Event}
+use Rattle.event_bytes.specs.declared.event.Event.TheVariants.{Key}
+use Rattle.event_bytes.specs.declared.keys.Key.TheVariants.{Back}
+use Rattle.piece_ring.specs.declared.piece.Piece.{Piece}
+use Rattle.piece_ring.specs.Flat.{flat}
+use Rattle.readers_scanners.specs.Reading.{bytes_of_text}
+use Rattle.text_frames.specs.Cells.{column_of}
+use Rattle.text_frames.specs.Near.{below}
+use Rattle.desktop_definitions.specs.declared.viewer.Caret.{Caret}
+use Rattle.desktop_definitions.specs.Desktop.{Desktop, KeptDesktop}
+use Rattle.desktop_definitions.specs.Viewers.{text_in, viewer_of, viewer_or_none, main_of, rows_of}
+use Rattle.desktop_definitions.specs.Change.{bytes_of}
+use Rattle.desktop_definitions.specs.Gesture.{left, width, frame_row}
+use Rattle.desktop_definitions.specs.Seen.{seen}
+use Rattle.desktop_definitions.specs.Sound.{IsOver}
+use Rattle.desk_core.proofs.PositionLemmas.{bytes_read, main_long}
+use Rattle.desk_input.specs.Lines.{lines_in_sight}
+use Rattle.desk_input.specs.Scrolling.{line_presses}
+use Rattle.caret_moves.specs.declared.wish.Step.{Step as AStep}
+use Rattle.caret_moves.specs.declared.wish.KeyWish.{KeyWish}
+use Rattle.caret_moves.specs.declared.wish.KeyWish.TheVariants.{Step, DeleteNext}
+use Rattle.caret_moves.specs.declared.wish.WhyNot.{WhyNot}
+use Rattle.caret_moves.specs.declared.wish.WhyNot.TheVariants.{NoCaret, NoRow, TooFar, NothingBehind, PastEdge}
+use Rattle.caret_moves.specs.Steps.{column_cut, stepped, org_for}
+use Rattle.caret_moves.specs.Leading.{text_width, text_click, stepped_in, org_in, has_column, click_at, org_presses, events_to}
+use Rattle.caret_moves.specs.Leading.{with_back, delete_led, led_from, led_by, led, Leads}
+use Rattle.caret_moves.proofs.LeadLaws.{told_leads}
+
+-- ---- what was read of a viewer
+
+module _ (old : List ℕ) (d : KeptDesktop) (v : ℕ) (text : List Piece)
+    (text_is : text ≡ text_in d.texts (viewer_or_none d.viewers v).main) where
+  bytes_are : bytes_of_text old (flat text) ≡ bytes_of (main_of (seen old d) v)
+  bytes_are = ap (λ (t : List Piece). bytes_of_text old (flat t)) text_is ∙ sym (bytes_read old d v)
+
+  module _ (h w : ℕ) (rows_is : h ≡ rows_of d v) (width_is : w + 1 ≡ width d v) where
+    width_told : w ≡ text_width d v
+    width_told = omega (arith, width_is)
+
+    pub step_read : (p : ℕ) (step : AStep) → stepped (bytes_of_text old (flat text)) w h p step ≡ stepped_in (seen old d) v p step
+    unfolding stepped_in seen
+    step_read p step = λ k. stepped (bytes_are k) (width_told k) (rows_is k) p step
+
+    pub click_read : (org p : ℕ) → text_click d v (column_cut (bytes_of_text old (flat text)) w org p)
+        (unwrap_or (lines_in_sight (bytes_of_text old (flat text)) h org p) 0) ≡ click_at (seen old d) v org p
+    unfolding click_at seen text_click
+    click_read org p = λ k. text_click d v (column_cut (bytes_are k) (width_told k) org p)
+        (unwrap_or (lines_in_sight (bytes_are k) (rows_is k) org p) 0)
+
+  pub org_read : (h org p : ℕ) → h ≡ rows_of d v → org ≡ (viewer_or_none d.viewers v).org
+      → org_for (bytes_of_text old (flat text)) h org p ≡ org_in (seen old d) v p
+  unfolding org_in seen
+  org_read h org p rows_is org_is = λ k. org_for (bytes_are k) (rows_is k) (org_is k) p
+
+  pub column_seen : (w p org : ℕ) (column : Option ℕ) → w + 1 ≡ width d v → org ≡ org_in (seen old d) v p
+      → column ≡ below w (column_of (bytes_of_text old (flat text)) org p)
+      → is_some column ≡ has_column (seen old d) v p
+  unfolding has_column seen
+  column_seen w p org column width_is org_is column_is =
+      let told : w ≡ text_width d v = omega (arith, width_is) in
+      ap is_some (column_is ∙ (λ k. below (told k) (column_of (bytes_are k) (org_is k) p)))
+      ∙ by_test (nat_lt (column_of (bytes_of (main_of (seen old d) v)) (org_in (seen old d) v p) p) (text_width d v))
+      (column_of (bytes_of (main_of (seen old d) v)) (org_in (seen old d) v p) p)
+    where
+      by_test : (b : Bool) (column : ℕ) → is_some (if b then Some column else None) ≡ b
+      by_test true column = refl
+      by_test false column = refl
+
+-- ---- events as they are told
+
+module _ (old : List ℕ) (d : KeptDesktop) (v t org : ℕ) (org_is : org ≡ (viewer_or_none d.viewers v).org) where
+  pub presses_none : t ≡ org → Some [] ≡ org_presses (seen old d) v t
+  unfolding org_presses seen
+  presses_none same = ap (λ (b : Bool).
+      let o : Option (List Event) = if b then Some [] else line_presses (seen old d) v t in o)
+      (sym (eq-eqb t (viewer_or_none d.viewers v).org (same ∙ org_is)))
+
+  pub presses_some : (t ≡ org → ⊥) → line_presses (seen old d) v t ≡ org_presses (seen old d) v t
+  unfolding org_presses seen
+  presses_some other = ap (λ (b : Bool).
+      let o : Option (List Event) = if b then Some [] else line_presses (seen old d) v t in o)
+      (sym (ne_eqb t (viewer_or_none d.viewers v).org (λ same. other (same ∙ sym org_is))))
+
+module _ (d : Desktop) (v p org : ℕ) (org_is : org ≡ org_in d v p) where
+  pub events_none : None ≡ org_presses d v org → None ≡ events_to d v p
+  unfolding events_to
+  events_none is = ap (λ (o : Option (List Event)). option_map (λ presses. presses ++ click_at d v (org_in d v p) p ∷ []) o)
+      (is ∙ ap (org_presses d v) org_is)
+
+  pub events_some : (presses all : List Event) (click : Event) → Some presses ≡ org_presses d v org → click ≡ click_at d v org p
+      → all ≡ presses ++ click ∷ [] → Some all ≡ events_to d v p
+  unfolding events_to
+  events_some presses all click is click_is all_is =
+      ap (λ (l : List Event). Some l) (all_is ∙ ap (λ (e : Event). presses ++ e ∷ []) (click_is ∙ ap (λ (o : ℕ). click_at d v o p) org_is))
+      ∙ ap (λ (o : Option (List Event)). option_map (λ presses. presses ++ click_at d v (org_in d v p) p ∷ []) o)
+      (is ∙ ap (org_presses d v) org_is)
+
+pub mapped_ok : {A B E : Type 0} (f : A → B) (o : Option A) (e : E)
+    → result_map_both f (λ (why : E). why) (ok_or o e) ≡ ok_or (option_map f o) e
+mapped_ok f None e = refl
+mapped_ok f (Some a) e = refl
+
+-- ---- to delete
+
+module _ (d : Desktop) (v p : ℕ) where
+  abbrev choice : Bool → Bool → Result (List Event) WhyNot
+  choice more column = if more
+      then (if column then ok_or (with_back (events_to d v (p + 1))) TooFar else Err PastEdge)
+      else Err NothingBehind
+
+  pub delete_last : length (main_of d v) ≤ p → Err NothingBehind ≡ led_from d v p DeleteNext
+  unfolding led_from
+  delete_last none = ap (λ (b : Bool). choice b (has_column d v (p + 1))) (sym (le-ltb p (length (main_of d v)) none))
+
+  module _ (more : p < length (main_of d v)) where
+    pub delete_past : false ≡ has_column d v (p + 1) → Err PastEdge ≡ led_from d v p DeleteNext
+    unfolding led_from
+    delete_past is = ap (choice true) is ∙ ap (λ (b : Bool). choice b (has_column d v (p + 1))) (sym (lt-ltb p _ more))
+
+    module _ (column : true ≡ has_column d v (p + 1)) where
+      by_events : (o : Option (List Event)) → o ≡ events_to d v (p + 1)
+          → ok_or (with_back o) TooFar ≡ led_from d v p DeleteNext
+      unfolding led_from
+      by_events o is = ap (λ (o : Option (List Event)). ok_or (with_back o) TooFar) is
+          ∙ ap (choice true) column ∙ ap (λ (b : Bool). choice b (has_column d v (p + 1))) (sym (lt-ltb p _ more))
+
+      pub delete_far : None ≡ events_to d v (p + 1) → Err TooFar ≡ led_from d v p DeleteNext
+      delete_far is = by_events None is
+
+      pub delete_done : (events all : List Event) → Some events ≡ events_to d v (p + 1) → all ≡ events ++ Key Back ∷ []
+          → Ok all ≡ led_from d v p DeleteNext
+      delete_done events all is all_is =
+          ap (λ (l : List Event). let r : Result (List Event) WhyNot = Ok l in r) all_is ∙ by_events (Some events) is
+
+-- ---- all wishes
+
+module _ (old : List ℕ) (d : KeptDesktop) (wish : KeyWish) (over : IsOver old d) where
+  by_led : (told : Result (List Event) WhyNot) → told ≡ led (seen old d) wish → Leads (seen old d) wish told
+  by_led told is = told_leads (seen old d) (over.whole.sound old) wish told is
+
+  pub led_none : None ≡ d.caret → Leads (seen old d) wish (Err NoCaret)
+  unfolding led seen
+  led_none is = by_led (Err NoCaret) (ap (λ (c : Option Caret). led_by (seen old d) c wish) is)
+
+  module _ (c : Caret) (is : Some c ≡ d.caret) where
+    pub led_rowless : rows_of d c.viewer ≡ 0 → Leads (seen old d) wish (Err NoRow)
+    unfolding led seen
+    led_rowless none = by_led (Err NoRow)
+        (ap (λ (b : Bool). if b then Err NoRow else led_from (seen old d) c.viewer c.position wish)
+        (sym (eq-eqb (rows_of d c.viewer) 0 none))
+        ∙ ap (λ (c : Option Caret). led_by (seen old d) c wish) is)
+
+    pub led_some : (told : Result (List Event) WhyNot) → (rows_of d c.viewer ≡ 0 → ⊥)
+        → told ≡ led_from (seen old d) c.viewer c.position wish → Leads (seen old d) wish told
+    unfolding led seen
+    led_some told some told_is = by_led told (told_is
+        ∙ ap (λ (b : Bool). if b then Err NoRow else led_from (seen old d) c.viewer c.position wish)
+        (sym (ne_eqb (rows_of d c.viewer) 0 some))
+        ∙ ap (λ (c : Option Caret). led_by (seen old d) c wish) is)
