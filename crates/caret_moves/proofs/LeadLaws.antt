@@ -1,32 +1,31 @@
 -- The events for a wish lead the caret where it is wished, and change nothing else.
-use Rattle.std.specs.Prelude.{◌≡◌, ℕ, zero, suc, ◌+◌, ◌-◌, ◌<◌, ◌≤◌, ◌==◌, ◌&&◌, nat_le, nat_lt, min, max, Bool, true, false, cond}
+use Rattle.std.specs.Prelude.{◌≡◌, ℕ, zero, suc, ◌+◌, ◌-◌, ◌<◌, ◌≤◌, ◌==◌, ◌&&◌, nat_le, nat_lt, min, Bool, true, false}
 use Rattle.std.specs.Prelude.{◌⊎◌, if◌then◌else◌, List, [], ◌∷◌, ◌++◌, length, Option, Some, None, IfSome, IsSome, Result, Ok, Err, IfOk}
 use Rattle.std.specs.Option.{option_map, unwrap_or, ok_or}
 use Rattle.std.proofs.Common.{refl, sym, ap, subst, ◌∙◌, inl, inr, arith}
-use Rattle.std.proofs.lemmas.Bool.{eq-eqb, eqb-true, lt-ltb, le-ltb, le-leb, leb-true, ltb-true, and_parts}
-use Rattle.std.proofs.lemmas.Bool.Decides.{eqb_tells, leb_tells}
+use Rattle.std.proofs.lemmas.Bool.{eq-eqb, eqb-true, lt-ltb, le-ltb, le-leb, ltb-true, and_parts}
+use Rattle.std.proofs.lemmas.Bool.Decides.{eqb_tells}
 use Rattle.std.proofs.lemmas.List.{length-map}
 use Rattle.event_bytes.specs.declared.keys.Keys.TheVariants.{Left}
 use Rattle.event_bytes.specs.declared.keys.Key.TheVariants.{Back}
 use Rattle.event_bytes.specs.declared.event.Event.{Event}
-use Rattle.event_bytes.specs.declared.event.Event.TheVariants.{Key, Point}
+use Rattle.event_bytes.specs.declared.event.Event.TheVariants.{Key}
 use Rattle.piece_ring.specs.declared.piece.Look.{Look}
 use Rattle.viewer_tracks.specs.declared.display.Track.{Track}
 use Rattle.viewer_tracks.specs.declared.display.Track.TheVariants.{User, System}
 use Rattle.viewer_tracks.specs.declared.display.TheConstants.{ROWS, COLUMNS, SYSTEM_LEFT}
 use Rattle.viewer_tracks.specs.Display.{track_at, left_of}
-use Rattle.viewer_tracks.specs.Columns.{IsColumns, IsOnTop, track_of, placed_top, placed_bottom, seen_at}
+use Rattle.viewer_tracks.specs.Columns.{IsColumns, IsOnTop, track_of, placed_top, seen_at}
 use Rattle.screen_pictures.specs.Picture.{width_of}
 use Rattle.text_frames.specs.Lines.{begins_line}
 use Rattle.text_frames.specs.Cells.{column_of, row_of, position_at}
 use Rattle.text_frames.specs.Rules.{is_in_rows}
-use Rattle.desktop_definitions.specs.declared.region.Region.{Region}
 use Rattle.desktop_definitions.specs.declared.region.Region.TheVariants.{Menu, Bar, Body}
 use Rattle.desktop_definitions.specs.declared.reply.Reply.TheVariants.{Done}
 use Rattle.desktop_definitions.specs.declared.viewer.Viewer.{Viewer}
 use Rattle.desktop_definitions.specs.declared.viewer.Caret.{Caret}
-use Rattle.desktop_definitions.specs.Limits.{newest_version, most_written, most_held, outside, no_caret}
-use Rattle.desktop_definitions.specs.Needs.{needs, unless}
+use Rattle.desktop_definitions.specs.Limits.{newest_version, most_written, most_held, outside}
+use Rattle.desktop_definitions.specs.Needs.{unless}
 use Rattle.desktop_definitions.specs.Tables.{text_numbered}
 use Rattle.desktop_definitions.specs.Desktop.{Desktop, characters_held}
 use Rattle.desktop_definitions.specs.Viewers.{bare_viewer, viewer_in, viewer_of, main_of, text_in, text_of, rows_of}
@@ -36,7 +35,7 @@ use Rattle.desktop_definitions.specs.Changed.{CountsHeld}
 use Rattle.desktop_definitions.specs.Gesture.{is_on_display, left, width, part_of, region_at, frame_row, text_column}
 use Rattle.desktop_definitions.specs.Gesture.{text_row, text_position, pointed, done_at}
 use Rattle.desktop_definitions.specs.Keys.{after_key, without_character_before}
-use Rattle.desktop_definitions.specs.Step.{step, step_in, raw, outcome_after, Outcome, outcome_of, fits}
+use Rattle.desktop_definitions.specs.Step.{step, step_in, raw, outcome_after, outcome_of, fits}
 use Rattle.desktop_definitions.specs.Sound.{IsSound}
 use Rattle.desktop_definitions.proofs.ChangeLaws.{with_org_counts, with_caret_counts, counts_further, deletion_counts}
 use Rattle.desktop_definitions.proofs.ChangeLaws.{caret_shown_counts, is_there}
@@ -50,10 +49,10 @@ use Rattle.caret_moves.specs.declared.wish.Step.{Step as AStep}
 use Rattle.caret_moves.specs.declared.wish.KeyWish.{KeyWish}
 use Rattle.caret_moves.specs.declared.wish.KeyWish.TheVariants.{Step, DeleteNext}
 use Rattle.caret_moves.specs.declared.wish.WhyNot.{WhyNot}
-use Rattle.caret_moves.specs.declared.wish.WhyNot.TheVariants.{NoCaret, NoRow, TooFar, NothingBehind, PastEdge}
-use Rattle.caret_moves.specs.Steps.{column_cut, org_for, landing, stepped}
+use Rattle.caret_moves.specs.declared.wish.WhyNot.TheVariants.{NoRow, TooFar, NothingBehind, PastEdge}
+use Rattle.caret_moves.specs.Steps.{column_cut}
 use Rattle.caret_moves.specs.Leading.{text_width, text_click, stepped_in, org_in, has_column, landing_in, stood, after_wish}
-use Rattle.caret_moves.specs.Leading.{click_at, org_presses, events_to, with_back, delete_led, led_from, led_by, led, Leads}
+use Rattle.caret_moves.specs.Leading.{click_at, org_presses, events_to, with_back, led_from, led_by, led, Leads}
 use Rattle.caret_moves.proofs.RowLaws.{org_shown, org_begins, org_from, sight_is, lands_there}
 use Rattle.caret_moves.proofs.StepLaws.{stepped_within}
 

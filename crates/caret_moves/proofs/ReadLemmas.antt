@@ -1,15 +1,15 @@
 -- What was read of a text, by the parts of a frame.
-use Rattle.std.specs.Prelude.{◌≡◌, ℕ, ◌+◌, ◌-◌, ◌<◌, ◌≤◌, ◌&&◌, nat_le, nat_lt, min, max, Bool, true, false, cond, if◌then◌else◌}
-use Rattle.std.specs.Prelude.{List, length, Option, Some, None, option_map, unwrap_or}
+use Rattle.std.specs.Prelude.{◌≡◌, ℕ, ◌-◌, ◌<◌, ◌≤◌, ◌&&◌, nat_le, nat_lt, Bool, true, false, if◌then◌else◌}
+use Rattle.std.specs.Prelude.{List, length, Option, Some, None, option_map}
 use Rattle.std.proofs.Common.{refl, sym, ap, ◌∙◌, arith}
-use Rattle.std.proofs.lemmas.Bool.{le-leb, lt-leb, lt-ltb, le-ltb}
+use Rattle.std.proofs.lemmas.Bool.{le-leb, lt-ltb, le-ltb}
 use Rattle.text_frames.specs.Lines.{line_start, line_above}
 use Rattle.text_frames.specs.Cells.{column_of, row_of, row_start, cell_of}
 use Rattle.text_frames.specs.Near.{below}
 use Rattle.text_frames.specs.Rules.{is_in_rows}
 use Rattle.text_frames.proofs.Near.{same_column}
 use Rattle.desk_input.specs.Lines.{start_below, lines_in_sight}
-use Rattle.caret_moves.specs.Steps.{column_cut, line_end, org_for}
+use Rattle.caret_moves.specs.Steps.{line_end, org_for}
 use Rattle.caret_moves.proofs.RowLaws.{own_row, row_low}
 
 -- the column of a cell in the first row of a frame

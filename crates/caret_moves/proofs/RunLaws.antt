@@ -1,6 +1,6 @@
 -- Runs of a text, byte after byte.
 use Rattle.std.specs.Prelude.{◌≡◌, ℕ, zero, suc, ◌+◌, ◌-◌, ◌<◌, ◌≤◌, not, Bool, true, false, cond, List, [], ◌∷◌, length, drop}
-use Rattle.std.specs.Prelude.{Option, Some, None, slice_get}
+use Rattle.std.specs.Prelude.{Some, slice_get}
 use Rattle.std.specs.List.{prefix_len}
 use Rattle.std.proofs.Common.{refl, sym, ap, ◌∙◌, arith, length-drop}
 use Rattle.text_frames.proofs.Greatest.{greatest_next, greatest_within}

@@ -1,5 +1,5 @@
 -- A step leads to a position of the text.
-use Rattle.std.specs.Prelude.{◌≡◌, ℕ, ◌+◌, ◌-◌, ◌≤◌, min, nat_lt, Bool, true, false, if◌then◌else◌, List, length}
+use Rattle.std.specs.Prelude.{ℕ, ◌-◌, ◌≤◌, nat_lt, Bool, true, false, if◌then◌else◌, List, length}
 use Rattle.std.proofs.Common.{arith}
 use Rattle.text_frames.specs.Lines.{line_start, begins_line, line_above}
 use Rattle.text_frames.specs.Cells.{stands_by}

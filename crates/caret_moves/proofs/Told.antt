@@ -1,5 +1,5 @@
 -- What is wished of the caret, as it is told of a desktop that was read.
-use Rattle.std.specs.Prelude.{◌≡◌, ℕ, ◌+◌, ◌-◌, ◌<◌, ◌≤◌, ◌==◌, nat_lt, Bool, true, false, cond, if◌then◌else◌, List, [], ◌∷◌, ◌++◌}
+use Rattle.std.specs.Prelude.{◌≡◌, ℕ, ◌+◌, ◌<◌, ◌≤◌, nat_lt, Bool, true, false, if◌then◌else◌, List, [], ◌∷◌, ◌++◌}
 use Rattle.std.specs.Prelude.{length, Option, Some, None, is_some, option_map, ok_or, unwrap_or, Result, Ok, Err}
 use Rattle.std.specs.Result.{result_map_both}
 use Rattle.std.proofs.Common.{refl, sym, ap, ◌∙◌, arith}
@@ -14,22 +14,22 @@ use Rattle.text_frames.specs.Cells.{column_of}
 use Rattle.text_frames.specs.Near.{below}
 use Rattle.desktop_definitions.specs.declared.viewer.Caret.{Caret}
 use Rattle.desktop_definitions.specs.Desktop.{Desktop, KeptDesktop}
-use Rattle.desktop_definitions.specs.Viewers.{text_in, viewer_of, viewer_or_none, main_of, rows_of}
+use Rattle.desktop_definitions.specs.Viewers.{text_in, viewer_or_none, main_of, rows_of}
 use Rattle.desktop_definitions.specs.Change.{bytes_of}
-use Rattle.desktop_definitions.specs.Gesture.{left, width, frame_row}
+use Rattle.desktop_definitions.specs.Gesture.{width}
 use Rattle.desktop_definitions.specs.Seen.{seen}
 use Rattle.desktop_definitions.specs.Sound.{IsOver}
-use Rattle.desk_core.proofs.PositionLemmas.{bytes_read, main_long}
+use Rattle.desk_core.proofs.PositionLemmas.{bytes_read}
 use Rattle.desk_input.specs.Lines.{lines_in_sight}
 use Rattle.desk_input.specs.Scrolling.{line_presses}
 use Rattle.caret_moves.specs.declared.wish.Step.{Step as AStep}
 use Rattle.caret_moves.specs.declared.wish.KeyWish.{KeyWish}
-use Rattle.caret_moves.specs.declared.wish.KeyWish.TheVariants.{Step, DeleteNext}
+use Rattle.caret_moves.specs.declared.wish.KeyWish.TheVariants.{DeleteNext}
 use Rattle.caret_moves.specs.declared.wish.WhyNot.{WhyNot}
 use Rattle.caret_moves.specs.declared.wish.WhyNot.TheVariants.{NoCaret, NoRow, TooFar, NothingBehind, PastEdge}
 use Rattle.caret_moves.specs.Steps.{column_cut, stepped, org_for}
 use Rattle.caret_moves.specs.Leading.{text_width, text_click, stepped_in, org_in, has_column, click_at, org_presses, events_to}
-use Rattle.caret_moves.specs.Leading.{with_back, delete_led, led_from, led_by, led, Leads}
+use Rattle.caret_moves.specs.Leading.{with_back, led_from, led_by, led, Leads}
 use Rattle.caret_moves.proofs.LeadLaws.{told_leads}
 
 -- ---- what was read of a viewer

@@ -1,6 +1,6 @@
 -- What is wished of the caret: the events that do it, and what they leave.
 use Rattle.std.specs.Prelude.{◌≡◌, ℕ, ◌+◌, ◌-◌, ◌==◌, ◌≤◌, nat_lt, Bool, true, if◌then◌else◌, List, [], ◌∷◌, ◌++◌, length}
-use Rattle.std.specs.Prelude.{Option, Some, None, option_map, ok_or, unwrap_or, IfSome, Result, Ok, Err, IfOk}
+use Rattle.std.specs.Prelude.{Option, Some, None, option_map, ok_or, unwrap_or, IfSome, Result, Err, IfOk}
 use Rattle.event_bytes.specs.declared.keys.Keys.TheVariants.{Left}
 use Rattle.event_bytes.specs.declared.keys.Key.TheVariants.{Back}
 use Rattle.event_bytes.specs.declared.event.Event.{Event}

@@ -56,7 +56,7 @@ pub(crate) fn column_below<S: CharSource>(
     ensures source { ReadsOrFails S.CharSource result source.old source.new }
 {
     let start = line_start(text, pos, source)?;
-    let cell = frame_from(start.max(org)).cell_of(text, w, 1, pos, source)?;
+    let cell = frame_from(org.max(start)).cell_of(text, w, 1, pos, source)?;
     Ok(column_told(cell))
 }
 
@@ -231,5 +231,6 @@ pub(crate) fn org_for<S: CharSource>(
     if pos < org {
         return line_start(text, pos, source);
     }
-    line_above(text, h.saturating_sub(1) as u32, pos, source)
+    let above = line_above(text, h.saturating_sub(1) as u32, pos, source)?;
+    Ok(above.min(pos))
 }

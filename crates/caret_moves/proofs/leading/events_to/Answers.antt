@@ -1,5 +1,5 @@
-use Rattle.std.proofs.Common.{ℕ, ◌∙◌, ap, sym, arith, List}
-use Rattle.std.specs.Prelude.{Option, option_map}
+use Rattle.std.proofs.Common.{◌∙◌, ap, sym}
+use Rattle.std.specs.Prelude.{option_map}
 use Rattle.char_file.proofs.Reading.{read_on}
 use Rattle.desktop_definitions.specs.Seen.{seen}
 use Rattle.desk_core.specs.Kept.{kept_desktop}

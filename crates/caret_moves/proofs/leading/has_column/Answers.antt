@@ -1,4 +1,4 @@
-use Rattle.std.proofs.Common.{◌∙◌, refl, ap, length, arith, List}
+use Rattle.std.proofs.Common.{◌∙◌, ap, length, arith, List}
 use Rattle.char_file.proofs.Reading.{read_on}
 use Rattle.piece_ring.specs.declared.piece.Piece.{Piece}
 use Rattle.piece_ring.specs.Flat.{flat}

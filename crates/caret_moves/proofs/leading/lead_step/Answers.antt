@@ -14,7 +14,7 @@ unfolding led_from
 returns-clause-told g c = λ h.
     let first = c.in_ok-pos.ensures.told in
     let reads = first.reads in
-    ap (λ r. result_map_both (λ events. events.items) (λ why. why) r) c.ok_or.ensures
+    ap (λ r. result_map_both (λ events. events.items) (λ why. why) r) c.ok_or.ensures.value
     ∙ mapped_ok (λ events. events.items) c.in_ok-events.events TooFar
     ∙ ap (λ (o : Option (List Event)). ok_or o TooFar) (c.in_ok-events.ensures.told (reads.still h)
     ∙ (λ k. events_to (seen (reads.same h k) (kept_desktop c.args.desk.now)) c.args.caret.viewer (first.exact h k)))

@@ -1,9 +1,8 @@
-use Rattle.std.proofs.Common.{◌≡◌, ◌∙◌, refl, sym, ap, arith, length}
+use Rattle.std.proofs.Common.{◌∙◌, refl, sym}
 use Rattle.piece_ring.specs.Flat.{flat}
 use Rattle.readers_scanners.specs.Reading.{bytes_of_text}
 use Rattle.readers_scanners.proofs.Walking.{at_first, onward, seen}
-use Rattle.text_frames.proofs.Placing.{length-read}
-use Rattle.caret_moves.proofs.RunLaws.{run_goes_on, run_ends_at, run_ends_last}
+use Rattle.caret_moves.proofs.RunLaws.{run_goes_on, run_ends_at}
 use Rattle.caret_moves.proofs.runs.run_end.Goals as goal
 
 pub loop-at-init : goal.loop-at-init

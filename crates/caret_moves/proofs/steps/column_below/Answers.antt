@@ -1,4 +1,4 @@
-use Rattle.std.proofs.Common.{◌≡◌, ℕ, ◌∙◌, ap, sym, arith, max}
+use Rattle.std.proofs.Common.{ℕ, ◌∙◌, ap, arith, max}
 use Rattle.std.specs.Prelude.{Option, option_map}
 use Rattle.piece_ring.specs.Flat.{flat}
 use Rattle.readers_scanners.specs.Reading.{bytes_of_text}
@@ -18,6 +18,6 @@ returns-clause-column g c = λ h.
     ∙ ap (λ (cell : Option (ℕ × ℕ)). option_map (λ (x : ℕ × ℕ). x.0) cell) (c.in_ok-cell.ensures.cell.exact (reads.still h)
     ∙ (λ k. cell_of c.args.w 1 (bytes_of_text (reads.same h k) (flat c.args.text.now))
     ((c.frame_from.ensures ∙ c.max.ensures
-    ∙ ap (λ (s : ℕ). max s c.args.org) (first.start h)) k) c.args.pos))
+    ∙ ap (λ (s : ℕ). max c.args.org s) (first.start h)) k) c.args.pos))
     ∙ column_read bs c.args.w c.args.org c.args.pos c.requires.walk.order
     (let low = c.requires.walk.within in omega (arith, long, low))

@@ -1,4 +1,5 @@
-use Rattle.std.proofs.Common.{ℕ, ◌-◌, ◌∙◌, ap, sym, arith}
+use Rattle.std.proofs.Common.{◌≡◌, ◌-◌, ◌∙◌, sym, arith}
+use Rattle.desk_input.proofs.LineLaws.{above_low}
 use Rattle.std.proofs.lemmas.Result.{IfOk-weaker}
 use Rattle.piece_ring.specs.Flat.{flat}
 use Rattle.readers_scanners.specs.Reading.{bytes_of_text}
@@ -21,11 +22,14 @@ returns-then-pos-org-clause-place g c =
     c.args.pos (sym c.in_default.is ∙ c.in_ok-lines.ensures.lines h) c.if-pos-org.true) c.line_start.ensures.start
 
 pub returns-clause-place : goal.returns-clause-place
-returns-clause-place g c =
+returns-clause-place g c = λ h.
     let reads = c.in_ok-lines.ensures.source.reads in
+    let bs = bytes_of_text (g.S.CharSource.characters c.args.source.now) (flat c.args.text.now) in
     let from = c.if-pos-org.false in
-    IfOk-weaker c.line_above.result _ _ (λ start told h.
-    told (reads.still h)
-    ∙ (λ k. line_above (bytes_of_text (reads.same h k) (flat c.args.text.now)) (c.args.h - 1) c.args.pos)
-    ∙ org_down (bytes_of_text (g.S.CharSource.characters c.args.source.now) (flat c.args.text.now)) c.args.h c.args.org
-    c.args.pos (sym c.in_default.is ∙ c.in_ok-lines.ensures.lines h) (omega (arith, from))) c.line_above.ensures.start
+    let told : c.in_ok-above.above ≡ line_above bs (c.args.h - 1) c.args.pos =
+    c.in_ok-above.ensures.start (reads.still h)
+    ∙ (λ k. line_above (bytes_of_text (reads.same h k) (flat c.args.text.now)) (c.saturating_sub.ensures k) c.args.pos) in
+    let low = above_low bs (c.args.h - 1) c.args.pos in
+    let least : c.min.result ≡ c.in_ok-above.above = (let is = c.min.ensures in omega (arith, is, told, low)) in
+    least ∙ told
+    ∙ org_down bs c.args.h c.args.org c.args.pos (sym c.in_default.is ∙ c.in_ok-lines.ensures.lines h) (omega (arith, from))
