@@ -1,4 +1,4 @@
-/* Random edits of a text in a rope (libstdc++'s), as bench/peers has them of the desktop: go to a share of the text and back to
+/* Random edits of a text in a rope (libstdc++'s), as bench/texts/peers has them of the desktop: go to a share of the text and back to
    its line's start, some lines down and some characters right, and put in five. `rope EDITS LINES`, a line having 50
    characters. Nothing is answered, shown or kept. */
 #include <cstdlib>

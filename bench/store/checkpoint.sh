@@ -1,11 +1,11 @@
 #!/usr/bin/env bash
 # A checkpoint of 262,144 characters in one piece and in 10,000, against the bare writes and syncs of one; and opening such a store, by time
-# and peak memory, beside sqlite3 opening a database of as much text. `bench/checkpoint.sh [TIMES] [FOLDER]`. Of ROUNDS (10) rounds the
+# and peak memory, beside sqlite3 opening a database of as much text. `bench/store/checkpoint.sh [TIMES] [FOLDER]`. Of ROUNDS (10) rounds the
 # fastest counts, since what a sync costs varies with all that the machine writes.
 set -eu
-. "$(dirname "$0")/parts.sh" "${2:-}"
+. "$(dirname "$0")/../parts.sh" "${2:-}"
 times=${1:-100}
-cc -O2 -o "$folder/sectors" "$top/bench/sectors.c"
+cc -O2 -o "$folder/sectors" "$top/bench/c/sectors.c"
 cd "$folder"
 
 texts_in_one_and_many '' 291

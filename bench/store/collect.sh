@@ -1,11 +1,11 @@
 #!/usr/bin/env bash
 # System.Collect of 262,000 characters in one piece and in 10,000, with the checkpoint after it, against the bare writes and syncs of both;
-# and a desktop that goes on for ten million written characters, since it collects every 1,000 events. `bench/collect.sh [TIMES] [FOLDER]`. Of
+# and a desktop that goes on for ten million written characters, since it collects every 1,000 events. `bench/store/collect.sh [TIMES] [FOLDER]`. Of
 # ROUNDS (10) rounds the fastest counts, since what a sync costs varies with all that the machine writes.
 set -eu
-. "$(dirname "$0")/parts.sh" "${2:-}"
+. "$(dirname "$0")/../parts.sh" "${2:-}"
 times=${1:-100}
-cc -O2 -o "$folder/sectors" "$top/bench/sectors.c"
+cc -O2 -o "$folder/sectors" "$top/bench/c/sectors.c"
 cd "$folder"
 
 texts_in_one_and_many %0dSystem.Collect 290

@@ -1,11 +1,11 @@
 #!/usr/bin/env bash
 # Durable events per second of `play` over a file, against a bare loop of the same writes and syncs, turn by turn in one run:
 # on a store that has just been made, on one whose journal was filled before, and through ten journals with the checkpoints between them.
-# `bench/durable.sh [ROUNDS] [FOLDER]`
+# `bench/store/durable.sh [ROUNDS] [FOLDER]`
 set -eu
-. "$(dirname "$0")/parts.sh" "${2:-}"
+. "$(dirname "$0")/../parts.sh" "${2:-}"
 rounds=${1:-5}
-cc -O2 -o "$folder/bare" "$top/bench/durable.c"
+cc -O2 -o "$folder/bare" "$top/bench/c/durable.c"
 for k in $(seq 256); do echo 'file A.Text hello'; done > "$folder/script"
 for k in $(seq 2560); do echo 'file A.Text hello'; done > "$folder/long"
 

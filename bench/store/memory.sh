@@ -1,8 +1,8 @@
 #!/usr/bin/env bash
 # The most memory (VmHWM) that 100,000 and 1,000,000 posted events take over the disk in memory, and that as many rounds
-# of five calls over 300 sectors of the disk alone take. `bench/memory.sh [FOLDER]`.
+# of five calls over 300 sectors of the disk alone take. `bench/store/memory.sh [FOLDER]`.
 set -eu
-. "$(dirname "$0")/parts.sh" "${1:-}"
+. "$(dirname "$0")/../parts.sh" "${1:-}"
 "$top/bench/build" memory_bench
 for events in 100000 1000000; do
     yes 'point l 60 20 60 20' | head -n "$events" > "$folder/script"

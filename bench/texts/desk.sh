@@ -3,10 +3,10 @@
 # its middle, 1,000 screens, 200,000 events that touch no text, and 100 searches for a word that isn't there, each with 1,000, 10,000 and 200,000
 # characters; 5,000 keystrokes and 1,000 screens where 20,000 characters are one line; and 100 times the list of 256 files in the log. As a sense of
 # scale, grep -F and ls do searches and lists over files.
-# It times bench/out/desk_bench, which it builds first, or the program that DESK_BENCH names. Other sizes: bench/desk.sh CHARACTERS..
+# It times bench/out/desk_bench, which it builds first, or the program that DESK_BENCH names. Other sizes: bench/texts/desk.sh CHARACTERS..
 # A run without rounds is taken off, so only the rounds count; of grep and ls, a run over nothing.
 set -e
-bench=$(dirname "$0")
+bench=$(dirname "$0")/..
 program=${DESK_BENCH:-$bench/out/desk_bench}
 [ -n "${DESK_BENCH-}" ] || "$bench/build" desk_bench
 [ $# -gt 0 ] || set -- 1000 10000 200000

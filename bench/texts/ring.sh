@@ -1,11 +1,11 @@
 #!/bin/sh
 # Times edits in rings of 1,000, 10,000 and 100,000 pieces: 100,000 rounds that take a random stretch out and put it in at a random
 # position (far), as many within 50 characters of the last one (near), and the typing of as many characters.
-# It times bench/out/ring_bench, which it builds first. Other numbers: bench/ring.sh ROUNDS PIECES..
+# It times bench/out/ring_bench, which it builds first. Other numbers: bench/texts/ring.sh ROUNDS PIECES..
 # A walk to a near place starts at the last one's, and a walk to a far one at a mark, so it has at most 128 links. A far edit
 # moves the marks between it and the last one, so a far round costs some more for each mark that it passes.
 set -e
-bench=$(dirname "$0")
+bench=$(dirname "$0")/..
 program=$bench/out/ring_bench
 "$bench/build" ring_bench
 rounds=${1:-100000}

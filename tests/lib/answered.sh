@@ -2,8 +2,8 @@
 # Sourced by scripts that cut a play off, and look at what its store holds afterwards. It makes `new.disk`, a store
 # whose characters stand in the area, and `events`, a script whose lines are answered by one line each. `shown.N` is
 # what such a store shows after the first N of them, as a run in memory has it, and `whole` is the answers.
-. "$TESTS/each_call.sh"
-. "$TESTS/in_the_area.sh"
+. "$TESTS/lib/each_call.sh"
+. "$TESTS/lib/in_the_area.sh"
 {
     printf '%s\n' 'point m 52 30 52 30' 'mark 10 10' 'point l 20 30 20 30' 'key paste' 'point r 51 27 56 27'
     printf '%s\n' 'point m 52 29 52 29' 'point r 51 30 58 29' checkpoint 'point rm 3 30 8 30' 'type x'

@@ -1,7 +1,7 @@
 # shellcheck shell=bash
 # Sourced by scripts that have each allocation of the program refused in turn, while it plays the lines of the file `events`. What they give
 # where none is refused stands in `whole`.
-cc -shared -fPIC -o refuse.so "$TESTS/refuse_allocation.c" || exit 1
+cc -shared -fPIC -o refuse.so "$TESTS/c/refuse_allocation.c" || exit 1
 
 # Plays the events with allocation $1 refused, over the store that the other arguments name.
 play() {
@@ -29,7 +29,8 @@ right() {
 
 # Plays the events over a store in memory and over one in a file, with allocation 0, 1, 2 .. refused, until none is; for the
 # file `new.disk` is a store, and then it shows, by `looks`, just what the events led to whose replies came (`shown.N` for N
-# of them). Says `NAME, memory: ..` and `NAME, file: ..` where there were at least $2 allocations, NAME being $1.
+# of them). Says `NAME, memory: ..` and `NAME, file: ..` where there were at least $2 allocations, NAME being $1. Where few are
+# to be tried these are the first ten, and of the others one in nine.
 each_allocation() {
     for order in memory file; do
         words=()
@@ -44,7 +45,7 @@ each_allocation() {
                     || echo "$1, allocation $number refused: the store shows another desktop"
             fi
             [ -e refused ] || break
-            number=$((number + 1))
+            [ $number -lt 10 ] && number=$((number + 1)) || number=$((number + $(trials 1 9)))
         done
         cmp got whole && [ $number -ge "$2" ] && echo "$1, $order: every allocation was refused once"
         count "allocations refused, $1, $order" $number

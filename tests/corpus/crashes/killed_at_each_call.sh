@@ -1,7 +1,7 @@
 # A play over a file is killed by signal 9 before each of its calls in turn, and before the answer of each line is
-# written. The store then opens and holds every answered event, and at most one more. (`tests/killed` kills at random
+# written. The store then opens and holds every answered event, and at most one more. (`tests/crash/killed` kills at random
 # times.)
-. "$TESTS/answered.sh"
+. "$TESTS/lib/answered.sh"
 is_right() {
     [ $status = 137 ] && [ ! -s said ] && head -n "$(answered)" whole | cmp - got && holds "$(answered)" more
 }

@@ -18,7 +18,7 @@ printf '  %%41 100%% \\n\\x41\\c &$HOME `x` "q" '\''r'\'' ~\nend\nno 5\n0 15 0 x
 head -c 900 /dev/zero | tr '\0' x > longest
 awk 'BEGIN { for (n = 0; n < 898; n++) printf "%c", n % 95 + 32; print "\t" }' > all_bytes
 head -c 900 /dev/zero | tr '\0' '\n' > longest_ends
-for file in empty unended lines ends tabulators odd longest all_bytes longest_ends "$TESTS/tool.text"; do
+for file in empty unended lines ends tabulators odd longest all_bytes longest_ends "$TESTS/lib/tool.text"; do
     cp "$file" "${file##*/}" 2> /dev/null
     there_and_back "${file##*/}" "$file"
 done
@@ -38,7 +38,7 @@ there_and_back <(cat lines) lines | sed 's/^.*:/a pipe:/'
 for file in empty lines odd; do "$tools/hand_in" A.Text $file; done
 
 # The text of the walk in docs/SCRIPTS.md, which has two looks, and one that is longer than a line can bring in.
-{ "$tools/hand_in" System.Tool "$TESTS/tool.text"; grep -v '^screen$\|^show ' "$TESTS/walk.in"; } | "$OBERON" play desk.disk | uniq
+{ "$tools/hand_in" System.Tool "$TESTS/lib/tool.text"; grep -v '^screen$\|^show ' "$TESTS/lib/walk.in"; } | "$OBERON" play desk.disk | uniq
 "$tools/hand_out" desk.disk A.Text
 {
     echo 'point l 1 30 1 30'
@@ -52,5 +52,5 @@ grep -v 'this program is compiled but not yet proved' said >&2
 
 # What is handed out stays as it was.
 cp desk.disk before.disk
-"$tools/hand_out" desk.disk System.Tool | cmp - "$TESTS/tool.text"
+"$tools/hand_out" desk.disk System.Tool | cmp - "$TESTS/lib/tool.text"
 cmp desk.disk before.disk && echo 'the store is as it was'

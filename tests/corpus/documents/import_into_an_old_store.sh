@@ -3,7 +3,7 @@
 head -c 262000 /dev/zero | tr '\0' x > long
 echo other > A.Text
 for version in 1 2; do
-    gzip -dc "$TESTS/old_stores/version_$version.gz" > my.disk
+    gzip -dc "$TESTS/lib/old_stores/version_$version.gz" > my.disk
     cp my.disk old.disk
     try() {
         "$DESK_PROGRAM" import "$@"

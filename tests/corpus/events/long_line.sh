@@ -5,7 +5,7 @@ printf 'show %s\nfile A.Text %s\nlist\n' "$x" "${x:0:900}" | "$PROGRAM"
 printf 'show %s' "$x" | "$PROGRAM"
 printf 'mark 1 1\nlist' | "$PROGRAM"
 echo "$?"
-cc -shared -fPIC -o calls.so "$TESTS/fail_calls.c" || exit 1
+cc -shared -fPIC -o calls.so "$TESTS/c/fail_calls.c" || exit 1
 printf 'mark 1 1\nlist' | FAIL=read AT=1 LD_PRELOAD=./calls.so "$PROGRAM"
 echo "$?"
 

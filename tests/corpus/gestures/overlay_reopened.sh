@@ -1,7 +1,7 @@
 # A store whose desktop has eight tracks over one another is opened again, from the journal and from an image; its
 # overlays are closed one after another, and at last the viewer below them.
 "$OBERON" format desk.disk
-"$OBERON" play desk.disk < "$TESTS/scripts/eight_deep.in" > first
+"$OBERON" play desk.disk < "$TESTS/corpus/gestures/eight_deep.in" > first
 tail -n 18 first > wanted
 again() { echo list | "$OBERON" play desk.disk | cmp - wanted && echo 'the same list'; }
 wc -l < wanted

@@ -1,7 +1,7 @@
 # The host refuses each call of `desk export --all` and of `desk backup` in turn. It says why in one sentence; then each
 # file that there is has a document whole, no other file is left, and no backup is but a whole one. Where a link is
 # refused the file gets its name by a rename, and all is done.
-. "$TESTS/each_call.sh"
+. "$TESTS/lib/each_call.sh"
 "$PROGRAM" format my.disk
 mkdir in
 printf 'Hello\n' > in/A.Text

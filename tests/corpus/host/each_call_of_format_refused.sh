@@ -1,9 +1,9 @@
 # The host refuses each call of `format` in turn, over a store that is there and where there is none; of the writes of
 # zeros, which are alike, three. What the file is afterwards stands behind. The next `format` makes it a whole store.
-. "$TESTS/each_call.sh"
+. "$TESTS/lib/each_call.sh"
 "$PROGRAM" format new.disk
 cp new.disk old.disk
-"$PROGRAM" play old.disk < "$TESTS/scripts/hello.in"
+"$PROGRAM" play old.disk < "$TESTS/corpus/events/hello.in"
 
 # What becomes of the store $1 where call number $3 of the kind $2 is refused.
 try() {

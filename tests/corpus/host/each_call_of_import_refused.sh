@@ -1,6 +1,6 @@
 # The host refuses each call of `desk import` of three files in turn, one of them 80,000 bytes long. It says why in one
 # sentence; then the store opens, and all three documents are in it as a whole, or none is.
-. "$TESTS/each_call.sh"
+. "$TESTS/lib/each_call.sh"
 "$PROGRAM" format made.disk
 cp --sparse=always made.disk new.disk
 printf 'Hello\n' > A.Text

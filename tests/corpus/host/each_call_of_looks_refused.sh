@@ -1,6 +1,6 @@
 # The host refuses each call of `check` and `screen` in turn: they say `fault`, or where their answer couldn't be
 # written nothing and only a front of it is there. The file is as it was.
-. "$TESTS/answered.sh"
+. "$TESTS/lib/answered.sh"
 "$PROGRAM" play new.disk < events > said
 attempt() {
     cp new.disk desk.disk

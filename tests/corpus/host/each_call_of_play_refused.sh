@@ -1,7 +1,7 @@
 # The host refuses each call of a play over a file in turn. It says `fault` in place of the next answer, or nothing
 # where the answer itself couldn't be written; then the store opens and holds every answered event, and at most one
 # more.
-. "$TESTS/answered.sh"
+. "$TESTS/lib/answered.sh"
 
 # Whether `got` and `said` are right for a play in which a call of the kind $1 was refused.
 said_right() {

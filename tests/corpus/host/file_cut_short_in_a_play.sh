@@ -2,7 +2,7 @@
 # lost. Where more goes, what is missing reads as zeros: the play goes on by what it has in memory, and says `fault` at
 # nothing, since no call fails. What opens afterwards holds every answered event, unless sectors went that its slot
 # names; a checkpoint after the cut writes the other slot whole, but not again the characters that stood in the area.
-. "$TESTS/answered.sh"
+. "$TESTS/lib/answered.sh"
 mkfifo script
 
 # Cuts desk.disk to $2 bytes after $1 lines.

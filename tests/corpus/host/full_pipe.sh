@@ -1,7 +1,7 @@
 # The answers go into a pipe that is full, or whose reader goes away. While it is full the program waits and does no
 # line more; killed then, it leaves the events before. Where its reader is gone the program ends with status 4, and the
 # store holds what was answered, and at most one event more.
-. "$TESTS/answered.sh"
+. "$TESTS/lib/answered.sh"
 mkfifo script answers
 
 # Begins a play over desk.disk whose script is descriptor 3 and whose answers are descriptor 4.

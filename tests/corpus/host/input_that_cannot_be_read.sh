@@ -3,7 +3,7 @@
 echo "$?"
 "$PROGRAM" <&-
 echo "$?"
-cc -shared -fPIC -o calls.so "$TESTS/fail_calls.c" || exit 1
+cc -shared -fPIC -o calls.so "$TESTS/c/fail_calls.c" || exit 1
 # (the shell writes a line at a time, and cat all at once)
 printf 'list\nsh' > front
 for number in 0 1 2; do

@@ -1,6 +1,6 @@
 # Calls of a disk in a file that a signal interrupts are made again, and those that move a part of a sector go on where
 # they stopped: none is a fault, and what is read is what was written.
-cc -shared -fPIC -o calls.so "$TESTS/fail_calls.c" || exit 1
+cc -shared -fPIC -o calls.so "$TESTS/c/fail_calls.c" || exit 1
 
 # Has the host hold back call number $2 of the kind $1, by the assignment $3, while the disk makes its calls. The lines
 # from that call on follow; those before it write the zeros that make the file as long as a disk.
@@ -22,7 +22,7 @@ try fdatasync 0 ERROR=4
 # Over a store: whichever call of the program is interrupted, or moves a part alone, replies and store are the same.
 "$PROGRAM" format empty.disk
 cp empty.disk desk.disk
-"$PROGRAM" play desk.disk < "$TESTS/scripts/hello.in" > whole
+"$PROGRAM" play desk.disk < "$TESTS/corpus/events/hello.in" > whole
 cp desk.disk whole.disk
 # Holds back each call of the kind $1 in turn, by the assignment $2.
 each() {
@@ -31,7 +31,7 @@ each() {
         cp empty.disk desk.disk
         rm -f calls
         env "$2" CALLS=calls FAIL="$1" AT=$number LD_PRELOAD=./calls.so "$PROGRAM" play desk.disk \
-            < "$TESTS/scripts/hello.in" > got 2>&1
+            < "$TESTS/corpus/events/hello.in" > got 2>&1
         status=$?
         [ "$status" = 0 ] && cmp got whole && cmp desk.disk whole.disk || echo "$1 $number, $2: status $status"
         grep -qE '^(failed|in part)$' calls || break

@@ -1,7 +1,7 @@
 # Each read of the store fails in turn: nothing is said but that the disk failed, and the store is as it was.
-cc -shared -fPIC -o calls.so "$TESTS/fail_calls.c" || exit 1
+cc -shared -fPIC -o calls.so "$TESTS/c/fail_calls.c" || exit 1
 "$PROGRAM" format desk.disk
-"$PROGRAM" play desk.disk < "$TESTS/scripts/hello.in" > replies
+"$PROGRAM" play desk.disk < "$TESTS/corpus/events/hello.in" > replies
 cp desk.disk whole.disk
 for command in play check screen; do
     number=0

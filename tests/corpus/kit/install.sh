@@ -10,9 +10,9 @@ cmp new/bin/desk "$TESTS/../desk"
 cmp new/libexec/nealtsjom/desk "$TESTS/../crates/desk/out/desk"
 for page in oberon desk; do cmp new/share/man/man1/$page.1 "$TESTS/../docs/$page.1"; done
 PATH=$PWD/new/bin:$PATH
-oberon < "$TESTS/scripts/hello.in"
+oberon < "$TESTS/corpus/events/hello.in"
 oberon format my.disk
-desk import my.disk A.Text "$TESTS/scripts/hello.in" && desk export my.disk A.Text | head -n 1
+desk import my.disk A.Text "$TESTS/corpus/events/hello.in" && desk export my.disk A.Text | head -n 1
 "$tools/install" new/
 "$tools/install" --remove new
 echo "$?"

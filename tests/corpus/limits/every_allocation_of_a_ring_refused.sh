@@ -1,7 +1,7 @@
 # Each allocation of the worked rows of a ring is refused in turn: `ring_bench rows` adds, cuts and splices, and tries a refused call once
 # more. So a refused call leaves the ring as it was, or the characters and pieces in the end would be others. The first few allocations
 # are those of the arguments' words, before there is a ring.
-cc -shared -fPIC -o refuse.so "$TESTS/refuse_allocation.c" || exit 1
+cc -shared -fPIC -o refuse.so "$TESTS/c/refuse_allocation.c" || exit 1
 "$RING_BENCH" rows 0 0
 number=0
 kept=0

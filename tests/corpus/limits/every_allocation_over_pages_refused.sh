@@ -1,8 +1,8 @@
 # Each allocation of a run over a store whose characters stand in the area is refused in turn: the replies are the same, or
 # the first of them and `memory` with status 5, and the store then shows just what the events led to whose replies came.
 # Where there is no memory for a sector that was read, nothing is seen of that.
-. "$TESTS/refusing.sh"
-. "$TESTS/in_the_area.sh"
+. "$TESTS/lib/refusing.sh"
+. "$TESTS/lib/in_the_area.sh"
 cat > events <<'END'
 show C.Text
 point m 52 30 52 30
@@ -48,9 +48,9 @@ while :; do
     shows_the_first || echo "allocation $number refused: the store shows another desktop"
     [ -e refused ] || break
     [ $status != 0 ] || same=$((same + 1))
-    number=$((number + 1))
+    number=$((number + $(trials 1 5)))
 done
 [ $number -gt 90 ] && echo 'every allocation was refused once'
-[ $same -gt 2 ] && echo 'of some nothing was seen'
+[ $same -gt $(trials 2 0) ] && echo 'of some nothing was seen'
 count 'allocations refused, over pages' $number
 count 'allocations refused, over pages, of which nothing was seen' $same

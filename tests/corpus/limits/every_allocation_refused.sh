@@ -2,11 +2,11 @@
 # one in a file. The replies are the same, or the first of them and `memory` with status 5; and a store in a file then
 # shows just the events whose reply was `ok`. A disk in memory that can't record a write fails as a disk does: then the
 # word is `fault`, and the status 4.
-. "$TESTS/refusing.sh"
+. "$TESTS/lib/refusing.sh"
 looks() { printf '%s\n' list 'show A.Text' screen; }
 "$OBERON" format made.disk > said && cp --sparse=always made.disk new.disk || exit 1
 for script in hello type_hello store_text; do
-    cp "$TESTS/scripts/$script.in" events
+    cp "$TESTS"/corpus/*/"$script.in" events
     show_each
     each_allocation $script 21
 done

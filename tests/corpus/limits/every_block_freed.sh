@@ -1,8 +1,8 @@
 # What the program takes of memory it gives back: after a run of all commands as many blocks are left when it ends as after no line at all,
 # over a store in memory and over one in a file; and after the worked rows of a ring as many as after none of its rounds. The proofs say
 # nothing of that: a value may be let go without being freed.
-cc -shared -fPIC -o count.so "$TESTS/count_blocks.c" || exit 1
-{ "$TESTS/../tools/hand_in" System.Tool "$TESTS/tool.text"; cat "$TESTS/walk.in" "$TESTS/clicks.in"; } > events
+cc -shared -fPIC -o count.so "$TESTS/c/count_blocks.c" || exit 1
+{ "$TESTS/../tools/hand_in" System.Tool "$TESTS/lib/tool.text"; cat "$TESTS/lib/walk.in" "$TESTS/lib/clicks.in"; } > events
 
 # The blocks that are left when a program ends, in LEFT, and those that it was given, in GIVEN.
 count() {

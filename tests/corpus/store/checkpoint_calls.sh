@@ -1,7 +1,7 @@
 # The writes and syncs of checkpoints: of a first one seven, of a second one eight, the first of which closes the gate of
 # the slot that is written anew. Where sectors of characters are full that the slot in use doesn't name, these are
 # written too, and no other. Wherever it is stopped, at opening too, the store shows the same afterwards.
-cc -shared -fPIC -o calls.so "$TESTS/fail_calls.c" || exit 1
+cc -shared -fPIC -o calls.so "$TESTS/c/fail_calls.c" || exit 1
 x=$(head -c 900 /dev/zero | tr '\0' x)
 looks() { printf '%s\n' list 'show A.Text' 'show X.Text' 'show Y.Text' screen; }
 

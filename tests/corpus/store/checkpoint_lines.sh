@@ -2,8 +2,8 @@
 # after closing and opening; caret, selections, marker, current look, pattern, buffers, closed viewer and log go on from
 # where they were.
 {
-    "$TESTS/../tools/hand_in" System.Tool "$TESTS/tool.text"
-    cat "$TESTS/walk.in" "$TESTS/clicks.in"
+    "$TESTS/../tools/hand_in" System.Tool "$TESTS/lib/tool.text"
+    cat "$TESTS/lib/walk.in" "$TESTS/lib/clicks.in"
 } | grep -v '^screen$\|^list$\|^show ' > events
 looks() { printf '%s\n' list 'show A.Text' 'show System.Tool' screen; }
 { cat events; looks; } | "$OBERON" > wanted

@@ -66,4 +66,4 @@ of whole; put 1 OPENGATE; put 4 '\011' 3; put 2 '\011' 3; say 'both heads are ba
 of whole; put 1 OPENGATE; put 4 '\011' 3; say 'a bad head under an open gate'
 of whole; put 2 '\011' 3; say 'a bad head under a closed gate'
 of whole; put 1029 xxxxxxxx; say 'garbage in the slot that is not in use'
-"$OBERON" play desk.disk < "$TESTS/scripts/hello.in"
+"$OBERON" play desk.disk < "$TESTS/corpus/events/hello.in"

@@ -36,5 +36,5 @@ head_of 1 1 4194304 27 0
 echo list | "$OBERON" play desk.disk
 for sector in 0 1 2 3; do
     echo "each bit of the front of sector $sector"
-    "$TESTS/each_byte" fresh.disk $sector 0 21
+    "$TESTS/lib/each_byte" fresh.disk $sector 0 21
 done

@@ -19,12 +19,12 @@ put 29 02
 put 2 3f
 put 30 01
 echo 'each bit of the empty desktop, and of a byte behind it'
-"$TESTS/each_byte" fresh.disk 1029 0 31
+"$TESTS/lib/each_byte" fresh.disk 1029 0 31
 
 cp fresh.disk full.disk
 {
-    "$TESTS/../tools/hand_in" System.Tool "$TESTS/tool.text"
-    cat "$TESTS/walk.in"
+    "$TESTS/../tools/hand_in" System.Tool "$TESTS/lib/tool.text"
+    cat "$TESTS/lib/walk.in"
     printf '%s\n' 'mark 3 20' 'point m 22 31 22 31' 'point m 10 31 10 31' 'point r 7 14 11 14' 'point l 2 14 2 14'
     printf '%s\n' 'key copy' checkpoint checkpoint
 } > script
@@ -33,11 +33,11 @@ printf 'list\nscreen\n' | "$OBERON" play full.disk | grep '^file\|^viewer\|^writ
 number() { od -An -tu4 --endian=big -j $((2 * 1024 + $1)) -N 4 full.disk | tr -d ' '; }
 tail=$(($(number 8) % 1024)) length=$(number 12)
 echo "an image of $length bytes, from its last character, $tail, on"
-"$TESTS/each_byte" full.disk 1029 $((tail - 1)) $((length + 1)) 01 10 80
+"$TESTS/lib/each_byte" full.disk 1029 $((tail - 1)) $((length + 1)) 01 10 80
 echo "a store of layout 1"
-gzip -dc "$TESTS/old_stores/version_1.gz" > old.disk
+gzip -dc "$TESTS/lib/old_stores/version_1.gz" > old.disk
 old() { od -An -tu4 --endian=big -j $((2 * 1024 + $1)) -N 4 old.disk | tr -d ' '; }
 tail=$(($(old 8) % 1024)) length=$(old 12)
 echo "an image of $length bytes, from its last character, $tail, on"
-"$TESTS/each_byte" old.disk 1029 $((tail - 1)) $((length + 1)) 01
+"$TESTS/lib/each_byte" old.disk 1029 $((tail - 1)) $((length + 1)) 01
 "$OBERON" check old.disk

@@ -1,8 +1,8 @@
 # Of two screens of a store, one after the other, the second reads nothing of its file: the lines are kept. After an event
 # the lines are read again that it may have changed, from the sectors in memory.
-cc -shared -fPIC -o calls.so "$TESTS/fail_calls.c" || exit 1
+cc -shared -fPIC -o calls.so "$TESTS/c/fail_calls.c" || exit 1
 "$PROGRAM" format my.disk
-"$TESTS/../tools/hand_in" System.Tool "$TESTS/tool.text" > script
+"$TESTS/../tools/hand_in" System.Tool "$TESTS/lib/tool.text" > script
 x=$(head -c 900 /dev/zero | tr '\0' x)
 printf '%s\n' "file A.Text $x" "file B.Text $x" 'point m 60 31 60 31' checkpoint >> script
 "$PROGRAM" play my.disk < script | sort | uniq -c | sed 's/^ *//'

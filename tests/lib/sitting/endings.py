@@ -15,7 +15,7 @@ from sitting import Ended, Sitting
 
 LETTERS = 'abcdefghijklmnopqrstuvwxyz'
 STORE = b'\x1b[<1;48;1M\x1b[<1;48;1m'  # a middle click on Edit.Store in the menu of A.Text
-TESTS = os.path.dirname(os.path.dirname(os.path.realpath(__file__)))
+TESTS = os.path.dirname(os.path.dirname(os.path.dirname(os.path.realpath(__file__))))
 BEGIN = ['file System.Tool Edit.Open A.Text%0d', 'point m 60 31 60 31', 'point m 52 30 52 30', 'point l 1 30 1 30']
 
 
@@ -199,9 +199,9 @@ def escape(trial):
 
 
 def refusing(trial, call, number):
-    """Words before a program: the host refuses this one of its calls of that name (tests/fail_calls.c)."""
+    """Words before a program: the host refuses this one of its calls of that name (tests/c/fail_calls.c)."""
     library = f'{trial.folder}/calls.so'
-    subprocess.run(['cc', '-shared', '-fPIC', '-o', library, f'{TESTS}/fail_calls.c'], check=True)
+    subprocess.run(['cc', '-shared', '-fPIC', '-o', library, f'{TESTS}/c/fail_calls.c'], check=True)
     return ['env', f'FAIL={call}', f'AT={number}', f'LD_PRELOAD={library}']
 
 

@@ -1,4 +1,4 @@
-"""Sittings at a pseudo terminal. `tests/sittings` says what is tried."""
+"""Sittings at a pseudo terminal. `tests/random/sittings` says what is tried."""
 import filecmp
 import itertools
 import os

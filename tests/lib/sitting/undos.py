@@ -1,4 +1,4 @@
-"""Sittings in which events are taken back and done again, and scripts with the same. `tests/undos` says what is tried."""
+"""Sittings in which events are taken back and done again, and scripts with the same. `tests/random/undos` says what is tried."""
 import os
 import random
 import shutil
