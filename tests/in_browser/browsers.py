@@ -332,8 +332,9 @@ class Firefox(Page):
 
 
 def browsers():
-    """Those that are on this machine."""
-    return [one for one, program in ((Chromium, 'chromium'), (Firefox, 'firefox-esr')) if shutil.which(program)]
+    """Those that are on this machine, or the one that BROWSER in the environment names."""
+    there = [one for one, program in ((Chromium, 'chromium'), (Firefox, 'firefox-esr')) if shutil.which(program)]
+    return [one for one in there if os.environ.get('BROWSER', one.__name__) == one.__name__]
 
 
 # The file that is tried: that of docs, or the one that DESK in the environment names.

@@ -17,6 +17,7 @@ SIZE = 15621 * 1024
 ANSWERS = '''(() => {
     window.confirm = words => { window.askedFor = words; return window.answerNo !== true; };
     window.askedFor = '';
+    if (navigator.clipboard) navigator.clipboard.writeText = async text => { window.clip = text; };
     URL.createObjectURL = (old => blob => { window.handed = blob; return old.call(URL, blob); })(URL.createObjectURL);
     HTMLAnchorElement.prototype.click = function () { window.handedName = this.download; };
 })()'''
@@ -118,8 +119,11 @@ def select(page, first, last):
 
 def clipboard(page, kind, before):
     """What the clipboard has after the page copies or cuts."""
+    time.sleep(1)
     now = page.js(COPY % kind)
-    time.sleep(0.4)
+    time.sleep(1)
+    if now is None:
+        now = page.js('window.clip')
     page.count = page.js('tried.times.length')
     return before if now is None else now
 
@@ -135,7 +139,7 @@ def copying(kind):
     got = clipboard(page, 'copy', 'foreign')
     whole = got in (mail, mail.rstrip('\n'))
     check(kind, 'copying', 'the clipboard has all of what was copied, or nothing of it and a sentence',
-          whole or got.strip() == '' and 'clipboard' in page.note(), got)
+          whole or got == ' ' and 'hand out' in page.note(), got)
     if page.rows() == before:
         select(page, (1, 1), (49, 7))
     got = clipboard(page, 'cut', 'foreign')
@@ -299,6 +303,15 @@ def ways(kind):
     page.quit()
 
 
+def waits(page):
+    """Whether the page says that the desktop is open in another tab, and isn't at its end."""
+    try:
+        return page.until("document.getElementById('note')?.textContent.includes('another tab')", 15) and \
+            not page.js('document.body.dataset.failed')
+    except TimeoutError:
+        return False
+
+
 def causes(kind):
     denied = 'Promise.reject(new DOMException("The data of sites are blocked", "SecurityError"))'
     for what, worker in (
@@ -317,8 +330,7 @@ def causes(kind):
     if kind is Chromium:
         first, first_target = page.session, page.target
         page.go(url)
-        time.sleep(3)
-        check(kind, 'causes', 'a second tab says what it waits for', 'another tab' in page.note(), page.note())
+        check(kind, 'causes', 'a second tab says what it waits for', waits(page), page.note())
         second = page.session
         page.session = None
         page.ask('Target.closeTarget', targetId=first_target)
@@ -328,8 +340,7 @@ def causes(kind):
         second = page.ask('WebDriver:NewWindow', type='tab')['handle']
         page.ask('WebDriver:SwitchToWindow', handle=second)
         page.go(url)
-        time.sleep(3)
-        check(kind, 'causes', 'a second tab says what it waits for', 'another tab' in page.note(), page.note())
+        check(kind, 'causes', 'a second tab says what it waits for', waits(page), page.note())
         page.ask('WebDriver:SwitchToWindow', handle=first)
         page.ask('WebDriver:CloseWindow')
         page.ask('WebDriver:SwitchToWindow', handle=second)
@@ -382,7 +393,11 @@ def errors(kind):
     for what, worker in (('throws at its start', 'throw Error("broken");\n'), ('is no program', '(((\n')):
         page = kind(room())
         page.go(changed(worker).replace('desk.html', 'changed.html'))
-        said = settle(page, 2.5)
+        try:
+            page.until("!document.getElementById('note').textContent.includes('being opened')", 15)
+        except TimeoutError:
+            pass
+        said = page.note()
         check(kind, 'errors', f'a worker that {what} is told', 'being opened' not in said and said != '', said)
         page.quit()
     page = fresh(kind, served())

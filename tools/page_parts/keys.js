@@ -1,7 +1,9 @@
 // ---- Keys, as xterm spells them. `held` is 1 for Shift, 2 for Alt and 4 for Ctrl, added up.
 const SHIFT = 1, ALT = 2, CTRL = 4;
 const PLAIN = { Enter: '\r', Tab: '\t', Backspace: '\x7f', Escape: '\x1b' };
-const LETTERS = { ArrowUp: 'A', ArrowDown: 'B', ArrowRight: 'C', ArrowLeft: 'D', End: 'F', Home: 'H', F1: 'P', F2: 'Q', F3: 'R', F4: 'S' };
+const LETTERS = {
+    ArrowUp: 'A', ArrowDown: 'B', ArrowRight: 'C', ArrowLeft: 'D', End: 'F', Home: 'H', F1: 'P', F2: 'Q', F3: 'R', F4: 'S',
+};
 const NUMBERS = { Delete: 3, PageUp: 5, PageDown: 6, F5: 15, F6: 17, F7: 18, F8: 19, F9: 20, F10: 21, F11: 23 };
 const MEANT = new Set('aefghoqrstwyz[');                 // letters that mean something with Ctrl; C, X and V come as events
 const MAC = /^(Mac|iP)/.test(navigator.platform);
@@ -57,10 +59,10 @@ by('keyboard').onclick = () => keys.focus();
 
 // ---- Text goes to the desktop as a paste does, in ASCII: what isn't becomes what is nearest, as by `desk import --ascii`.
 const LIKE = {
-    '‘': '\'', '’': '\'', '‚': '\'', '‛': '\'', '′': '\'', '“': '"', '”': '"', '„': '"', '‟': '"', '″': '"', '‐': '-', '‑': '-',
-    '‒': '-', '–': '-', '—': '-', '―': '-', '−': '-', '«': '<<', '»': '>>', '‹': '<', '›': '>', '•': '*', '·': '*', '×': 'x',
-    '©': '(c)', '®': '(r)', 'ß': 'ss', 'æ': 'ae', 'Æ': 'AE', 'œ': 'oe', 'Œ': 'OE', 'ø': 'o', 'Ø': 'O', 'đ': 'd', 'ð': 'd',
-    'Đ': 'D', 'Ð': 'D', 'þ': 'th', 'Þ': 'Th', 'ł': 'l', 'Ł': 'L', 'ı': 'i',
+    '‘': '\'', '’': '\'', '‚': '\'', '‛': '\'', '′': '\'', '“': '"', '”': '"', '„': '"', '‟': '"', '″': '"',
+    '‐': '-', '‑': '-', '‒': '-', '–': '-', '—': '-', '―': '-', '−': '-', '«': '<<', '»': '>>', '‹': '<', '›': '>',
+    '•': '*', '·': '*', '×': 'x', '©': '(c)', '®': '(r)', 'ß': 'ss', 'æ': 'ae', 'Æ': 'AE', 'œ': 'oe', 'Œ': 'OE',
+    'ø': 'o', 'Ø': 'O', 'đ': 'd', 'ð': 'd', 'Đ': 'D', 'Ð': 'D', 'þ': 'th', 'Þ': 'Th', 'ł': 'l', 'Ł': 'L', 'ı': 'i',
 };
 function inAscii(text) {
     return Array.from(text, sign => {
@@ -116,24 +118,48 @@ keys.addEventListener('compositionend', commit);
 keys.addEventListener('blur', () => { if (composing) commit(); });
 
 // ---- Copying. What the desktop copies goes to the clipboard too, whole or not at all; from there it comes with its looks.
+// A module that can't hand out what is selected (`selection` is null) is asked over copies of the store, by way of the viewers
+// in which a text can be stored; what came of it holds until the next scene.
 let copied = null;                                        // what the clipboard has of the desktop
-const marks = () => texts().filter(text => text.marked);
-function wholeInSight() {                                 // what is selected, where the picture shows all of it for sure: in one row
-    const parts = marks(), { x, y } = parts[0] || {}, [from, to] = trackOf(x);
-    const end = parts.length && parts.at(-1).x + parts.at(-1).words.length;
-    const isOne = parts.length && parts.every(part => part.y === y) && from + 1 < x && end < rowOf(y, from, to).trimEnd().length + from;
-    return isOne ? parts.map(part => part.words).join('') : null;
+function clickBytes(button, x, y) {
+    return `\x1b[<${button};${x + 1};${y + 1}M\x1b[<${button};${x + 1};${y + 1}m`;
 }
-const NOT_WHOLE = 'Not all that is selected is for sure in sight, and this page can\'t hand out the rest:';
+function viewersThatStore() {
+    return titles(0, BORDER).flatMap(y => {
+        const row = rowOf(y, 0, BORDER), store = /(?<=Edit\.Search +)Edit[.\w]*/.exec(row);
+        if (!store) return [];
+        return [{ name: row.split('|')[0].trim(), first: clickBytes(LEFT, 1, y + 1), store: clickBytes(MIDDLE, store.index, y) }];
+    });
+}
+async function askWhole() {
+    const of = drawn, { selected } = await ask('selected', { viewers: viewersThatStore() });
+    if (of === drawn) whole = { selected };
+    return selected;
+}
+const NOT_WHOLE = 'This page can\'t hand out all that is selected:', BLANK = ' ';
+function forClipboard(text, isCut) {                      // of what is selected: '' where nothing is, null where it isn't known
+    return text ?? (isCut ? '' : BLANK);
+}
 function copy(event, isCut) {
     event.preventDefault();
-    if (asked.size) return tell({ said: 'The desktop was still at work: press that again.' });
-    const text = selection ?? wholeInSight();
-    if (text === '') return send(isCut ? control('x') : control('c'));    // nothing is selected: the desktop says so
-    if (text === null && isCut) return tell({ said: `${NOT_WHOLE} nothing was cut. Ctrl-C copies it for Ctrl-V in this desktop.` });
-    if (text === null) tell({ said: `${NOT_WHOLE} it is copied for Ctrl-V in this desktop alone, and the clipboard is empty.` });
-    copied = text ?? '';
-    event.clipboardData.setData('text/plain', copied || ' ');
+    if (selection === null && !whole) return copyLater(isCut);  // a quick hand, or a selection out of sight
+    const text = selection ?? whole.selected, given = forClipboard(text, isCut);
+    if (given) event.clipboardData.setData('text/plain', given);
+    return goOn(text, isCut);
+}
+async function copyLater(isCut) {
+    const text = await askWhole(), given = forClipboard(text, isCut);
+    try {
+        if (given) await navigator.clipboard.writeText(given);
+        goOn(text, isCut);
+    } catch {
+        tell({ said: 'The browser didn\'t give the clipboard: press that again.' });
+    }
+}
+function goOn(text, isCut) {
+    if (text === null && isCut) return tell({ said: `${NOT_WHOLE} nothing was cut. Ctrl-C copies it for this desktop.` });
+    if (text === null) tell({ said: `${NOT_WHOLE} it is copied for this desktop alone, and the clipboard has a blank.` });
+    if (text !== '') copied = text ?? BLANK;
     return send(isCut ? control('x') : control('c'));
 }
 keys.addEventListener('copy', event => copy(event, false));
@@ -141,7 +167,5 @@ keys.addEventListener('cut', event => copy(event, true));
 addEventListener('paste', event => {
     const text = event.clipboardData.getData('text');
     event.preventDefault();
-    if (copied !== null && text.replaceAll('\r\n', '\n') === (copied || ' ')) send(control('v'));
-    else if (text) type(text);
-    else send(control('v'));
+    if (!text || text.replaceAll('\r\n', '\n') === copied) send(control('v')); else type(text);
 });

@@ -64,6 +64,9 @@ const answered = request => new Promise((done, failed) => {
     request.onsuccess = () => done(request.result);
     request.onerror = () => failed(request.error);
 });
+function isSector(n, bytes) {                             // and nothing that somebody else has put there
+    return Number.isInteger(n) && 0 <= n && (n + 1) * SECTOR <= SIZE && bytes instanceof Uint8Array && bytes.length === SECTOR;
+}
 async function tableMedium(name) {
     const opening = indexedDB.open(name, 1);
     opening.onupgradeneeded = () => opening.result.createObjectStore('sectors');
@@ -82,7 +85,7 @@ async function tableMedium(name) {
         async load() {
             const sectors = db.transaction('sectors').objectStore('sectors'), bytes = new Uint8Array(SIZE);
             const [keys, values] = await Promise.all([answered(sectors.getAllKeys()), answered(sectors.getAll())]);
-            keys.forEach((n, i) => bytes.set(values[i], n * SECTOR));
+            keys.forEach((n, i) => { if (isSector(n, values[i])) bytes.set(values[i], n * SECTOR); });
             return bytes;
         },
         make(all) {

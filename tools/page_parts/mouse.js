@@ -1,8 +1,9 @@
 // ---- The mouse, as a terminal reports it: the button, the cell from 1, pressed or released.
-function send(bytes) {
-    if (state.failed || state.left) return null;
+async function send(bytes) {
+    if (state.failed || state.left) return;
     state.changed = true;
-    return ask('press', { press: spelled(bytes) });
+    const { rings } = await ask('press', { press: spelled(bytes) });
+    if (bytes === control('s') && !rings) askToKeep();
 }
 function cellAt({ clientX, clientY }) {                   // from 0
     const area = screen_.getBoundingClientRect();

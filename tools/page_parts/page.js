@@ -43,7 +43,8 @@ async function pullThePlug() {                            // the worker is ended
     stop();
     await open('open');
     const same = screen_.textContent === before;
-    tell({ said: `The plug was pulled, and the desktop opened again: ${same ? 'all that you saw is there.' : 'look.'}` });
+    const there = same ? 'all that you saw is there.' : 'what you saw is there, and what was done just then.';
+    if (!state.failed) tell({ said: `The plug was pulled, and the desktop opened again: ${there}` });
 }
 by('again').onclick = again;
 by('plug').onclick = pullThePlug;
@@ -53,8 +54,17 @@ by('whole-link').onclick = async () => {                  // Chrome and Edge the
     keys.focus();
 };
 
-// Whether the data of the site were cleared while the desktop is open: looked at every ten seconds.
+// Every ten seconds: whether the data of the site were cleared while the desktop is open, and whether the worker answers.
+const MOST_TURNS = 3;
+let oldest = 0, turns = 0;                                // what waits for an answer, and since how many turns
 setInterval(async () => {
+    const [first] = asked.keys();
+    turns = first && first === oldest ? turns + 1 : 0;
+    oldest = first;
+    if (turns >= MOST_TURNS && state.kind !== 'waiting') {
+        stop();
+        fail('The worker of this page doesn\'t answer');
+    }
     if (!isKept() || !worker || state.failed || asked.size) return;
     const { there } = await ask('look');
     if (there === false) tell({ kind: 'cleared' });

@@ -42,6 +42,12 @@ class Desk {
         if (!this.module.page_copied) return null;
         return this.call('page_copied') ? '' : text(this.made(TEXT));
     }
+    press(words) {                                        // of which nothing goes to a medium: for a copy of the store
+        return this.call('page_press', spelled(words)) || this.module.page_rings(this.held);
+    }
+    given(name) {                                         // the text of a document, or null
+        return this.call('page_give', spelled(name)) ? null : text(this.made(TEXT));
+    }
     scene(status) {
         const { page_rings: rings, page_leaves: leaves, page_pointer: pointer } = this.module, held = this.held;
         return {
@@ -98,8 +104,21 @@ async function replaced(sectors) {                        // this one in the pla
     over = false;
     return opening(false);
 }
-async function tried(documents) {                         // which of them the desktop wouldn't take, tried over a copy
-    const copy = await Desk.of(code, used(await medium.load()));
+async function copyOfDesk() {                             // over a copy of the store, in which anything can be tried
+    return Desk.of(code, used(await medium.load()));
+}
+async function selectedBy({ first, store, name }) {       // what is selected, by way of a viewer; null where that fails
+    const copy = await copyOfDesk();
+    if (copy.press('\x03')) return '';                    // nothing is selected
+    copy.press(first + '\x1b[1;5H');                      // the caret goes to the beginning of its text
+    copy.press(first + store);
+    const before = copy.given(name);
+    copy.press('\x16' + store);
+    const after = copy.given(name);
+    return after?.endsWith(before) ? after.slice(0, after.length - before.length) || null : null;
+}
+async function tried(documents) {                         // which of them the desktop wouldn't take
+    const copy = await copyOfDesk();
     for (const { name, bytes } of documents) {
         const refused = copy.call('page_bring', spelled(name), bytes);
         if (refused) return { refused, of: name };
@@ -135,6 +154,13 @@ const ASKED = {
     give({ name }) {
         const refused = desk.call('page_give', spelled(name));
         return refused ? { refused } : { bytes: desk.made(TEXT) };
+    },
+    async selected({ viewers }) {                         // where the module doesn't hand it out: tried over copies
+        for (const viewer of viewers) {
+            const selected = await selectedBy(viewer);
+            if (selected !== null) return { selected };
+        }
+        return { selected: null };
     },
     save: async () => ({ bytes: await medium.load() }),
     load: ({ bytes }) => replaced(used(bytes)),
