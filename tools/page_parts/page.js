@@ -86,7 +86,11 @@ function showStill() {                                    // where it can't run
 async function main() {
     empty();
     tell({});
-    module = await unpacked().catch(() => new Uint8Array(0));
-    if (WebAssembly.validate(module)) await open('open'); else showStill();
+    try {
+        module = await WebAssembly.compile(await unpacked());
+    } catch {
+        return showStill();
+    }
+    return open('open');
 }
 main();
