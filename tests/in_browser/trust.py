@@ -38,16 +38,18 @@ COPY = '''(() => {
     return window.clip;
 })()'''
 BYTES = '''window.handed.arrayBuffer().then(buffer => {
-    const bytes = new Uint8Array(buffer);
-    let s = '';
-    for (let i = 0; i < bytes.length; i += 30000) s += String.fromCharCode(...bytes.subarray(i, i + 30000));
-    return btoa(s);
+    const bytes = new Uint8Array(buffer), out = [];
+    for (let at = 0; at < bytes.length; at += 1024) {
+        const sector = bytes.subarray(at, at + 1024);
+        if (sector.some(Boolean)) out.push([at, btoa(String.fromCharCode(...sector))]);
+    }
+    return JSON.stringify([bytes.length, out]);
 })'''
 SEEN = "(id => { const it = document.getElementById(id); return Boolean(it && !it.closest('[hidden]')); })(%r)"
 FILL = '''navigator.storage.getDirectory().then(async folder => {
     for (const [name, byte] of %s) {
         const file = await (await folder.getFileHandle(name, { create: true })).createWritable();
-        await file.write(new Uint8Array(15621 * 1024).fill(byte));
+        await file.write(new Uint8Array(%d * 1024).fill(byte));
         await file.close();
     }
     return true;
@@ -82,12 +84,21 @@ def typing(page):
     page.click(2, 1)
 
 
+def handed(page):
+    """The bytes that the page hands out, as soon as it does."""
+    page.until('Boolean(window.handed)')
+    size, parts = json.loads(page.js(BYTES, wait=True))
+    out = bytearray(size)
+    for at, part in parts:
+        out[at:at + 1024] = base64.b64decode(part)
+    return bytes(out)
+
+
 def saved(page):
     """The bytes of the store, as the page hands them out."""
     page.js('void (window.handed = null)')
     click_on(page, 'save-link')
-    page.until('Boolean(window.handed)')
-    return base64.b64decode(page.js(BYTES, wait=True))
+    return handed(page)
 
 
 def given(page, name):
@@ -98,7 +109,7 @@ def given(page, name):
         page.until('Boolean(window.handed)', 2)
     except TimeoutError:
         return None
-    return base64.b64decode(page.js(BYTES, wait=True)).decode()
+    return handed(page).decode()
 
 
 def changed(worker='', change=lambda text: text):
@@ -219,13 +230,12 @@ def files(kind):
     for left in ([], [['desk.part', 255], ['desk (second)', 254]]):
         page = kind(room())
         page.go(url.replace('desk.html', 'empty.html'))
-        page.js(FILL % json.dumps(left), wait=True)
+        page.js(FILL % (json.dumps(left), 2000), wait=True)
         page.begin(url, plain=False)
         page.js(ANSWERS)
         stores.append(saved(page))
         page.quit()
-    check(kind, 'files', 'what was left in files of other names is no part of a new store', stores[0] == stores[1],
-          sum(one != other for one, other in zip(*stores)))
+    check(kind, 'files', 'what was left in files of other names is no part of a new store', stores[0] == stores[1])
     url = changed('{ const read = FileSystemSyncAccessHandle.prototype.read; '
                   'FileSystemSyncAccessHandle.prototype.read = function (to, how) { '
                   'return read.call(this, to.byteLength > 10000 ? to.subarray(0, 10000) : to, how); }; }')
@@ -260,7 +270,7 @@ def ways(kind):
     for way in ('load', 'anew'):
         page = kind(room())
         page.go(url.replace('desk.html', 'empty.html'))
-        page.js(FILL % json.dumps([['desk', 255]]), wait=True)
+        page.js(FILL % (json.dumps([['desk', 255]]), 40), wait=True)
         page.begin(url)
         page.js(ANSWERS)
         check(kind, 'ways', 'bytes that are no store are told', page.js('document.body.dataset.failed') != '', page.note())
@@ -271,9 +281,8 @@ def ways(kind):
             continue
         page.js('void (window.handed = null)')
         click_on(page, 'save-bytes')
-        page.until('Boolean(window.handed)')
-        got = base64.b64decode(page.js(BYTES, wait=True))
-        check(kind, 'ways', 'the bytes are saved as they are', got == b'\xff' * SIZE, len(got))
+        got = handed(page)
+        check(kind, 'ways', 'the bytes are saved as they are', got == b'\xff' * 40960, len(got))
         if way == 'load':
             page.js(open_it)
         else:
@@ -289,13 +298,13 @@ def ways(kind):
                   'if (left-- === 0) throw new DOMException("full", "QuotaExceededError"); return write.apply(this, words); }; }'
                   ')(FileSystemSyncAccessHandle.prototype.write);')
     profile = room()
-    page = fresh(kind, url, profile)
+    page = fresh(kind, url, profile, plain=False)         # with a text that has the caret
     page.quit()
     page = kind(profile)
     page.begin(url.replace('desk.html', 'changed.html'), plain=False)
     page.js(ANSWERS)
     for _ in range(60):
-        page.js("document.getElementById('keys').dispatchEvent(new KeyboardEvent('keydown', {key: 'F2', bubbles: true}))")
+        page.js("document.getElementById('keys').dispatchEvent(new KeyboardEvent('keydown', {key: 'x', bubbles: true}))")
     page.until("document.body.dataset.failed", 10)
     check(kind, 'ways', 'after a failed write too', all(page.js(SEEN % it) for it in ('again', 'save-bytes', 'load-instead', 'anew')))
     page.js('void (window.handed = null)')
