@@ -1,6 +1,6 @@
 #!/usr/bin/env python3
-"""looks.py [FOLDER]: what a visitor finds, dark surroundings, a phone with touch, the text that a screen reader is given, and that
-the keyboard leaves the screen by Shift-Tab, in Chromium, with pictures in the folder."""
+"""looks.py [FOLDER]: what a visitor finds, dark surroundings, a phone with touch, the text that a screen reader is given, and
+that the keyboard leaves the screen by Shift-Tab, in Chromium, with pictures in the folder."""
 import shutil
 import sys
 
@@ -53,7 +53,8 @@ def looks(page):
     same('light surroundings', page.js(ground), 'rgb(233, 231, 225)')
     page.ask('Emulation.setEmulatedMedia', features=[{'name': 'prefers-color-scheme', 'value': 'dark'}])
     same('dark surroundings', page.js(ground), 'rgb(27, 28, 30)')
-    same('and the sheet is dark too', page.js("getComputedStyle(document.getElementById('screen')).backgroundColor"), 'rgb(0, 0, 0)')
+    same('and the sheet is dark too',
+         page.js("getComputedStyle(document.getElementById('screen')).backgroundColor"), 'rgb(0, 0, 0)')
     if PICTURES:
         page.shot(f'{PICTURES}/dark.png')
     same('what is focused', page.js('document.activeElement.id'), 'keys')
