@@ -139,18 +139,21 @@ class Chromium(Page):
         message = {'id': self.number, 'method': method, 'params': params, **({'sessionId': self.session} if self.session else {})}
         os.write(self.to, json.dumps(message).encode() + b'\0')
         while True:
-            while b'\0' not in self.left:
-                more = os.read(self.back, 1 << 20)
-                if not more:
-                    raise EOFError
-                self.left += more
-            one, self.left = self.left.split(b'\0', 1)
-            got = json.loads(one)
+            got = json.loads(self.line())
             if got.get('id') == self.number:
                 if 'error' in got:
                     raise RuntimeError(got['error'])
                 return got['result']
             self.events.append(got)
+
+    def line(self):
+        parts = [self.left]
+        while b'\0' not in parts[-1]:
+            parts.append(os.read(self.back, 1 << 20))
+            if not parts[-1]:
+                raise EOFError
+        one, self.left = b''.join(parts).split(b'\0', 1)
+        return one
 
     def go(self, url):
         self.session = None

@@ -1,6 +1,6 @@
 #!/usr/bin/env python3
-"""hostile.py [COUNT [SEED]]: stores that nobody made (those of tests/random/hostile) go to the module of the page, in each browser.
-Each is opened, and where it opens some presses follow. Nothing may trap, and what is drawn may have the elements and
+"""hostile.py [COUNT [SEED]]: stores that nobody made (those of tests/random/hostile) go to the module of the page, in each
+browser. Each is opened, and where it opens some presses follow. Nothing may trap, and what is drawn may have the elements and
 attributes of a drawing alone, so that no text of a store becomes a part of the page."""
 import base64
 import gzip
@@ -28,11 +28,13 @@ BEGIN = '''(async () => {
         const m = (await WebAssembly.instantiate(window.code, {})).exports, memory = () => new Uint8Array(m.memory.buffer);
         const place = bytes => { const at = m.page_room(BigInt(bytes.length + 8)); memory().set(bytes, Number(at)); return at; };
         const held = place(new Uint8Array(8)), to = m.page_room(BigInt(1 << 22));
-        const made = kind => { const n = m.page_copy(held, kind, to, BigInt(1 << 22)); return memory().slice(Number(to), Number(to + n)); };
+        const copied = kind => Number(to + m.page_copy(held, kind, to, BigInt(1 << 22)));
+        const made = kind => { const end = copied(kind); return memory().slice(Number(to), end); };
         const at = place(sectors), status = m.page_begin(held, at, BigInt(sectors.length));
         m.page_give_back(at);
         const press = text => {
-            const bytes = Uint8Array.from(text, c => c.charCodeAt(0)), there = place(bytes), now = m.page_press(held, there, BigInt(bytes.length));
+            const bytes = Uint8Array.from(text, c => c.charCodeAt(0)), there = place(bytes);
+            const now = m.page_press(held, there, BigInt(bytes.length));
             m.page_give_back(there);
             return now;
         };
@@ -57,7 +59,8 @@ MADE = '''(async () => {
     return JSON.stringify(out);
 })()'''
 TRY = '''(async () => {
-    const allowed = /^(svg|style|rect|text|g)$/, names = /^(xmlns|width|height|viewBox|font-|xml:space|x$|y$|fill|textLength|text-decoration)/;
+    const allowed = /^(svg|style|rect|text|g)$/;
+    const names = /^(xmlns|width|height|viewBox|font-|xml:space|x$|y$|fill|textLength|text-decoration)/;
     const good = drawing => {
         const root = document.createElement('div');
         root.innerHTML = drawing;
@@ -85,12 +88,13 @@ TRY = '''(async () => {
     }
     return JSON.stringify(out);
 })()'''
-PRESSES = ['\x1b[<1;52;2M\x1b[<1;52;2m', 'Hello World\r', MARKUP, '\x13', '\x1b[<2;3;3M\x1b[<2;9;3m', '\x03', '\x1b[<1;52;8M\x1b[<1;52;8m',
-           '\x1a', 'more', '\x1b[<1;60;4M\x1b[<1;60;4m', '\x1a']
+PRESSES = ['\x1b[<1;52;2M\x1b[<1;52;2m', 'Hello World\r', MARKUP, '\x13', '\x1b[<2;3;3M\x1b[<2;9;3m', '\x03',
+           '\x1b[<1;52;8M\x1b[<1;52;8m', '\x1a', 'more', '\x1b[<1;60;4M\x1b[<1;60;4m', '\x1a']
 
 
 def presses(chance):
-    mouse = lambda: '\x1b[<{0};{1};{2}M\x1b[<{0};{1};{2}m'.format(chance.choice([0, 1, 1, 2]), chance.randint(1, 80), chance.randint(1, 32))
+    mouse = lambda: '\x1b[<{0};{1};{2}M\x1b[<{0};{1};{2}m'.format(
+        chance.choice([0, 1, 1, 2]), chance.randint(1, 80), chance.randint(1, 32))
     return [chance.choice([mouse(), mouse(), mouse(), 'x', MARKUP, '\x1a', '\x13', '\x1b[<65;9;9M']) for _ in range(8)]
 
 
@@ -100,7 +104,8 @@ def templates(page):
     for version in (1, 2):
         with gzip.open(f'{TOP}/tests/lib/old_stores/version_{version}.gz') as file:
             olds.append(file.read())
-    olds = [{n: old[n * SECTOR:n * SECTOR + SECTOR] for n in range(SECTORS) if any(old[n * SECTOR:n * SECTOR + SECTOR])} for old in olds]
+    sectors = [{n: old[n * SECTOR:n * SECTOR + SECTOR] for n in range(SECTORS)} for old in olds]
+    olds = [{n: data for n, data in old.items() if any(data)} for old in sectors]
     return [made, olds[0], made, olds[1]]
 
 

@@ -7,7 +7,7 @@ import os
 import shutil
 import sys
 
-from browsers import TOP, Firefox, browsers, room, served
+from browsers import FILE, Firefox, browsers, room, served
 
 KEYS = int(sys.argv[1]) if len(sys.argv) > 1 else 200
 BARE = '''{ const code = `let file, n = 0; const sector = new Uint8Array(1024), write = at => file.write(sector, { at: 1024 * at });
@@ -52,7 +52,7 @@ def measured(one, profile):
 kinds = browsers()
 if not kinds:
     sys.exit(print('no browser here: skipped'))
-print(f'desk.html: {os.path.getsize(f"{TOP}/docs/desk.html")} bytes')
+print(f"{FILE}: {os.path.getsize(FILE)} bytes")
 for one in kinds:
     where = room()
     measured(one, where)

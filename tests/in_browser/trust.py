@@ -8,11 +8,13 @@ import shutil
 import sys
 import time
 
-from browsers import HARNESS, IS_SET, Chromium, Firefox, browsers, copied, room, served, leaks
+from browsers import HARNESS, Chromium, browsers, copied, leaks, room, served
 
 WRONG = []
 HEAD = '<script type="text/plain" id="worker">\n'
 SIZE = 15621 * 1024
+LEAVE = '''void document.getElementById('keys').dispatchEvent(
+    new KeyboardEvent('keydown', {key: 'q', ctrlKey: true, bubbles: true}))'''
 # What the page asks and hands out: questions are answered with yes, and what would be downloaded is kept.
 ANSWERS = '''(() => {
     window.confirm = words => { window.askedFor = words; return window.answerNo !== true; };
@@ -38,16 +40,18 @@ COPY = '''(() => {
     return window.clip;
 })()'''
 BYTES = '''window.handed.arrayBuffer().then(buffer => {
-    const bytes = new Uint8Array(buffer);
-    let s = '';
-    for (let i = 0; i < bytes.length; i += 30000) s += String.fromCharCode(...bytes.subarray(i, i + 30000));
-    return btoa(s);
+    const bytes = new Uint8Array(buffer), out = [];
+    for (let at = 0; at < bytes.length; at += 1024) {
+        const sector = bytes.subarray(at, at + 1024);
+        if (sector.some(Boolean)) out.push([at, btoa(String.fromCharCode(...sector))]);
+    }
+    return JSON.stringify([bytes.length, out]);
 })'''
 SEEN = "(id => { const it = document.getElementById(id); return Boolean(it && !it.closest('[hidden]')); })(%r)"
 FILL = '''navigator.storage.getDirectory().then(async folder => {
     for (const [name, byte] of %s) {
         const file = await (await folder.getFileHandle(name, { create: true })).createWritable();
-        await file.write(new Uint8Array(15621 * 1024).fill(byte));
+        await file.write(new Uint8Array(%d * 1024).fill(byte));
         await file.close();
     }
     return true;
@@ -82,12 +86,21 @@ def typing(page):
     page.click(2, 1)
 
 
+def handed(page):
+    """The bytes that the page hands out, as soon as it does."""
+    page.until('Boolean(window.handed)')
+    size, parts = json.loads(page.js(BYTES, wait=True))
+    out = bytearray(size)
+    for at, part in parts:
+        out[at:at + 1024] = base64.b64decode(part)
+    return bytes(out)
+
+
 def saved(page):
     """The bytes of the store, as the page hands them out."""
     page.js('void (window.handed = null)')
     click_on(page, 'save-link')
-    page.until('Boolean(window.handed)')
-    return base64.b64decode(page.js(BYTES, wait=True))
+    return handed(page)
 
 
 def given(page, name):
@@ -98,7 +111,7 @@ def given(page, name):
         page.until('Boolean(window.handed)', 2)
     except TimeoutError:
         return None
-    return base64.b64decode(page.js(BYTES, wait=True)).decode()
+    return handed(page).decode()
 
 
 def changed(worker='', change=lambda text: text):
@@ -120,10 +133,13 @@ def select(page, first, last):
 def clipboard(page, kind, before):
     """What the clipboard has after the page copies or cuts."""
     time.sleep(1)
-    now = page.js(COPY % kind)
+    page.js(COPY % kind)
+    try:
+        page.until("window.clip !== null || /hand out|press that/.test(document.getElementById('note').textContent)", 20)
+    except TimeoutError:
+        pass
     time.sleep(1)
-    if now is None:
-        now = page.js('window.clip')
+    now = page.js('window.clip')
     page.count = page.js('tried.times.length')
     return before if now is None else now
 
@@ -138,8 +154,7 @@ def copying(kind):
     before = page.rows()
     got = clipboard(page, 'copy', 'foreign')
     whole = got in (mail, mail.rstrip('\n'))
-    check(kind, 'copying', 'the clipboard has all of what was copied, or nothing of it and a sentence',
-          whole or got == ' ' and 'hand out' in page.note(), got)
+    check(kind, 'copying', 'the clipboard has all of what was copied', whole, got)
     if page.rows() == before:
         select(page, (1, 1), (49, 7))
     got = clipboard(page, 'cut', 'foreign')
@@ -157,7 +172,6 @@ def copying(kind):
     page.wait(1)
     x, y = page.find('words', 1, 50)
     select(page, (x, y), (x + 4, y))
-    page.control('a' if False else 'e')                           # (nothing there is a command: it rings)
     for _ in range(4):
         page.js('document.getElementById("screen").dispatchEvent(new WheelEvent("wheel", {deltaY: 100, bubbles: true, '
                 'cancelable: true, clientX: 100, clientY: 100}))')
@@ -195,7 +209,8 @@ def note(kind):
     page = fresh(kind, served())
     page.js(DROP % json.dumps([['bad.txt', 'b\u00e4d\n']]))
     said = settle(page)
-    check(kind, 'note', 'a refused import is told as refused', 'is the document' not in said and 'Nothing was imported' in said, said)
+    check(kind, 'note', 'a refused import is told as refused',
+          'is the document' not in said and 'Nothing was imported' in said, said)
     page.js(DROP % json.dumps([['good.txt', 'good\n']]))
     said = settle(page)
     check(kind, 'note', 'and a good one after it as done', 'is the document good.txt' in said and 'Nothing was' not in said, said)
@@ -217,13 +232,12 @@ def files(kind):
     for left in ([], [['desk.part', 255], ['desk (second)', 254]]):
         page = kind(room())
         page.go(url.replace('desk.html', 'empty.html'))
-        page.js(FILL % json.dumps(left), wait=True)
+        page.js(FILL % (json.dumps(left), 2000), wait=True)
         page.begin(url, plain=False)
         page.js(ANSWERS)
         stores.append(saved(page))
         page.quit()
-    check(kind, 'files', 'what was left in files of other names is no part of a new store', stores[0] == stores[1],
-          sum(one != other for one, other in zip(*stores)))
+    check(kind, 'files', 'what was left in files of other names is no part of a new store', stores[0] == stores[1])
     url = changed('{ const read = FileSystemSyncAccessHandle.prototype.read; '
                   'FileSystemSyncAccessHandle.prototype.read = function (to, how) { '
                   'return read.call(this, to.byteLength > 10000 ? to.subarray(0, 10000) : to, how); }; }')
@@ -245,7 +259,8 @@ def ways(kind):
     typing(backup)
     backup.type('of the backup')
     store = saved(backup)
-    sectors = [[n, base64.b64encode(store[n * 1024:n * 1024 + 1024]).decode()] for n in range(15621) if any(store[n * 1024:n * 1024 + 1024])]
+    whole = [store[n * 1024:n * 1024 + 1024] for n in range(15621)]
+    sectors = [[n, base64.b64encode(sector).decode()] for n, sector in enumerate(whole) if any(sector)]
     backup.quit()
     open_it = '''(() => {
         const all = new Uint8Array(15621 * 1024);
@@ -258,7 +273,7 @@ def ways(kind):
     for way in ('load', 'anew'):
         page = kind(room())
         page.go(url.replace('desk.html', 'empty.html'))
-        page.js(FILL % json.dumps([['desk', 255]]), wait=True)
+        page.js(FILL % (json.dumps([['desk', 255]]), 40), wait=True)
         page.begin(url)
         page.js(ANSWERS)
         check(kind, 'ways', 'bytes that are no store are told', page.js('document.body.dataset.failed') != '', page.note())
@@ -269,9 +284,8 @@ def ways(kind):
             continue
         page.js('void (window.handed = null)')
         click_on(page, 'save-bytes')
-        page.until('Boolean(window.handed)')
-        got = base64.b64decode(page.js(BYTES, wait=True))
-        check(kind, 'ways', 'the bytes are saved as they are', got == b'\xff' * SIZE, len(got))
+        got = handed(page)
+        check(kind, 'ways', 'the bytes are saved as they are', got == b'\xff' * 40960, len(got))
         if way == 'load':
             page.js(open_it)
         else:
@@ -287,15 +301,16 @@ def ways(kind):
                   'if (left-- === 0) throw new DOMException("full", "QuotaExceededError"); return write.apply(this, words); }; }'
                   ')(FileSystemSyncAccessHandle.prototype.write);')
     profile = room()
-    page = fresh(kind, url, profile)
+    page = fresh(kind, url, profile, plain=False)         # with a text that has the caret
     page.quit()
     page = kind(profile)
     page.begin(url.replace('desk.html', 'changed.html'), plain=False)
     page.js(ANSWERS)
     for _ in range(60):
-        page.js("document.getElementById('keys').dispatchEvent(new KeyboardEvent('keydown', {key: 'F2', bubbles: true}))")
+        page.js("document.getElementById('keys').dispatchEvent(new KeyboardEvent('keydown', {key: 'x', bubbles: true}))")
     page.until("document.body.dataset.failed", 10)
-    check(kind, 'ways', 'after a failed write too', all(page.js(SEEN % it) for it in ('again', 'save-bytes', 'load-instead', 'anew')))
+    check(kind, 'ways', 'after a failed write too',
+          all(page.js(SEEN % it) for it in ('again', 'save-bytes', 'load-instead', 'anew')))
     page.js('void (window.handed = null)')
     click_on(page, 'save-bytes')
     time.sleep(1)
@@ -356,14 +371,16 @@ def causes(kind):
 def sentences(kind):
     url = changed('delete NavigatorLocks; Object.defineProperty(WorkerNavigator.prototype, "locks", { value: undefined });')
     page = kind(room())
-    check(kind, 'sentences', 'without locks a desktop in memory', page.begin(url.replace('desk.html', 'changed.html')) == 'memory', page.note())
+    kept = page.begin(url.replace('desk.html', 'changed.html'))
+    check(kind, 'sentences', 'without locks a desktop in memory', kept == 'memory', page.note())
     typing(page)
     page.type('x')
-    page.js("void document.getElementById('keys').dispatchEvent(new KeyboardEvent('keydown', {key: 'q', ctrlKey: true, bubbles: true}))")
+    page.js(LEAVE)
     settle(page)
-    page.js("void document.getElementById('keys').dispatchEvent(new KeyboardEvent('keydown', {key: 'q', ctrlKey: true, bubbles: true}))")
+    page.js(LEAVE)
     said = settle(page)
-    check(kind, 'sentences', 'one who leaves it isn\'t told that all is kept', 'verything is kept' not in said and 'left' in said, said)
+    check(kind, 'sentences', 'one who leaves it isn\'t told that all is kept',
+          'verything is kept' not in said and 'left' in said, said)
     leaves = page.js('''(() => { const event = new Event('beforeunload', { cancelable: true }); dispatchEvent(event);
         return event.defaultPrevented; })()''')
     check(kind, 'sentences', 'and the browser asks before the tab is closed', leaves)
@@ -409,14 +426,15 @@ def errors(kind):
     check(kind, 'errors', 'a folder is told', 'folder' in said and 'read' in said, said)
     page.js('''(() => {
         window.wasRead = false;
-        const file = { name: 'film.mp4', size: 1200000000, arrayBuffer: () => { window.wasRead = true; return Promise.resolve(new ArrayBuffer(9)); } };
+        const arrayBuffer = () => { window.wasRead = true; return Promise.resolve(new ArrayBuffer(9)); };
+        const file = { name: 'film.mp4', size: 1200000000, arrayBuffer };
         dispatchEvent(Object.assign(new Event('drop', { cancelable: true }), { dataTransfer: { files: [file] } }));
     })()''')
     said = settle(page)
     check(kind, 'errors', 'a file that is too long isn\'t read', not page.js('window.wasRead') and 'film.mp4' in said, said)
-    page.js("void Promise.reject(Error('something else'))") if kind is Firefox else page.js("void setTimeout(() => Promise.reject(Error('something else')))")
-    said = settle(page)
-    if kind is Chromium:
+    if kind is Chromium:                                  # (what a test throws in Firefox is of its own sandbox)
+        page.js("void setTimeout(() => Promise.reject(Error('something else')))")
+        said = settle(page)
         check(kind, 'errors', 'what else fails is told', 'something else' in said, said)
     page.quit()
 
@@ -427,7 +445,8 @@ def policy(kind):
     page.begin(url)
     page.js("void (new Image().src = '/leak-image')")
     page.js("void document.head.append(Object.assign(document.createElement('script'), { src: '/leak-script' }))")
-    page.js("void document.head.append(Object.assign(document.createElement('link'), { rel: 'stylesheet', href: '/leak-style' }))")
+    page.js("void document.head.append(Object.assign(document.createElement('link'), "
+            "{ rel: 'stylesheet', href: '/leak-style' }))")
     page.js("void fetch('/leak-fetch').catch(() => 0)") if kind is Chromium else None
     page.js("void document.body.append(Object.assign(document.createElement('iframe'), { src: '/leak-frame' }))")
     time.sleep(1)
@@ -471,12 +490,14 @@ def typing_of(kind):
     page.js(told)
     page.js("document.getElementById('keys').focus(); document.execCommand('delete')")
     settle(page)
-    check(kind, 'typing', 'the Backspace of a phone deletes', ''.join(page.js('window.tried.said')) == '\x7f', page.js('window.tried.said'))
+    said = page.js('window.tried.said')
+    check(kind, 'typing', 'the Backspace of a phone deletes', ''.join(said) == '\x7f', said)
     page.js(told)
     page.count = page.js('tried.times.length')
     if kind is Chromium:
         page.ask('Input.imeSetComposition', text='kana', selectionStart=4, selectionEnd=4)
-        style = page.js("(it => getComputedStyle(it).opacity !== '0' && it.getBoundingClientRect().width > 20)(document.getElementById('keys'))")
+        style = page.js("(it => getComputedStyle(it).opacity !== '0' && it.getBoundingClientRect().width > 20)"
+                        "(document.getElementById('keys'))")
         check(kind, 'typing', 'what is composed is seen', style)
         page.press(10, 6, 'left')
         page.release(10, 6, 'left')

@@ -44,7 +44,8 @@ LOAD = '''(() => {
     input.dispatchEvent(new Event('change'));
 })()'''
 
-# What is pressed with Shift (1), Alt (2) and Ctrl (4), and the bytes that the page tells of it; none where the key stays the browser's.
+# What is pressed with Shift (1), Alt (2) and Ctrl (4), and the bytes that the page tells of it; none where the key stays the
+# browser's.
 TOLD = [('a', 0, 'a'), ('A', 1, 'A'), ('s', 4, '\x13'), ('c', 4, ''), ('s', 5, ''), ('5', 4, ''), ('2', 2, '\x1b2'), (' ', 2, '\x1b '),
         ('z', 2, '\x1bz'), ('Tab', 0, '\t'), ('Enter', 0, '\r'), ('Backspace', 0, '\x7f'), ('Escape', 0, '\x1b'),
         ('Delete', 0, '\x1b[3~'), ('F2', 0, '\x1bOQ'), ('F11', 0, '\x1b[23~'), ('F12', 0, ''), ('ArrowLeft', 0, '\x1b[D'),

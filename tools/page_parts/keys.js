@@ -108,12 +108,18 @@ function standAtCaret() {
     keys.classList.add('composing');
 }
 keys.addEventListener('beforeinput', event => {
-    if (composing || event.isComposing || !DEEDS[event.inputType]) return;
+    if (composing || event.isComposing || !DEEDS[event.inputType] || !event.cancelable) return;
     event.preventDefault();
     send(DEEDS[event.inputType]);
 });
+keys.addEventListener('input', event => {                 // what couldn't be held back is done as well
+    if (composing || event.isComposing) return;
+    if (DEEDS[event.inputType]) {
+        empty();
+        send(DEEDS[event.inputType]);
+    } else commit();
+});
 keys.addEventListener('compositionstart', () => { composing = true; standAtCaret(); });
-keys.addEventListener('input', event => { if (!composing && !event.isComposing) commit(); });
 keys.addEventListener('compositionend', commit);
 keys.addEventListener('blur', () => { if (composing) commit(); });
 

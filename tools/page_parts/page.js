@@ -11,7 +11,7 @@ const WELCOME = [
     '5 Ctrl-S stores this text under the name above.', '', '',
 ];
 async function welcome() {                                // a new desktop opens a text with the caret in it
-    const open = texts(BORDER).find(text => text.words.startsWith('Edit.Open'));
+    const open = texts().find(text => text.x >= BORDER && text.words.startsWith('Edit.Open'));
     if (!open) return;
     await click(MIDDLE, [open.x, open.y]);
     await send(`\x1b[200~${WELCOME.join('\n')}\x1b[201~`);
@@ -86,7 +86,11 @@ function showStill() {                                    // where it can't run
 async function main() {
     empty();
     tell({});
-    module = await unpacked().catch(() => new Uint8Array(0));
-    if (WebAssembly.validate(module)) await open('open'); else showStill();
+    try {
+        module = await WebAssembly.compile(await unpacked());
+    } catch {
+        return showStill();
+    }
+    return open('open');
 }
 main();

@@ -52,15 +52,15 @@ function rest() {                                         // what is done when n
 }
 
 // ---- What a row of the drawing says: its texts between two columns, each with the column where it begins.
-function texts(from = 0, to = COLUMNS) {
+function texts() {
     return [...screen_.querySelectorAll('text')].map(text => ({
         x: text.getAttribute('x') / WIDE, y: Math.floor(text.getAttribute('y') / HIGH), words: text.textContent,
         marked: text.previousElementSibling?.getAttribute('fill') === SELECTED,
-    })).filter(({ x }) => from <= x && x < to);
+    }));
 }
-function rowOf(y, from, to) {                             // as one string, its first character at column `from`
+function rowOf(y, from, to, all = texts()) {              // as one string, its first character at column `from`
     let row = '';
-    for (const text of texts(from, to)) if (text.y === y) row = row.padEnd(text.x - from) + text.words;
+    for (const { x, y: at, words } of all) if (at === y && from <= x && x < to) row = row.padEnd(x - from) + words;
     return row;
 }
 function trackOf(x) {
@@ -90,30 +90,29 @@ function caretCell() {
     const caret = screen_.querySelector('rect[width="2"]');
     return caret && [caret.getAttribute('x') / WIDE, caret.getAttribute('y') / HIGH];
 }
-function regionOf(from, to, low, high) {                  // of the viewer in these rows
-    const [title, ...menu] = rowOf(low, from, to).split('|'), [x, y] = caretCell() || [-1, -1];
+function regionOf(all, from, to, low, high) {             // of the viewer in these rows
+    const [title, ...menu] = rowOf(low, from, to, all).split('|'), [x, y] = caretCell() || [-1, -1];
     const has = from <= x && x < to && low < y && y < high;
     const label = title.trim() + (has ? `, caret in row ${y - low}, column ${x - from}` : '');
     const rows = [];
-    for (let row = low + 1; row < high; row++) rows.push(partsOf(row, from + 1, to));
+    for (let row = low + 1; row < high; row++) rows.push(partsOf(all, row, from + 1, to));
     while (rows.length && !rows.at(-1).length) rows.pop();
     return { label, menu: menu.join('|').trim(), rows };
 }
-function partsOf(row, from, to) {                         // of a row: words, and whether they are selected
+function partsOf(all, row, from, to) {                    // of a row: words, and whether they are selected
     let end = from;
-    return texts(from, to).filter(text => text.y === row).map(({ x, words, marked }) => {
+    return all.filter(({ x, y }) => y === row && from <= x && x < to).map(({ x, words, marked }) => {
         const gap = ' '.repeat(Math.max(x - end, 0));
         end = x + words.length;
         return [gap + words, marked];
     });
 }
 function regions() {
-    const all = [];
-    for (const [from, to] of [[0, BORDER], [BORDER, COLUMNS]]) {
+    const all = texts();
+    return [[0, BORDER], [BORDER, COLUMNS]].flatMap(([from, to]) => {
         const rows = titles(from, to);
-        rows.forEach((low, i) => all.push(regionOf(from, to, low, rows[i + 1] ?? ROWS)));
-    }
-    return all;
+        return rows.map((low, i) => regionOf(all, from, to, low, rows[i + 1] ?? ROWS));
+    });
 }
 function regionElement({ label, menu, rows }) {
     const region = document.createElement('section'), body = document.createElement('pre');

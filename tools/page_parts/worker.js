@@ -10,7 +10,7 @@ const told = error => error?.message || error?.name || error;
 class Desk {
     static async of(code, sectors) {                      // with those of a store; where there are none, with a new one
         const desk = new Desk();
-        desk.module = (await WebAssembly.instantiate(code, {})).instance.exports;
+        desk.module = (await WebAssembly.instantiate(code, {})).exports;
         const next = desk.place(new Uint8Array(8));
         desk.held = next;
         desk.call('page_begin', sectors);
