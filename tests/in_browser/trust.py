@@ -1,6 +1,6 @@
 #!/usr/bin/env python3
 """trust.py [ITEM..]: what a page that one can trust does where something goes wrong, in each browser. Each line says what should
-be so, and whether it is; the status is 1 where something isn't. DESK=FILE in the environment tries that file instead of
+be so, and whether it is; the status is 1 where something isn't. PAGE=FILE in the environment tries that file instead of
 docs/desk.html. The items: copying importing note files earlier ways causes sentences errors policy typing."""
 import base64
 import json
