@@ -30,7 +30,8 @@ impl Desktop {
         requires { IsKeptWhole self.old }
         ensures seen { IfOk result (λ text. (characters : List ℕ)
             → option_map (λ t. contents characters (flat t)) text
-            ≡ option_map (selected (seen characters self.old)) (newest (seen characters self.old))) }
+            ≡ option_map (selected (seen characters self.old))
+            (newest (seen characters self.old))) }
         ensures within { IfOk result (λ text. (characters : List ℕ) → IsOver characters self.old
             → IfSome text (λ t. AreWithin (length characters) (flat t))) }
         ensures unchanged { self.new ≡ self.old }
