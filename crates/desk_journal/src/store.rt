@@ -25,6 +25,7 @@ ghost use Rattle.desk_slots.specs.Words.{ListsUnread, shown_screen};
 
 mod bringing;
 mod leading;
+mod copying;
 mod scrolling;
 mod views;
 

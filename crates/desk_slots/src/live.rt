@@ -19,6 +19,7 @@ ghost use Rattle.std.specs.Result.{result_map_both};
 ghost use Rattle.desk_slots.specs.Words.{Nowhere, now, IsConfined, FailsAs, entries_of, shown_screen};
 ghost use Rattle.desk_slots.specs.Words.{Content, ListsUnread};
 
+mod copying;
 mod views;
 
 use crate::Error;
