@@ -3,7 +3,8 @@
 //! of one text the one that is closed last has it alone.
 
 use arrayvec::ArrayVec;
-use desk_journal::{Error, Loss, Store};
+use crate::sentences::Stop;
+use desk_journal::{Loss, Store};
 use desktop_definitions::{Entry, Reply};
 use event_bytes::{Event, Keys};
 use screen_cells::Screen;
@@ -52,7 +53,7 @@ pub(crate) fn unstored_in(
     alloc: Global,
     store: &mut Store<MemoryDisk>,
     keeps: bool,
-) -> Result<Vec<Unstored>, Error> {
+) -> Result<Vec<Unstored>, Stop> {
     let mut search = Search {
         alloc,
         store,
@@ -68,13 +69,13 @@ pub(crate) fn unstored_in(
     } = search;
     match done {
         Ok(()) => Ok(found),
-        Err(error) => Err(error),
+        Err(stop) => Err(stop),
     }
 }
 
 impl Search<'_> {
     /// Closes viewers until none is closed any more.
-    fn close_all(&mut self) -> Result<(), Error> {
+    fn close_all(&mut self) -> Result<(), Stop> {
         for _ in 0..MOST_ROUNDS {
             if !self.close_shown()? {
                 return Ok(());
@@ -84,7 +85,7 @@ impl Search<'_> {
     }
 
     /// Closes the viewers that are shown, the last ids first, and returns whether any was closed.
-    fn close_shown(&mut self) -> Result<bool, Error> {
+    fn close_shown(&mut self) -> Result<bool, Stop> {
         let mut some = false;
         for id in (0..MOST_IDS).rev() {
             if self.close_viewer(id)? {
@@ -95,7 +96,7 @@ impl Search<'_> {
     }
 
     /// Closes the viewer of an id, if it is shown and isn't that of the log, and returns whether it did.
-    fn close_viewer(&mut self, id: u16) -> Result<bool, Error> {
+    fn close_viewer(&mut self, id: u16) -> Result<bool, Stop> {
         match self.store.shown_viewer(id)? {
             Some(viewer) if !viewer.is_log => self.close_at(viewer.place),
             _ => Ok(false),
@@ -104,7 +105,7 @@ impl Search<'_> {
 
     /// Closes the viewer that stands there, if its menu shows the word that does, and returns whether it did. A text that
     /// no document has is found.
-    fn close_at(&mut self, place: Place) -> Result<bool, Error> {
+    fn close_at(&mut self, place: Place) -> Result<bool, Stop> {
         let screen = self.screen()?;
         let Some(cell) = self.close_word(&screen, place)? else {
             return Ok(false);
@@ -116,14 +117,14 @@ impl Search<'_> {
     }
 
     /// The screen.
-    fn screen(&mut self) -> Result<Screen, Error> {
+    fn screen(&mut self) -> Result<Screen, Stop> {
         let mut screen = Screen::new();
         self.store.screen(self.alloc, &mut screen)?;
         Ok(screen)
     }
 
     /// A cell of the word in a viewer's menu that closes it.
-    fn close_word(&self, screen: &Screen, place: Place) -> Result<Option<(u8, u8)>, Error> {
+    fn close_word(&self, screen: &Screen, place: Place) -> Result<Option<(u8, u8)>, Stop> {
         let y = place.top.saturating_sub(1);
         for x in place.x..COLUMNS {
             let is_word = called_word(screen, x, y).as_slice() == b"System.Close".as_slice();
@@ -135,7 +136,7 @@ impl Search<'_> {
     }
 
     /// Adds the text of the viewer that stands there.
-    fn find(&mut self, screen: &Screen, place: Place) -> Result<(), Error> {
+    fn find(&mut self, screen: &Screen, place: Place) -> Result<(), Stop> {
         let name = word_from(screen, place.x, place.top.saturating_sub(1));
         let len = self.length_at(place)?;
         let is_kept = self.keeps && self.keep(place)?;
@@ -144,7 +145,7 @@ impl Search<'_> {
     }
 
     /// How many characters the text has of the viewer that stands there, and is shown: its track lies over others.
-    fn length_at(&mut self, place: Place) -> Result<u32, Error> {
+    fn length_at(&mut self, place: Place) -> Result<u32, Stop> {
         let mut length = 0;
         let entries = self.store.list(self.alloc)?;
         for entry in entries.as_slice() {
@@ -165,7 +166,7 @@ impl Search<'_> {
     }
 
     /// Has the text of the viewer that stands there stored, as Ctrl-S does, and returns whether it was.
-    fn keep(&mut self, place: Place) -> Result<bool, Error> {
+    fn keep(&mut self, place: Place) -> Result<bool, Stop> {
         let begin = (place.x.saturating_add(1), place.top.saturating_sub(2));
         let _reply = self.click(Keys::Left, begin)?;
         let screen = self.screen()?;
@@ -179,7 +180,7 @@ impl Search<'_> {
     }
 
     /// Sets the marker to a cell, if one is given.
-    fn mark(&mut self, cell: Option<(u8, u8)>) -> Result<(), Error> {
+    fn mark(&mut self, cell: Option<(u8, u8)>) -> Result<(), Stop> {
         if let Some((x, y)) = cell {
             let _reply = self.store.post(self.alloc, &Event::Mark { x, y })?;
         }
@@ -187,12 +188,12 @@ impl Search<'_> {
     }
 
     /// Calls the word at a cell, and returns whether that was done.
-    fn call(&mut self, cell: (u8, u8)) -> Result<bool, Error> {
+    fn call(&mut self, cell: (u8, u8)) -> Result<bool, Stop> {
         Ok(matches!(self.click(Keys::Middle, cell)?, Reply::Done))
     }
 
     /// Clicks at a cell.
-    fn click(&mut self, keys: Keys, cell: (u8, u8)) -> Result<Reply, Error> {
+    fn click(&mut self, keys: Keys, cell: (u8, u8)) -> Result<Reply, Stop> {
         let (x, y) = cell;
         let event = Event::Point {
             keys,
@@ -201,6 +202,6 @@ impl Search<'_> {
             x1: x,
             y1: y,
         };
-        self.store.post(self.alloc, &event)
+        Ok(self.store.post(self.alloc, &event)?)
     }
 }

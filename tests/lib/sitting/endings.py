@@ -779,9 +779,9 @@ def in_memory(trial):
     trial.check('System.Tool' in sitting.terminal.line(0), 'no tool text is shown')
     trial.check('memory' in sitting.terminal.line(ROWS), f'the line below is {sitting.terminal.line(ROWS)!r}')
     sitting.press(b'\x11')
-    trial.check(sitting.wait(lambda: 'Ctrl-Q again leaves' in sitting.terminal.line(ROWS), 5), 'nothing is asked')
+    trial.check(sitting.wait(lambda: 'press Ctrl-Q again' in sitting.terminal.line(ROWS), 5), 'nothing is asked')
     sitting.press(b'\x01\x11')
-    trial.check(sitting.wait(lambda: 'Ctrl-Q again leaves' in sitting.terminal.line(ROWS), 5), 'another key answers')
+    trial.check(sitting.wait(lambda: 'press Ctrl-Q again' in sitting.terminal.line(ROWS), 5), 'another key answers')
     sitting.press(b'\x11')
     trial.check(sitting.end() == 0 and not os.listdir(trial.folder), f'status {sitting.status}')
 
