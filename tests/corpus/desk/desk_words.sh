@@ -23,8 +23,14 @@ desk check /dev/null
 
 echo '--- a store that can only be read'
 read_only() {
-    mkdir mount && mount --bind . mount && mount -o remount,ro,bind mount && cd mount &&
-        "$DESK_PROGRAM" list my.disk && "$DESK_PROGRAM" backup my.disk /tmp/copy.disk && echo > /tmp/here && "$DESK_PROGRAM" import my.disk A=/tmp/here
+    mkdir mount && mount --bind . mount && mount -o remount,ro,bind mount || exit
+    for words in 'list' 'check' 'history'; do
+        "$DESK_PROGRAM" $words mount/my.disk | tail -n 1
+    done
+    "$DESK_PROGRAM" backup mount/my.disk copy.disk
+    echo text > text
+    "$DESK_PROGRAM" import mount/my.disk A.Text=text
+    echo "= $?"
 }
 export -f read_only
-unshare -rm bash -c 'mount -t tmpfs none /tmp && read_only' 2>&1
+unshare -rm bash -c read_only 2>&1
