@@ -7,8 +7,10 @@ file System.Tool Edit.Open A.Text%0dEdit.Open B.Text%0dSystem.Grow Edit.Store
 file C.Text stored%0d
 point m 60 31 60 31
 point m 52 30 52 30
+point l 2 30 2 30
 type first
 point m 52 29 52 29
+point l 2 14 2 14
 type second%0d
 END
 cp my.disk before.disk
@@ -25,20 +27,22 @@ cmp my.disk before.disk && echo 'the store itself stays'
 
 echo '--- one of them in two viewers, in a track of its own'
 "$PROGRAM" play my.disk << 'END' > played
-mark 3 5
+mark 3 14
 point m 52 28 52 28
-type more
 END
 desk list my.disk
 
 echo '--- all stored'
 "$PROGRAM" format my.disk
 "$PROGRAM" play my.disk << 'END' > played
-file System.Tool Edit.Open A.Text%0d
+file System.Tool Edit.Open A.Text%0dEdit.Store%0d
 point m 60 31 60 31
 point m 52 30 52 30
+point l 2 30 2 30
 type text
-point m 48 31 48 31
+mark 2 30
+point m 52 29 52 29
+key escape
 END
 desk list my.disk
 desk export my.disk --all stored
