@@ -32,9 +32,12 @@ abbrev pub behind_part : Part → List Cell → List Cell
 behind_part part cells = drop (part_run part cells) cells
 
 -- the cells of a text from a column on to the end of its row
+abbrev pub row_text : List Cell → ℕ → List Cell
+row_text row x = take (part_run Text (drop x row)) (drop x row)
+
 abbrev pub text_on : Option (List Cell) → ℕ → List Cell
 text_on None x = []
-text_on (Some row) x = take (part_run Text (drop x row)) (drop x row)
+text_on (Some row) x = row_text row x
 
 unfoldable pub text_from : List (List Cell) → ℕ → ℕ → List Cell
 text_from screen x y = if nat_lt x COLUMNS then text_on (slice_get screen y) x else []

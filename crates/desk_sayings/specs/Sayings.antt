@@ -30,7 +30,7 @@ use Rattle.desk_sayings.specs.Named.{behind_call, deleting_words, misnamed_words
 -- why an event is refused, by the code of the refusal from 0 on
 abbrev pub reasons : List (List ℕ)
 reasons =
-    codes "That can't be done here." ∷
+    codes "refused" ∷
     codes "No caret is set: click into a text first." ∷
     codes "Nothing is selected: drag over a text with the right button, or with F3." ∷
     codes "Behind that word a name or a number is missing." ∷
@@ -46,7 +46,7 @@ reasons =
     codes "A viewer of one row can't be parted." ∷ []
 
 abbrev pub reason : ℕ → List ℕ
-reason code = unwrap_or (slice_get reasons code) (codes "That can't be done here.")
+reason code = unwrap_or (slice_get reasons code) (codes "refused")
 
 -- There is no document of a name, or it is named twice: the name, or the first of several, is that behind the word that
 -- was called, as far as it is seen.

@@ -4,7 +4,8 @@ ghost use Rattle.screen_reading.specs.Along.{shows_text};
 ghost use Rattle.desk_sayings.specs.declared.named.Part.TheVariants.{Text};
 ghost use Rattle.desk_sayings.specs.Named.{begins_with_name, behind_call, behind_part, row_characters, deletes, deleting_words};
 ghost use Rattle.desk_sayings.specs.Named.{goes_on_oddly, is_odd, is_part, misnamed_words, named_question, opens};
-ghost use Rattle.desk_sayings.specs.Named.{part_run, text_from};
+ghost use Rattle.desk_sayings.specs.Named.{part_run, row_text, text_from};
+ghost use Rattle.viewer_tracks.specs.declared.display.TheConstants.{COLUMNS};
 
 use crate::question::Question;
 use crate::saying::SayingLine;
@@ -13,6 +14,9 @@ use screen_cells::Screen;
 use screen_pictures::{Cell, Mark};
 use screen_reading::called_word;
 use viewer_tracks::COLUMNS;
+
+/// A row of the screen, from the left.
+type Row = [Cell; COLUMNS as usize];
 
 /// What is told apart of cells.
 #[derive(Clone, Copy)]
@@ -94,9 +98,17 @@ fn text_from(screen: &Screen, x: u8, y: u8) -> &[Cell]
     ensures { result.now ≡ text_from screen.now x y }
 {
     match screen.rows().get(usize::from(y)) {
-        Some(row) if x < COLUMNS => text_of(&row[usize::from(x)..]),
+        Some(row) if x < COLUMNS => row_text(row, usize::from(x)),
         _ => &[],
     }
+}
+
+/// The same of a row.
+fn row_text(row: &Row, x: usize) -> &[Cell]
+    requires { x < COLUMNS }
+    ensures { result.now ≡ row_text row.now x }
+{
+    text_of(&row[x..])
 }
 
 /// The cells from the first on that show a text.

@@ -98,7 +98,7 @@ pub enum Saying {
 
 /// Why an event was refused, by the code of the refusal.
 const REASONS: [&[u8]; 14] = [
-    b"That can't be done here.",
+    b"refused",
     b"No caret is set: click into a text first.",
     b"Nothing is selected: drag over a text with the right button, or with F3.",
     b"Behind that word a name or a number is missing.",
@@ -122,7 +122,7 @@ fn reason(code: u8) -> &'static [u8]
     REASONS
         .get(usize::from(code))
         .copied()
-        .unwrap_or(b"That can't be done here.")
+        .unwrap_or(b"refused")
 }
 
 /// There is no document of a name, or it is named twice: the name, or the first of several, is that behind the word that
