@@ -139,7 +139,7 @@ def walk(kind, url, profile):
     page.click(x + 1, y, 'left')
     same('one button calls', any('A.Text' in row for row in page.text(50, 80)), True)
     page.click(2, 1, 'middle')
-    same('a refusal', page.js(LINE).startswith('refused (4)'), True)
+    same('a refusal', page.js(LINE).startswith("That word isn't a command"), True)
     for key, held, bytes_told in TOLD:
         told = page.js(KEY % (key, held & 1, held & 2, held & 4))
         if told != bytes_told:

@@ -86,6 +86,10 @@ const EXPORT: &[Argument<'static>] = &[
         kind: Kind::Choice,
     },
     Argument {
+        name: "open",
+        kind: Kind::Choice,
+    },
+    Argument {
         name: "looks",
         kind: Kind::Choice,
     },
@@ -112,6 +116,10 @@ const IMPORT: &[Argument<'static>] = &[
     },
     Argument {
         name: "ascii",
+        kind: Kind::Choice,
+    },
+    Argument {
+        name: "rename",
         kind: Kind::Choice,
     },
     Argument {

@@ -1,15 +1,35 @@
 //! How sittings end, in sentences.
 ghost use Rattle.std.specs.Prelude.{◌≡◌};
-ghost use Rattle.desk.specs.Statuses.{kept_status, lost_status};
+ghost use Rattle.desk.specs.Statuses.{kept_status, lost_status, named_status};
 
 use desk_sitting::SittingEnd;
+use host_files::is_there;
 use std::io;
 
-/// Says how a sitting over a store in a file ended, where the person didn't leave, and returns the status.
-pub(crate) fn kept(rt: &HostRuntime, path: &str, ending: SittingEnd) -> u8
-    ensures { result ≡ kept_status ending }
+/// Says how a sitting over a store in a file ended, where the person didn't leave, and that the file of that name is gone,
+/// if it is; and returns the status.
+pub(crate) fn kept(rt: &HostRuntime, path: &str, ending: SittingEnd) -> u8 {
+    kept_under(rt, path, matches!(is_there(rt, path), Ok(false)), ending)
+}
+
+/// The same, where it is known whether the file of that name is gone.
+fn kept_under(rt: &HostRuntime, path: &str, gone: bool, ending: SittingEnd) -> u8
+    ensures { result ≡ kept_status gone ending }
 {
     let _ = say_kept(rt, path, ending);
+    if gone {
+        let _ = eprintln!(rt;
+            "desk: while the desk was open the file {path:?} was removed, or got another name: what was shown is in that file alone"
+        );
+        return 4;
+    }
+    named_status(ending)
+}
+
+/// The status where the file has its name still.
+fn named_status(ending: SittingEnd) -> u8
+    ensures { result ≡ named_status ending }
+{
     match ending {
         SittingEnd::Left | SittingEnd::Closed => 0,
         SittingEnd::Input | SittingEnd::TooLong | SittingEnd::Output | SittingEnd::Fault => 4,

@@ -6,6 +6,7 @@ mod endings;
 mod orders;
 mod run;
 mod sitting;
+mod usages;
 
 use crate::run::run;
 use std::process::ExitCode;

@@ -59,6 +59,8 @@ pub struct Export<'a> {
     pub join: bool,
     /// Whether they are to be HTML, with the looks of all characters.
     pub looks: bool,
+    /// Whether texts of viewers that no document has come along.
+    pub open: bool,
 }
 
 /// Documents on their way in.
@@ -74,6 +76,8 @@ pub struct Import<'a> {
     pub dry_run: bool,
     /// Whether what isn't ASCII is to be replaced by what is like it.
     pub ascii: bool,
+    /// Whether a file whose name no document can have gives it the nearest one.
+    pub rename: bool,
     /// How many columns a line is to have at most, if lines are to be broken.
     pub fill: Option<u8>,
     /// Whether System.Collect is to be done where it makes the room that is wanted.
@@ -153,6 +157,7 @@ fn importing<'a>(alloc: Global, asked: &Asked<'a>) -> Result<Option<Order<'a>>, 
         replace: asked.chooses("replace"),
         dry_run: asked.chooses("dry-run"),
         ascii: asked.chooses("ascii"),
+        rename: asked.chooses("rename"),
         fill,
         collect: asked.chooses("collect"),
     })))
@@ -186,6 +191,7 @@ fn exporting<'a>(alloc: Global, asked: &Asked<'a>) -> Result<Option<Order<'a>>, 
         replace: asked.chooses("replace"),
         join: asked.chooses("join"),
         looks: asked.chooses("looks"),
+        open: asked.chooses("open"),
     })))
 }
 

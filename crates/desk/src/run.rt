@@ -3,10 +3,11 @@
 
 use crate::orders::{Export, Import, Order, order_of};
 use crate::sitting::{Service, sit_at, sit_in_memory};
+use crate::usages::usage_of;
 use desk_documents::{
-    Manner, Putting, Stop, backup, check, earlier, events_back, export_all, export_names, import,
-    list, list_json,
+    Putting, Stop, backup, check, earlier, events_back, export_all, export_names, list, list_json,
 };
+use desk_imports::{Manner, import};
 use desk_sitting::Saying;
 use desk_stores::{Trouble, picture};
 use host_files::hold_streams;
@@ -31,8 +32,19 @@ fn begin(rt: &HostRuntime) -> u8 {
     };
     match order_of(rt.alloc(), words.as_slice()) {
         Ok(order) => follow(rt, &order),
+        Err(Refusal::Usage) => decline_order(rt, words.get(1)),
         Err(refusal) => decline(rt, refusal),
     }
+}
+
+/// Says how a command is used whose arguments weren't taken, and returns the status.
+fn decline_order(rt: &HostRuntime, command: Option<&String>) -> u8 {
+    let command = command.map_or("", |command| command.as_str());
+    let _ = match usage_of(command) {
+        Some(usage) => eprintln!(rt; "desk: the arguments aren't these: desk {usage}"),
+        None => eprintln!(rt; "desk: there is no command {command:?}; desk --help says what there is"),
+    };
+    2
 }
 
 /// Says why the arguments weren't taken, and returns the status.
@@ -40,9 +52,7 @@ fn decline(rt: &HostRuntime, refusal: Refusal) -> u8 {
     match refusal {
         Refusal::Memory => Trouble::Memory.say(rt, ""),
         Refusal::Usage => {
-            let _ = eprintln!(rt;
-                "desk: usage: sit [--unproved] [--no-questions] [--no-fill] [--columns N] ROWS [PATH] | picture PATH | import PATH FILE.. | export PATH NAME.. | export --looks PATH NAME | list PATH | backup PATH COPY | check PATH | history PATH | earlier PATH K COPY, in UTF-8"
-            );
+            let _ = eprintln!(rt; "desk: the arguments can't be read, which are words in UTF-8");
             2
         }
     }
@@ -103,6 +113,7 @@ fn put_out(rt: &HostRuntime, order: &Export<'_>) -> Result<(), Stop> {
         replace: order.replace,
         is_joined: order.join,
         looks: order.looks,
+        open: order.open,
     };
     match order.all {
         None => export_names(rt, order.path, order.names.as_slice(), putting),
@@ -116,6 +127,7 @@ fn take_in(rt: &HostRuntime, order: &Import<'_>) -> Result<(), Stop> {
         replace: order.replace,
         dry_run: order.dry_run,
         ascii: order.ascii,
+        rename: order.rename,
         fill: order.fill.map(usize::from),
         collect: order.collect,
     };

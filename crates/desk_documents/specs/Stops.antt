@@ -7,13 +7,14 @@ use Rattle.store_documents.specs.declared.exporting.ExportFault.TheVariants.{Sto
 use Rattle.desk_stores.specs.declared.trouble.Trouble.TheVariants.{Memory, Store as StoreThere, Output as OutputThere}
 use Rattle.desk_stores.specs.Statuses.{trouble_status}
 use Rattle.desk_documents.specs.declared.sentences.Stop.{Stop}
-use Rattle.desk_documents.specs.declared.sentences.Stop.TheVariants.{Trouble, Refused, Host}
+use Rattle.desk_documents.specs.declared.sentences.Stop.TheVariants.{Trouble, Refused, Host, Cut}
 
 -- the status of the program
 abbrev pub stop_status : Stop → ℕ
 stop_status (Trouble trouble) = trouble_status trouble
 stop_status Refused = 1
 stop_status Host = 4
+stop_status Cut = 3
 
 -- where the host does not do with a file or a folder what it is asked
 abbrev pub host_stop : HostFault → Stop

@@ -16,7 +16,7 @@ use store_layout::{JOURNAL_EVENTS, LAST_EPOCH};
 pub(crate) const WHOLE: u64 = FILE_SECTORS as u64 * SECTOR_BYTES as u64;
 
 /// Tells how the store in a file is: how long its file is, what its label and both slots say, and whether it opens. The
-/// file is locked beside other programs that look, and nothing is written.
+/// file is locked beside other programs that look, and nothing is written. `Cut`: it opens, but its file was cut short.
 pub fn check(rt: &HostRuntime, path: &str) -> Result<(), Stop> {
     let mut disk = FileDisk::new(looked_at(rt, path)?);
     let length = look(rt, path, &mut disk)?;
@@ -46,12 +46,13 @@ fn look(rt: &HostRuntime, path: &str, disk: &mut LockedDisk) -> Result<u64, Stop
 fn tell_store(rt: &HostRuntime, store: &LockedStore, length: u64) -> Result<(), Stop> {
     let info = store.info()?;
     printed(tell_info(rt, &info))?;
-    if length < WHOLE {
-        printed(println!(rt;
-            "but characters of its documents may be among what is missing: go on with an earlier backup, or look at what desk export gives"
-        ))?;
+    if length >= WHOLE {
+        return Ok(());
     }
-    Ok(())
+    printed(println!(rt;
+        "but characters of its documents may be among what is missing: go on with an earlier backup, or look at what desk export gives"
+    ))?;
+    Err(Stop::Cut)
 }
 
 /// A disk that fails.

@@ -2,13 +2,16 @@
 
 use crate::progress::Progress;
 use crate::sentences::{Stop, cut_off, refused_folder, word_of};
-use crate::stores::{LockedStore, store_at};
+use crate::stores::{store_at, store_in_memory};
+use crate::unstored::{Unstored, unstored_in};
+use desk_journal::Store;
 use desk_stores::Trouble;
 use desktop_definitions::Entry;
 use event_bytes::Name;
 use host_files::{
     is_there, make_file, make_folder, remove, rename_new, rename_over, sync_file, sync_folder,
 };
+use sector_disk::{Disk, MemoryDisk};
 use std::alloc::{AllocError, Global};
 use std::fs::File;
 use std::io::IsTerminal;
@@ -23,6 +26,8 @@ pub struct Putting {
     pub is_joined: bool,
     /// They are HTML, in which each character has its look.
     pub looks: bool,
+    /// Texts of viewers that no document has come out as documents of their names.
+    pub open: bool,
 }
 
 impl Putting {
@@ -49,8 +54,50 @@ pub fn export_names(
     putting: Putting,
 ) -> Result<(), Stop> {
     let names = names_for(rt.alloc(), words)?;
+    if putting.open {
+        let mut store = store_with_open(rt, path)?;
+        return print_all(rt, path, &mut store, names.as_slice(), putting);
+    }
     let mut store = store_at(rt, path)?;
     print_all(rt, path, &mut store, names.as_slice(), putting)
+}
+
+/// A copy of the store in a file, in memory, in which texts of viewers that no document had are documents of their names.
+/// What can't become one is told.
+fn store_with_open(rt: &HostRuntime, path: &str) -> Result<Store<MemoryDisk>, Stop> {
+    let mut store = store_in_memory(rt, path)?;
+    let texts = unstored_in(rt.alloc(), &mut store, true)?;
+    for text in texts.as_slice() {
+        tell_open(rt, text);
+    }
+    Ok(store)
+}
+
+/// Tells of a text that no document had whether it comes along.
+fn tell_open(rt: &HostRuntime, text: &Unstored) {
+    let name = text.name();
+    let len = text.len;
+    let _ = if text.is_kept {
+        eprintln!(rt; "desk: {name} comes as it is open, not stored: {len} characters")
+    } else {
+        eprintln!(rt;
+            "desk: {len} characters of {name}, which is open, can't come: sit down, and store it"
+        )
+    };
+}
+
+/// Tells of texts that are open and not stored, and so stay behind.
+fn tell_left_behind(rt: &HostRuntime, path: &str) -> Result<(), Stop> {
+    let mut store = store_in_memory(rt, path)?;
+    let texts = unstored_in(rt.alloc(), &mut store, false)?;
+    for text in texts.as_slice() {
+        let name = text.name();
+        let len = text.len;
+        let _ = eprintln!(rt;
+            "desk: {len} characters of {name} are open and not stored, and stay behind: --open takes them along"
+        );
+    }
+    Ok(())
 }
 
 /// The names that words are.
@@ -66,10 +113,10 @@ fn names_for(alloc: Global, words: &[&str]) -> Result<Vec<Name>, Stop> {
 }
 
 /// Prints the documents of these names, if the store has them all.
-fn print_all(
+fn print_all<D: Disk>(
     rt: &HostRuntime,
     path: &str,
-    store: &mut LockedStore,
+    store: &mut Store<D>,
     names: &[Name],
     putting: Putting,
 ) -> Result<(), Stop> {
@@ -92,10 +139,10 @@ fn no_document(rt: &HostRuntime, path: &str, name: &Name) -> Stop {
 }
 
 /// Prints documents one after another.
-fn print_each(
+fn print_each<D: Disk>(
     rt: &HostRuntime,
     path: &str,
-    store: &mut LockedStore,
+    store: &mut Store<D>,
     names: &[Name],
     putting: Putting,
     progress: &mut Progress<'_>,
@@ -110,10 +157,10 @@ fn print_each(
 }
 
 /// Prints a document.
-fn print(
+fn print<D: Disk>(
     rt: &HostRuntime,
     path: &str,
-    store: &mut LockedStore,
+    store: &mut Store<D>,
     name: &Name,
     putting: Putting,
 ) -> Result<(), Stop> {
@@ -139,21 +186,27 @@ fn print(
 /// Makes each document of the store in a file a file in a folder, which is made where there is none, and tells each on a
 /// line. A file that is there is replaced only if that is asked for: otherwise it is named, and nothing is done. Each
 /// file is written under another name first, and is durable when it gets its own. It has the name of its document, with
-/// `.html` behind it if it is HTML.
+/// `.html` behind it if it is HTML. Texts that are open and not stored are told.
 pub fn export_all(
     rt: &HostRuntime,
     path: &str,
     folder: &str,
     putting: Putting,
 ) -> Result<(), Stop> {
+    let folder = folder.trim_end_matches('/');
+    if putting.open {
+        let mut store = store_with_open(rt, path)?;
+        return put_all(rt, &mut store, folder, putting);
+    }
     let mut store = store_at(rt, path)?;
-    put_all(rt, &mut store, folder.trim_end_matches('/'), putting)
+    put_all(rt, &mut store, folder, putting)?;
+    tell_left_behind(rt, path)
 }
 
 /// The same with a store.
-fn put_all(
+fn put_all<D: Disk>(
     rt: &HostRuntime,
-    store: &mut LockedStore,
+    store: &mut Store<D>,
     folder: &str,
     putting: Putting,
 ) -> Result<(), Stop> {
@@ -162,7 +215,7 @@ fn put_all(
 }
 
 /// The names of the documents of a store.
-fn names_of(rt: &HostRuntime, store: &mut LockedStore) -> Result<Vec<Name>, Stop> {
+fn names_of<D: Disk>(rt: &HostRuntime, store: &mut Store<D>) -> Result<Vec<Name>, Stop> {
     let entries = store.list(rt.alloc())?;
     Ok(names_in(rt.alloc(), entries.as_slice())?)
 }
@@ -179,9 +232,9 @@ fn names_in(alloc: Global, entries: &[Entry]) -> Result<Vec<Name>, AllocError> {
 }
 
 /// Makes documents of these names files in a folder.
-fn put_names(
+fn put_names<D: Disk>(
     rt: &HostRuntime,
-    store: &mut LockedStore,
+    store: &mut Store<D>,
     folder: &str,
     names: &[Name],
     putting: Putting,
@@ -239,9 +292,9 @@ fn is_in_the_way(
 }
 
 /// Makes documents files in a folder, one after another.
-fn put_each(
+fn put_each<D: Disk>(
     rt: &HostRuntime,
-    store: &mut LockedStore,
+    store: &mut Store<D>,
     folder: &str,
     names: &[Name],
     putting: Putting,
@@ -257,9 +310,9 @@ fn put_each(
 }
 
 /// Makes a document a file in a folder, and tells it.
-fn put_out(
+fn put_out<D: Disk>(
     rt: &HostRuntime,
-    store: &mut LockedStore,
+    store: &mut Store<D>,
     folder: &str,
     name: &Name,
     putting: Putting,
@@ -272,9 +325,9 @@ fn put_out(
 }
 
 /// The same by a file under another name.
-fn put_by(
+fn put_by<D: Disk>(
     rt: &HostRuntime,
-    store: &mut LockedStore,
+    store: &mut Store<D>,
     name: &Name,
     aside: &str,
     file: &str,
@@ -303,9 +356,9 @@ fn give_name(rt: &HostRuntime, aside: &str, file: &str, replace: bool) -> Result
 }
 
 /// Writes a document into a new file, and waits until it is there for good. Where that fails there is no such file.
-fn write_aside(
+fn write_aside<D: Disk>(
     rt: &HostRuntime,
-    store: &mut LockedStore,
+    store: &mut Store<D>,
     name: &Name,
     aside: &str,
     putting: Putting,
@@ -321,9 +374,9 @@ fn write_aside(
 }
 
 /// Writes a document into a file of this name, and waits until it is there for good.
-fn write_into(
+fn write_into<D: Disk>(
     rt: &HostRuntime,
-    store: &mut LockedStore,
+    store: &mut Store<D>,
     name: &Name,
     file: &mut File,
     aside: &str,

@@ -6,7 +6,7 @@ use store_documents::Watch;
 
 /// How far a call has come. It is told on standard error, if that is a terminal, once in each second but the first.
 #[derive(Drop)]
-pub(crate) struct Progress<'a> {
+pub struct Progress<'a> {
     rt: &'a HostRuntime,
     /// What is counted.
     what: &'static str,
@@ -18,7 +18,7 @@ pub(crate) struct Progress<'a> {
 
 impl<'a> Progress<'a> {
     /// The beginning of a call that prints nothing before its end.
-    pub(crate) fn new(rt: &'a HostRuntime, what: &'static str) -> Progress<'a> {
+    pub fn new(rt: &'a HostRuntime, what: &'static str) -> Progress<'a> {
         let begin = if rt.stderr().is_terminal() {
             Instant::now(rt).ok()
         } else {
@@ -33,7 +33,7 @@ impl<'a> Progress<'a> {
     }
 
     /// The beginning of a call that prints what it does. Where that is seen on a terminal nothing else is told.
-    pub(crate) fn beside(rt: &'a HostRuntime, what: &'static str) -> Progress<'a> {
+    pub fn beside(rt: &'a HostRuntime, what: &'static str) -> Progress<'a> {
         let mut progress = Progress::new(rt, what);
         if rt.stdout().is_terminal() {
             progress.begin = None;
@@ -42,7 +42,7 @@ impl<'a> Progress<'a> {
     }
 
     /// So many were done.
-    pub(crate) fn tell(&mut self, count: usize) {
+    pub fn tell(&mut self, count: usize) {
         let now = self.seconds();
         if now > self.told {
             self.told = now;
@@ -63,7 +63,7 @@ impl<'a> Progress<'a> {
     }
 
     /// The end of the call.
-    pub(crate) fn end(self) {
+    pub fn end(self) {
         if self.told > 0 {
             let _ = eprintln!(self.rt; "");
         }

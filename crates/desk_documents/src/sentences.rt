@@ -19,6 +19,8 @@ pub enum Stop {
     Refused,
     /// The host refused a file or a folder, and that has been said.
     Host,
+    /// The store's file was cut short, and that has been said.
+    Cut,
 }
 
 impl From<Trouble> for Stop {
@@ -54,22 +56,9 @@ impl Stop {
             Stop::Trouble(trouble) => trouble.say(rt, path),
             Stop::Refused => 1,
             Stop::Host => 4,
+            Stop::Cut => 3,
         }
     }
-}
-
-/// Says why the host didn't do with a file what it was asked.
-pub(crate) fn refused_file(rt: &HostRuntime, file: &str, fault: HostFault) -> Stop
-    ensures { result ≡ host_stop fault }
-{
-    if matches!(fault, HostFault::NoMemory) {
-        return Stop::Trouble(Trouble::Memory);
-    }
-    let _ = match fault {
-        HostFault::Missing => eprintln!(rt; "desk: there is no file {file:?}, so nothing was done"),
-        _ => eprintln!(rt; "desk: the file {file:?} could not be read, so nothing was done"),
-    };
-    Stop::Host
 }
 
 /// Says why the host made no folder.
@@ -94,6 +83,6 @@ pub(crate) fn cut_off(fault: ExportFault) -> Stop
 }
 
 /// The name of a document as text. A name has nothing but ASCII.
-pub(crate) fn word_of(name: &Name) -> &str {
+pub fn word_of(name: &Name) -> &str {
     from_utf8(name.as_bytes()).unwrap_or("?")
 }

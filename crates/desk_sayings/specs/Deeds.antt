@@ -41,17 +41,17 @@ deed_with e (Typed n) = Typed (typed_more e n)
 deed_with e deed = deed
 
 abbrev pub key_deed : KeyPressed → List ℕ
-key_deed Back = codes "a character deleted"
+key_deed Back = codes "a Backspace"
 key_deed Copy = codes "a copy"
-key_deed Paste = codes "what was put in"
+key_deed Paste = codes "a paste"
 key_deed Cut = codes "a cut"
 key_deed Escape = codes "Escape"
 
 abbrev pub keys_deed : MouseKeys → List ℕ
-keys_deed Left = codes "the caret, or a viewer that was drawn"
+keys_deed Left = codes "the caret, or a viewer that was dragged"
 keys_deed Middle = codes "a command"
 keys_deed Right = codes "a selection"
-keys_deed LeftMiddle = codes "what was copied to the caret"
+keys_deed LeftMiddle = codes "a copy to the caret"
 keys_deed LeftRight = codes "a look"
 keys_deed RightLeft = codes "what was deleted"
 keys_deed RightMiddle = codes "what was copied"

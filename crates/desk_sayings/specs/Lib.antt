@@ -1,5 +1,6 @@
 pub mod Choosing
 pub mod Clicks
 pub mod Deeds
+pub mod Named
 pub mod Question
 pub mod Sayings

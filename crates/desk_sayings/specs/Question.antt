@@ -1,13 +1,15 @@
 -- What is asked about before a press is done.
 use Rattle.std.specs.Prelude.{ℕ, Bool, true, false, not, ◌==◌, ◌&&◌, if◌then◌else◌, Option, Some, None}
 use Rattle.desk_sayings.specs.declared.question.Question.{Question}
-use Rattle.desk_sayings.specs.declared.question.Question.TheVariants.{Leaving, Closing, Taking, Rivalled}
+use Rattle.desk_sayings.specs.declared.question.Question.TheVariants.{Leaving, Closing, Taking, Rivalled, Deleting, Misnamed}
 
 abbrev pub is_same_question : Question → Question → Bool
 is_same_question Leaving Leaving = true
 is_same_question (Closing x y) (Closing u v) = (x == u) && (y == v)
 is_same_question (Taking x y) (Taking u v) = (x == u) && (y == v)
 is_same_question (Rivalled x y) (Rivalled u v) = (x == u) && (y == v)
+is_same_question (Deleting x y) (Deleting u v) = (x == u) && (y == v)
+is_same_question (Misnamed x y) (Misnamed u v) = (x == u) && (y == v)
 is_same_question _ _ = false
 
 abbrev pub is_asked : Option Question → Question → Bool

@@ -19,30 +19,31 @@ use Rattle.desk_sayings.specs.declared.saying.Saying.TheVariants.{Worn, Unread, 
 use Rattle.desk_sayings.specs.declared.saying.Saying.TheVariants.{TookBack, DidAgain}
 use Rattle.desk_sayings.specs.declared.saying.Saying.TheVariants.{NothingBack, NothingAgain, NotBack, Logged}
 use Rattle.desk_sayings.specs.declared.question.Question.{Question}
-use Rattle.desk_sayings.specs.declared.question.Question.TheVariants.{Leaving, Closing, Taking, Rivalled}
+use Rattle.desk_sayings.specs.declared.question.Question.TheVariants.{Leaving, Closing, Taking, Rivalled, Deleting, Misnamed}
 use Rattle.desk_sayings.specs.declared.deed.Deed.{Deed}
 use Rattle.desk_sayings.specs.declared.deed.Deed.TheVariants as deed
 use Rattle.screen_pictures.specs.declared.cell.Cell.{Cell}
 use Rattle.screen_reading.specs.Called.{called_word, parameter_word, word_from}
 use Rattle.desk_sayings.specs.Deeds.{deed_words}
+use Rattle.desk_sayings.specs.Named.{behind_call, deleting_words, misnamed_words}
 
 -- why an event is refused, by the code of the refusal from 0 on
 abbrev pub reasons : List (List ℕ)
 reasons =
     codes "refused" ∷
-    codes "refused (1): no viewer has the caret; a left click in a text sets it" ∷
-    codes "refused (2): nothing is selected; right button or F3, drawn over a text, selects" ∷
-    codes "refused (3): behind the word a name or number is missing, or is of another kind" ∷
-    codes "refused (4): the word there is no command's; System.Tool has all commands" ∷
-    codes "refused (5): no document of that name, or named twice: see System.Directory" ∷
-    codes "refused (6): 262,144 held (close, delete) or 4,194,304 written (System.Collect)" ∷
-    codes "refused (7): no viewer is at the marker (F1 and a click set it), or none closed" ∷
-    codes "refused (8): there are 256 documents; System.DeleteFiles makes room" ∷
-    codes "refused (9): the cell lies outside the display" ∷
-    codes "refused (10): not found from the caret on; a click at the beginning starts over" ∷
-    codes "refused (11): fonts are 0 to 4, colours 0 to 15, and offsets -64 to 63" ∷
-    codes "refused (12): the column has eight tracks over one another; close one first" ∷
-    codes "refused (13): a viewer of one row can't be parted" ∷ []
+    codes "No caret is set: click into a text first." ∷
+    codes "Nothing is selected: drag over a text with the right button, or with F3." ∷
+    codes "Behind that word a name or a number is missing." ∷
+    codes "That word isn't a command: System.Tool shows all of them." ∷
+    codes "There is no document of that name, or it is named twice." ∷
+    codes "There is no room: close or delete something, or call System.Collect." ∷
+    codes "No viewer has the marker (F1 and a click set it), or none was closed." ∷
+    codes "There are 256 documents already: System.DeleteFiles makes room." ∷
+    codes "That lies outside the desktop." ∷
+    codes "Not found from the caret on: click at the beginning, and search again." ∷
+    codes "Fonts are 0 to 4, colours 0 to 15, and offsets -64 to 63." ∷
+    codes "Eight viewers lie over one another there: close one first." ∷
+    codes "A viewer of one row can't be parted." ∷ []
 
 abbrev pub reason : ℕ → List ℕ
 reason code = unwrap_or (slice_get reasons code) (codes "refused")
@@ -52,13 +53,13 @@ reason code = unwrap_or (slice_get reasons code) (codes "refused")
 unfoldable pub no_document : List ℕ → List ℕ
 no_document [] = reason no_file
 no_document (b ∷ name) =
-    codes "refused (5) from " ++ b ∷ name ++ codes " on: no document, or named twice"
+    codes "From " ++ b ∷ name ++ codes " on: no such document, or named twice"
 
 -- the same in short
 abbrev pub short_reason : ℕ → List ℕ
 short_reason code =
-    if code == 1 then codes "refused (1): no caret" else
-    (if code == 6 then codes "refused (6): no room" else codes "refused")
+    if code == 1 then codes "no caret" else
+    (if code == 6 then codes "no room" else codes "it was refused")
 
 -- how far a paste or a host file came that was cut short, and why
 abbrev pub cut_short : ℕ → ℕ → List ℕ
@@ -74,9 +75,9 @@ keys_words LeftRight =
 keys_words Middle = codes "the next click calls the word there; Escape calls it off"
 keys_words MiddleLeft = codes "the next click: middle and left; Escape calls it off"
 keys_words MiddleRight = codes "the next click: middle and right; Escape calls it off"
-keys_words Right = codes "what is drawn over next is selected; Escape calls it off"
-keys_words RightLeft = codes "what is drawn over next is deleted; Escape calls it off"
-keys_words RightMiddle = codes "what is drawn over next is copied to the caret; Escape calls it off"
+keys_words Right = codes "drag over what is to be selected; Escape calls it off"
+keys_words RightLeft = codes "drag over what is to be deleted; Escape calls it off"
+keys_words RightMiddle = codes "drag over what is to be copied to the caret; Escape calls it off"
 
 -- what the next click is, where a function key has said so
 abbrev pub click_words : Click → List ℕ
@@ -94,49 +95,51 @@ told before what = before ++ typed_count what ++ deed_words what
 
 -- of a command its word, where that is seen
 unfoldable pub called : List ℕ → Deed → List ℕ
-called [] what = told (codes "took back: ") what
-called (b ∷ word) what = codes "took back: " ++ b ∷ word
+called [] what = told (codes "undid: ") what
+called (b ∷ word) what = codes "undid: " ++ b ∷ word
 
 -- what was taken back: the screen is as it was before, and so shows the word that was called
 unfoldable pub told_back : List (List Cell) → Deed → List ℕ
 told_back screen (deed.Call x y) = called (called_word screen x y) (deed.Call x y)
-told_back screen what = told (codes "took back: ") what
+told_back screen what = told (codes "undid: ") what
 
 -- that a text isn't stored, by the name in its menu, where one is seen
 unfoldable pub closing_words : List ℕ → List ℕ
-closing_words [] = codes "This text isn't stored: press again closes it"
-closing_words (b ∷ name) = b ∷ name ++ codes " isn't stored: press again closes it"
+closing_words [] = codes "This text isn't stored: press again to close it"
+closing_words (b ∷ name) = b ∷ name ++ codes " isn't stored: press again to close it"
 
 -- that a viewer goes, by the name in its menu
 unfoldable pub taking_words : List ℕ → List ℕ
-taking_words [] = codes "This takes another viewer away: press again"
+taking_words [] = codes "This closes another viewer: press again"
 taking_words (b ∷ name) =
-    codes "This takes the viewer of " ++ b ∷ name ++ codes " away: press again"
+    codes "This closes the viewer of " ++ b ∷ name ++ codes ": press again"
 
 -- that another viewer shows another text as the document of a name, to which this text is to go
 unfoldable pub rivalled_words : List ℕ → List ℕ
-rivalled_words [] = codes "This name is in two viewers: press again stores this text"
-rivalled_words (b ∷ name) = b ∷ name ++ codes " is in two viewers: press again stores this text"
+rivalled_words [] = codes "This name is in two viewers: press again to store this"
+rivalled_words (b ∷ name) = b ∷ name ++ codes " is in two viewers: press again to store this"
 
 -- what is asked, where this is the screen
 abbrev pub question_words : List (List Cell) → Question → List ℕ
 question_words screen Leaving =
-    codes "This desktop is in memory: Ctrl-Q again leaves, and then it is gone."
+    codes "This desktop is in memory: press Ctrl-Q again, and it is gone."
 question_words screen (Closing x y) = closing_words (word_from screen x y)
 question_words screen (Taking x y) = taking_words (word_from screen x y)
 question_words screen (Rivalled x y) = rivalled_words (word_from screen x y)
+question_words screen (Deleting x y) = deleting_words (behind_call screen x y)
+question_words screen (Misnamed x y) = misnamed_words (behind_call screen x y)
 
 -- where this is the screen, and this the line of the log that is said
 unfoldable pub words : List (List Cell) → List ℕ → Saying → List ℕ
 words screen log Greeting =
-    codes "Middle button, or F2 and then a click, calls the word there; Ctrl-Q leaves"
+    codes "Help: F2, then click Edit.Open Help. F11: no mouse. Ctrl-S stores, Ctrl-Q leaves"
 words screen log Unproved =
-    codes "Compiled, not proved yet: ./prove does it. F2+click calls a word; Ctrl-Q leaves"
+    codes "Not proved yet. Help: F2, click Edit.Open Help. F11: no mouse. Ctrl-S stores."
 words screen log OneSide =
-    codes "Alt-Left, Alt-Right: the other side. F2 and a click calls a word; Ctrl-Q leaves"
+    codes "Alt-Left, Alt-Right: the other side. F11: no mouse. Ctrl-S stores, Ctrl-Q leaves"
 words screen log InMemory = codes "This desktop is in memory: when you leave (Ctrl-Q) it is gone."
 words screen log ForKeys =
-    codes "F2 calls, Ctrl-Z undo, Ctrl-Q leaves, F3 selects, F1 marker, Ctrl-O file"
+    codes "F2 calls, F3 selects, F11 no mouse, Ctrl-S stores, Ctrl-Z undo, Ctrl-Q leaves"
 words screen log Pointing =
     codes "Arrows move the pointer, Return clicks, F2 calls, F3 selects, Escape ends it"
 words screen log (Asks question) = question_words screen question
@@ -159,7 +162,7 @@ words screen log ToolFiled =
 words screen log (Refused code) = reason code
 words screen log (NoDocument x y) = no_document (parameter_word screen x y)
 words screen log (CutShort typed code) = cut_short typed code
-words screen log Worn = codes "This store takes no more events: its epochs are used up."
+words screen log Worn = codes "This store is used up: take its documents out by desk export."
 words screen log Unread = codes "The host's file can't be read, and nothing was typed."
 words screen log Unfinished =
     codes "The host's file can't be read to its end; what came of it is typed."

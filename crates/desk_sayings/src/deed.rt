@@ -118,9 +118,9 @@ fn key_words(key: Key) -> &'static [u8]
     ensures short { length result.now ≤ 40 }
 {
     match key {
-        Key::Back => b"a character deleted",
+        Key::Back => b"a Backspace",
         Key::Copy => b"a copy",
-        Key::Paste => b"what was put in",
+        Key::Paste => b"a paste",
         Key::Cut => b"a cut",
         Key::Escape => b"Escape",
     }
@@ -132,10 +132,10 @@ fn click_words(keys: Keys) -> &'static [u8]
     ensures short { length result.now ≤ 40 }
 {
     match keys {
-        Keys::Left => b"the caret, or a viewer that was drawn",
+        Keys::Left => b"the caret, or a viewer that was dragged",
         Keys::Middle => b"a command",
         Keys::Right => b"a selection",
-        Keys::LeftMiddle => b"what was copied to the caret",
+        Keys::LeftMiddle => b"a copy to the caret",
         Keys::LeftRight => b"a look",
         Keys::RightLeft => b"what was deleted",
         Keys::RightMiddle => b"what was copied",

@@ -28,6 +28,20 @@ pub enum Question {
         /// Its row.
         y: u8,
     },
+    /// Documents: the command is called that deletes them.
+    Deleting {
+        /// The column of a cell of its word, or of the one right behind it.
+        x: u8,
+        /// Its row.
+        y: u8,
+    },
+    /// A name that goes on with a character that no name has: what stands before that is opened.
+    Misnamed {
+        /// The column of a cell of the command's word, or of the one right behind it.
+        x: u8,
+        /// Its row.
+        y: u8,
+    },
 }
 
 /// Whether two questions are the same.
@@ -39,6 +53,8 @@ fn is_same(last: Question, question: Question) -> bool
         (Question::Closing { x, y }, Question::Closing { x: u, y: v }) => x == u && y == v,
         (Question::Taking { x, y }, Question::Taking { x: u, y: v }) => x == u && y == v,
         (Question::Rivalled { x, y }, Question::Rivalled { x: u, y: v }) => x == u && y == v,
+        (Question::Deleting { x, y }, Question::Deleting { x: u, y: v }) => x == u && y == v,
+        (Question::Misnamed { x, y }, Question::Misnamed { x: u, y: v }) => x == u && y == v,
         _ => false,
     }
 }

@@ -9,6 +9,7 @@ ghost use Rattle.desk_sayings.specs.Sayings.{called, rivalled_words, short_reaso
 ghost use Rattle.desk_sayings.specs.Sayings.{words};
 
 use crate::deed::Deed;
+use crate::named::{behind_call, deleting_words, misnamed_words};
 use crate::question::Question;
 use arrayvec::ArrayVec;
 use desktop_definitions::codes::NO_FILE;
@@ -98,19 +99,19 @@ pub enum Saying {
 /// Why an event was refused, by the code of the refusal.
 const REASONS: [&[u8]; 14] = [
     b"refused",
-    b"refused (1): no viewer has the caret; a left click in a text sets it",
-    b"refused (2): nothing is selected; right button or F3, drawn over a text, selects",
-    b"refused (3): behind the word a name or number is missing, or is of another kind",
-    b"refused (4): the word there is no command's; System.Tool has all commands",
-    b"refused (5): no document of that name, or named twice: see System.Directory",
-    b"refused (6): 262,144 held (close, delete) or 4,194,304 written (System.Collect)",
-    b"refused (7): no viewer is at the marker (F1 and a click set it), or none closed",
-    b"refused (8): there are 256 documents; System.DeleteFiles makes room",
-    b"refused (9): the cell lies outside the display",
-    b"refused (10): not found from the caret on; a click at the beginning starts over",
-    b"refused (11): fonts are 0 to 4, colours 0 to 15, and offsets -64 to 63",
-    b"refused (12): the column has eight tracks over one another; close one first",
-    b"refused (13): a viewer of one row can't be parted",
+    b"No caret is set: click into a text first.",
+    b"Nothing is selected: drag over a text with the right button, or with F3.",
+    b"Behind that word a name or a number is missing.",
+    b"That word isn't a command: System.Tool shows all of them.",
+    b"There is no document of that name, or it is named twice.",
+    b"There is no room: close or delete something, or call System.Collect.",
+    b"No viewer has the marker (F1 and a click set it), or none was closed.",
+    b"There are 256 documents already: System.DeleteFiles makes room.",
+    b"That lies outside the desktop.",
+    b"Not found from the caret on: click at the beginning, and search again.",
+    b"Fonts are 0 to 4, colours 0 to 15, and offsets -64 to 63.",
+    b"Eight viewers lie over one another there: close one first.",
+    b"A viewer of one row can't be parted.",
 ];
 
 /// Why an event was refused, with the code.
@@ -134,9 +135,9 @@ fn no_document(name: &[u8]) -> SayingLine
     if name.is_empty() {
         return line(reason(NO_FILE));
     }
-    let mut text = line(b"refused (5) from ");
+    let mut text = line(b"From ");
     text.try_extend_from_slice(name).unwrap();
-    text.try_extend_from_slice(b" on: no document, or named twice")
+    text.try_extend_from_slice(b" on: no such document, or named twice")
         .unwrap();
     text
 }
@@ -147,9 +148,9 @@ fn short_reason(code: u8) -> &'static [u8]
     ensures short { length result.now ≤ 21 }
 {
     match code {
-        1 => b"refused (1): no caret",
-        6 => b"refused (6): no room",
-        _ => b"refused",
+        1 => b"no caret",
+        6 => b"no room",
+        _ => b"it was refused",
     }
 }
 
@@ -191,9 +192,9 @@ fn keys_words(keys: Keys) -> &'static [u8]
         Keys::Middle => b"the next click calls the word there; Escape calls it off",
         Keys::MiddleLeft => b"the next click: middle and left; Escape calls it off",
         Keys::MiddleRight => b"the next click: middle and right; Escape calls it off",
-        Keys::Right => b"what is drawn over next is selected; Escape calls it off",
-        Keys::RightLeft => b"what is drawn over next is deleted; Escape calls it off",
-        Keys::RightMiddle => b"what is drawn over next is copied to the caret; Escape calls it off",
+        Keys::Right => b"drag over what is to be selected; Escape calls it off",
+        Keys::RightLeft => b"drag over what is to be deleted; Escape calls it off",
+        Keys::RightMiddle => b"drag over what is to be copied to the caret; Escape calls it off",
     }
 }
 
@@ -203,7 +204,7 @@ fn question_words(screen: &Screen, question: Question) -> SayingLine
 {
     match question {
         Question::Leaving => line(
-            b"This desktop is in memory: Ctrl-Q again leaves, and then it is gone.",
+            b"This desktop is in memory: press Ctrl-Q again, and it is gone.",
         ),
         Question::Closing { x, y } => {
             let name = word_from(screen, x, y);
@@ -217,6 +218,8 @@ fn question_words(screen: &Screen, question: Question) -> SayingLine
             let name = word_from(screen, x, y);
             rivalled_words(name.as_slice())
         }
+        Question::Deleting { x, y } => deleting_words(behind_call(screen, x, y)),
+        Question::Misnamed { x, y } => misnamed_words(behind_call(screen, x, y)),
     }
 }
 
@@ -227,10 +230,10 @@ fn closing_words(name: &[u8]) -> SayingLine
     ensures { result.items ≡ closing_words name.now }
 {
     if name.is_empty() {
-        return line(b"This text isn't stored: press again closes it");
+        return line(b"This text isn't stored: press again to close it");
     }
     let mut text = line(name);
-    text.try_extend_from_slice(b" isn't stored: press again closes it")
+    text.try_extend_from_slice(b" isn't stored: press again to close it")
         .unwrap();
     text
 }
@@ -242,11 +245,11 @@ fn taking_words(name: &[u8]) -> SayingLine
     ensures { result.items ≡ taking_words name.now }
 {
     if name.is_empty() {
-        return line(b"This takes another viewer away: press again");
+        return line(b"This closes another viewer: press again");
     }
-    let mut text = line(b"This takes the viewer of ");
+    let mut text = line(b"This closes the viewer of ");
     text.try_extend_from_slice(name).unwrap();
-    text.try_extend_from_slice(b" away: press again").unwrap();
+    text.try_extend_from_slice(b": press again").unwrap();
     text
 }
 
@@ -257,10 +260,10 @@ fn rivalled_words(name: &[u8]) -> SayingLine
     ensures { result.items ≡ rivalled_words name.now }
 {
     if name.is_empty() {
-        return line(b"This name is in two viewers: press again stores this text");
+        return line(b"This name is in two viewers: press again to store this");
     }
     let mut text = line(name);
-    text.try_extend_from_slice(b" is in two viewers: press again stores this text")
+    text.try_extend_from_slice(b" is in two viewers: press again to store this")
         .unwrap();
     text
 }
@@ -306,19 +309,19 @@ impl Saying {
     {
         match self {
             Saying::Greeting => line(
-                b"Middle button, or F2 and then a click, calls the word there; Ctrl-Q leaves",
+                b"Help: F2, then click Edit.Open Help. F11: no mouse. Ctrl-S stores, Ctrl-Q leaves",
             ),
             Saying::Unproved => line(
-                b"Compiled, not proved yet: ./prove does it. F2+click calls a word; Ctrl-Q leaves",
+                b"Not proved yet. Help: F2, click Edit.Open Help. F11: no mouse. Ctrl-S stores.",
             ),
             Saying::OneSide => line(
-                b"Alt-Left, Alt-Right: the other side. F2 and a click calls a word; Ctrl-Q leaves",
+                b"Alt-Left, Alt-Right: the other side. F11: no mouse. Ctrl-S stores, Ctrl-Q leaves",
             ),
             Saying::InMemory => line(
                 b"This desktop is in memory: when you leave (Ctrl-Q) it is gone.",
             ),
             Saying::Keys => line(
-                b"F2 calls, Ctrl-Z undo, Ctrl-Q leaves, F3 selects, F1 marker, Ctrl-O file",
+                b"F2 calls, F3 selects, F11 no mouse, Ctrl-S stores, Ctrl-Z undo, Ctrl-Q leaves",
             ),
             Saying::Pointing => line(
                 b"Arrows move the pointer, Return clicks, F2 calls, F3 selects, Escape ends it",
@@ -354,7 +357,7 @@ impl Saying {
             Saying::Refused(code) => line(reason(code)),
             Saying::NoDocument { x, y } => no_document(parameter_word(screen, x, y).as_slice()),
             Saying::CutShort { typed, code } => cut_short(typed, code),
-            Saying::Worn => line(b"This store takes no more events: its epochs are used up."),
+            Saying::Worn => line(b"This store is used up: take its documents out by desk export."),
             Saying::Unread => line(b"The host's file can't be read, and nothing was typed."),
             Saying::Unfinished => line(
                 b"The host's file can't be read to its end; what came of it is typed.",
@@ -456,7 +459,7 @@ fn told_back(screen: &Screen, deed: Deed) -> SayingLine
             let word = called_word(screen, x, y);
             called(word.as_slice(), deed)
         }
-        other => told(b"took back: ", other),
+        other => told(b"undid: ", other),
     }
 }
 
@@ -467,9 +470,9 @@ fn called(word: &[u8], deed: Deed) -> SayingLine
     ensures { result.items ≡ called word.now deed }
 {
     if word.is_empty() {
-        return told(b"took back: ", deed);
+        return told(b"undid: ", deed);
     }
-    let mut text = line(b"took back: ");
+    let mut text = line(b"undid: ");
     text.try_extend_from_slice(word).unwrap();
     text
 }

@@ -11,13 +11,12 @@ use Rattle.desk_journal.specs.Errors.{Error}
 use Rattle.desk_journal.specs.Looking.{OnlyLooks}
 use Rattle.desk_journal.specs.Session.{Session}
 use Rattle.desk_journal.specs.View.{StoreView, IsDurable}
-use Rattle.desk_journal.specs.Losses.{loss_at}
 use Rattle.desk_sayings.specs.declared.question.Question.{Question}
 use Rattle.desk_sitting.specs.declared.sitting.Sitting.{Sitting}
 use Rattle.desk_sitting.specs.Doing.{DoesAction, DoesPress, Finds, seat_of}
 use Rattle.desk_sayings.specs.declared.clicks.MiddleClick.{MiddleClick}
 use Rattle.desk_sayings.specs.Clicks.{click_made}
-use Rattle.desk_sitting.specs.Questions.{is_leave, loss_question, click_question}
+use Rattle.desk_sitting.specs.Questions.{asked_at, is_leave, click_question}
 use Rattle.desk_sayings.specs.Question.{left_behind}
 use Rattle.desk_sayings.specs.Question.{comes_first}
 use Rattle.desk_sayings.specs.Sayings.{is_in_memory}
@@ -161,7 +160,7 @@ module _ (made : Option MiddleClick) (desktop : Desktop) (found : Option MiddleC
   lost_nothing none = sym (ap (λ o. click_question o desktop) (sym is ∙ none))
 
   pub lost_so : (click : MiddleClick) → found ≡ Some click
-      → loss_question (loss_at desktop click.marker click.from click.to) ≡ click_question made desktop
+      → asked_at click desktop ≡ click_question made desktop
   lost_so click some = sym (ap (λ o. click_question o desktop) (sym is ∙ some))
 
 -- ---- what a press comes to

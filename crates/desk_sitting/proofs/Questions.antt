@@ -8,7 +8,7 @@ use Rattle.terminal_presses.specs.declared.action.Action.{Action}
 use Rattle.terminal_presses.specs.declared.hand.Hand.{Hand}
 use Rattle.terminal_presses.specs.Hands.{handled}
 use Rattle.desk_sayings.specs.declared.question.Question.{Question}
-use Rattle.desk_sayings.specs.declared.question.Question.TheVariants.{Leaving, Closing, Taking, Rivalled}
+use Rattle.desk_sayings.specs.declared.question.Question.TheVariants.{Leaving, Closing, Taking, Rivalled, Deleting, Misnamed}
 use Rattle.desk_sitting.specs.declared.sitting.Sitting.{Sitting}
 use Rattle.desk_sitting.specs.Questions.{questioned, question_of}
 use Rattle.desk_sayings.specs.Question.{comes_first, is_same_question}
@@ -56,6 +56,8 @@ itself Leaving = refl
 itself (Closing x y) = λ k. eq-eqb x x refl k && eq-eqb y y refl k
 itself (Taking x y) = λ k. eq-eqb x x refl k && eq-eqb y y refl k
 itself (Rivalled x y) = λ k. eq-eqb x x refl k && eq-eqb y y refl k
+itself (Deleting x y) = λ k. eq-eqb x x refl k && eq-eqb y y refl k
+itself (Misnamed x y) = λ k. eq-eqb x x refl k && eq-eqb y y refl k
 
 once : (s : Sitting) (o : Option Question) → comes_first s.question o ≡ true
     → comes_first (questioned o s).question o ≡ false

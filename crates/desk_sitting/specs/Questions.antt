@@ -13,6 +13,7 @@ use Rattle.desk_sayings.specs.Question.{asks_to_leave, left_behind}
 use Rattle.desk_sayings.specs.Sayings.{is_in_memory}
 use Rattle.desk_sayings.specs.declared.clicks.MiddleClick.{MiddleClick}
 use Rattle.desk_sayings.specs.Clicks.{click_made}
+use Rattle.desk_sayings.specs.Named.{named_question}
 use Rattle.desk_sitting.specs.declared.sitting.Sitting.{Sitting}
 
 -- what is asked about what a command would lose
@@ -22,10 +23,20 @@ loss_question (Some (Closed cell)) = Some (Closing cell.0 cell.1)
 loss_question (Some (Taken cell)) = Some (Taking cell.0 cell.1)
 loss_question (Some (Rivalled cell)) = Some (question.Rivalled cell.0 cell.1)
 
--- and about such a click: what the command would lose that it calls
+-- a question, and where there is none another one
+abbrev pub or_asked : Option Question → Option Question → Option Question
+or_asked None other = other
+or_asked (Some question) other = Some question
+
+-- about a click: what the command would lose that it calls, and where it loses nothing what it takes as names
+abbrev pub asked_at : MiddleClick → Desktop → Option Question
+asked_at click d = or_asked (loss_question (loss_at d click.marker click.from click.to))
+    (named_question (shown_screen d) click.to.0 click.to.1)
+
+-- and where a click is made
 abbrev pub click_question : Option MiddleClick → Desktop → Option Question
 click_question None d = None
-click_question (Some click) d = loss_question (loss_at d click.marker click.from click.to)
+click_question (Some click) d = asked_at click d
 
 abbrev pub is_leave : Action → Bool
 is_leave action.Leave = true

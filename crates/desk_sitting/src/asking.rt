@@ -4,12 +4,14 @@ ghost use Rattle.desk_journal.specs.Losses.{loss_at};
 ghost use Rattle.desktop_definitions.specs.Shown.{shown_screen};
 ghost use Rattle.desk_sitting.specs.Doing.{Finds};
 ghost use Rattle.desk_sayings.specs.Clicks.{click_made};
-ghost use Rattle.desk_sitting.specs.Questions.{click_question, is_leave, loss_question, question_of};
+ghost use Rattle.desk_sayings.specs.Named.{named_question};
+ghost use Rattle.desk_sitting.specs.Questions.{asked_at, click_question, is_leave, loss_question, question_of};
 
 use crate::sitting::Sitting;
 use desk_journal::{Error, Loss, Store};
 use desk_sayings::{
     MiddleClick, Question, click_on, click_posted, is_by_screen, is_in_memory, left_behind,
+    named_question,
 };
 use screen_cells::Screen;
 use sector_disk::Disk;
@@ -54,8 +56,36 @@ impl Sitting {
         let click = self.click_made(alloc, action, store)?;
         match click {
             None => Ok(None),
-            Some(click) => self.lost_at(click, store),
+            Some(click) => self.asked_at(alloc, click, store),
         }
+    }
+
+    /// What is asked about a click: what the command would lose that it calls, and where it loses nothing what it takes as
+    /// names. It only looks at the store.
+    ///
+    /// Errors: `NoMemory`; `Fault`.
+    fn asked_at<D: Disk>(&self, alloc: Global, click: MiddleClick, store: &mut Store<D>) -> Asking
+        requires { store.old.must_reopen ≡ false }
+        ensures { Finds D.Disk result (asked_at click) self.now store.old store.new }
+    {
+        let lost = self.lost_at(click, store)?;
+        match lost {
+            None => self.named_at(alloc, click.to, store),
+            Some(question) => Ok(Some(question)),
+        }
+    }
+
+    /// What is asked about the names that the word at a cell takes. It only looks at the store.
+    ///
+    /// Errors: `NoMemory`; `Fault`.
+    fn named_at<D: Disk>(&self, alloc: Global, to: (u8, u8), store: &mut Store<D>) -> Asking
+        requires { store.old.must_reopen ≡ false }
+        ensures { Finds D.Disk result (λ d. named_question (shown_screen d) to.0 to.1) self.now
+            store.old store.new }
+    {
+        let mut screen = Screen::new();
+        store.screen(alloc, &mut screen)?;
+        Ok(named_question(&screen, to.0, to.1))
     }
 
     /// The click of the middle button that a press makes. It only looks at the store.

@@ -110,8 +110,15 @@ fn refused_file(rt: &HostRuntime, path: &str, fault: HostFault) -> io::Result<()
         HostFault::InUse => eprintln!(rt;
             "desk: another program has {path:?} open, so nothing was done"
         ),
+        HostFault::Folder => eprintln!(rt; "desk: {path:?} is a folder, and no store"),
+        HostFault::NoRight => eprintln!(rt;
+            "desk: there is no right to read and write {path:?}; desk list, export, check and backup need only reading"
+        ),
+        HostFault::ReadOnly => eprintln!(rt;
+            "desk: {path:?} lies where nothing can be written; desk list, export, check and backup only read it"
+        ),
         HostFault::Refused | HostFault::Taken => eprintln!(rt;
-            "desk: {path:?} is no file that can be read, written and locked here"
+            "desk: {path:?} is no file that can be read and locked here"
         ),
         HostFault::NoMemory => no_memory(rt),
     }
@@ -129,7 +136,13 @@ fn refused_making(rt: &HostRuntime, path: &str, fault: HostFault) -> io::Result<
         HostFault::Taken => eprintln!(rt;
             "desk: {path:?} could not be made, since all its names for that are taken, .new to .new9 behind it"
         ),
-        HostFault::Refused => eprintln!(rt;
+        HostFault::NoRight => eprintln!(rt;
+            "desk: {path:?} could not be made: there is no right to write in its folder"
+        ),
+        HostFault::ReadOnly => eprintln!(rt;
+            "desk: {path:?} could not be made: nothing can be written there"
+        ),
+        HostFault::Refused | HostFault::Folder => eprintln!(rt;
             "desk: {path:?} could not be made; it needs 16 MB, and the right to write in its folder"
         ),
         HostFault::NoMemory => no_memory(rt),

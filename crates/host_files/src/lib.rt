@@ -30,6 +30,12 @@ pub enum HostFault {
     InUse,
     /// There is something of that name.
     Taken,
+    /// A folder has that name.
+    Folder,
+    /// This program has no right to it.
+    NoRight,
+    /// The file system can only be read.
+    ReadOnly,
     /// It refused for another reason.
     Refused,
     /// An allocation found no memory.
@@ -39,7 +45,8 @@ pub enum HostFault {
 /// Opens the file and takes its lock for this program alone. The lock lasts as long as the file that is returned, or
 /// the disk in it.
 ///
-/// Errors: `Missing`; `InUse`; `Refused` where the file can't be read and written, or has no locks.
+/// Errors: `Missing`; `InUse`; `Folder`; `NoRight` and `ReadOnly`, where the file can't be read and written; `Refused`
+/// where it has no locks.
 pub fn lock_alone(rt: &HostRuntime, path: &str) -> Result<LockedFile, HostFault> {
     lock(asked(OpenOptions::new().read(true).write(true).open(rt, path))?)
 }
@@ -67,11 +74,20 @@ pub fn lock_new(rt: &HostRuntime, path: &str) -> Result<LockedFile, HostFault> {
     lock(asked(file)?)
 }
 
-/// As `lock_alone`, but for a program that only reads: several such programs may hold the lock together.
+/// As `lock_alone`, but for a program that only reads: several such programs may hold the lock together. A regular file
+/// that can't be written is opened all the same.
 pub fn lock_shared(rt: &HostRuntime, path: &str) -> Result<LockedFile, HostFault> {
-    let file = asked(OpenOptions::new().read(true).write(true).open(rt, path))?;
+    let file = open_to_look(rt, path)?;
     locked(file.try_lock_shared())?;
     Ok(LockedFile::new(file))
+}
+
+/// Opens a file to be read and written, or a regular one to be read where it can't be written.
+fn open_to_look(rt: &HostRuntime, path: &str) -> Result<File, HostFault> {
+    match asked(OpenOptions::new().read(true).write(true).open(rt, path)) {
+        Err(HostFault::NoRight | HostFault::ReadOnly) => open_regular(rt, path, u64::MAX),
+        other => other,
+    }
 }
 
 /// Takes the file's lock for this program alone.
@@ -111,7 +127,7 @@ pub fn rename_new(rt: &HostRuntime, from: &str, to: &str) -> Result<(), HostFaul
             let _ = fs::remove_file(rt, from);
             Ok(())
         }
-        Err(HostFault::Refused) => rename_looked(rt, from, to),
+        Err(HostFault::Refused | HostFault::NoRight) => rename_looked(rt, from, to),
         Err(fault) => Err(fault),
     }
 }
@@ -201,6 +217,9 @@ fn fault_of(kind: ErrorKind) -> HostFault
         ErrorKind::NotFound => HostFault::Missing,
         ErrorKind::AlreadyExists => HostFault::Taken,
         ErrorKind::OutOfMemory => HostFault::NoMemory,
+        ErrorKind::IsADirectory => HostFault::Folder,
+        ErrorKind::PermissionDenied => HostFault::NoRight,
+        ErrorKind::ReadOnlyFilesystem => HostFault::ReadOnly,
         _ => HostFault::Refused,
     }
 }

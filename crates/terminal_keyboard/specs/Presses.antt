@@ -199,10 +199,17 @@ moused s b = if b == 77 then reported_press s true
 unfoldable pub sized : Numbers → Press
 sized s = if (s.first == 8) || (s.first == 48) then Size s.second s.third else Unknown
 
--- a sequence with no mark ends with ~ after a key's number, with t after a size, or else with a key's letter
+-- The row and the column of the cursor, which was sent to the last cell before. No row below the first one is told so by
+-- a key.
+abbrev pub tells_last_cell : Numbers → ℕ → Bool
+tells_last_cell s b = (b == 82) && nat_lt 1 s.first
+
+-- a sequence with no mark ends with ~ after a key's number, with t after a size, with R after the last cell, or else with
+-- a key's letter
 unfoldable pub unmarked_press : Numbers → ℕ → Press
 unmarked_press s b = if b == 126 then held_with s.second (numbered_key s.first)
-    else (if b == 116 then sized s else held_with s.second (lettered b))
+    else (if b == 116 then sized s
+    else (if tells_last_cell s b then Size s.first s.second else held_with s.second (lettered b)))
 
 -- a sequence ends with this byte. M with no mark begins a mouse report of the older form: three bytes follow
 unfoldable pub sequence_end : Numbers → Mark → ℕ → SequencePlace × Presses

@@ -3,7 +3,7 @@ ghost use Rattle.std.specs.Prelude.{◌≡◌, ◌<◌};
 ghost use Rattle.terminal_keyboard.specs.Presses.{function_at, arrow_at, lettered as letter_says};
 ghost use Rattle.terminal_keyboard.specs.Presses.{numbered_key as number_says, longer as longer_number, no_numbers};
 ghost use Rattle.terminal_keyboard.specs.Presses.{with_digit, with_number, mouse_mark, reported_press, moused, sized};
-ghost use Rattle.terminal_keyboard.specs.Presses.{unmarked_press};
+ghost use Rattle.terminal_keyboard.specs.Presses.{tells_last_cell, unmarked_press};
 ghost use Rattle.terminal_keyboard.specs.Presses.{sequence_end, is_bare_sequence, wheel_press, held_with};
 ghost use Rattle.terminal_keyboard.specs.Presses.{with_alt as alt_says, with_control as control_says};
 ghost use Rattle.terminal_keyboard.specs.Presses.{with_shift as shift_says};
@@ -289,9 +289,19 @@ impl Numbers {
             held_with(self.second, numbered(self.first))
         } else if last == b't' {
             self.sized()
+        } else if self.tells_last_cell(last) {
+            Press::Size(self.first, self.second)
         } else {
             held_with(self.second, lettered(last))
         }
+    }
+
+    /// Whether it tells where the cursor is, which was sent to the last cell before. No row below the first one is told so
+    /// by a key.
+    fn tells_last_cell(self, last: u8) -> bool
+        ensures { result ≡ tells_last_cell self last }
+    {
+        last == b'R' && self.first > 1
     }
 
     /// The terminal's size, as its answer or as news.

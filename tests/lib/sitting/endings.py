@@ -8,6 +8,7 @@ import shutil
 import signal
 import subprocess
 import tempfile
+import termios
 import time
 
 from model import GREETING, KEYS, NO_KEY, ONE_SIDE, ROWS, TOO_NARROW, UNREAD, Screen
@@ -354,7 +355,7 @@ def names_and_sizes(trial):
     named(trial, 'long', b'x' * 262_144)
     sitting = trial.sit_anew()
     sitting.press(b'\x0flong\r')
-    wanted = '261900 characters typed, the rest dropped: refused (6): no room'
+    wanted = '261900 characters typed, the rest dropped: no room'
     trial.check(sitting.wait(lambda: sitting.terminal.line(ROWS).startswith(wanted), 300), sitting.terminal.line(ROWS))
     trial.leaves(sitting)
 
@@ -376,7 +377,7 @@ def hole(trial):
         room_for(trial, 1080)
         sitting = trial.sit(trial.path)
         sitting.press(keys)
-        wanted = '900 characters typed, the rest dropped: refused (6): no room'
+        wanted = '900 characters typed, the rest dropped: no room'
         trial.check(sitting.wait(lambda: sitting.terminal.line(ROWS) == wanted, 5), sitting.terminal.line(ROWS))
         sitting.press(b'\x7f')
         trial.check(sitting.wait(lambda: sitting.terminal.line(ROWS) == KEYS, 5), sitting.terminal.line(ROWS))
@@ -439,7 +440,7 @@ def ringing(trial):
     """A ring has its reason on the line below, and no older one."""
     sitting = trial.sit_anew()
     sitting.press(b'\x18')
-    trial.check(sitting.wait(lambda: 'refused (2)' in sitting.terminal.line(ROWS), 5), 'nothing was refused')
+    trial.check(sitting.wait(lambda: 'Nothing is selected' in sitting.terminal.line(ROWS), 5), 'nothing was refused')
     sitting.press(b'\x01')
     trial.check(sitting.wait(lambda: sitting.terminal.line(ROWS) == NO_KEY, 5), sitting.terminal.line(ROWS))
     trial.leaves(sitting)
@@ -496,6 +497,92 @@ def resized(trial):
         trial.check(sitting.look_anew() and sitting.wait(lambda: sitting.terminal.lines() == scene, 5),
                     f'another one in {rows} rows when it is painted anew')
     trial.leaves(sitting)
+
+
+def stock(trial):
+    """A terminal that tells its size only by the place of its cursor, as a stock xterm does, is followed all the same."""
+    trial.store()
+    wanted = Screen(trial.oberon_says('screen', trial.path).splitlines()[:-1]).rows
+    sitting = trial.sit(trial.path)
+    sitting.terminal.tells_size = False
+    for rows, columns in ((24, 80), (12, 90), (50, 132), (33, 80)):
+        sitting.resize(rows, columns)
+        count = min(rows - 1, ROWS)
+        scene = [*wanted[:count], GREETING] + [''] * (rows - count - 1)
+        trial.check(sitting.wait(lambda: sitting.terminal.lines() == scene, 5), f'another screen in {rows} rows')
+    trial.leaves(sitting)
+
+
+def paused(trial):
+    """TSTP at the script: the terminal is as it was before, and when the script goes on all is painted again."""
+    sitting = trial.sit_anew()
+    sitting.press(b'before')
+    trial.check(sitting.look_anew(), 'no scene')
+    shown_before = sitting.terminal.lines()
+    os.kill(sitting.process, signal.SIGTSTP)
+    trial.check(sitting.wait(lambda: 1049 not in sitting.terminal.modes, 5), 'the screen is the desk\'s still')
+    trial.check(sitting.wait(lambda: stopped(sitting.process), 5), 'it is not stopped')
+    trial.check(termios.tcgetattr(sitting.file) == sitting.before, 'the keys are the desk\'s still')
+    scenes = sitting.terminal.scenes
+    os.kill(sitting.process, signal.SIGCONT)
+    trial.check(sitting.wait(lambda: sitting.terminal.scenes > scenes, 5), 'nothing is painted again')
+    trial.check(sitting.wait(lambda: sitting.terminal.lines() == shown_before, 5), 'something else is painted')
+    sitting.press(b'after')
+    trial.check(sitting.look_anew(), 'no scene')
+    trial.leaves(sitting)
+    trial.kept('beforeafter', 'beforeafter')
+
+
+def stopped(process):
+    with open(f'/proc/{process}/stat', encoding='ascii') as stat:
+        return stat.read().rsplit(')', 1)[1].split()[0] == 'T'
+
+
+def removed(trial):
+    """The file of the store is removed, or renamed, while the desk is open: it is said when it leaves."""
+    sitting = trial.sit_anew()
+    sitting.press(b'text')
+    trial.check(sitting.look_anew(), 'no scene')
+    os.rename(trial.path, trial.path + '.other')
+    sitting.press(b'\x11')
+    trial.check(sitting.end() == 4, f'status {sitting.status}')
+    said = ' '.join(''.join(sitting.terminal.lines()).split())
+    trial.check('my.disk' in said and 'was removed' in said, f'it says {said!r}')
+
+
+def deleting(trial):
+    """System.DeleteFiles asks, and names what goes; what is behind a name that goes on oddly stays; and so does Edit.Open
+    ask where a name goes on oddly."""
+    sitting = trial.sit_anew()
+    terminal = sitting.terminal
+    middle = b'\x1b[<1;4;%dM\x1b[<1;4;%dm'
+
+    def press_at(row):
+        sitting.press(middle % (row, row))
+
+    def told(text):
+        trial.check(sitting.wait(lambda: terminal.line(ROWS) == text, 5), f'{terminal.line(ROWS)!r}, wanted {text!r}')
+
+    sitting.press(b'System.DeleteFiles A.Text B.Text ~\rSystem.DeleteFiles A.Text-old ~\rEdit.Open B-Notes.Text\r'
+                  b'Edit.Open A.Text, then\r' + STORE)
+    press_at(3)
+    told('Press again to delete: A.Text')
+    sitting.press(b'x')
+    press_at(4)
+    told('B-Notes.Text is no name: press again for B')
+    press_at(4)
+    trial.check(sitting.wait(lambda: any(terminal.line(row).startswith('B | System') for row in range(ROWS)), 5), 'B does not open')
+    sitting.press(b'\x1a')
+    press_at(2)
+    told('Press again to delete: A.Text B.Text')
+    sitting.press(b'\x1b')
+    press_at(3)
+    told('Press again to delete: A.Text')
+    press_at(3)
+    trial.check(sitting.wait(lambda: 'System.DeleteFiles' in terminal.line(ROWS), 5), terminal.line(ROWS))
+    trial.leaves(sitting)
+    ran = subprocess.run([trial.desk, 'list', trial.path], capture_output=True, check=False)
+    trial.check(b'A.Text' not in ran.stdout, 'the document is there still')
 
 
 def first_scene(trial):
@@ -692,9 +779,9 @@ def in_memory(trial):
     trial.check('System.Tool' in sitting.terminal.line(0), 'no tool text is shown')
     trial.check('memory' in sitting.terminal.line(ROWS), f'the line below is {sitting.terminal.line(ROWS)!r}')
     sitting.press(b'\x11')
-    trial.check(sitting.wait(lambda: 'Ctrl-Q again leaves' in sitting.terminal.line(ROWS), 5), 'nothing is asked')
+    trial.check(sitting.wait(lambda: 'press Ctrl-Q again' in sitting.terminal.line(ROWS), 5), 'nothing is asked')
     sitting.press(b'\x01\x11')
-    trial.check(sitting.wait(lambda: 'Ctrl-Q again leaves' in sitting.terminal.line(ROWS), 5), 'another key answers')
+    trial.check(sitting.wait(lambda: 'press Ctrl-Q again' in sitting.terminal.line(ROWS), 5), 'another key answers')
     sitting.press(b'\x11')
     trial.check(sitting.end() == 0 and not os.listdir(trial.folder), f'status {sitting.status}')
 
@@ -703,7 +790,7 @@ def closing(trial):
     """Closing a viewer whose text no document has is asked about, and the same press right after that does it. A text that
     is stored, is empty, or that another viewer shows closes at once, and so does any without questions."""
     sitting = trial.sit_anew()
-    terminal, asked = sitting.terminal, "A.Text isn't stored: press again closes it"
+    terminal, asked = sitting.terminal, "A.Text isn't stored: press again to close it"
 
     def at(word, with_f2=False):
         column = terminal.line(0).index(word) + 2
@@ -787,6 +874,9 @@ TRIALS = {
     'TERM at the script': killed(signal.SIGTERM, False, 143),
     'HUP at the script': killed(signal.SIGHUP, False, 129),
     'INT at the script': killed(signal.SIGINT, False, 130),
+    'USR1 at the script': killed(signal.SIGUSR1, False, 138),
+    'PIPE at the script': killed(signal.SIGPIPE, False, 141),
+    'TSTP at the script': paused,
     'signal 9 at the script': script_killed,
     'a hang-up': hung_up([]),
     'a hang-up that nobody is told of': hung_up(['sh', '-c', 'trap "" HUP; "$@"', 'sh']),
@@ -812,6 +902,7 @@ TRIALS = {
     'another size amid a paste': resized_amid_paste,
     'a narrow window': narrow,
     'another size of the window': resized,
+    'a terminal that tells no size': stock,
     'a first scene': first_scene,
     'the sides of a narrow window': sides,
     'a small window': too_small,
@@ -825,6 +916,8 @@ TRIALS = {
     'words of the first text': first_words,
     'no path': in_memory,
     'closing': closing,
+    'deleting': deleting,
+    'a store that is removed': removed,
     'no store': no_store,
     'a store in use': in_use,
     'a path where no file can be': no_file,

@@ -9,10 +9,10 @@ from presses import FILES, spelled, told
 
 COLUMNS, ROWS = 80, 32
 WIDTHS = {0: 50, 50: 30}  # of the tracks, by their left columns
-GREETING = 'Middle button, or F2 and then a click, calls the word there; Ctrl-Q leaves'
+GREETING = 'Help: F2, then click Edit.Open Help. F11: no mouse. Ctrl-S stores, Ctrl-Q leaves'
 UNREAD = "The host's file can't be read, and nothing was typed."
 # What the line below says where nothing else is to be said.
-KEYS = 'F2 calls, Ctrl-Z undo, Ctrl-Q leaves, F3 selects, F1 marker, Ctrl-O file'
+KEYS = 'F2 calls, F3 selects, F11 no mouse, Ctrl-S stores, Ctrl-Z undo, Ctrl-Q leaves'
 NO_KEY = 'That key means nothing here.'
 NO_TEXT = 'There is no text on that side of the caret, or no caret in sight.'
 NOTHING_AFTER = 'There is no character after the caret, or no caret in sight.'
@@ -34,22 +34,22 @@ MOST_KEPT = 64  # Backspaces, or bytes, of a replacement
 FRONTS = {'Edit.Search': ' System.Copy ', 'Edit.Store': ' Edit.Search '}
 TOO_LOW = 'This window is too low: it has fewer than 12 rows.'
 TOO_NARROW = 'This window is too narrow: it has fewer than 45 columns.'
-ONE_SIDE = 'Alt-Left, Alt-Right: the other side. F2 and a click calls a word; Ctrl-Q leaves'
+ONE_SIDE = 'Alt-Left, Alt-Right: the other side. F11: no mouse. Ctrl-S stores, Ctrl-Q leaves'
 NAME = frozenset('ABCDEFGHIJKLMNOPQRSTUVWXYZabcdefghijklmnopqrstuvwxyz0123456789.')
 # What it says of a refusal, by its code.
 REASONS = {
-    1: 'no viewer has the caret; a left click in a text sets it',
-    2: 'nothing is selected; right button or F3, drawn over a text, selects',
-    3: 'behind the word a name or number is missing, or is of another kind',
-    4: "the word there is no command's; System.Tool has all commands",
-    5: 'no document of that name, or named twice: see System.Directory',
-    6: '262,144 held (close, delete) or 4,194,304 written (System.Collect)',
-    7: 'no viewer is at the marker (F1 and a click set it), or none closed',
-    8: 'there are 256 documents; System.DeleteFiles makes room',
-    9: 'the cell lies outside the display',
-    10: 'not found from the caret on; a click at the beginning starts over',
-    11: 'fonts are 0 to 4, colours 0 to 15, and offsets -64 to 63',
-    13: "a viewer of one row can't be parted",
+    1: 'No caret is set: click into a text first.',
+    2: 'Nothing is selected: drag over a text with the right button, or with F3.',
+    3: 'Behind that word a name or a number is missing.',
+    4: "That word isn't a command: System.Tool shows all of them.",
+    5: 'There is no document of that name, or it is named twice.',
+    6: 'There is no room: close or delete something, or call System.Collect.',
+    7: 'No viewer has the marker (F1 and a click set it), or none was closed.',
+    8: 'There are 256 documents already: System.DeleteFiles makes room.',
+    9: 'That lies outside the desktop.',
+    10: 'Not found from the caret on: click at the beginning, and search again.',
+    11: 'Fonts are 0 to 4, colours 0 to 15, and offsets -64 to 63.',
+    13: "A viewer of one row can't be parted.",
 }
 
 
@@ -262,11 +262,11 @@ class Model:
             self.saying = KEYS
             return True
         code = int(reply.removeprefix('no '))
-        self.saying = f'refused ({code}): {REASONS[code]}'
+        self.saying = REASONS[code]
         if code == 5 and line.startswith('point m '):
             name = self.parameter(*map(int, line.split(' ')[2:4]))
             if name:
-                self.saying = f'refused (5) from {name[:31]} on: no document, or named twice'
+                self.saying = f'From {name[:31]} on: no such document, or named twice'
         return False
 
     def parameter(self, x, y):
@@ -598,7 +598,7 @@ class Model:
     def step(self, word):
         """The caret goes a step, with its line in sight."""
         if self.lead(lambda text, width, position: leading.stepped(text, width, position, word), NO_TEXT):
-            self.name_press('the caret, or a viewer that was drawn')
+            self.name_press('the caret, or a viewer that was dragged')
 
     def delete(self):
         """The character behind the caret is deleted: the caret goes behind it, where it can be seen, and a Backspace."""

@@ -16,8 +16,10 @@ class Terminal:
         self.modes = {25}
         self.pen = PLAIN
         self.row = self.column = 0
+        self.kept = 0, 0
         self.bells = self.scenes = self.wipes = self.wiped_in = self.asked = 0
         self.answers = []
+        self.tells_size = True
         self.mistakes = []
         self.rest = b''
         self.before = self.left = None
@@ -41,7 +43,10 @@ class Terminal:
         data = self.rest + data
         at = 0
         while at < len(data):
-            if data[at] == 27:
+            if data[at:at + 2] in (b'\x1b7', b'\x1b8'):
+                self.keep_cursor(data[at + 1] == 55)
+                at += 2
+            elif data[at] == 27:
                 found = SEQUENCE.match(data, at)
                 if not found and len(data) - at < 48 and re.fullmatch(rb'\x1b(\[[?]?[0-9;]* ?)?', data[at:]):
                     break
@@ -67,6 +72,12 @@ class Terminal:
                 self.row, self.column = min(self.row + 1, self.rows - 1), 0
             self.cells[self.row][self.column] = (chr(byte), self.pen)
             self.column += 1
+
+    def keep_cursor(self, keeps):
+        if keeps:
+            self.kept = self.row, self.column
+        else:
+            self.row, self.column = self.kept
 
     def plain_byte(self, byte):
         """The ends of lines that a shell's messages have."""
@@ -96,7 +107,10 @@ class Terminal:
             self.take_pen(numbers)
         elif last == 't' and numbers == [18]:
             self.asked += 1
-            self.answers.append(b'\x1b[8;%d;%dt' % (self.rows, self.columns))
+            if self.tells_size:
+                self.answers.append(b'\x1b[8;%d;%dt' % (self.rows, self.columns))
+        elif last == 'n' and numbers == [6]:
+            self.answers.append(b'\x1b[%d;%dR' % (self.row + 1, self.column + 1))
         elif last != ' q':
             self.mistakes.append(found[0])
 

@@ -17,9 +17,9 @@ MOST_AGAIN = 512  # presses that can be done again
 MOST_DONE = 512  # presses of which it is known what they did
 JOURNAL = 256  # events of a journal
 ROWS = 33  # of the window, which shows the whole display
-KEYS = {'back': 'a character deleted', 'copy': 'a copy', 'paste': 'what was put in', 'cut': 'a cut', 'escape': 'Escape'}
-CLICKS = {'l': 'the caret, or a viewer that was drawn', 'm': 'a command', 'r': 'a selection',
-          'lm': 'what was copied to the caret', 'lr': 'a look', 'rl': 'what was deleted', 'rm': 'what was copied',
+KEYS = {'back': 'a Backspace', 'copy': 'a copy', 'paste': 'a paste', 'cut': 'a cut', 'escape': 'Escape'}
+CLICKS = {'l': 'the caret, or a viewer that was dragged', 'm': 'a command', 'r': 'a selection',
+          'lm': 'a copy to the caret', 'lr': 'a look', 'rl': 'what was deleted', 'rm': 'what was copied',
           'ml': 'a click', 'mr': 'a click'}
 PART = "a part of it, and the rest can't be"
 
@@ -160,7 +160,7 @@ class Undoing(Model):
         for line in self.stands:
             self.ask(line)
         self.follows = True
-        self.saying = 'took back: ' + (deed.told(self.screen()) if deed else PART)
+        self.saying = 'undid: ' + (deed.told(self.screen()) if deed else PART)
 
     def deed_of(self, lines):
         """What these events did, which were taken back; None where they are a part of a press."""

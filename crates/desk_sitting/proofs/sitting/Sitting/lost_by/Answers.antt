@@ -14,5 +14,5 @@ returns-in-None g c = found_so g.D.Disk _ _ c.in_ok-click.click None c.args.self
     (λ is. lost_nothing _ c.args.store.now.desktop c.in_ok-click.click is c.in-None.is) c.in_ok-click.ensures
 
 pub returns-in-Some : goal.returns-in-Some
-returns-in-Some g c = then_found g.D.Disk _ c.in_ok-click.click c.args.self.now c.in_ok-click.ensures _ _ c.lost_at.result
-    (λ is. lost_so _ c.args.store.now.desktop c.in_ok-click.click is c.in-Some.click c.in-Some.is) c.lost_at.ensures
+returns-in-Some g c = then_found g.D.Disk _ c.in_ok-click.click c.args.self.now c.in_ok-click.ensures _ _ c.asked_at.result
+    (λ is. lost_so _ c.args.store.now.desktop c.in_ok-click.click is c.in-Some.click c.in-Some.is) c.asked_at.ensures

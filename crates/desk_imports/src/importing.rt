@@ -1,22 +1,17 @@
 //! Documents on their way in: all that an order names come together, or none.
 
 use crate::collecting::collect;
-use crate::progress::Progress;
-use crate::sentences::{Stop, word_of};
-use crate::sources::{Sources, sources_of};
-use crate::stores::store_alone;
-use bstr::decode_utf8;
-use desk_journal::{Document, Error, Store};
-use desk_stores::{Trouble, looked_at};
+use crate::fitting::documents_in;
+use crate::sources::{Wishes, sources_of};
+use desk_documents::{Stop, store_alone, store_in_memory, word_of};
+use desk_journal::{Document, Store};
+use desk_stores::{Trouble, in_memory, make, new_file};
 use desktop_definitions::codes::TOO_MANY_FILES;
 use desktop_definitions::{MOST_FILES, MOST_HELD, MOST_WRITTEN, Reply};
-use host_stores::{FileDisk, opened as opened_on};
-use sector_disk::{Disk, FILE_SECTORS, MemoryDisk};
+use host_files::{is_there, remove};
+use sector_disk::{Disk, MemoryDisk};
 use std::io;
-use store_documents::{
-    Coming, FirstUnfit, Imported, MOST_BYTES, Place, Unfit, copy, documents_of, import as bring_in,
-    named_before,
-};
+use store_documents::{Coming, Imported, MOST_BYTES, import as bring_in};
 
 // A document may have as many characters as a desktop may hold.
 const _: () = prove!(MOST_BYTES == MOST_HELD as usize);
@@ -32,12 +27,14 @@ pub struct Manner {
     pub ascii: bool,
     /// Lines are broken at blanks, so that none passes so many columns.
     pub fill: Option<usize>,
+    /// A file whose name no document can have gives it the nearest one.
+    pub rename: bool,
     /// System.Collect is done where the count of written characters alone is in the way.
     pub collect: bool,
 }
 
-/// Makes documents of files of the host's in the store in a file, which is locked for this program alone, and tells each
-/// of them on a line. All are durable when this has returned, or none has come.
+/// Makes documents of files of the host's in the store in a file, which is locked for this program alone, and is made
+/// where there is none; and tells each of them on a line. All are durable when this has returned, or none has come.
 pub fn import(rt: &HostRuntime, path: &str, words: &[&str], manner: Manner) -> Result<(), Stop> {
     let documents = documents_for(rt, words, manner)?;
     if manner.dry_run {
@@ -49,19 +46,48 @@ pub fn import(rt: &HostRuntime, path: &str, words: &[&str], manner: Manner) -> R
 
 /// The documents that the words mean.
 fn documents_for(rt: &HostRuntime, words: &[&str], manner: Manner) -> Result<Vec<Document>, Stop> {
-    let sources = sources_of(rt, words, manner.ascii)?;
+    let wishes = Wishes {
+        ascii: manner.ascii,
+        rename: manner.rename,
+    };
+    let sources = sources_of(rt, words, wishes)?;
     documents_in(rt, &sources, manner.fill)
 }
 
-/// Brings documents into the store in a file.
+/// Brings documents into the store in a file, or into a new one where there is none.
 fn bring_alone(
     rt: &HostRuntime,
     path: &str,
     documents: Vec<Document>,
     manner: Manner,
 ) -> Result<(), Stop> {
+    if !is_store_there(rt, path) {
+        return bring_new(rt, path, documents, manner);
+    }
     let mut store = store_alone(rt, path)?;
     bring_into(rt, &mut store, path, documents, manner)
+}
+
+/// Whether there is a file of that name, as far as the host tells.
+fn is_store_there(rt: &HostRuntime, path: &str) -> bool {
+    !matches!(is_there(rt, path), Ok(false))
+}
+
+/// Brings documents into a new store. Where none comes there is no store either.
+fn bring_new(
+    rt: &HostRuntime,
+    path: &str,
+    documents: Vec<Document>,
+    manner: Manner,
+) -> Result<(), Stop> {
+    let mut store = make(rt, new_file(rt, path)?, path)?;
+    let done = bring_into(rt, &mut store, path, documents, manner);
+    if let Err(Stop::Refused) = done {
+        let _ = remove(rt, path);
+    } else {
+        let _ = eprintln!(rt; "desk: a new store was made: {path}");
+    }
+    done
 }
 
 /// Tells what would come, by an import into a copy of the store in memory.
@@ -71,25 +97,16 @@ fn try_out(
     documents: Vec<Document>,
     manner: Manner,
 ) -> Result<(), Stop> {
-    let mut store = store_in_memory(rt, path)?;
+    let mut store = store_tried(rt, path)?;
     bring_into(rt, &mut store, path, documents, manner)
 }
 
-/// A copy of the store in a file, in memory.
-fn store_in_memory(rt: &HostRuntime, path: &str) -> Result<Store<MemoryDisk>, Stop> {
-    Ok(opened_on(rt, disk_in_memory(rt, path)?)?)
-}
-
-/// A copy of the disk in a file.
-fn disk_in_memory(rt: &HostRuntime, path: &str) -> Result<MemoryDisk, Stop> {
-    let mut file = FileDisk::new(looked_at(rt, path)?);
-    let mut memory = MemoryDisk::new(rt.alloc(), FILE_SECTORS)?;
-    let mut progress = Progress::new(rt, "of 15621 sectors read");
-    let done = copy(&mut file, &mut memory, FILE_SECTORS, &mut progress);
-    progress.end();
-    match done {
-        Ok(()) => Ok(memory),
-        Err(_) => Err(Stop::Trouble(Trouble::Store(Error::Fault))),
+/// A copy of the store in a file, in memory; a new one where there is no file.
+fn store_tried(rt: &HostRuntime, path: &str) -> Result<Store<MemoryDisk>, Stop> {
+    if is_store_there(rt, path) {
+        store_in_memory(rt, path)
+    } else {
+        Ok(in_memory(rt)?)
     }
 }
 
@@ -266,90 +283,4 @@ fn refused_length(rt: &HostRuntime, path: &str, written: u32, documents: &[Docum
         )
     };
     Stop::Refused
-}
-
-/// The documents of files.
-fn documents_in(
-    rt: &HostRuntime,
-    sources: &Sources,
-    fill: Option<usize>,
-) -> Result<Vec<Document>, Stop> {
-    match documents_of(rt.alloc(), sources.handed.as_slice(), fill) {
-        Ok(documents) => named_once(rt, documents),
-        Err(first) => Err(refused_unfit(rt, sources, first)),
-    }
-}
-
-/// The documents, if no two of them have one name.
-fn named_once(rt: &HostRuntime, documents: Vec<Document>) -> Result<Vec<Document>, Stop> {
-    match named_before(documents.as_slice()) {
-        None => Ok(documents),
-        Some(index) => Err(refused_twice(rt, documents.get(index))),
-    }
-}
-
-/// Says which document there would be twice.
-fn refused_twice(rt: &HostRuntime, document: Option<&Document>) -> Stop {
-    if let Some(document) = document {
-        let name = word_of(document.name());
-        let _ = eprintln!(rt;
-            "desk: two of the files are to be the document {name}, so nothing was done"
-        );
-    }
-    Stop::Refused
-}
-
-/// Says which file is no document, and why.
-fn refused_unfit(rt: &HostRuntime, sources: &Sources, first: FirstUnfit) -> Stop {
-    if matches!(first.why, Unfit::NoMemory) {
-        return Stop::Trouble(Trouble::Memory);
-    }
-    if let (Some(file), Some(handed)) = (
-        sources.files.get(first.index),
-        sources.handed.get(first.index),
-    ) {
-        let _ = say_unfit(rt, file.as_str(), handed.as_bytes(), first.why);
-    }
-    Stop::Refused
-}
-
-/// Says why a file is no document.
-fn say_unfit(rt: &HostRuntime, file: &str, bytes: &[u8], unfit: Unfit) -> io::Result<()> {
-    match unfit {
-        Unfit::TooLong => eprintln!(rt;
-            "desk: {file:?} has more than 262,144 characters, so nothing was done"
-        ),
-        Unfit::NoText => eprintln!(rt;
-            "desk: {file:?} is no text, since it has a NUL, so nothing was done"
-        ),
-        Unfit::Strange { index, place } => say_strange(
-            rt,
-            file,
-            bytes.get(index..).unwrap_or(&[]),
-            place,
-        ),
-        Unfit::NoMemory => Ok(()),
-    }
-}
-
-/// Says which byte or character of a file no document has, where the rest of the file begins with it.
-fn say_strange(rt: &HostRuntime, file: &str, rest: &[u8], place: Place) -> io::Result<()> {
-    let Place { line, column } = place;
-    match decode_utf8(rest) {
-        (Some(sign), _) if sign.is_alphanumeric() => eprintln!(rt;
-            "desk: {file:?}, line {line}, column {column}: {sign} (UTF-8), which no document has, so nothing was done; --ascii takes the file"
-        ),
-        (Some(sign), 2..) => {
-            let code = u32::from(sign);
-            eprintln!(rt;
-                "desk: {file:?}, line {line}, column {column}: U+{code:04X} (UTF-8), which no document has, so nothing was done; --ascii takes the file"
-            )
-        }
-        _ => {
-            let byte = rest.first().copied().unwrap_or(0);
-            eprintln!(rt;
-                "desk: {file:?}, line {line}, column {column}: the byte {byte}, which no document has, so nothing was done; --ascii takes the file"
-            )
-        }
-    }
 }

@@ -1,6 +1,6 @@
 //! System.Collect, for a person who isn't at the desk.
 
-use crate::sentences::Stop;
+use desk_documents::Stop;
 use desk_journal::{Error, Store};
 use desktop_definitions::Reply;
 use event_bytes::{Event, Keys};

@@ -1,0 +1,21 @@
+//! How the commands are used, as their words stand.
+
+/// What stands behind `desk` where a command is used. None where there is no such command.
+pub(crate) fn usage_of(command: &str) -> Option<&'static str> {
+    match command {
+        "sit" => Some("sit [--unproved] [--no-questions] [--no-fill] [--columns N] ROWS [PATH]"),
+        "picture" => Some("picture PATH"),
+        "check" => Some("check PATH"),
+        "list" => Some("list PATH [--json]"),
+        "backup" => Some("backup PATH COPY"),
+        "history" => Some("history PATH"),
+        "earlier" => Some("earlier PATH K COPY"),
+        "export" => Some(
+            "export PATH NAME.. [--join] [--open], or export PATH NAME --looks [--open], or export PATH --all FOLDER [--looks] [--join] [--replace] [--open]",
+        ),
+        "import" => Some(
+            "import PATH FILE.. [--replace] [--dry-run] [--ascii] [--rename] [--fill N] [--collect]",
+        ),
+        _ => None,
+    }
+}
