@@ -340,8 +340,8 @@ def browsers():
     return [one for one in there if os.environ.get('BROWSER', one.__name__) == one.__name__]
 
 
-# The file that is tried: that of docs, or the one that DESK in the environment names.
-FILE = os.environ.get('DESK', f'{TOP}/docs/desk.html')
+# The file that is tried: that of docs, or the one that PAGE in the environment names.
+FILE = os.environ.get('PAGE', f'{TOP}/docs/desk.html')
 
 
 def copied(into, name='desk.html', change=lambda text: text):

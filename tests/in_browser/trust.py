@@ -1,7 +1,7 @@
 #!/usr/bin/env python3
 """trust.py [ITEM..]: what a page that one can trust does where something goes wrong, in each browser. Each line says what should
-be so, and whether it is; the status is 1 where something isn't. DESK=FILE in the environment tries that file instead of
-docs/desk.html. The items: copying importing note files ways causes sentences errors policy typing."""
+be so, and whether it is; the status is 1 where something isn't. PAGE=FILE in the environment tries that file instead of
+docs/desk.html. The items: copying importing note files earlier ways causes sentences errors policy typing."""
 import base64
 import json
 import shutil
@@ -46,6 +46,14 @@ BYTES = '''window.handed.arrayBuffer().then(buffer => {
         if (sector.some(Boolean)) out.push([at, btoa(String.fromCharCode(...sector))]);
     }
     return JSON.stringify([bytes.length, out]);
+})'''
+PUT = '''navigator.storage.getDirectory().then(async folder => {
+    const all = new Uint8Array(15621 * 1024);
+    for (const [n, bytes] of %s) all.set(Uint8Array.from(atob(bytes), c => c.charCodeAt(0)), 1024 * n);
+    const file = await (await folder.getFileHandle('desk', { create: true })).createWritable();
+    await file.write(all);
+    await file.close();
+    return true;
 })'''
 SEEN = "(id => { const it = document.getElementById(id); return Boolean(it && !it.closest('[hidden]')); })(%r)"
 FILL = '''navigator.storage.getDirectory().then(async folder => {
@@ -253,14 +261,43 @@ def files(kind):
     page.quit()
 
 
+def sectors_of(store):
+    """The sectors that aren't all zeros, for a page."""
+    whole = [store[at:at + 1024] for at in range(0, len(store), 1024)]
+    return json.dumps([[n, base64.b64encode(sector).decode()] for n, sector in enumerate(whole) if any(sector)])
+
+
+def earlier(kind):
+    """A store of the page before there were two files: one file, and no number behind it."""
+    url = changed()
+    page = fresh(kind, url)
+    typing(page)
+    page.type('of an earlier page')
+    store = saved(page)
+    page.quit()
+    profile = room()
+    page = kind(profile)
+    page.go(url.replace('desk.html', 'empty.html'))
+    page.js(PUT % sectors_of(store), wait=True)
+    page.begin(url)
+    page.js(ANSWERS)
+    check(kind, 'earlier', 'a store that an earlier page made opens', 'of an earlier page' in page.text(1, 50), page.note())
+    click_on(page, 'anew')
+    page.until("document.getElementById('note').textContent.includes('new desktop')")
+    page.quit()
+    page = kind(profile)
+    page.begin(url)
+    check(kind, 'earlier', 'and the one that is put in its place is there after another start',
+          'of an earlier page' not in page.text(1, 50) and page.js('document.body.dataset.ready') == 'file', page.note())
+    page.quit()
+
+
 def ways(kind):
     url = changed()
     backup = fresh(kind, url)
     typing(backup)
     backup.type('of the backup')
     store = saved(backup)
-    whole = [store[n * 1024:n * 1024 + 1024] for n in range(15621)]
-    sectors = [[n, base64.b64encode(sector).decode()] for n, sector in enumerate(whole) if any(sector)]
     backup.quit()
     open_it = '''(() => {
         const all = new Uint8Array(15621 * 1024);
@@ -269,7 +306,7 @@ def ways(kind):
         files.items.add(new File([all], 'backup.disk'));
         input.files = files.files;
         input.dispatchEvent(new Event('change'));
-    })()''' % json.dumps(sectors)
+    })()''' % sectors_of(store)
     for way in ('load', 'anew'):
         page = kind(room())
         page.go(url.replace('desk.html', 'empty.html'))
@@ -507,7 +544,7 @@ def typing_of(kind):
     page.quit()
 
 
-ITEMS = {'copying': copying, 'importing': importing, 'note': note, 'files': files, 'ways': ways, 'causes': causes,
+ITEMS = {'copying': copying, 'importing': importing, 'note': note, 'files': files, 'earlier': earlier, 'ways': ways, 'causes': causes,
          'sentences': sentences, 'errors': errors, 'policy': policy, 'typing': typing_of}
 kinds = browsers()
 if not kinds:
