@@ -51,8 +51,8 @@ use Rattle.caret_moves.specs.declared.wish.KeyWish.TheVariants.{Step, DeleteNext
 use Rattle.caret_moves.specs.declared.wish.WhyNot.{WhyNot}
 use Rattle.caret_moves.specs.declared.wish.WhyNot.TheVariants.{NoRow, TooFar, NothingBehind, PastEdge}
 use Rattle.caret_moves.specs.Steps.{column_cut}
-use Rattle.caret_moves.specs.Leading.{text_width, text_click, stepped_in, org_in, has_column, landing_in, stood, after_wish}
-use Rattle.caret_moves.specs.Leading.{click_at, org_presses, events_to, with_back, led_from, led_by, led, Leads}
+use Rattle.caret_moves.specs.Leading.{text_width, text_click, step_goal_in, org_in, has_column, landing_in, stood, after_wish}
+use Rattle.caret_moves.specs.Leading.{click_for, org_presses, events_to, and_back, led_from, led_with, led, DoesWish}
 use Rattle.caret_moves.proofs.RowLaws.{org_shown, org_begins, org_from, sight_is, lands_there}
 use Rattle.caret_moves.proofs.StepLaws.{stepped_within}
 
@@ -176,7 +176,7 @@ module _ (d : Desktop) (v : ℕ) (sound : IsSound d) (top : IsOnTop v d.columns)
 
     -- The events lead the caret there.
     pub events_lead : 0 < rows_of d v → IfSome (events_to d v p) (λ events. LeadTo d events (stood d v p))
-    unfolding events_to stood landing_in click_at org_in
+    unfolding events_to stood landing_in click_for org_in
     events_lead some =
         let bs = bytes_of (main_of d v) in
         let t : ℕ = org_in d v p in
@@ -184,7 +184,7 @@ module _ (d : Desktop) (v : ℕ) (sound : IsSound d) (top : IsOnTop v d.columns)
         org_shown bs (rows_of d v) (viewer_of d v).org p p_within some in
         let row : unwrap_or (lines_in_sight bs (rows_of d v) t p) 0 ≡ row_of bs t p = sight_is bs (rows_of d v) t p shown in
         let low : row_of bs t p < rows_of d v = ltb-true _ _ (and_parts _ _ shown).1 in
-        leads_more d (with_org d v t) (stood d v p) (click_at d v t p) (org_presses d v t) org_leads
+        leads_more d (with_org d v t) (stood d v p) (click_for d v t p) (org_presses d v t) org_leads
         (ap (λ (r : ℕ). step (with_org d v t) (text_click d v (column_cut bs (text_width d v) t p) r)) row
         ∙ click_steps t (column_cut bs (text_width d v) t p) (row_of bs t p) (cut_narrow (track_of d.columns v)) low)
       where
@@ -261,17 +261,17 @@ module _ (d : Desktop) (sound : IsSound d) (c : Caret) (is : d.caret ≡ Some c)
 
   step_led : (s : AStep) → 0 < rows_of d c.viewer
       → IfOk (led_from d c.viewer c.position (Step s)) (λ events. LeadTo d events (after_wish d c (Step s)))
-  unfolding led_from after_wish stepped_in
+  unfolding led_from after_wish step_goal_in
   step_led s some =
       let bs = bytes_of (main_of d c.viewer) in
       let long : length bs ≡ length (main_of d c.viewer) = length-map (main_of d c.viewer) (λ (x : ℕ × Look). x.0) in
       let low = stepped_within bs (text_width d c.viewer) (rows_of d c.viewer) c.position s (omega (arith, c_within, long)) in
-      if_ok_or (λ events. LeadTo d events (stood d c.viewer (stepped_in d c.viewer c.position s)))
-      (events_to d c.viewer (stepped_in d c.viewer c.position s)) TooFar
-      (events_lead d c.viewer sound c_top (stepped_in d c.viewer c.position s) (omega (arith, low, long)) some)
+      if_ok_or (λ events. LeadTo d events (stood d c.viewer (step_goal_in d c.viewer c.position s)))
+      (events_to d c.viewer (step_goal_in d c.viewer c.position s)) TooFar
+      (events_lead d c.viewer sound c_top (step_goal_in d c.viewer c.position s) (omega (arith, low, long)) some)
 
   next_led : 0 < rows_of d c.viewer → c.position + 1 ≤ length (main_of d c.viewer) → has_column d c.viewer (c.position + 1) ≡ true
-      → IfSome (with_back (events_to d c.viewer (c.position + 1))) (λ events. LeadTo d events (after_wish d c DeleteNext))
+      → IfSome (and_back (events_to d c.viewer (c.position + 1))) (λ events. LeadTo d events (after_wish d c DeleteNext))
   unfolding after_wish stood
   next_led some low column =
       let p = c.position in
@@ -289,13 +289,13 @@ module _ (d : Desktop) (sound : IsSound d) (c : Caret) (is : d.caret ≡ Some c)
   unfolding led_from
   delete_leads some = (elim (nat_lt c.position (length (main_of d c.viewer))) as (λ (b : Bool).
       nat_lt c.position (length (main_of d c.viewer)) ≡ b
-      → IfOk (if b then (if has_column d c.viewer (c.position + 1) then ok_or (with_back (events_to d c.viewer (c.position + 1))) TooFar
+      → IfOk (if b then (if has_column d c.viewer (c.position + 1) then ok_or (and_back (events_to d c.viewer (c.position + 1))) TooFar
       else Err PastEdge) else Err NothingBehind) (λ events. LeadTo d events (after_wish d c DeleteNext))) [
         | true ↦ λ more. (elim (has_column d c.viewer (c.position + 1)) as (λ (b : Bool). has_column d c.viewer (c.position + 1) ≡ b
-            → IfOk (if b then ok_or (with_back (events_to d c.viewer (c.position + 1))) TooFar else Err PastEdge)
+            → IfOk (if b then ok_or (and_back (events_to d c.viewer (c.position + 1))) TooFar else Err PastEdge)
             (λ events. LeadTo d events (after_wish d c DeleteNext))) [
               | true ↦ λ column. if_ok_or (λ events. LeadTo d events (after_wish d c DeleteNext))
-                  (with_back (events_to d c.viewer (c.position + 1))) TooFar
+                  (and_back (events_to d c.viewer (c.position + 1))) TooFar
                   (next_led some (let low = ltb-true _ _ more in omega (arith, low)) column)
               | false ↦ λ none. tt
             ]) refl
@@ -307,7 +307,7 @@ module _ (d : Desktop) (sound : IsSound d) (c : Caret) (is : d.caret ≡ Some c)
   wish_led (Step s) some = step_led s some
   wish_led DeleteNext some = delete_leads some
 
-  leads_from : (wish : KeyWish) → IfOk (led_by d (Some c) wish) (λ events. LeadTo d events (after_wish d c wish))
+  leads_from : (wish : KeyWish) → IfOk (led_with d (Some c) wish) (λ events. LeadTo d events (after_wish d c wish))
   leads_from wish = (elim (rows_of d c.viewer == 0) as (λ (b : Bool). (rows_of d c.viewer == 0) ≡ b
       → IfOk (if b then Err NoRow else led_from d c.viewer c.position wish)
       (λ events. LeadTo d events (after_wish d c wish))) [
@@ -321,7 +321,7 @@ module _ (d : Desktop) (sound : IsSound d) (c : Caret) (is : d.caret ≡ Some c)
 
 module _ (d : Desktop) (sound : IsSound d) (wish : KeyWish) where
   by_caret : (caret : Option Caret) → d.caret ≡ caret
-      → IfSome caret (λ c. IfOk (led_by d caret wish) (λ events. LeadTo d events (after_wish d c wish)))
+      → IfSome caret (λ c. IfOk (led_with d caret wish) (λ events. LeadTo d events (after_wish d c wish)))
   by_caret None is = tt
   by_caret (Some c) is = leads_from d sound c is wish
 
@@ -331,9 +331,9 @@ module _ (d : Desktop) (sound : IsSound d) (wish : KeyWish) where
   all_land (Some c) is = λ p low column. lands_in d c.viewer sound (sound.shaped.marks.caret_stands c is).placed p low column
 
   -- The events for a wish lead to it.
-  pub wish_leads : Leads d wish (led d wish)
+  pub wish_leads : DoesWish d wish (led d wish)
   unfolding led
   wish_leads = record { exact = refl; lead = by_caret d.caret refl; lands = all_land d.caret refl }
 
-  pub told_leads : (told : Result (List Event) WhyNot) → told ≡ led d wish → Leads d wish told
-  told_leads told is = subst (λ (r : Result (List Event) WhyNot). Leads d wish r) (sym is) wish_leads
+  pub told_leads : (told : Result (List Event) WhyNot) → told ≡ led d wish → DoesWish d wish told
+  told_leads told is = subst (λ (r : Result (List Event) WhyNot). DoesWish d wish r) (sym is) wish_leads

@@ -9,7 +9,7 @@ use Rattle.text_frames.specs.Near.{below}
 use Rattle.text_frames.specs.Rules.{is_in_rows}
 use Rattle.text_frames.proofs.Near.{same_column}
 use Rattle.desk_input.specs.Lines.{start_below, lines_in_sight}
-use Rattle.caret_moves.specs.Steps.{line_end, org_for}
+use Rattle.caret_moves.specs.Steps.{end_of_line, org_for}
 use Rattle.caret_moves.proofs.RowLaws.{own_row, row_low}
 
 -- the column of a cell in the first row of a frame
@@ -33,13 +33,13 @@ column_read bs w org p from within =
 -- ---- the end of a line
 
 module _ (bs : List ℕ) (p below : ℕ) (is : below ≡ start_below bs p) where
-  pub end_above : p < below → below - 1 ≡ line_end bs p
+  pub end_above : p < below → below - 1 ≡ end_of_line bs p
   end_above more =
       ap (λ (k : ℕ). k - 1) is
       ∙ ap (λ (b : Bool). if b then start_below bs p - 1 else length bs)
       (sym (lt-ltb p (start_below bs p) (let l : p < start_below bs p = omega (arith, is, more) in l)))
 
-  pub end_of_text : below ≤ p → length bs ≡ line_end bs p
+  pub end_of_text : below ≤ p → length bs ≡ end_of_line bs p
   end_of_text none =
       ap (λ (b : Bool). if b then start_below bs p - 1 else length bs)
       (sym (le-ltb p (start_below bs p) (let l : start_below bs p ≤ p = omega (arith, is, none) in l)))

@@ -9,21 +9,21 @@ use Rattle.desk_input.proofs.LineLaws.{below_start_within}
 use Rattle.caret_moves.specs.declared.wish.Step.{Step}
 use Rattle.caret_moves.specs.declared.wish.Step.TheVariants as step
 use Rattle.caret_moves.specs.Runs.{run_end, run_start}
-use Rattle.caret_moves.specs.Steps.{column_cut, level_with, line_end, stepped}
+use Rattle.caret_moves.specs.Steps.{column_cut, level_with, end_of_line, step_goal}
 use Rattle.caret_moves.proofs.RunLaws.{end_within, start_within}
 
 level_within : (bs : List ℕ) (w p start : ℕ) → level_with bs w p start ≤ length bs
 level_within bs w p start = greatest_within (stands_by bs start (column_cut bs w 0 p) 0) (length bs)
 
-line_end_within : (bs : List ℕ) (p : ℕ) → line_end bs p ≤ length bs
+line_end_within : (bs : List ℕ) (p : ℕ) → end_of_line bs p ≤ length bs
 line_end_within bs p = elim (nat_lt p (start_below bs p)) as (λ (b : Bool).
     (if b then start_below bs p - 1 else length bs) ≤ length bs) [
       | true ↦ let low = below_start_within bs p in omega (arith, low)
       | false ↦ omega arith
     ]
 
-pub stepped_within : (bs : List ℕ) (w h p : ℕ) (s : Step) → p ≤ length bs → stepped bs w h p s ≤ length bs
-unfolding stepped
+pub stepped_within : (bs : List ℕ) (w h p : ℕ) (s : Step) → p ≤ length bs → step_goal bs w h p s ≤ length bs
+unfolding step_goal
 stepped_within bs w h p step.Left within = omega (arith, within)
 stepped_within bs w h p step.Right within = omega arith
 stepped_within bs w h p step.WordLeft within =

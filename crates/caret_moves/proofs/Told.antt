@@ -27,9 +27,9 @@ use Rattle.caret_moves.specs.declared.wish.KeyWish.{KeyWish}
 use Rattle.caret_moves.specs.declared.wish.KeyWish.TheVariants.{DeleteNext}
 use Rattle.caret_moves.specs.declared.wish.WhyNot.{WhyNot}
 use Rattle.caret_moves.specs.declared.wish.WhyNot.TheVariants.{NoCaret, NoRow, TooFar, NothingBehind, PastEdge}
-use Rattle.caret_moves.specs.Steps.{column_cut, stepped, org_for}
-use Rattle.caret_moves.specs.Leading.{text_width, text_click, stepped_in, org_in, has_column, click_at, org_presses, events_to}
-use Rattle.caret_moves.specs.Leading.{with_back, led_from, led_by, led, Leads}
+use Rattle.caret_moves.specs.Steps.{column_cut, step_goal, org_for}
+use Rattle.caret_moves.specs.Leading.{text_width, text_click, step_goal_in, org_in, has_column, click_for, org_presses, events_to}
+use Rattle.caret_moves.specs.Leading.{and_back, led_from, led_with, led, DoesWish}
 use Rattle.caret_moves.proofs.LeadLaws.{told_leads}
 
 -- ---- what was read of a viewer
@@ -43,13 +43,13 @@ module _ (old : List ℕ) (d : KeptDesktop) (v : ℕ) (text : List Piece)
     width_told : w ≡ text_width d v
     width_told = omega (arith, width_is)
 
-    pub step_read : (p : ℕ) (step : AStep) → stepped (bytes_of_text old (flat text)) w h p step ≡ stepped_in (seen old d) v p step
-    unfolding stepped_in seen
-    step_read p step = λ k. stepped (bytes_are k) (width_told k) (rows_is k) p step
+    pub step_read : (p : ℕ) (step : AStep) → step_goal (bytes_of_text old (flat text)) w h p step ≡ step_goal_in (seen old d) v p step
+    unfolding step_goal_in seen
+    step_read p step = λ k. step_goal (bytes_are k) (width_told k) (rows_is k) p step
 
     pub click_read : (org p : ℕ) → text_click d v (column_cut (bytes_of_text old (flat text)) w org p)
-        (unwrap_or (lines_in_sight (bytes_of_text old (flat text)) h org p) 0) ≡ click_at (seen old d) v org p
-    unfolding click_at seen text_click
+        (unwrap_or (lines_in_sight (bytes_of_text old (flat text)) h org p) 0) ≡ click_for (seen old d) v org p
+    unfolding click_for seen text_click
     click_read org p = λ k. text_click d v (column_cut (bytes_are k) (width_told k) org p)
         (unwrap_or (lines_in_sight (bytes_are k) (rows_is k) org p) 0)
 
@@ -90,15 +90,15 @@ module _ (old : List ℕ) (d : KeptDesktop) (v t org : ℕ) (org_is : org ≡ (v
 module _ (d : Desktop) (v p org : ℕ) (org_is : org ≡ org_in d v p) where
   pub events_none : None ≡ org_presses d v org → None ≡ events_to d v p
   unfolding events_to
-  events_none is = ap (λ (o : Option (List Event)). option_map (λ presses. presses ++ click_at d v (org_in d v p) p ∷ []) o)
+  events_none is = ap (λ (o : Option (List Event)). option_map (λ presses. presses ++ click_for d v (org_in d v p) p ∷ []) o)
       (is ∙ ap (org_presses d v) org_is)
 
-  pub events_some : (presses all : List Event) (click : Event) → Some presses ≡ org_presses d v org → click ≡ click_at d v org p
+  pub events_some : (presses all : List Event) (click : Event) → Some presses ≡ org_presses d v org → click ≡ click_for d v org p
       → all ≡ presses ++ click ∷ [] → Some all ≡ events_to d v p
   unfolding events_to
   events_some presses all click is click_is all_is =
-      ap (λ (l : List Event). Some l) (all_is ∙ ap (λ (e : Event). presses ++ e ∷ []) (click_is ∙ ap (λ (o : ℕ). click_at d v o p) org_is))
-      ∙ ap (λ (o : Option (List Event)). option_map (λ presses. presses ++ click_at d v (org_in d v p) p ∷ []) o)
+      ap (λ (l : List Event). Some l) (all_is ∙ ap (λ (e : Event). presses ++ e ∷ []) (click_is ∙ ap (λ (o : ℕ). click_for d v o p) org_is))
+      ∙ ap (λ (o : Option (List Event)). option_map (λ presses. presses ++ click_for d v (org_in d v p) p ∷ []) o)
       (is ∙ ap (org_presses d v) org_is)
 
 pub mapped_ok : {A B E : Type 0} (f : A → B) (o : Option A) (e : E)
@@ -111,7 +111,7 @@ mapped_ok f (Some a) e = refl
 module _ (d : Desktop) (v p : ℕ) where
   abbrev choice : Bool → Bool → Result (List Event) WhyNot
   choice more column = if more
-      then (if column then ok_or (with_back (events_to d v (p + 1))) TooFar else Err PastEdge)
+      then (if column then ok_or (and_back (events_to d v (p + 1))) TooFar else Err PastEdge)
       else Err NothingBehind
 
   pub delete_last : length (main_of d v) ≤ p → Err NothingBehind ≡ led_from d v p DeleteNext
@@ -125,9 +125,9 @@ module _ (d : Desktop) (v p : ℕ) where
 
     module _ (column : true ≡ has_column d v (p + 1)) where
       by_events : (o : Option (List Event)) → o ≡ events_to d v (p + 1)
-          → ok_or (with_back o) TooFar ≡ led_from d v p DeleteNext
+          → ok_or (and_back o) TooFar ≡ led_from d v p DeleteNext
       unfolding led_from
-      by_events o is = ap (λ (o : Option (List Event)). ok_or (with_back o) TooFar) is
+      by_events o is = ap (λ (o : Option (List Event)). ok_or (and_back o) TooFar) is
           ∙ ap (choice true) column ∙ ap (λ (b : Bool). choice b (has_column d v (p + 1))) (sym (lt-ltb p _ more))
 
       pub delete_far : None ≡ events_to d v (p + 1) → Err TooFar ≡ led_from d v p DeleteNext
@@ -141,25 +141,25 @@ module _ (d : Desktop) (v p : ℕ) where
 -- ---- all wishes
 
 module _ (old : List ℕ) (d : KeptDesktop) (wish : KeyWish) (over : IsOver old d) where
-  by_led : (told : Result (List Event) WhyNot) → told ≡ led (seen old d) wish → Leads (seen old d) wish told
+  by_led : (told : Result (List Event) WhyNot) → told ≡ led (seen old d) wish → DoesWish (seen old d) wish told
   by_led told is = told_leads (seen old d) (over.whole.sound old) wish told is
 
-  pub led_none : None ≡ d.caret → Leads (seen old d) wish (Err NoCaret)
+  pub led_none : None ≡ d.caret → DoesWish (seen old d) wish (Err NoCaret)
   unfolding led seen
-  led_none is = by_led (Err NoCaret) (ap (λ (c : Option Caret). led_by (seen old d) c wish) is)
+  led_none is = by_led (Err NoCaret) (ap (λ (c : Option Caret). led_with (seen old d) c wish) is)
 
   module _ (c : Caret) (is : Some c ≡ d.caret) where
-    pub led_rowless : rows_of d c.viewer ≡ 0 → Leads (seen old d) wish (Err NoRow)
+    pub led_rowless : rows_of d c.viewer ≡ 0 → DoesWish (seen old d) wish (Err NoRow)
     unfolding led seen
     led_rowless none = by_led (Err NoRow)
         (ap (λ (b : Bool). if b then Err NoRow else led_from (seen old d) c.viewer c.position wish)
         (sym (eq-eqb (rows_of d c.viewer) 0 none))
-        ∙ ap (λ (c : Option Caret). led_by (seen old d) c wish) is)
+        ∙ ap (λ (c : Option Caret). led_with (seen old d) c wish) is)
 
     pub led_some : (told : Result (List Event) WhyNot) → (rows_of d c.viewer ≡ 0 → ⊥)
-        → told ≡ led_from (seen old d) c.viewer c.position wish → Leads (seen old d) wish told
+        → told ≡ led_from (seen old d) c.viewer c.position wish → DoesWish (seen old d) wish told
     unfolding led seen
     led_some told some told_is = by_led told (told_is
         ∙ ap (λ (b : Bool). if b then Err NoRow else led_from (seen old d) c.viewer c.position wish)
         (sym (ne_eqb (rows_of d c.viewer) 0 some))
-        ∙ ap (λ (c : Option Caret). led_by (seen old d) c wish) is)
+        ∙ ap (λ (c : Option Caret). led_with (seen old d) c wish) is)

@@ -19,7 +19,7 @@ use Rattle.caret_moves.specs.declared.wish.KeyWish.{KeyWish}
 use Rattle.caret_moves.specs.declared.wish.KeyWish.TheVariants.{Step, DeleteNext}
 use Rattle.caret_moves.specs.declared.wish.WhyNot.{WhyNot}
 use Rattle.caret_moves.specs.declared.wish.WhyNot.TheVariants.{NoCaret, NoRow, TooFar, NothingBehind, PastEdge}
-use Rattle.caret_moves.specs.Steps.{column_cut, stepped, org_for, landing}
+use Rattle.caret_moves.specs.Steps.{column_cut, step_goal, org_for, landing}
 
 module _ {T : Type 0} where
   -- how many columns of text a viewer has: all but its scroll bar
@@ -34,8 +34,8 @@ module _ {T : Type 0} where
 -- ---- where the caret goes
 
 -- the position to which a step leads from p
-unfoldable pub stepped_in : Desktop → ℕ → ℕ → AStep → ℕ
-stepped_in d v p step = stepped (bytes_of (main_of d v)) (text_width d v) (rows_of d v) p step
+unfoldable pub step_goal_in : Desktop → ℕ → ℕ → AStep → ℕ
+step_goal_in d v p step = step_goal (bytes_of (main_of d v)) (text_width d v) (rows_of d v) p step
 
 -- where the viewer shows its text from, so that the line of p is in sight
 unfoldable pub org_in : Desktop → ℕ → ℕ → ℕ
@@ -56,15 +56,15 @@ stood d v p = with_caret (with_org d v (org_in d v p)) v (landing_in d v p)
 
 -- the desktop after what is wished, from a caret
 unfoldable pub after_wish : Desktop → Caret → KeyWish → Desktop
-after_wish d c (Step step) = stood d c.viewer (stepped_in d c.viewer c.position step)
+after_wish d c (Step step) = stood d c.viewer (step_goal_in d c.viewer c.position step)
 after_wish d c DeleteNext = without_character_before (stood d c.viewer (c.position + 1))
     (record { viewer = c.viewer; position = c.position + 1 })
 
 -- ---- the events
 
 -- the click at the cell of p, where the text is shown from org on
-unfoldable pub click_at : Desktop → ℕ → ℕ → ℕ → Event
-click_at d v org p =
+unfoldable pub click_for : Desktop → ℕ → ℕ → ℕ → Event
+click_for d v org p =
     let bs = bytes_of (main_of d v) in
     text_click d v (column_cut bs (text_width d v) org p)
     (unwrap_or (lines_in_sight bs (rows_of d v) org p) 0)
@@ -75,34 +75,34 @@ org_presses d v org = if org == (viewer_of d v).org then Some [] else line_press
 
 -- these presses, and then the click
 unfoldable pub events_to : Desktop → ℕ → ℕ → Option (List Event)
-events_to d v p = option_map (λ presses. presses ++ click_at d v (org_in d v p) p ∷ [])
+events_to d v p = option_map (λ presses. presses ++ click_for d v (org_in d v p) p ∷ [])
     (org_presses d v (org_in d v p))
 
 -- and then the character before the caret is deleted
-abbrev pub with_back : Option (List Event) → Option (List Event)
-with_back events = option_map (λ events. events ++ Key Back ∷ []) events
+abbrev pub and_back : Option (List Event) → Option (List Event)
+and_back events = option_map (λ events. events ++ Key Back ∷ []) events
 
 abbrev pub delete_led : Desktop → ℕ → ℕ → Result (List Event) WhyNot
 delete_led d v p = if nat_lt p (length (main_of d v))
-    then (if has_column d v (p + 1) then ok_or (with_back (events_to d v (p + 1))) TooFar else Err PastEdge)
+    then (if has_column d v (p + 1) then ok_or (and_back (events_to d v (p + 1))) TooFar else Err PastEdge)
     else Err NothingBehind
 
 unfoldable pub led_from : Desktop → ℕ → ℕ → KeyWish → Result (List Event) WhyNot
-led_from d v p (Step step) = ok_or (events_to d v (stepped_in d v p step)) TooFar
+led_from d v p (Step step) = ok_or (events_to d v (step_goal_in d v p step)) TooFar
 led_from d v p DeleteNext = delete_led d v p
 
-abbrev pub led_by : Desktop → Option Caret → KeyWish → Result (List Event) WhyNot
-led_by d None wish = Err NoCaret
-led_by d (Some c) wish =
+abbrev pub led_with : Desktop → Option Caret → KeyWish → Result (List Event) WhyNot
+led_with d None wish = Err NoCaret
+led_with d (Some c) wish =
     if rows_of d c.viewer == 0 then Err NoRow else led_from d c.viewer c.position wish
 
 -- the events that do what is wished, or why there are none
 unfoldable pub led : Desktop → KeyWish → Result (List Event) WhyNot
-led d wish = led_by d d.caret wish
+led d wish = led_with d d.caret wish
 
 -- The events for a wish, and what they do: none is refused, the caret comes to stand where it is wished, with its line in
 -- sight, and nothing else changes but what is deleted.
-pub record Leads (d : Desktop) (wish : KeyWish) (told : Result (List Event) WhyNot) : Type 0 where
+pub record DoesWish (d : Desktop) (wish : KeyWish) (told : Result (List Event) WhyNot) : Type 0 where
   pub exact : told ≡ led d wish
   pub lead : IfSome d.caret (λ c. IfOk told (λ events. LeadTo d events (after_wish d c wish)))
   -- it stands at the very position where that has a column

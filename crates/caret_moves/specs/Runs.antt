@@ -6,13 +6,13 @@ use Rattle.screen_pictures.specs.Bytes.{space}
 use Rattle.text_frames.specs.Lines.{is_return, greatest_where}
 
 -- what stands between words: a blank, a tabulator, or the end of a line
-abbrev pub is_gap : ℕ → Bool
-is_gap b = (b == space) || ((b == tabulator) || is_return b)
+abbrev pub separates_words : ℕ → Bool
+separates_words b = (b == space) || ((b == tabulator) || is_return b)
 
 -- a byte is of a run: of what stands between words, or of a word
 unfoldable pub is_of_run : Bool → ℕ → Bool
-is_of_run true b = is_gap b
-is_of_run false b = not (is_gap b)
+is_of_run true b = separates_words b
+is_of_run false b = not (separates_words b)
 
 -- where a run ends that begins at p; it may have no byte
 abbrev pub run_end : Bool → List ℕ → ℕ → ℕ

@@ -17,23 +17,23 @@ abbrev pub level_with : List ℕ → ℕ → ℕ → ℕ → ℕ
 level_with bs w p start = position_at bs start (column_cut bs w 0 p) 0
 
 -- where the line of p ends: before the line below it, or with the text
-abbrev pub line_end : List ℕ → ℕ → ℕ
-line_end bs p = if nat_lt p (start_below bs p) then start_below bs p - 1 else length bs
+abbrev pub end_of_line : List ℕ → ℕ → ℕ
+end_of_line bs p = if nat_lt p (start_below bs p) then start_below bs p - 1 else length bs
 
 -- the position to which a step leads from p
-unfoldable pub stepped : List ℕ → ℕ → ℕ → ℕ → Step → ℕ
-stepped bs w h p step.Left = p - 1
-stepped bs w h p step.Right = min (p + 1) (length bs)
-stepped bs w h p step.WordLeft = word_before bs p
-stepped bs w h p step.WordRight = next_word bs p
-stepped bs w h p step.Up = level_with bs w p (line_above bs 1 p)
-stepped bs w h p step.Down = level_with bs w p (line_below bs 1 p)
-stepped bs w h p step.LineStart = line_start bs p
-stepped bs w h p step.LineEnd = line_end bs p
-stepped bs w h p step.TextStart = 0
-stepped bs w h p step.TextEnd = length bs
-stepped bs w h p step.PageUp = level_with bs w p (line_above bs (h - 1) p)
-stepped bs w h p step.PageDown = level_with bs w p (line_below bs (h - 1) p)
+unfoldable pub step_goal : List ℕ → ℕ → ℕ → ℕ → Step → ℕ
+step_goal bs w h p step.Left = p - 1
+step_goal bs w h p step.Right = min (p + 1) (length bs)
+step_goal bs w h p step.WordLeft = word_before bs p
+step_goal bs w h p step.WordRight = next_word bs p
+step_goal bs w h p step.Up = level_with bs w p (line_above bs 1 p)
+step_goal bs w h p step.Down = level_with bs w p (line_below bs 1 p)
+step_goal bs w h p step.LineStart = line_start bs p
+step_goal bs w h p step.LineEnd = end_of_line bs p
+step_goal bs w h p step.TextStart = 0
+step_goal bs w h p step.TextEnd = length bs
+step_goal bs w h p step.PageUp = level_with bs w p (line_above bs (h - 1) p)
+step_goal bs w h p step.PageDown = level_with bs w p (line_below bs (h - 1) p)
 
 -- where the text is shown from, so that the line of p is in one of the rows: as before where it is in one, and else it
 -- comes first, or last where it stands below

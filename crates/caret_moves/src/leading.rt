@@ -6,11 +6,11 @@ ghost use Rattle.desktop_definitions.specs.Viewers.{rows_of};
 ghost use Rattle.desk_core.specs.Words.{FailsAs, OnlyReads, IsOnTop, IsOver, IsPosition, kept_desktop, seen, IsStop};
 ghost use Rattle.desk_core.specs.Words.{TellsValue, viewer_or_none};
 ghost use Rattle.desk_input.specs.Lines.{lines_in_sight};
-ghost use Rattle.caret_moves.specs.Leading.{text_width, text_click, stepped_in, org_in, has_column, click_at, org_presses};
-ghost use Rattle.caret_moves.specs.Leading.{events_to, led_from, Leads};
+ghost use Rattle.caret_moves.specs.Leading.{text_width, text_click, step_goal_in, org_in, has_column, click_for, org_presses};
+ghost use Rattle.caret_moves.specs.Leading.{events_to, led_from, DoesWish};
 ghost use Rattle.caret_moves.specs.declared.wish.KeyWish.TheVariants as KeyWish;
 
-use crate::steps::{column_below, column_cut, org_for, stepped};
+use crate::steps::{column_below, column_cut, org_for, step_goal};
 use crate::wish::{KeyWish, Step, WhyNot};
 use char_file::{CharSource, Fault};
 use desk_core::desk::Desk;
@@ -44,7 +44,7 @@ fn text_click(desk: &Desk, id: u16, column: u8, row: u8) -> Event
 }
 
 /// The position to which a step leads in a viewer's main text.
-fn stepped_in<S: CharSource>(
+fn step_goal_in<S: CharSource>(
     desk: &Desk,
     id: u16,
     pos: u32,
@@ -53,14 +53,14 @@ fn stepped_in<S: CharSource>(
 ) -> Read<u32>
     requires over { IsOver (S.characters source.old) (kept_desktop desk.now) }
     requires at { IsPosition (kept_desktop desk.now) id pos }
-    ensures told { TellsValue S.CharSource result (λ d. stepped_in d id pos step) source.old
+    ensures told { TellsValue S.CharSource result (λ d. step_goal_in d id pos step) source.old
         source.new (kept_desktop desk.now) }
     ensures within { IfOk result (IsPosition (kept_desktop desk.now) id) }
 {
     let h = desk.rows_of(id);
     let w = text_width(desk, id);
     let text = desk.main_text(id);
-    let place = stepped(text, w, h, pos, step, source)?;
+    let place = step_goal(text, w, h, pos, step, source)?;
     Ok(place)
 }
 
@@ -105,11 +105,11 @@ fn row_told(lines: Option<u32>, h: u8) -> u8
 }
 
 /// The click at the cell of a position, where the viewer shows its text from `org` on.
-fn click_at<S: CharSource>(desk: &Desk, id: u16, org: u32, pos: u32, source: &mut S) -> Read<Event>
+fn click_for<S: CharSource>(desk: &Desk, id: u16, org: u32, pos: u32, source: &mut S) -> Read<Event>
     requires over { IsOver (S.characters source.old) (kept_desktop desk.now) }
     requires at { IsPosition (kept_desktop desk.now) id pos }
     requires from { org ≤ pos }
-    ensures { TellsValue S.CharSource result (λ d. click_at d id org pos) source.old source.new
+    ensures { TellsValue S.CharSource result (λ d. click_for d id org pos) source.old source.new
         (kept_desktop desk.now) }
 {
     let h = desk.rows_of(id);
@@ -172,7 +172,7 @@ fn events_to<S: CharSource>(
         (S.failures source.new) }
 {
     let org = org_in(desk, id, pos, source)?;
-    let click = click_at(desk, id, org, pos, source)?;
+    let click = click_for(desk, id, org, pos, source)?;
     let found = org_presses(desk, id, org, source)?;
     let Some(presses) = found else {
         return Ok(None);
@@ -199,7 +199,7 @@ fn lead_step<S: CharSource>(
     ensures faults { FailsAs Stop.Fault IsStop result (S.failures source.old)
         (S.failures source.new) }
 {
-    let pos = stepped_in(desk, caret.viewer, caret.position, step, source)?;
+    let pos = step_goal_in(desk, caret.viewer, caret.position, step, source)?;
     let events = events_to(desk, caret.viewer, pos, source)?;
     Ok(events.ok_or(WhyNot::TooFar))
 }
@@ -266,7 +266,7 @@ fn lead_from<S: CharSource>(
 pub fn lead<S: CharSource>(desk: &Desk, wish: KeyWish, source: &mut S) -> Result<Led, Stop>
     requires { IsOver (S.characters source.old) (kept_desktop desk.now) }
     ensures leads { IfOk result (λ told. S.honest source.old
-        → Leads (seen (S.characters source.old) (kept_desktop desk.now)) wish
+        → DoesWish (seen (S.characters source.old) (kept_desktop desk.now)) wish
         (result_map_both (λ events. events.items) (λ why. why) told)) }
     ensures reads { OnlyReads S.characters S.failures S.honest S.same_ground source.old
         source.new }

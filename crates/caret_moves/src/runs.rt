@@ -2,7 +2,7 @@
 ghost use Rattle.std.specs.Prelude.{◌≡◌, ◌≤◌, length, IfOk};
 ghost use Rattle.readers_scanners.specs.Words.{ReadsOrFails, flat, AreWithin, bytes_of_text};
 ghost use Rattle.text_frames.specs.Walks.{CanWalk};
-ghost use Rattle.caret_moves.specs.Runs.{is_gap, is_of_run, run_end, run_start, next_word, word_before};
+ghost use Rattle.caret_moves.specs.Runs.{separates_words, is_of_run, run_end, run_start, next_word, word_before};
 
 use char_file::{CharSource, Fault};
 use event_bytes::{CARRIAGE_RETURN, TABULATOR};
@@ -10,8 +10,8 @@ use readers_scanners::{BackReader, Reader};
 use text_core::Text;
 
 /// Whether a byte stands between words.
-fn is_gap(byte: u8) -> bool
-    ensures { result ≡ is_gap byte }
+fn separates_words(byte: u8) -> bool
+    ensures { result ≡ separates_words byte }
 {
     byte == b' ' || byte == TABULATOR || byte == CARRIAGE_RETURN
 }
@@ -21,7 +21,11 @@ fn is_gap(byte: u8) -> bool
 fn is_of_run(gaps: bool, byte: u8) -> bool
     ensures { result ≡ is_of_run gaps byte }
 {
-    if gaps { is_gap(byte) } else { !is_gap(byte) }
+    if gaps {
+        separates_words(byte)
+    } else {
+        !separates_words(byte)
+    }
 }
 
 /// Where a run ends that begins at the position. `Fault`: the source failed in this call.

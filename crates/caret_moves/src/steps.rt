@@ -7,7 +7,7 @@ ghost use Rattle.text_frames.specs.Cells.{column_of};
 ghost use Rattle.text_frames.specs.Lines.{line_above};
 ghost use Rattle.text_frames.specs.declared.row.TheConstants.{MOST_COLUMNS};
 ghost use Rattle.desk_input.specs.Lines.{line_below, lines_in_sight};
-ghost use Rattle.caret_moves.specs.Steps.{column_cut, level_with, line_end, org_for, stepped};
+ghost use Rattle.caret_moves.specs.Steps.{column_cut, level_with, end_of_line, org_for, step_goal};
 
 use crate::runs::{next_word, word_before};
 use crate::wish::Step;
@@ -158,10 +158,10 @@ fn lines_down<S: CharSource>(
 }
 
 /// Where the line of a position ends. `Fault`: the source failed in this call.
-fn line_end<S: CharSource>(text: &Text, pos: u32, source: &mut S) -> Result<u32, Fault>
+fn end_of_line<S: CharSource>(text: &Text, pos: u32, source: &mut S) -> Result<u32, Fault>
     requires { CanWalk (S.characters source.old) (flat text.now) 0 pos }
     ensures end { IfOk result (λ end. S.honest source.old
-        → end ≡ line_end (bytes_of_text (S.characters source.old) (flat text.now)) pos) }
+        → end ≡ end_of_line (bytes_of_text (S.characters source.old) (flat text.now)) pos) }
     ensures within { IfOk result (λ end. end ≤ length (flat text.now)) }
     ensures source { ReadsOrFails S.CharSource result source.old source.new }
 {
@@ -174,8 +174,8 @@ fn line_end<S: CharSource>(text: &Text, pos: u32, source: &mut S) -> Result<u32,
 
 /// The position to which a step leads in a text that is shown in `h` rows of `w` columns. `Fault`: the source failed in
 /// this call.
-#[tactic(auto, unfolding(crate::specs::Steps::stepped))]
-pub(crate) fn stepped<S: CharSource>(
+#[tactic(auto, unfolding(crate::specs::Steps::step_goal))]
+pub(crate) fn step_goal<S: CharSource>(
     text: &Text,
     w: u8,
     h: u8,
@@ -187,7 +187,7 @@ pub(crate) fn stepped<S: CharSource>(
     requires some { 0 < w }
     requires fits { w ≤ MOST_COLUMNS }
     ensures place { IfOk result (λ place. S.honest source.old
-        → place ≡ stepped (bytes_of_text (S.characters source.old) (flat text.now)) w h pos step) }
+        → place ≡ step_goal (bytes_of_text (S.characters source.old) (flat text.now)) w h pos step) }
     ensures within { IfOk result (λ place. place ≤ length (flat text.now)) }
     ensures source { ReadsOrFails S.CharSource result source.old source.new }
 {
@@ -200,7 +200,7 @@ pub(crate) fn stepped<S: CharSource>(
         Step::Up => lines_up(text, w, 1, pos, source),
         Step::Down => lines_down(text, w, 1, pos, source),
         Step::LineStart => line_start(text, pos, source),
-        Step::LineEnd => line_end(text, pos, source),
+        Step::LineEnd => end_of_line(text, pos, source),
         Step::TextStart => Ok(0),
         Step::TextEnd => Ok(text.len()),
         Step::PageUp => lines_up(text, w, page, pos, source),

@@ -2,4 +2,4 @@
 pub use Rattle.caret_moves.specs.declared.wish.Step.{Step}
 pub use Rattle.caret_moves.specs.declared.wish.KeyWish.{KeyWish}
 pub use Rattle.caret_moves.specs.declared.wish.WhyNot.{WhyNot}
-pub use Rattle.caret_moves.specs.Leading.{Leads, led}
+pub use Rattle.caret_moves.specs.Leading.{DoesWish, led}

@@ -14,7 +14,7 @@ ghost use Rattle.desk_slots.specs.Live.{IsLiveOn, IsLiveStep, IsLiveBringing, Is
 ghost use Rattle.piece_ring.specs.Text.{Text as AText};
 ghost use Rattle.screen_cells.specs.Lines.{AreLinesOf};
 ghost use Rattle.desk_input.specs.Scrolling.{Scrolls};
-ghost use Rattle.caret_moves.specs.Leading.{Leads};
+ghost use Rattle.caret_moves.specs.Leading.{DoesWish};
 ghost use Rattle.std.specs.Result.{result_map_both};
 ghost use Rattle.desk_slots.specs.Words.{Nowhere, now, IsConfined, FailsAs, entries_of, shown_screen};
 ghost use Rattle.desk_slots.specs.Words.{Content, ListsUnread};
@@ -266,7 +266,7 @@ impl LiveDesktop {
         requires on { IsLiveOn D.Disk disk.old self.old }
         requires room { STORE_SECTORS ≤ D.size disk.old }
         ensures leads { IfOk result (λ told. D.honest disk.old
-            → Leads (seen_live (now (D.trail disk.old)).reads self.old) wish
+            → DoesWish (seen_live (now (D.trail disk.old)).reads self.old) wish
             (result_map_both (λ events. events.items) (λ why. why) told)) }
         ensures same { StaysLive D.Disk disk.old disk.new self.old self.new }
         ensures disk { IsConfined D.size D.honest D.trail Nowhere disk.old disk.new }

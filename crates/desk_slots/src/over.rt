@@ -8,7 +8,7 @@ ghost use Rattle.desktop_definitions.specs.Stepped.{IsStep};
 ghost use Rattle.desk_bringing.specs.Bringing.{IsBringing};
 ghost use Rattle.screen_cells.specs.Lines.{AreLinesOf};
 ghost use Rattle.desk_input.specs.Scrolling.{Scrolls};
-ghost use Rattle.caret_moves.specs.Leading.{Leads};
+ghost use Rattle.caret_moves.specs.Leading.{DoesWish};
 ghost use Rattle.std.specs.Result.{result_map_both};
 ghost use Rattle.event_loop.specs.Keeping.{KeepsLines};
 ghost use Rattle.desk_views.specs.Losses.{loss_at};
@@ -167,7 +167,7 @@ pub(crate) fn lead_over<D: Disk>(
 ) -> Result<Result<Vec<Event>, WhyNot>, Stop>
     requires { CanStepThrough D.Disk disk.old pages.old desktop.old }
     ensures leads { IfOk result (λ told. D.honest disk.old
-        → Leads (seen_through D.Disk disk.old pages.old desktop.old) wish
+        → DoesWish (seen_through D.Disk disk.old pages.old desktop.old) wish
         (result_map_both (λ events. events.items) (λ why. why) told)) }
     ensures unchanged { desktop.new ≡ desktop.old }
     ensures looks { LooksThrough D.Disk disk.old disk.new pages.old pages.new }

@@ -15,7 +15,7 @@ ghost use Rattle.desk_image.specs.Image.{Spells, image_of, image_bytes, IsSpella
 ghost use Rattle.desk_image.specs.Passing.{OnlyGets};
 ghost use Rattle.desktop_definitions.specs.Viewers.{text_of};
 ghost use Rattle.desk_input.specs.Scrolling.{Scrolls};
-ghost use Rattle.caret_moves.specs.Leading.{Leads};
+ghost use Rattle.caret_moves.specs.Leading.{DoesWish};
 ghost use Rattle.std.specs.Result.{result_map_both};
 ghost use Rattle.screen_cells.specs.Lines.{AreLinesOf};
 ghost use Rattle.event_loop.specs.Keeping.{KeepsLines};
@@ -291,7 +291,7 @@ impl Desktop {
     ) -> Result<Result<Vec<Event>, WhyNot>, Stop>
         requires { IsOver (S.characters source.old) self.old }
         ensures leads { IfOk result (λ told. S.honest source.old
-            → Leads (seen (S.characters source.old) self.old) wish
+            → DoesWish (seen (S.characters source.old) self.old) wish
             (result_map_both (λ events. events.items) (λ why. why) told)) }
         ensures unchanged { self.new ≡ self.old }
         ensures reads { OnlyReads S.characters S.failures S.honest S.same_ground source.old

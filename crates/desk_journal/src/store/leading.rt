@@ -1,7 +1,7 @@
 //! What is wished of the caret.
 ghost use Rattle.std.specs.Prelude.{IfOk};
 ghost use Rattle.std.specs.Result.{result_map_both};
-ghost use Rattle.caret_moves.specs.Leading.{Leads};
+ghost use Rattle.caret_moves.specs.Leading.{DoesWish};
 ghost use Rattle.desk_journal.specs.Looking.{OnlyLooks};
 
 use super::Store;
@@ -27,7 +27,7 @@ impl<D: Disk> Store<D> {
         wish: KeyWish,
     ) -> Result<Result<Vec<Event>, WhyNot>, Error>
         ensures leads { IfOk result (λ told. D.honest self.old.disk
-            → Leads self.old.desktop wish
+            → DoesWish self.old.desktop wish
             (result_map_both (λ events. events.items) (λ why. why) told)) }
         ensures looks { OnlyLooks D.Disk result self.old self.new }
     {

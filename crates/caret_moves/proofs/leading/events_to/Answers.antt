@@ -3,7 +3,7 @@ use Rattle.std.specs.Prelude.{option_map}
 use Rattle.char_file.proofs.Reading.{read_on}
 use Rattle.desktop_definitions.specs.Seen.{seen}
 use Rattle.desk_core.specs.Kept.{kept_desktop}
-use Rattle.caret_moves.specs.Leading.{click_at, org_presses}
+use Rattle.caret_moves.specs.Leading.{click_for, org_presses}
 use Rattle.caret_moves.proofs.Told.{events_none, events_some}
 use Rattle.caret_moves.proofs.leading.events_to.Goals as goal
 
@@ -30,5 +30,5 @@ returns-clause-told g c = λ h.
     (sym (ap (λ found. option_map (λ events. events.items) found) c.in-Some.is) ∙ c.in_ok-found.ensures.told (both.still h)
     ∙ (λ k. org_presses (seen (both.same h k) (kept_desktop c.args.desk.now)) c.args.id c.in_ok-org.org))
     (second.exact (first.reads.still h)
-    ∙ (λ k. click_at (seen (first.reads.same h k) (kept_desktop c.args.desk.now)) c.args.id c.in_ok-org.org c.args.pos))
+    ∙ (λ k. click_for (seen (first.reads.same h k) (kept_desktop c.args.desk.now)) c.args.id c.in_ok-org.org c.args.pos))
     c.in_ok-events.ensures

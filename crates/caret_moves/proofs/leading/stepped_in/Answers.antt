@@ -4,10 +4,10 @@ use Rattle.piece_ring.specs.Flat.{flat}
 use Rattle.desk_core.specs.Kept.{kept_desktop}
 use Rattle.desk_core.proofs.PositionLemmas.{offsets_kept}
 use Rattle.caret_moves.proofs.Told.{step_read}
-use Rattle.caret_moves.proofs.leading.stepped_in.Goals as goal
+use Rattle.caret_moves.proofs.leading.step_goal_in.Goals as goal
 
-pub stepped-requires-clause-walk : goal.stepped-requires-clause-walk
-stepped-requires-clause-walk g c = record {
+pub step_goal-requires-clause-walk : goal.step_goal-requires-clause-walk
+step_goal-requires-clause-walk g c = record {
   order = omega arith;
   within = omega (
     arith,

@@ -3,7 +3,7 @@ use Rattle.piece_ring.specs.Flat.{flat}
 use Rattle.readers_scanners.specs.Reading.{bytes_of_text}
 use Rattle.text_frames.proofs.Placing.{length-read}
 use Rattle.caret_moves.proofs.ReadLemmas.{end_above, end_of_text}
-use Rattle.caret_moves.proofs.steps.line_end.Goals as goal
+use Rattle.caret_moves.proofs.steps.end_of_line.Goals as goal
 
 pub returns-then-pos-below-clause-end : goal.returns-then-pos-below-clause-end
 returns-then-pos-below-clause-end g c = λ h.

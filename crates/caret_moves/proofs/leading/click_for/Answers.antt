@@ -9,7 +9,7 @@ use Rattle.desk_core.proofs.PositionLemmas.{offsets_kept}
 use Rattle.desk_input.specs.Lines.{lines_in_sight}
 use Rattle.caret_moves.specs.Leading.{text_click}
 use Rattle.caret_moves.proofs.Told.{click_read}
-use Rattle.caret_moves.proofs.leading.click_at.Goals as goal
+use Rattle.caret_moves.proofs.leading.click_for.Goals as goal
 
 pub column_cut-requires-clause-walk : goal.column_cut-requires-clause-walk
 column_cut-requires-clause-walk g c = record {
