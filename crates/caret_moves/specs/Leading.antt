@@ -84,7 +84,8 @@ and_back events = option_map (λ events. events ++ Key Back ∷ []) events
 
 abbrev pub delete_led : Desktop → ℕ → ℕ → Result (List Event) WhyNot
 delete_led d v p = if nat_lt p (length (main_of d v))
-    then (if has_column d v (p + 1) then ok_or (and_back (events_to d v (p + 1))) TooFar else Err PastEdge)
+    then (if has_column d v (p + 1) then ok_or (and_back (events_to d v (p + 1))) TooFar
+    else Err PastEdge)
     else Err NothingBehind
 
 unfoldable pub led_from : Desktop → ℕ → ℕ → KeyWish → Result (List Event) WhyNot
@@ -102,9 +103,10 @@ led d wish = led_with d d.caret wish
 
 -- The events for a wish, and what they do: none is refused, the caret comes to stand where it is wished, with its line in
 -- sight, and nothing else changes but what is deleted.
-pub record DoesWish (d : Desktop) (wish : KeyWish) (told : Result (List Event) WhyNot) : Type 0 where
-  pub exact : told ≡ led d wish
-  pub lead : IfSome d.caret (λ c. IfOk told (λ events. LeadTo d events (after_wish d c wish)))
-  -- it stands at the very position where that has a column
-  pub lands : IfSome d.caret (λ c. (p : ℕ) → p ≤ length (main_of d c.viewer)
-      → has_column d c.viewer p ≡ true → landing_in d c.viewer p ≡ p)
+pub record DoesWish (d : Desktop) (wish : KeyWish) (told : Result (List Event) WhyNot) : Type 0
+  where
+    pub exact : told ≡ led d wish
+    pub lead : IfSome d.caret (λ c. IfOk told (λ events. LeadTo d events (after_wish d c wish)))
+    -- it stands at the very position where that has a column
+    pub lands : IfSome d.caret (λ c. (p : ℕ) → p ≤ length (main_of d c.viewer)
+        → has_column d c.viewer p ≡ true → landing_in d c.viewer p ≡ p)

@@ -187,7 +187,8 @@ pub(crate) fn step_goal<S: CharSource>(
     requires some { 0 < w }
     requires fits { w ≤ MOST_COLUMNS }
     ensures place { IfOk result (λ place. S.honest source.old
-        → place ≡ step_goal (bytes_of_text (S.characters source.old) (flat text.now)) w h pos step) }
+        → place ≡ step_goal (bytes_of_text (S.characters source.old) (flat text.now)) w h pos
+        step) }
     ensures within { IfOk result (λ place. place ≤ length (flat text.now)) }
     ensures source { ReadsOrFails S.CharSource result source.old source.new }
 {

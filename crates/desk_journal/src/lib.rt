@@ -14,8 +14,8 @@ mod undone;
 
 pub use command_table::{NEWEST, Version};
 pub use desk_slots::{
-    DeskInfo, Document, Error, KeyWish, LogRow, Loss, MOST_PRESSES, Place, ShownViewer, Step, WhyNot,
-    Wish,
+    DeskInfo, Document, Error, KeyWish, LogRow, Loss, MOST_PRESSES, Place, ShownViewer, Step,
+    WhyNot, Wish,
 };
 pub use files::{open_in_a_file, post_in_a_file};
 pub use store::{Info, Store};

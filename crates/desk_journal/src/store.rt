@@ -24,8 +24,8 @@ ghost use Rattle.desk_slots.specs.Words.{Leaves, Nowhere, now, IsConfined, Fails
 ghost use Rattle.desk_slots.specs.Words.{ListsUnread, shown_screen};
 
 mod bringing;
-mod leading;
 mod copying;
+mod leading;
 mod scrolling;
 mod views;
 

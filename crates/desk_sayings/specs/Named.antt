@@ -90,5 +90,6 @@ deleting_words cells =
 -- the word that is no name, as far as there is room, and the name that it begins with
 unfoldable pub misnamed_words : List Cell → List ℕ
 misnamed_words cells =
-    row_characters (take (min (whole_length cells) 20) cells) ++ codes " is no name: press again for "
+    row_characters (take (min (whole_length cells) 20) cells)
+    ++ codes " is no name: press again for "
     ++ row_characters (take (min (part_run Name cells) 31) cells)
