@@ -6,7 +6,7 @@ use Rattle.sector_disk.specs.declared.file.TheConstants.{FILE_SECTORS}
 use Rattle.sector_disk.specs.Faults.{OneOf}
 use Rattle.sector_disk.specs.FileTrail.{FileTrail, current}
 use Rattle.sector_disk.specs.FileSectors.{sectors_in}
-use Rattle.sector_disk.specs.FileImages.{file_under, FileLeaves, FileLeavesOnly}
+use Rattle.sector_disk.specs.FileImages.{file_under, sectors_under, FileLeaves, FileLeavesOnly}
 use Rattle.event_bytes.specs.declared.event.Event.{Event}
 use Rattle.desktop_definitions.specs.Desktop.{Desktop}
 use Rattle.desktop_definitions.specs.Step.{step}
@@ -38,12 +38,13 @@ module _ {F : Type 0} (f : Ghosts F) where
   abbrev pub FileLeavesEither : Event → StoreView (FileDisk F f) → StoreView (FileDisk F f) → Type 0
   FileLeavesEither event old new = old.must_reopen ≡ false → HasHonestFile old
       → FileLeavesOnly (bytes_under old) (bytes_under new)
-      (MeansEither FILE_SECTORS old.desktop (step old.desktop event).desktop)
+      (MeansEither (sectors_under old.disk) old.desktop (step old.desktop event).desktop)
 
   -- and from now on each of them means the one after it
   abbrev pub FileLeavesAfter : Event → StoreView (FileDisk F f) → StoreView (FileDisk F f) → Type 0
   FileLeavesAfter event old new = HasHonestFile old
-      → FileLeaves (current (bytes_under new)) (Means FILE_SECTORS (step old.desktop event).desktop)
+      → FileLeaves (current (bytes_under new))
+      (Means (sectors_under old.disk) (step old.desktop event).desktop)
 
   -- Between two states of a store a crash leaves bytes that mean the desktop after a prefix of these events, and at the
   -- second of them one that holds every event that was acknowledged.
@@ -51,6 +52,6 @@ module _ {F : Type 0} (f : Ghosts F) where
       (old new : StoreView (FileDisk F f))
       : Type 0 where
     pub any_moment : FileLeavesOnly (bytes_under old) (bytes_under new)
-        (MeansPrefix FILE_SECTORS desktop [] events)
+        (MeansPrefix (sectors_under old.disk) desktop [] events)
     pub at_last : FileLeaves (current (bytes_under new))
-        (MeansPrefix FILE_SECTORS desktop acknowledged events)
+        (MeansPrefix (sectors_under old.disk) desktop acknowledged events)

@@ -10,6 +10,10 @@ use Rattle.sector_disk.specs.FileSectors.{sectors_in, sectors_at}
 abbrev pub file_under : {F : Type 0} {f : Ghosts F} → FileDisk F f → F
 file_under d = d.file
 
+-- how many sectors it has of that file
+abbrev pub sectors_under : {F : Type 0} {f : Ghosts F} → FileDisk F f → ℕ
+sectors_under d = d.sectors
+
 -- the sectors of every image that a crash at this moment may leave of the bytes have P
 abbrev pub FileLeaves : FileMoment → (Content → Type 0) → Type 0
 FileLeaves m P = (image : ℕ → ℕ) → IsFileImage m image → P (sectors_in image)

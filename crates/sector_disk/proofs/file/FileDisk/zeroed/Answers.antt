@@ -12,6 +12,7 @@ loop-n-preserved g c =
     let bytes = c.empty_sector.result in
     let was = (sectors_at (current (g.F.HostFile.trail c.loop-n.self.file))).reads in
     record {
+      sectors = c.write.ensures.kept.as_large ∙ inv.sectors;
       failed = c.in_ok-write.ensures.cause ∙ inv.failed;
       honest = λ h. c.write.ensures.kept.still (inv.honest h);
       zeros = λ h k low. ap (λ m. m.reads k) (c.in_ok-write.ensures.written (inv.honest h)) ∙ elim (cases_eq k n) [

@@ -2,12 +2,11 @@ use Rattle.std.proofs.Common.{◌∙◌, refl, length, ap}
 use Rattle.sector_disk.specs.Trail.{Only}
 use Rattle.sector_disk.specs.FileTrail.{current, Span, overwritten}
 use Rattle.sector_disk.specs.FileSectors.{sectors_at}
-use Rattle.sector_disk.specs.declared.file.TheConstants.{FILE_SECTORS}
 use Rattle.sector_disk.proofs.FileViews.{confined_by_sectors, span_apart, sector_written, when_done}
 use Rattle.sector_disk.proofs.file.FileDiskDisk.write.Goals as goal
 
 pub returns-clause-kept : goal.returns-clause-kept
-returns-clause-kept g c = confined_by_sectors (λ d. d.file) (λ _. FILE_SECTORS) g.F.HostFile.honest g.F.HostFile.trail
+returns-clause-kept g c = confined_by_sectors (λ d. d.file) (λ d. d.sectors) g.F.HostFile.honest g.F.HostFile.trail
     (Span c.offset_of.result (length c.args.bytes.now)) (Only c.args.n) c.args.self.now _ refl
     (span_apart c.args.n c.offset_of.result (length c.args.bytes.now) c.offset_of.ensures c.told-bytes)
     c.write_whole-done.ensures.kept
