@@ -5,6 +5,7 @@ pub mod Calls
 pub mod Surviving
 pub mod Following
 pub mod Followed
+pub mod Chosen
 pub mod Joining
 pub mod Flagged
 pub mod Copies

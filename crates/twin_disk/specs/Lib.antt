@@ -4,3 +4,4 @@ pub mod Legs
 pub mod Twin
 pub mod Survival
 pub mod Copying
+pub mod Choosing

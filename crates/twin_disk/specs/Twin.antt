@@ -106,10 +106,14 @@ abbrev pub moment_dropped : {A B : Type 0} → List (Legs A B) → ℕ
 moment_dropped [] = 0
 moment_dropped (x ∷ xs) = if is_both x.left then suc (moment_dropped xs) else 0
 
+-- which was a leg's moment when the twin was made
+abbrev pub start_clock : {L : Type 0} → (L → ℕ) → List L → ℕ
+start_clock clock [] = 0
+start_clock clock (x ∷ _) = clock x
+
 -- a moment of a leg that isn't before the twin's first one
 abbrev pub SinceStart : {L : Type 0} → (L → ℕ) → List L → ℕ → Type 0
-SinceStart clock [] u = ⊥
-SinceStart clock (x ∷ _) u = clock x ≤ u
+SinceStart clock xs u = start_clock clock xs ≤ u
 
 module _ {A B : Type 0} (a : Ghosts A) (b : Ghosts B) {D : Type 0} (d : Ghosts D) (get : Legs A B → D) (other : Left) where
   abbrev pub leg_clock : Legs A B → ℕ
@@ -117,6 +121,7 @@ module _ {A B : Type 0} (a : Ghosts A) (b : Ghosts B) {D : Type 0} (d : Ghosts D
 
   -- what is known of all moments of an honest leg, which is not in use where only the other one is left
   pub record IsFollowed (start calls : List (Legs A B)) (l : Legs A B) : Type 0 where
+    pub begun : SinceStart leg_clock start (leg_clock l)
     pub beyond : (u : ℕ) → leg_clock l < u → moment_when leg_clock calls u ≡ length calls
     -- each of them is within the twin's at that time
     pub each : (u : ℕ) → SinceStart leg_clock start u → u ≤ leg_clock l

@@ -4,6 +4,7 @@
 //! leave of the twin (`either_survives`), so what is shown of each crash image of the twin holds of each leg's.
 #![tactic(auto)]
 
+mod choosing;
 mod copying;
 mod flags;
 mod legs;
@@ -11,7 +12,10 @@ mod notes;
 mod twin;
 mod twin_laws;
 
+pub use choosing::{Choice, choose};
 pub use copying::copy_disk;
 pub use flags::{ALONE, Flag, NAME_BYTES, Name, put_flag};
 pub use twin::TwinDisk;
-pub use twin_laws::{dropped_leg_is_old, each_moment_survives, either_survives};
+pub use twin_laws::{
+    calls_follow, dropped_leg_is_old, each_moment_survives, either_survives, flags_choose_newest,
+};

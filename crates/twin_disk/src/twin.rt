@@ -158,6 +158,8 @@ impl<A: Disk, B: Disk> TwinDisk<A, B> {
 }
 
 impl<A: Disk, B: Disk> Disk for TwinDisk<A, B> {
+    ghost use Rattle.twin_disk.specs.Choosing.{GoesOn};
+
     ghost size = { λ d. d.beside.sector };
 
     ghost trail = { λ d. twin_trail (within d.beside.sector A.Disk) (within d.beside.sector B.Disk)
@@ -174,6 +176,7 @@ impl<A: Disk, B: Disk> Disk for TwinDisk<A, B> {
     /// Reads from the first leg in use.
     fn read(&mut self, n: u32, buffer: &mut Sector) -> Result<(), Fault>
         requires { n < ⟦<Self as Disk>⟧.size self.old }
+        ensures goes_on { GoesOn self.old self.new }
         ensures ends { Ends A.Disk B.Disk result self.old.lost self.new.lost self.old.legs self.new.legs }
         ensures kept { IsConfined ⟦<Self as Disk>⟧.size ⟦<Self as Disk>⟧.honest ⟦<Self as Disk>⟧.trail
             Nowhere self.old self.new }
@@ -193,6 +196,7 @@ impl<A: Disk, B: Disk> Disk for TwinDisk<A, B> {
     /// Writes to each leg in use.
     fn write(&mut self, n: u32, bytes: &Sector) -> Result<(), Fault>
         requires { n < ⟦<Self as Disk>⟧.size self.old }
+        ensures goes_on { GoesOn self.old self.new }
         ensures ends { Ends A.Disk B.Disk result self.old.lost self.new.lost self.old.legs self.new.legs }
         ensures kept { IsConfined ⟦<Self as Disk>⟧.size ⟦<Self as Disk>⟧.honest ⟦<Self as Disk>⟧.trail
             (Only n) self.old self.new }
@@ -213,6 +217,7 @@ impl<A: Disk, B: Disk> Disk for TwinDisk<A, B> {
 
     /// Syncs each leg in use.
     fn sync(&mut self) -> Result<(), Fault>
+        ensures goes_on { GoesOn self.old self.new }
         ensures ends { Ends A.Disk B.Disk result self.old.lost self.new.lost self.old.legs self.new.legs }
         ensures kept { IsConfined ⟦<Self as Disk>⟧.size ⟦<Self as Disk>⟧.honest ⟦<Self as Disk>⟧.trail
             Nowhere self.old self.new }

@@ -1,10 +1,11 @@
-use Rattle.std.proofs.Common.{◌<◌, refl, sym, ◌∙◌, subst, arith}
+use Rattle.std.proofs.Common.{◌<◌, [], refl, sym, ◌∙◌, subst, arith}
 use Rattle.sector_disk.specs.Trail.{Nowhere}
 use Rattle.twin_disk.specs.Bounded.{within}
 use Rattle.twin_disk.proofs.Seen.{calls_seen, read_seen}
 use Rattle.twin_disk.proofs.Steps.{honest_on, honest_before, agrees_still}
 use Rattle.twin_disk.proofs.Flagged.{flagged_after}
 use Rattle.twin_disk.proofs.Followed.{read_followed}
+use Rattle.twin_disk.proofs.Chosen.{append_nil, goes_nowhere, goes_on}
 use Rattle.twin_disk.proofs.Calls.{gone, read_told, read_touches}
 use Rattle.twin_disk.proofs.twin.TwinDiskDisk.read.Goals as goal
 
@@ -55,3 +56,19 @@ invariant_of-self-2 g c =
       first_followed = λ h. (followed h).first;
       second_followed = λ h. (followed h).second;
     }
+
+pub returns-then-self-clause-goes_on : goal.returns-then-self-clause-goes_on
+returns-then-self-clause-goes_on g c = goes_nowhere g.A.Disk g.B.Disk c.args.self.now _ refl refl refl refl
+    (λ h. record { later = omega arith; kept = λ t le. refl })
+
+pub returns-clause-goes_on : goal.returns-clause-goes_on
+returns-clause-goes_on g c =
+    let was = c.args.self.now in
+    let at = was.beside.sector in
+    let calls = c.read-done.ensures.calls in
+    let reads = read_seen g.A.Disk g.B.Disk at c.args.n c.read-done.new.buffer c.read-done.result was.legs
+    c.read-done.new.self c.requires c.read-done.ensures in
+    goes_on g.A.Disk g.B.Disk was _ Nowhere [] (λ none. none) (sym (append_nil was.calls.items)) refl refl
+    (λ h. let run = read_touches (within at g.A.Disk) (within at g.B.Disk) was.start.items was.calls.items was.legs was.lost
+    c.if-self.false was.agree c.args.n c.read-done.new.buffer c.read-done.result c.read-done.new.self reads h in
+    record { later = run.later; kept = run.kept }) c.if-self.false calls.first calls.second calls.one
