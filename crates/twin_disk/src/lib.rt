@@ -9,12 +9,14 @@ mod copying;
 mod flags;
 mod legs;
 mod notes;
+mod pairing;
 mod twin;
 mod twin_laws;
 
 pub use choosing::{Choice, choose};
-pub use copying::copy_disk;
+pub use copying::{copy_disk, differing, flag_at, mirror};
 pub use flags::{ALONE, Flag, NAME_BYTES, Name, put_flag};
+pub use pairing::paired;
 pub use twin::TwinDisk;
 pub use twin_laws::{
     calls_follow, dropped_leg_is_old, each_moment_survives, either_survives, flags_choose_newest,
