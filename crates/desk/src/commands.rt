@@ -34,8 +34,21 @@ const SIT: &[Argument<'static>] = &[
         kind: Kind::Wanted,
     },
     Argument {
+        name: "twin",
+        kind: Kind::Named,
+    },
+    Argument {
         name: "path",
         kind: Kind::Optional,
+    },
+];
+
+/// Those of `check`.
+const CHECK: &[Argument<'static>] = &[
+    PATH,
+    Argument {
+        name: "twin",
+        kind: Kind::Named,
     },
 ];
 
@@ -122,6 +135,10 @@ const IMPORT: &[Argument<'static>] = &[
         name: "fill",
         kind: Kind::Named,
     },
+    Argument {
+        name: "twin",
+        kind: Kind::Named,
+    },
 ];
 
 /// The commands.
@@ -136,7 +153,7 @@ pub(crate) const COMMANDS: &[CommandShape<'static>] = &[
     },
     CommandShape {
         name: "check",
-        arguments: STORE,
+        arguments: CHECK,
     },
     CommandShape {
         name: "list",

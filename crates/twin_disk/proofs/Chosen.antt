@@ -230,9 +230,10 @@ module _ {A B : Type 0} (a : Ghosts A) (b : Ghosts B) where
     ];
     none = λ why. elim why [
       | inl single ↦
-          let out' = no_flag (left_of old) (size_of old) area single out in
-          (keeps_flag a (size_of old) (OrFlag (left_of old) (size_of old) area) (first_leg old) (first_leg new) out' first,
-          keeps_flag b (size_of old) (OrFlag (left_of old) (size_of old) area) (second_leg old) (second_leg new) out' second)
+          let out' = no_flag (left_of old) (size_of old) area single out in (
+            keeps_flag a (size_of old) (OrFlag (left_of old) (size_of old) area) (first_leg old) (first_leg new) out' first,
+            keeps_flag b (size_of old) (OrFlag (left_of old) (size_of old) area) (second_leg old) (second_leg new) out' second,
+          )
       | inr lost ↦ absurd (cc)
     ];
   }

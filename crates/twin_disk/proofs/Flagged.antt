@@ -65,8 +65,10 @@ module _ {A B : Type 0} (a : Ghosts A) (b : Ghosts B) (flag : ℕ) where
         → IsConfined b.size b.honest b.trail area old.second new.second
         → ShowsFlag flag alone (now (a.trail old.first)) × ShowsFlag flag alone' (now (b.trail old.second))
         → ShowsFlag flag alone (now (a.trail new.first)) × ShowsFlag flag alone' (now (b.trail new.second))
-    both_still first second shown = (shows_still a flag _ old.first new.first out first h shown.0,
-        shows_still b flag _ old.second new.second out second h' shown.1)
+    both_still first second shown = (
+      shows_still a flag _ old.first new.first out first h shown.0,
+      shows_still b flag _ old.second new.second out second h' shown.1,
+    )
 
     -- of one leg alone no flag is touched
     single_still : {alone alone' : Bool} {E : Type 0} (result : Result (Unit {0}) E) → Calls a b flag area result old new
@@ -74,8 +76,9 @@ module _ {A B : Type 0} (a : Ghosts A) (b : Ghosts B) (flag : ℕ) where
         → ShowsFlag flag alone (now (a.trail old.first)) × ShowsFlag flag alone' (now (b.trail old.second))
         → ShowsFlag flag alone (now (a.trail new.first)) × ShowsFlag flag alone' (now (b.trail new.second))
     single_still result calls single shown = (
-        shows_still a flag _ old.first new.first (no_flag old.left flag area single out) calls.first h shown.0,
-        shows_still b flag _ old.second new.second (no_flag old.left flag area single out) calls.second h' shown.1)
+      shows_still a flag _ old.first new.first (no_flag old.left flag area single out) calls.first h shown.0,
+      shows_still b flag _ old.second new.second (no_flag old.left flag area single out) calls.second h' shown.1,
+    )
 
     pub flagged_after : {E : Type 0} (result : Result (Unit {0}) E) → Calls a b flag area result old new → (lost' : Bool)
         → OnErr result (lost' ≡ true) → IsFlagged a b flag lost' new

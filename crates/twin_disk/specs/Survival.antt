@@ -5,6 +5,10 @@ use Rattle.sector_disk.specs.Trail.{Content, Moment, Trail, now, IsCrashImage}
 use Rattle.twin_disk.specs.declared.legs.Left.{Left}
 use Rattle.twin_disk.specs.declared.legs.Left.TheVariants.{Both, First, Second}
 use Rattle.twin_disk.specs.declared.legs.Legs.{Legs}
+use Rattle.twin_disk.specs.declared.choosing.Leg.{Leg}
+use Rattle.twin_disk.specs.declared.choosing.Leg.TheVariants as leg
+use Rattle.std.specs.declared.option.Option.{Option}
+use Rattle.std.specs.declared.option.Option.TheVariants.{None, Some}
 use Rattle.twin_disk.specs.declared.twin.TwinDisk.{TwinDisk}
 use Rattle.twin_disk.specs.Bounded.{bounded_content, within}
 use Rattle.twin_disk.specs.Legs.{IsHonest}
@@ -13,6 +17,12 @@ use Rattle.twin_disk.specs.Twin.{twin_trail, moment_when, moment_dropped, SinceS
 -- two moments as one: the first one's reads, and what either has pending
 abbrev pub either_pending : Moment → Moment → Moment
 either_pending x y = record { reads = x.reads; pending = λ n. x.pending n || y.pending n }
+
+-- which leg was dropped
+abbrev pub dropped_leg : Left → Option Leg
+dropped_leg Both = None
+dropped_leg First = Some leg.Second
+dropped_leg Second = Some leg.First
 
 -- how many moments a leg has
 abbrev pub first_clock : {A B : Type 0} → Ghosts A → Legs A B → ℕ
@@ -30,6 +40,9 @@ module _ {A B : Type 0} {a : Ghosts A} {b : Ghosts B} where
 
   abbrev pub left_of : TwinDisk A B a b → Left
   left_of d = d.legs.left
+
+  abbrev pub dropped_of : TwinDisk A B a b → Option Leg
+  dropped_of d = dropped_leg (left_of d)
 
   -- no leg is left
   abbrev pub is_lost : TwinDisk A B a b → Bool

@@ -4,6 +4,13 @@ ghost use Rattle.twin_disk.specs.Choosing.{choice_of};
 
 use crate::flags::Flag;
 
+/// One of two legs.
+#[derive(Clone, Copy, Debug, PartialEq, Eq)]
+pub enum Leg {
+    First,
+    Second,
+}
+
 /// Which of two legs goes on.
 #[derive(Clone, Copy, Debug, PartialEq, Eq)]
 pub enum Choice {

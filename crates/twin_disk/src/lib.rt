@@ -13,7 +13,7 @@ mod pairing;
 mod twin;
 mod twin_laws;
 
-pub use choosing::{Choice, choose};
+pub use choosing::{Choice, Leg, choose};
 pub use copying::{copy_disk, differing, flag_at, mirror};
 pub use flags::{ALONE, Flag, NAME_BYTES, Name, put_flag};
 pub use pairing::paired;

@@ -8,6 +8,7 @@ ghost use Rattle.twin_disk.specs.Bounded.{within};
 ghost use Rattle.twin_disk.specs.Legs.{IsHonest};
 ghost use Rattle.twin_disk.specs.Twin.{Agrees, Ends, IsFlagged, IsFollowed, marked, pending_now, twin_trail};
 
+use crate::choosing::Leg;
 use crate::flags::Name;
 use crate::legs::{Beside, Left, Legs};
 use crate::notes::Notes;
@@ -86,7 +87,7 @@ impl<A: Disk, B: Disk> TwinDisk<A, B> {
     ghost use Rattle.std.specs.Prelude.{ℕ, ◌↔◌, IsTrue};
     ghost use Rattle.twin_disk.specs.Bounded.{bounded_moment};
     ghost use Rattle.twin_disk.specs.Flags.{ShowsFlag};
-    ghost use Rattle.twin_disk.specs.Survival.{IsWhole, either_pending, first_leg, second_leg};
+    ghost use Rattle.twin_disk.specs.Survival.{IsWhole, dropped_of, either_pending, first_leg, second_leg};
 
     /// The disk over two legs of which the first `sectors` read the same, and whose flags, in the sector behind them, say
     /// *in pair*. `name` is written beside a flag that is changed.
@@ -133,6 +134,17 @@ impl<A: Disk, B: Disk> TwinDisk<A, B> {
         ensures { IsTrue result ↔ IsWhole self.now }
     {
         matches!(self.legs.left, Left::Both) && !self.lost
+    }
+
+    /// Which leg was dropped, if one was.
+    pub fn dropped(&self) -> Option<Leg>
+        ensures { result ≡ dropped_of self.now }
+    {
+        match self.legs.left {
+            Left::Both => None,
+            Left::First => Some(Leg::Second),
+            Left::Second => Some(Leg::First),
+        }
     }
 
     /// Hands out both legs, also one that was dropped.
