@@ -1,10 +1,9 @@
 -- The moments of legs during a call, and which leg their flags choose.
-use Rattle.std.proofs.Common.{◌≡◌, ◌≢◌, ◌⊎◌, inl, inr, ℕ, zero, suc, ◌<◌, ◌≤◌, ◌+◌, nat_lt, List, [], ◌∷◌, ◌++◌, length, Bool}
+use Rattle.std.proofs.Common.{◌≡◌, ◌⊎◌, inl, inr, ℕ, suc, ◌≤◌, nat_lt, List, [], ◌∷◌, ◌++◌, length, Bool}
 use Rattle.std.proofs.Common.{true, false, if◌then◌else◌, refl, sym, ◌∙◌, ap, subst, arith}
 use Rattle.std.proofs.lemmas.Bool.{cases_lt}
-use Rattle.std.proofs.lemmas.List.{length-append}
 use Rattle.sector_disk.specs.declared.disk.Disk.{Ghosts}
-use Rattle.sector_disk.specs.Trail.{Content, Moment, Trail, now, IsCrashImage, Nowhere, Touches}
+use Rattle.sector_disk.specs.Trail.{Content, now, IsCrashImage, Nowhere}
 use Rattle.std.specs.declared.option.Option.TheVariants.{None}
 use Rattle.sector_disk.proofs.Confinement.{stays_put}
 use Rattle.sector_disk.specs.Confined.{IsConfined}
@@ -13,14 +12,14 @@ use Rattle.twin_disk.specs.declared.legs.Left.{Left}
 use Rattle.twin_disk.specs.declared.legs.Left.TheVariants.{Both, First, Second}
 use Rattle.twin_disk.specs.declared.legs.Legs.{Legs}
 use Rattle.twin_disk.specs.declared.twin.TwinDisk.{TwinDisk}
-use Rattle.twin_disk.specs.Bounded.{bounded_content, within}
+use Rattle.twin_disk.specs.Bounded.{bounded_content}
 use Rattle.twin_disk.specs.Flags.{ShowsFlag, says_alone}
 use Rattle.twin_disk.specs.Legs.{OrFlag}
-use Rattle.twin_disk.specs.Twin.{marked, moment_when, SinceStart}
+use Rattle.twin_disk.specs.Twin.{noted, moment_when, SinceStart}
 use Rattle.twin_disk.specs.Survival.{first_when, second_when}
-use Rattle.twin_disk.specs.Survival.{first_clock, second_clock, first_leg, second_leg, left_of, is_lost, size_of, trail_of, HasHonestLegs}
+use Rattle.twin_disk.specs.Survival.{first_clock, second_clock, first_leg, second_leg, legs_left, is_lost, twin_size, twin_moments, HasHonestLegs}
 use Rattle.twin_disk.specs.Choosing.{CallsFollow, FirstSince, FlagsChooseNewest, GoesOn, HasPast, IsSince, KeepsFlag, LegsFollow}
-use Rattle.twin_disk.specs.Choosing.{NotFlag, OfChosen, SecondSince, choice_of}
+use Rattle.twin_disk.specs.Choosing.{OfChosen, SecondSince, choice_of}
 use Rattle.twin_disk.proofs.Flagged.{no_flag}
 use Rattle.twin_disk.proofs.Followed.{survives_each}
 use Rattle.twin_disk.proofs.Following.{since_later}
@@ -90,15 +89,15 @@ by_three Second both first second = second refl
 module _ {A B : Type 0} (a : Ghosts A) (b : Ghosts B) where
   module _ (old new : TwinDisk A B a b) (on : GoesOn old new) (h : HasHonestLegs old) (h' : HasHonestLegs new) where
     -- what the twin was at the old state
-    at_old : (image : Content) → IsCrashImage (now (trail_of old)) (bounded_content (size_of old) image)
-        → IsSince old new (bounded_content (size_of new) image)
+    at_old : (image : Content) → IsCrashImage (now (twin_moments old)) (bounded_content (twin_size old) image)
+        → IsSince old new (bounded_content (twin_size new) image)
     at_old image is = record {
-      moment = (trail_of old).clock;
+      moment = (twin_moments old).clock;
       since = omega arith;
       real = (on.past h).later;
-      is = subst (λ n. IsCrashImage ((trail_of new).at (trail_of old).clock) (bounded_content n image)) (sym on.size)
-          (subst (λ m. IsCrashImage m (bounded_content (size_of old) image))
-          (sym ((on.past h).kept (trail_of old).clock (omega arith))) is);
+      is = subst (λ n. IsCrashImage ((twin_moments new).at (twin_moments old).clock) (bounded_content n image)) (sym on.size)
+          (subst (λ m. IsCrashImage m (bounded_content (twin_size old) image))
+          (sym ((on.past h).kept (twin_moments old).clock (omega arith))) is);
     }
 
     least : (clock : Legs A B → ℕ) (u : ℕ) → moment_when clock old.calls.items u ≡ length old.calls.items
@@ -148,7 +147,7 @@ module _ {A B : Type 0} (a : Ghosts A) (b : Ghosts B) where
     module _ (u v : ℕ) (since_u : FirstSince old new u) (since_v : SecondSince old new v) (i j : Content)
         (is_i : IsCrashImage ((a.trail (first_leg new)).at u) i) (is_j : IsCrashImage ((b.trail (second_leg new)).at v) j) where
       abbrev flag : ℕ
-      flag = size_of old
+      flag = twin_size old
 
       first_says : (alone : Bool) → KeepsFlag a flag (first_leg old) (first_leg new)
           → ShowsFlag flag alone (now (a.trail (first_leg old))) → says_alone (i flag) ≡ alone
@@ -163,7 +162,7 @@ module _ {A B : Type 0} (a : Ghosts A) (b : Ghosts B) where
       differ : (x y : Bool) → x ≡ true → y ≡ false → x ≡ y → ⊥
       differ x y is not same = cc
 
-      not_both : left_of old ≡ Both → says_alone (i flag) ≡ true → says_alone (j flag) ≡ true → ⊥
+      not_both : legs_left old ≡ Both → says_alone (i flag) ≡ true → says_alone (j flag) ≡ true → ⊥
       not_both both alone alone' = elim (bool_two (is_lost old)) [
         | inl lost ↦
             let keeps = on.none (inr lost) in
@@ -178,8 +177,8 @@ module _ {A B : Type 0} (a : Ghosts A) (b : Ghosts B) where
       ]
 
       at_flag : OfChosen (choice_of (says_alone (i flag)) (says_alone (j flag)))
-          (IsSince old new (bounded_content (size_of new) i)) (IsSince old new (bounded_content (size_of new) j))
-      at_flag = by_three (left_of old)
+          (IsSince old new (bounded_content (twin_size new) i)) (IsSince old new (bounded_content (twin_size new) j))
+      at_flag = by_three (legs_left old)
           (λ both. either_chosen (says_alone (i flag)) (says_alone (j flag)) _ _
           (legs_follow.first (λ is. cc) u since_u i is_i) (legs_follow.second (λ is. cc) v since_v j is_j) (not_both both))
           (λ first.
@@ -193,10 +192,10 @@ module _ {A B : Type 0} (a : Ghosts A) (b : Ghosts B) where
           second_chosen (says_alone (i flag)) (says_alone (j flag)) _ _ (first_says false keeps.0 shown.0)
           (second_says true keeps.1 shown.1) (legs_follow.second (λ is. cc) v since_v j is_j))
 
-      pub chosen_since : OfChosen (choice_of (says_alone (i (size_of new))) (says_alone (j (size_of new))))
-          (IsSince old new (bounded_content (size_of new) i)) (IsSince old new (bounded_content (size_of new) j))
+      pub chosen_since : OfChosen (choice_of (says_alone (i (twin_size new))) (says_alone (j (twin_size new))))
+          (IsSince old new (bounded_content (twin_size new) i)) (IsSince old new (bounded_content (twin_size new) j))
       chosen_since = subst (λ n. OfChosen (choice_of (says_alone (i n)) (says_alone (j n)))
-          (IsSince old new (bounded_content (size_of new) i)) (IsSince old new (bounded_content (size_of new) j)))
+          (IsSince old new (bounded_content (twin_size new) i)) (IsSince old new (bounded_content (twin_size new) j)))
           (sym on.size) at_flag
 
   pub all_follow : CallsFollow a b
@@ -208,11 +207,11 @@ module _ {A B : Type 0} (a : Ghosts A) (b : Ghosts B) where
   }
 
   -- what a call does to legs, and what was noted of it
-  pub goes_on : (old new : TwinDisk A B a b) (area : ℕ → Type 0) (more : List (Legs A B)) → ¬ area (size_of old)
-      → new.calls.items ≡ old.calls.items ++ more → new.start.items ≡ old.start.items → size_of new ≡ size_of old
-      → (HasHonestLegs old → HasPast (trail_of old) (trail_of new)) → is_lost old ≡ false
-      → IsConfined a.size a.honest a.trail (OrFlag (left_of old) (size_of old) area) (first_leg old) (first_leg new)
-      → IsConfined b.size b.honest b.trail (OrFlag (left_of old) (size_of old) area) (second_leg old) (second_leg new)
+  pub goes_on : (old new : TwinDisk A B a b) (area : ℕ → Type 0) (more : List (Legs A B)) → ¬ area (twin_size old)
+      → new.calls.items ≡ old.calls.items ++ more → new.start.items ≡ old.start.items → twin_size new ≡ twin_size old
+      → (HasHonestLegs old → HasPast (twin_moments old) (twin_moments new)) → is_lost old ≡ false
+      → IsConfined a.size a.honest a.trail (OrFlag (legs_left old) (twin_size old) area) (first_leg old) (first_leg new)
+      → IsConfined b.size b.honest b.trail (OrFlag (legs_left old) (twin_size old) area) (second_leg old) (second_leg new)
       → IsConfined a.size a.honest a.trail area (first_leg old) (first_leg new)
       ⊎ IsConfined b.size b.honest b.trail area (second_leg old) (second_leg new)
       → GoesOn old new
@@ -222,17 +221,17 @@ module _ {A B : Type 0} (a : Ghosts A) (b : Ghosts B) where
     start = start;
     size = size;
     past = past;
-    first = has_past a (OrFlag (left_of old) (size_of old) area) (first_leg old) (first_leg new) first;
-    second = has_past b (OrFlag (left_of old) (size_of old) area) (second_leg old) (second_leg new) second;
+    first = has_past a (OrFlag (legs_left old) (twin_size old) area) (first_leg old) (first_leg new) first;
+    second = has_past b (OrFlag (legs_left old) (twin_size old) area) (second_leg old) (second_leg new) second;
     one = elim one [
-      | inl keeps ↦ inl (keeps_flag a (size_of old) area (first_leg old) (first_leg new) out keeps)
-      | inr keeps ↦ inr (keeps_flag b (size_of old) area (second_leg old) (second_leg new) out keeps)
+      | inl keeps ↦ inl (keeps_flag a (twin_size old) area (first_leg old) (first_leg new) out keeps)
+      | inr keeps ↦ inr (keeps_flag b (twin_size old) area (second_leg old) (second_leg new) out keeps)
     ];
     none = λ why. elim why [
       | inl single ↦
-          let out' = no_flag (left_of old) (size_of old) area single out in (
-            keeps_flag a (size_of old) (OrFlag (left_of old) (size_of old) area) (first_leg old) (first_leg new) out' first,
-            keeps_flag b (size_of old) (OrFlag (left_of old) (size_of old) area) (second_leg old) (second_leg new) out' second,
+          let out' = no_flag (legs_left old) (twin_size old) area single out in (
+            keeps_flag a (twin_size old) (OrFlag (legs_left old) (twin_size old) area) (first_leg old) (first_leg new) out' first,
+            keeps_flag b (twin_size old) (OrFlag (legs_left old) (twin_size old) area) (second_leg old) (second_leg new) out' second,
           )
       | inr lost ↦ absurd (cc)
     ];
@@ -240,8 +239,8 @@ module _ {A B : Type 0} (a : Ghosts A) (b : Ghosts B) where
 
   -- nothing was done
   pub goes_nowhere : (old new : TwinDisk A B a b) → new.legs ≡ old.legs → new.calls.items ≡ old.calls.items
-      → new.start.items ≡ old.start.items → size_of new ≡ size_of old
-      → (HasHonestLegs old → HasPast (trail_of old) (trail_of new)) → GoesOn old new
+      → new.start.items ≡ old.start.items → twin_size new ≡ twin_size old
+      → (HasHonestLegs old → HasPast (twin_moments old) (twin_moments new)) → GoesOn old new
   goes_nowhere old new same calls start size past =
       let first : IsConfined a.size a.honest a.trail Nowhere (first_leg old) (first_leg new) =
       subst (λ l. IsConfined a.size a.honest a.trail Nowhere (first_leg old) l.first) (sym same)
@@ -249,8 +248,8 @@ module _ {A B : Type 0} (a : Ghosts A) (b : Ghosts B) where
       let second : IsConfined b.size b.honest b.trail Nowhere (second_leg old) (second_leg new) =
       subst (λ l. IsConfined b.size b.honest b.trail Nowhere (second_leg old) l.second) (sym same)
       (stays_put b.size b.honest b.trail Nowhere (second_leg old)) in
-      let first_flag = keeps_flag a (size_of old) Nowhere (first_leg old) (first_leg new) (λ none. none) first in
-      let second_flag = keeps_flag b (size_of old) Nowhere (second_leg old) (second_leg new) (λ none. none) second in
+      let first_flag = keeps_flag a (twin_size old) Nowhere (first_leg old) (first_leg new) (λ none. none) first in
+      let second_flag = keeps_flag b (twin_size old) Nowhere (second_leg old) (second_leg new) (λ none. none) second in
       record {
         more = [];
         calls = calls ∙ sym (append_nil old.calls.items);
@@ -265,16 +264,16 @@ module _ {A B : Type 0} (a : Ghosts A) (b : Ghosts B) where
 
 -- what is noted of a sync
 pub synced_calls : {A B : Type 0} (settled : Bool) (calls : List (Legs A B)) (mid : Legs A B)
-    → (if settled then calls ++ marked None mid ∷ [] else calls)
-    ≡ calls ++ (if settled then marked None mid ∷ [] else [])
+    → (if settled then calls ++ noted None mid ∷ [] else calls)
+    ≡ calls ++ (if settled then noted None mid ∷ [] else [])
 synced_calls true calls mid = refl
 synced_calls false calls mid = sym (append_nil calls)
 
-pub first_if : {A B : Type 0} (settled : Bool) (mid : Legs A B) → (if settled then marked None mid else mid).first ≡ mid.first
+pub first_if : {A B : Type 0} (settled : Bool) (mid : Legs A B) → (if settled then noted None mid else mid).first ≡ mid.first
 first_if true mid = refl
 first_if false mid = refl
 
 pub second_if : {A B : Type 0} (settled : Bool) (mid : Legs A B)
-    → (if settled then marked None mid else mid).second ≡ mid.second
+    → (if settled then noted None mid else mid).second ≡ mid.second
 second_if true mid = refl
 second_if false mid = refl

@@ -1,5 +1,5 @@
 -- What is known of the flags of two legs after a call.
-use Rattle.std.proofs.Common.{◌≡◌, ◌≢◌, inl, inr, ℕ, Bool, true, false, if◌then◌else◌, refl, sym, ◌∙◌, ap, subst}
+use Rattle.std.proofs.Common.{◌≡◌, ◌≢◌, inl, inr, ℕ, Bool, true, false, if◌then◌else◌, refl, sym, ◌∙◌, ap}
 use Rattle.std.proofs.Common.{Result, Ok, Err, OnErr}
 use Rattle.std.specs.declared.option.Option.{Option}
 use Rattle.std.specs.declared.option.Option.TheVariants.{None}
@@ -12,7 +12,7 @@ use Rattle.twin_disk.specs.declared.legs.Left.TheVariants.{Both, First, Second}
 use Rattle.twin_disk.specs.declared.legs.Legs.{Legs}
 use Rattle.twin_disk.specs.Flags.{ShowsFlag, says_alone}
 use Rattle.twin_disk.specs.Legs.{Calls, IsFewer, OrFlag}
-use Rattle.twin_disk.specs.Twin.{IsFlagged, marked}
+use Rattle.twin_disk.specs.Twin.{IsFlagged, noted}
 
 -- a flag that wasn't touched
 pub shows_still : {D : Type 0} (d : Ghosts D) (flag : ℕ) (alone : Bool) {area : ℕ → Type 0} (old new : D) → ¬ area flag
@@ -51,11 +51,11 @@ by_left Second both single = single (λ is. cc)
 
 module _ {A B : Type 0} (a : Ghosts A) (b : Ghosts B) (flag : ℕ) where
   pub flagged_marked : {lost : Bool} (mark : Option ℕ) (l : Legs A B) → IsFlagged a b flag lost l
-      → IsFlagged a b flag lost (marked mark l)
+      → IsFlagged a b flag lost (noted mark l)
   flagged_marked mark l is = record { whole = is.whole; one = is.one; first = is.first; second = is.second }
 
   pub flagged_if : {lost : Bool} (settled : Bool) (l : Legs A B) → IsFlagged a b flag lost l
-      → IsFlagged a b flag lost (if settled then marked None l else l)
+      → IsFlagged a b flag lost (if settled then noted None l else l)
   flagged_if true l is = flagged_marked None l is
   flagged_if false l is = is
 

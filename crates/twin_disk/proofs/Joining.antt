@@ -2,14 +2,14 @@
 use Rattle.std.proofs.Common.{◌≡◌, ◌⊎◌, inl, inr, ℕ, ◌<◌, refl, sym, ◌∙◌, ap, subst, arith}
 use Rattle.std.proofs.Common.{List, false, Result, Ok, Err, IsOk, IsErr, OnOk}
 use Rattle.sector_disk.specs.declared.disk.Disk.{Ghosts}
-use Rattle.sector_disk.specs.Trail.{Moment, now, Only, CountsFault, written, after_sync}
+use Rattle.sector_disk.specs.Trail.{Moment, Only, CountsFault, written, after_sync}
 use Rattle.sector_disk.specs.Confined.{IsConfined}
 use Rattle.sector_disk.proofs.Confinement.{widened, joined}
 use Rattle.sector_disk.proofs.Touching.{still_reads, still_settled}
 use Rattle.twin_disk.specs.declared.legs.Left.{Left}
 use Rattle.twin_disk.specs.declared.legs.Left.TheVariants.{Both, First, Second}
 use Rattle.twin_disk.specs.declared.legs.Legs.{Legs}
-use Rattle.twin_disk.specs.Legs.{Calls, Drops, Each, IsFewer, Joins, KeepsFirst, KeepsSecond, OrFlag, Rests, Stands}
+use Rattle.twin_disk.specs.Legs.{Calls, Drops, Each, IsFewer, Joins, KeepsFirst, KeepsSecond, OrFlag, Rests, StandsAlone}
 use Rattle.twin_disk.specs.Legs.{first_now, second_now, HasWritten, HasSettled}
 
 or_flag : (l : Left) → l ≡ Both → (flag : ℕ) (area : ℕ → Type 0) (n : ℕ) → area n ⊎ (n ≡ flag) → OrFlag l flag area n
@@ -89,7 +89,7 @@ module _ {A B : Type 0} (a : Ghosts A) (b : Ghosts B) (flag : ℕ) (area : ℕ �
   -- one did it, and the other one is dropped
   did_first : {E : Type 0} (result : Result (Unit {0}) E) (new : Legs A B) → b.failures old.second < b.failures mid.second
       → a.failures mid.first ≡ a.failures old.first
-      → Stands a flag First result mid.first new.first mid.second new.second mid.left new.left
+      → StandsAlone a flag First result mid.first new.first mid.second new.second mid.left new.left
       → Calls a b flag area result old new
   did_first {E} result new failed calm stands = by_result result stands
     where
@@ -102,7 +102,7 @@ module _ {A B : Type 0} (a : Ghosts A) (b : Ghosts B) (flag : ℕ) (area : ℕ �
       failed' : b.failures old.second < b.failures new.second
       failed' = subst (λ x. b.failures old.second < b.failures x) (sym stands.rests) failed
 
-      by_result : (r : Result (Unit {0}) E) → Stands a flag First r mid.first new.first mid.second new.second mid.left new.left
+      by_result : (r : Result (Unit {0}) E) → StandsAlone a flag First r mid.first new.first mid.second new.second mid.left new.left
           → Calls a b flag area r old new
       by_result (Ok r) was = record {
         first = first';
@@ -135,7 +135,7 @@ module _ {A B : Type 0} (a : Ghosts A) (b : Ghosts B) (flag : ℕ) (area : ℕ �
 
   did_second : {E : Type 0} (result : Result (Unit {0}) E) (new : Legs A B) → a.failures old.first < a.failures mid.first
       → b.failures mid.second ≡ b.failures old.second
-      → Stands b flag Second result mid.second new.second mid.first new.first mid.left new.left
+      → StandsAlone b flag Second result mid.second new.second mid.first new.first mid.left new.left
       → Calls a b flag area result old new
   did_second {E} result new failed calm stands = by_result result stands
     where
@@ -148,7 +148,7 @@ module _ {A B : Type 0} (a : Ghosts A) (b : Ghosts B) (flag : ℕ) (area : ℕ �
       failed' : a.failures old.first < a.failures new.first
       failed' = subst (λ x. a.failures old.first < a.failures x) (sym stands.rests) failed
 
-      by_result : (r : Result (Unit {0}) E) → Stands b flag Second r mid.second new.second mid.first new.first mid.left new.left
+      by_result : (r : Result (Unit {0}) E) → StandsAlone b flag Second r mid.second new.second mid.first new.first mid.left new.left
           → Calls a b flag area r old new
       by_result (Ok r) was = record {
         first = widened a.size a.honest a.trail wide rested;

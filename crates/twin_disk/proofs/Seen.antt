@@ -1,6 +1,6 @@
 -- What a call does to two legs, said of the sectors before their flags. In the first part `a` and `b` are what is known of
 -- any disks; in the second they are what is known of the legs, and the twin sees `within flag a` and `within flag b`.
-use Rattle.std.proofs.Common.{◌≡◌, ◌==◌, inl, inr, ℕ, ◌<◌, ◌≤◌, nat_lt, List, [], Bool, true, false, if◌then◌else◌, refl, sym, ◌∙◌}
+use Rattle.std.proofs.Common.{◌≡◌, ◌==◌, inl, inr, ℕ, ◌<◌, ◌≤◌, nat_lt, List, [], Bool, true, false, if◌then◌else◌, sym, ◌∙◌}
 use Rattle.std.proofs.Common.{ap, arith, Result, Ok, Err, OnOk}
 use Rattle.std.proofs.lemmas.Bool.{cases_lt}
 use Rattle.std.proofs.lemmas.Bool.Decides.{nat_tests}
@@ -12,7 +12,7 @@ use Rattle.twin_disk.specs.declared.legs.Left.TheVariants.{Both, First, Second}
 use Rattle.twin_disk.specs.declared.legs.Legs.{Legs}
 use Rattle.twin_disk.specs.Bounded.{bounded_content, bounded_moment, within}
 use Rattle.twin_disk.specs.Legs.{Calls, Each, HasSettled, HasWritten, IsFewer, IsHonest, OrFlag, Rests, first_now, read_by, second_now}
-use Rattle.twin_disk.specs.Legs.{Reads as LegsRead, Writes as LegsWrite, Syncs as LegsSync}
+use Rattle.twin_disk.specs.Legs.{LegsRead, LegsWritten, LegsSynced}
 
 module _ {A B : Type 0} (a : Ghosts A) (b : Ghosts B) where
   -- what every call keeps
@@ -157,7 +157,7 @@ module _ {A B : Type 0} (a : Ghosts A) (b : Ghosts B) (flag : ℕ) where
   }
 
   pub write_seen : {E : Type 0} (n : ℕ) (bytes : List ℕ) (result : Result (Unit {0}) E) (old new : Legs A B) → n < flag
-      → LegsWrite a b flag n bytes result old new → Writes (within flag a) (within flag b) n bytes result old new
+      → LegsWritten a b flag n bytes result old new → Writes (within flag a) (within flag b) n bytes result old new
   write_seen n bytes result old new low writes = record {
     moves = calls_seen (Only n) result old new writes.calls;
     done = ok_to result (each_to new.left
@@ -166,7 +166,7 @@ module _ {A B : Type 0} (a : Ghosts A) (b : Ghosts B) (flag : ℕ) where
   }
 
   pub sync_seen : {E : Type 0} (result : Result (Unit {0}) E) (old new : Legs A B)
-      → LegsSync a b flag result old new → Syncs (within flag a) (within flag b) result old new
+      → LegsSynced a b flag result old new → Syncs (within flag a) (within flag b) result old new
   sync_seen result old new syncs = record {
     moves = calls_seen Nowhere result old new syncs.calls;
     done = ok_to result (each_to new.left

@@ -1,7 +1,7 @@
 -- Which leg of a twin is right when both are there.
 use Rattle.std.specs.Prelude.{◌≡◌, ◌≢◌, ◌≤◌, ◌⊎◌, ◌++◌, ℕ, List, Bool, true, false}
 use Rattle.sector_disk.specs.declared.disk.Disk.{Ghosts}
-use Rattle.sector_disk.specs.Trail.{Content, Moment, Trail, now, IsCrashImage, Touches}
+use Rattle.sector_disk.specs.Trail.{Content, Moment, Trail, IsCrashImage, Touches}
 use Rattle.twin_disk.specs.declared.legs.Left.TheVariants.{Both, First, Second}
 use Rattle.twin_disk.specs.declared.legs.Legs.{Legs}
 use Rattle.twin_disk.specs.declared.twin.TwinDisk.{TwinDisk}
@@ -9,7 +9,7 @@ use Rattle.twin_disk.specs.declared.choosing.Choice.{Choice}
 use Rattle.twin_disk.specs.declared.choosing.Choice.TheVariants as choice
 use Rattle.twin_disk.specs.Bounded.{bounded_content}
 use Rattle.twin_disk.specs.Flags.{says_alone}
-use Rattle.twin_disk.specs.Survival.{first_leg, second_leg, left_of, size_of, is_lost, trail_of, HasHonestLegs}
+use Rattle.twin_disk.specs.Survival.{first_leg, second_leg, legs_left, twin_size, is_lost, twin_moments, HasHonestLegs}
 
 -- which one is chosen where the flags say these: the one that is alone, and of two in pair the first
 abbrev pub choice_of : Bool → Bool → Choice
@@ -50,48 +50,58 @@ module _ {A B : Type 0} {a : Ghosts A} {b : Ghosts B} where
     pub more : List (Legs A B)
     pub calls : new.calls.items ≡ old.calls.items ++ more
     pub start : new.start.items ≡ old.start.items
-    pub size : size_of new ≡ size_of old
-    pub past : HasHonestLegs old → HasPast (trail_of old) (trail_of new)
-    pub first : a.honest (first_leg old) → HasPast (a.trail (first_leg old)) (a.trail (first_leg new))
-    pub second : b.honest (second_leg old) → HasPast (b.trail (second_leg old)) (b.trail (second_leg new))
-    pub one : KeepsFlag a (size_of old) (first_leg old) (first_leg new)
-        ⊎ KeepsFlag b (size_of old) (second_leg old) (second_leg new)
-    pub none : (left_of old ≢ Both) ⊎ (is_lost old ≡ true) → KeepsFlag a (size_of old) (first_leg old) (first_leg new)
-        × KeepsFlag b (size_of old) (second_leg old) (second_leg new)
+    pub size : twin_size new ≡ twin_size old
+    pub past : HasHonestLegs old → HasPast (twin_moments old) (twin_moments new)
+    pub first : a.honest (first_leg old) → HasPast (a.trail (first_leg old)) (a.trail
+        (first_leg new))
+    pub second : b.honest (second_leg old) → HasPast (b.trail (second_leg old)) (b.trail
+        (second_leg new))
+    pub one : KeepsFlag a (twin_size old) (first_leg old) (first_leg new)
+        ⊎ KeepsFlag b (twin_size old) (second_leg old) (second_leg new)
+    pub none : (legs_left old ≢ Both) ⊎ (is_lost old ≡ true) → KeepsFlag a (twin_size old)
+        (first_leg old) (first_leg new)
+        × KeepsFlag b (twin_size old) (second_leg old) (second_leg new)
 
   -- a moment that a leg made since the old state, or had then
   abbrev pub FirstSince : TwinDisk A B a b → TwinDisk A B a b → ℕ → Type 0
-  FirstSince old new u = ((a.trail (first_leg old)).clock ≤ u) × (u ≤ (a.trail (first_leg new)).clock)
+  FirstSince old new u = ((a.trail (first_leg old)).clock ≤ u) × (u ≤ (a.trail
+      (first_leg new)).clock)
 
   abbrev pub SecondSince : TwinDisk A B a b → TwinDisk A B a b → ℕ → Type 0
-  SecondSince old new u = ((b.trail (second_leg old)).clock ≤ u) × (u ≤ (b.trail (second_leg new)).clock)
+  SecondSince old new u = ((b.trail (second_leg old)).clock ≤ u) × (u ≤ (b.trail
+      (second_leg new)).clock)
 
   -- an image that the twin may have left since the old state
   pub record IsSince (old new : TwinDisk A B a b) (image : Content) : Type 0 where
     pub moment : ℕ
-    pub since : (trail_of old).clock ≤ moment
-    pub real : moment ≤ (trail_of new).clock
-    pub is : IsCrashImage ((trail_of new).at moment) image
+    pub since : (twin_moments old).clock ≤ moment
+    pub real : moment ≤ (twin_moments new).clock
+    pub is : IsCrashImage ((twin_moments new).at moment) image
 
   -- At each moment of a leg that was in use at the old state, each image that a crash may leave of it is one that it may
   -- have left of the twin since then.
   pub record LegsFollow (old new : TwinDisk A B a b) : Type 0 where
-    pub first : left_of old ≢ Second → (u : ℕ) → FirstSince old new u → (image : Content)
-        → IsCrashImage ((a.trail (first_leg new)).at u) image → IsSince old new (bounded_content (size_of new) image)
-    pub second : left_of old ≢ First → (u : ℕ) → SecondSince old new u → (image : Content)
-        → IsCrashImage ((b.trail (second_leg new)).at u) image → IsSince old new (bounded_content (size_of new) image)
+    pub first : legs_left old ≢ Second → (u : ℕ) → FirstSince old new u → (image : Content)
+        → IsCrashImage ((a.trail (first_leg new)).at u) image → IsSince old new (bounded_content
+        (twin_size new) image)
+    pub second : legs_left old ≢ First → (u : ℕ) → SecondSince old new u → (image : Content)
+        → IsCrashImage ((b.trail (second_leg new)).at u) image → IsSince old new (bounded_content
+        (twin_size new) image)
 
   -- Whatever a crash during the call leaves of both legs, the one that their flags choose is one that it may have left of
   -- the twin since the call began, and so since each call before it.
   pub record ChoosesNewest (old new : TwinDisk A B a b) : Type 0 where
     pub chosen : (u v : ℕ) → FirstSince old new u → SecondSince old new v
-        → ChoosesOf (size_of new) ((a.trail (first_leg new)).at u) ((b.trail (second_leg new)).at v) (IsSince old new)
+        → ChoosesOf (twin_size new) ((a.trail (first_leg new)).at u) ((b.trail
+        (second_leg new)).at v) (IsSince old new)
 
 -- what holds of every call of a twin
 abbrev pub CallsFollow : {A B : Type 0} → Ghosts A → Ghosts B → Type 0
-CallsFollow {A = A} {B = B} a b = (old new : TwinDisk A B a b) → GoesOn old new → HasHonestLegs old → HasHonestLegs new
+CallsFollow {A = A} {B = B} a b = (old new : TwinDisk A B a b) → GoesOn old new → HasHonestLegs old
+    → HasHonestLegs new
     → LegsFollow old new
 
 abbrev pub FlagsChooseNewest : {A B : Type 0} → Ghosts A → Ghosts B → Type 0
-FlagsChooseNewest {A = A} {B = B} a b = (old new : TwinDisk A B a b) → GoesOn old new → HasHonestLegs old
+FlagsChooseNewest {A = A} {B = B} a b = (old new : TwinDisk A B a b) → GoesOn old new
+    → HasHonestLegs old
     → HasHonestLegs new → ChoosesNewest old new

@@ -1,5 +1,5 @@
 -- What a call does to two legs, whose flags stand in the sector `flag`.
-use Rattle.std.specs.Prelude.{◌≡◌, ◌⊎◌, ◌<◌, ◌==◌, ℕ, List, Bool, true, false, if◌then◌else◌}
+use Rattle.std.specs.Prelude.{◌≡◌, ◌⊎◌, ◌<◌, ◌==◌, ℕ, List, true, false, if◌then◌else◌}
 use Rattle.std.specs.Prelude.{Result, Ok, Err, OnOk, OnErr, IsOk, IsErr, MatchResult}
 use Rattle.sector_disk.specs.declared.disk.Disk.{Ghosts}
 use Rattle.sector_disk.specs.Trail.{Moment, now, Nowhere, Only, CountsFault}
@@ -49,14 +49,16 @@ OrFlag Second flag area n = area n
 
 -- a leg reads as after a write, but for its flag
 abbrev pub HasWritten : ℕ → ℕ → List ℕ → Moment → Moment → Type 0
-HasWritten flag n bytes old new = (k : ℕ) → ¬ (k ≡ flag) → new.reads k ≡ (if k == n then bytes else old.reads k)
+HasWritten flag n bytes old new = (k : ℕ) → ¬ (k ≡ flag) → new.reads k ≡
+    (if k == n then bytes else old.reads k)
 
 -- all of a leg is settled, but for its flag
 abbrev pub HasSettled : ℕ → Moment → Type 0
 HasSettled flag m = (k : ℕ) → ¬ (k ≡ flag) → m.pending k ≡ false
 
 -- this leg was made the only one in use, and its flag says so for good; or that failed, and nothing is said of it
-pub record Stands {D O E : Type 0} (d : Ghosts D) (flag : ℕ) (only : Left) (result : Result (Unit {0}) E) (old new : D)
+pub record StandsAlone {D O E : Type 0} (d : Ghosts D) (flag : ℕ) (only : Left) (result : Result
+    (Unit {0}) E) (old new : D)
     (beside beside' : O) (used used' : Left) : Type 0 where
   pub kept : IsConfined d.size d.honest d.trail (Only flag) old new
   pub cause : CountsFault result (d.failures old) (d.failures new)
@@ -93,13 +95,14 @@ module _ {A B : Type 0} (a : Ghosts A) (b : Ghosts B) where
 
 module _ {A B : Type 0} (a : Ghosts A) (b : Ghosts B) (flag : ℕ) where
   -- what two legs together did: what one of them did is done, and then the one that failed is dropped
-  abbrev pub Joins : {E : Type 0} → Result (Unit {0}) E → Result (Unit {0}) E → Result (Unit {0}) E → Legs A B → Legs A B
+  abbrev pub Joins : {E : Type 0} → Result (Unit {0}) E → Result (Unit {0}) E → Result (Unit {0}) E
+      → Legs A B → Legs A B
       → Type 0
   Joins (Ok _) (Ok _) result old new = IsOk result × (new ≡ old)
   Joins (Ok _) (Err _) result old new =
-      Stands a flag First result old.first new.first old.second new.second old.left new.left
+      StandsAlone a flag First result old.first new.first old.second new.second old.left new.left
   Joins (Err _) (Ok _) result old new =
-      Stands b flag Second result old.second new.second old.first new.first old.left new.left
+      StandsAlone b flag Second result old.second new.second old.first new.first old.left new.left
   Joins (Err _) (Err _) result old new = IsErr result × (new ≡ old)
 
   -- a leg's own sectors were touched at most, and not its flag
@@ -110,7 +113,8 @@ module _ {A B : Type 0} (a : Ghosts A) (b : Ghosts B) (flag : ℕ) where
   KeepsSecond area old new = IsConfined b.size b.honest b.trail area old.second new.second
 
   -- What every call does: the legs in use that it leaves, what it may touch, and whose flag says *alone* then.
-  pub record Calls {E : Type 0} (area : ℕ → Type 0) (result : Result (Unit {0}) E) (old new : Legs A B) : Type 0 where
+  pub record Calls {E : Type 0} (area : ℕ → Type 0) (result : Result (Unit {0}) E)
+      (old new : Legs A B) : Type 0 where
     pub first : KeepsFirst (OrFlag old.left flag area) old new
     pub second : KeepsSecond (OrFlag old.left flag area) old new
     pub fewer : IsFewer old.left new.left
@@ -119,27 +123,31 @@ module _ {A B : Type 0} (a : Ghosts A) (b : Ghosts B) (flag : ℕ) where
     pub cause : DropsFailed a b old new
     -- the flag of one leg at most is touched, and none where no leg is dropped
     pub one : KeepsFirst area old new ⊎ KeepsSecond area old new
-    pub none : OnOk result (new.left ≡ old.left → KeepsFirst area old new × KeepsSecond area old new)
+    pub none : OnOk result (new.left ≡ old.left → KeepsFirst area old new
+        × KeepsSecond area old new)
     -- before it returns Ok, the flag of the leg that is left says *alone*
     pub first_stands : OnOk result (a.honest old.first → old.left ≡ Both → new.left ≡ First
         → ShowsFlag flag true (first_now a b new) × KeepsSecond area old new)
     pub second_stands : OnOk result (b.honest old.second → old.left ≡ Both → new.left ≡ Second
         → ShowsFlag flag true (second_now a b new) × KeepsFirst area old new)
 
-  pub record Reads {E : Type 0} (n : ℕ) (bytes : List ℕ) (result : Result (Unit {0}) E) (old new : Legs A B)
+  pub record LegsRead {E : Type 0} (n : ℕ) (bytes : List ℕ) (result : Result (Unit {0}) E)
+      (old new : Legs A B)
       : Type 0 where
     pub calls : Calls Nowhere result old new
     pub bytes_read : OnOk result (IsHonest a b old
         → bytes ≡ read_by new.left (first_now a b old) (second_now a b old) n)
 
-  pub record Writes {E : Type 0} (n : ℕ) (bytes : List ℕ) (result : Result (Unit {0}) E) (old new : Legs A B)
+  pub record LegsWritten {E : Type 0} (n : ℕ) (bytes : List ℕ) (result : Result (Unit {0}) E)
+      (old new : Legs A B)
       : Type 0 where
     pub calls : Calls (Only n) result old new
     pub done : OnOk result (Each new.left
         (a.honest old.first → HasWritten flag n bytes (first_now a b old) (first_now a b new))
         (b.honest old.second → HasWritten flag n bytes (second_now a b old) (second_now a b new)))
 
-  pub record Syncs {E : Type 0} (result : Result (Unit {0}) E) (old new : Legs A B) : Type 0 where
+  pub record LegsSynced {E : Type 0} (result : Result (Unit {0}) E)
+      (old new : Legs A B) : Type 0 where
     pub calls : Calls Nowhere result old new
     pub done : OnOk result (Each new.left
         (a.honest old.first → HasSettled flag (first_now a b new))

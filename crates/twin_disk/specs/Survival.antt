@@ -38,39 +38,40 @@ module _ {A B : Type 0} {a : Ghosts A} {b : Ghosts B} where
   abbrev pub second_leg : TwinDisk A B a b → B
   second_leg d = d.legs.second
 
-  abbrev pub left_of : TwinDisk A B a b → Left
-  left_of d = d.legs.left
+  abbrev pub legs_left : TwinDisk A B a b → Left
+  legs_left d = d.legs.left
 
   abbrev pub dropped_of : TwinDisk A B a b → Option Leg
-  dropped_of d = dropped_leg (left_of d)
+  dropped_of d = dropped_leg (legs_left d)
 
   -- no leg is left
   abbrev pub is_lost : TwinDisk A B a b → Bool
   is_lost d = d.lost
 
   -- both legs are in use
-  abbrev pub IsWhole : TwinDisk A B a b → Type 0
-  IsWhole d = (left_of d ≡ Both) × (is_lost d ≡ false)
+  abbrev pub HasBothLegs : TwinDisk A B a b → Type 0
+  HasBothLegs d = (legs_left d ≡ Both) × (is_lost d ≡ false)
 
   -- how many sectors the twin has, which is also where the flag of a leg stands
-  abbrev pub size_of : TwinDisk A B a b → ℕ
-  size_of d = d.beside.sector
+  abbrev pub twin_size : TwinDisk A B a b → ℕ
+  twin_size d = d.beside.sector
 
   -- both legs are honest
   abbrev pub HasHonestLegs : TwinDisk A B a b → Type 0
-  HasHonestLegs d = IsHonest (within (size_of d) a) (within (size_of d) b) d.legs
+  HasHonestLegs d = IsHonest (within (twin_size d) a) (within (twin_size d) b) d.legs
 
-  abbrev pub trail_of : TwinDisk A B a b → Trail
-  trail_of d = twin_trail (within (size_of d) a) (within (size_of d) b) d.start.items d.calls.items d.legs
+  abbrev pub twin_moments : TwinDisk A B a b → Trail
+  twin_moments d = twin_trail (within (twin_size d) a) (within
+      (twin_size d) b) d.start.items d.calls.items d.legs
 
   -- each image that a crash now may leave of a leg in use is, up to the flag, one that it may leave of the twin
   pub record Survives (d : TwinDisk A B a b) : Type 0 where
-    pub first : HasHonestLegs d → left_of d ≢ Second → (image : Content)
+    pub first : HasHonestLegs d → legs_left d ≢ Second → (image : Content)
         → IsCrashImage (now (a.trail (first_leg d))) image
-        → IsCrashImage (now (trail_of d)) (bounded_content (size_of d) image)
-    pub second : HasHonestLegs d → left_of d ≢ First → (image : Content)
+        → IsCrashImage (now (twin_moments d)) (bounded_content (twin_size d) image)
+    pub second : HasHonestLegs d → legs_left d ≢ First → (image : Content)
         → IsCrashImage (now (b.trail (second_leg d))) image
-        → IsCrashImage (now (trail_of d)) (bounded_content (size_of d) image)
+        → IsCrashImage (now (twin_moments d)) (bounded_content (twin_size d) image)
 
   -- at which of its moments the twin was when a leg was at its moment u
   abbrev pub first_when : TwinDisk A B a b → ℕ → ℕ
@@ -89,9 +90,9 @@ module _ {A B : Type 0} {a : Ghosts A} {b : Ghosts B} where
   -- a moment of a leg, and one of the twin: each image that a crash may leave of the leg is, up to the flag, one of the
   -- twin's
   pub record IsCovered (d : TwinDisk A B a b) (leg : Moment) (t : ℕ) : Type 0 where
-    pub real : t ≤ (trail_of d).clock
+    pub real : t ≤ (twin_moments d).clock
     pub images : (image : Content) → IsCrashImage leg image
-        → IsCrashImage ((trail_of d).at t) (bounded_content (size_of d) image)
+        → IsCrashImage ((twin_moments d).at t) (bounded_content (twin_size d) image)
 
   -- at every moment each image that a crash may leave of a leg is one that it may leave of the twin, as this was at that
   -- time; also of a leg that was dropped
@@ -107,5 +108,7 @@ module _ {A B : Type 0} {a : Ghosts A} {b : Ghosts B} where
 
   -- what a crash now leaves of a leg that was dropped is what it might have left of the twin when it was dropped
   pub record HoldsDropped (d : TwinDisk A B a b) : Type 0 where
-    pub first : HasHonestLegs d → left_of d ≡ Second → IsCovered d (now (a.trail (first_leg d))) (dropped_at d)
-    pub second : HasHonestLegs d → left_of d ≡ First → IsCovered d (now (b.trail (second_leg d))) (dropped_at d)
+    pub first : HasHonestLegs d → legs_left d ≡ Second → IsCovered d (now (a.trail (first_leg d)))
+        (dropped_at d)
+    pub second : HasHonestLegs d → legs_left d ≡ First → IsCovered d (now (b.trail (second_leg d)))
+        (dropped_at d)

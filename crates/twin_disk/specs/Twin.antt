@@ -26,13 +26,13 @@ module _ {A B : Type 0} (a : Ghosts A) (b : Ghosts B) where
   pending_by pending [] = pending
   pending_by pending (l ∷ ls) = pending_by (pending_after l.mark pending) ls
 
-  abbrev pub moment_of : (ℕ → Bool) → Legs A B → Moment
-  moment_of pending l = record { reads = reads_of a b l; pending = pending }
+  abbrev pub twin_moment : (ℕ → Bool) → Legs A B → Moment
+  twin_moment pending l = record { reads = reads_of a b l; pending = pending }
 
   -- moment t: before call t, and at last as the legs are now
   abbrev pub moment_at : (ℕ → Bool) → List (Legs A B) → Legs A B → ℕ → Moment
-  moment_at pending [] l t = moment_of pending l
-  moment_at pending (x ∷ xs) l zero = moment_of pending x
+  moment_at pending [] l t = twin_moment pending l
+  moment_at pending (x ∷ xs) l zero = twin_moment pending x
   moment_at pending (x ∷ xs) l (suc t) = moment_at (pending_after x.mark pending) xs l t
 
   -- the moments of a twin whose legs were so at the start, at each call that wrote or settled, and now
@@ -62,13 +62,17 @@ module _ {A B : Type 0} (a : Ghosts A) (b : Ghosts B) (flag : ℕ) where
   pub record IsFlagged (lost : Bool) (l : Legs A B) : Type 0 where
     pub whole : lost ≡ false → l.left ≡ Both
         → ShowsFlag flag false (first_now a b l) × ShowsFlag flag false (second_now a b l)
-    pub one : l.left ≡ Both → ¬ ShowsFlag flag false (first_now a b l) → ShowsFlag flag false (second_now a b l)
-    pub first : l.left ≡ First → ShowsFlag flag true (first_now a b l) × ShowsFlag flag false (second_now a b l)
-    pub second : l.left ≡ Second → ShowsFlag flag false (first_now a b l) × ShowsFlag flag true (second_now a b l)
+    pub one : l.left ≡ Both → ¬ ShowsFlag flag false (first_now a b l) → ShowsFlag flag false
+        (second_now a b l)
+    pub first : l.left ≡ First → ShowsFlag flag true (first_now a b l) × ShowsFlag flag false
+        (second_now a b l)
+    pub second : l.left ≡ Second → ShowsFlag flag false (first_now a b l) × ShowsFlag flag true
+        (second_now a b l)
 
 -- How a call ends: it is a fault just where no leg is left.
 module _ {A B : Type 0} (a : Ghosts A) (b : Ghosts B) where
-  pub record Ends {E : Type 0} (result : Result (Unit {0}) E) (lost lost' : Bool) (old new : Legs A B) : Type 0 where
+  pub record TwinEnds {E : Type 0} (result : Result (Unit {0}) E) (lost lost' : Bool)
+      (old new : Legs A B) : Type 0 where
     pub going : OnOk result ((lost ≡ false) × (lost' ≡ false))
     pub gone : OnErr result (lost' ≡ true)
     -- if a leg was left before, each one in use failed in this call
@@ -81,12 +85,12 @@ module _ {A B : Type 0} (a : Ghosts A) (b : Ghosts B) where
     pub over : lost ≡ true → (new.first ≡ old.first) × (new.second ≡ old.second)
 
 -- legs with this to be recorded of the next call
-abbrev pub marked : {A B : Type 0} → Option ℕ → Legs A B → Legs A B
-marked mark l = record { first = l.first; second = l.second; left = l.left; mark = mark }
+abbrev pub noted : {A B : Type 0} → Option ℕ → Legs A B → Legs A B
+noted mark l = record { first = l.first; second = l.second; left = l.left; mark = mark }
 
 -- A moment within another one: what is settled in the other one is settled in it, and reads the same. So each crash image
 -- of it is one of the other.
-pub record IsWithin (inner outer : Moment) : Type 0 where
+pub record IsInside (inner outer : Moment) : Type 0 where
   pub settled : (n : ℕ) → outer.pending n ≡ false → inner.pending n ≡ false
   pub reads : (n : ℕ) → outer.pending n ≡ false → inner.reads n ≡ outer.reads n
 
@@ -115,19 +119,20 @@ start_clock clock (x ∷ _) = clock x
 abbrev pub SinceStart : {L : Type 0} → (L → ℕ) → List L → ℕ → Type 0
 SinceStart clock xs u = start_clock clock xs ≤ u
 
-module _ {A B : Type 0} (a : Ghosts A) (b : Ghosts B) {D : Type 0} (d : Ghosts D) (get : Legs A B → D) (other : Left) where
+module _ {A B : Type 0} (a : Ghosts A) (b : Ghosts B) {D : Type 0} (d : Ghosts D) (get : Legs A B
+    → D) (other : Left) where
   abbrev pub leg_clock : Legs A B → ℕ
   leg_clock l = (d.trail (get l)).clock
 
   -- what is known of all moments of an honest leg, which is not in use where only the other one is left
-  pub record IsFollowed (start calls : List (Legs A B)) (l : Legs A B) : Type 0 where
+  pub record IsLegFollowed (start calls : List (Legs A B)) (l : Legs A B) : Type 0 where
     pub begun : SinceStart leg_clock start (leg_clock l)
     pub beyond : (u : ℕ) → leg_clock l < u → moment_when leg_clock calls u ≡ length calls
     -- each of them is within the twin's at that time
     pub each : (u : ℕ) → SinceStart leg_clock start u → u ≤ leg_clock l
-        → IsWithin ((d.trail (get l)).at u)
+        → IsInside ((d.trail (get l)).at u)
         (moment_at a b (pending_first a b start) calls l (moment_when leg_clock calls u))
     pub both : l.left ≡ Both → moment_dropped calls ≡ length calls
     -- a leg that was dropped is within what the twin was then
-    pub dropped : l.left ≡ other → IsWithin (now (d.trail (get l)))
+    pub dropped : l.left ≡ other → IsInside (now (d.trail (get l)))
         (moment_at a b (pending_first a b start) calls l (moment_dropped calls))

@@ -1,5 +1,5 @@
 //! What a leg says of itself, in a sector behind those that it has of the twin.
-ghost use Rattle.std.specs.Prelude.{◌≡◌, ◌<◌, OnOk};
+ghost use Rattle.std.specs.Prelude.{◌≡◌, ◌<◌, ℕ, false, OnOk};
 ghost use Rattle.sector_disk.specs.Trail.{now, Only, CountsFault};
 ghost use Rattle.sector_disk.specs.Confined.{IsConfined};
 ghost use Rattle.twin_disk.specs.Flags.{says_alone, ShowsFlag};
@@ -65,7 +65,7 @@ fn set_alone(sector: &mut Sector, alone: bool)
     sector[0] = if alone { ALONE } else { 0 };
 }
 
-/// Has a leg say this in its sector `at`, for good.
+/// Has a leg say this in its sector `at`, for good, with all that was written to it before.
 ///
 /// `Fault`: a call of the leg failed, and that sector may hold anything.
 pub fn put_flag<D: Disk>(leg: &mut D, at: u32, flag: Flag) -> Result<(), Fault>
@@ -74,6 +74,8 @@ pub fn put_flag<D: Disk>(leg: &mut D, at: u32, flag: Flag) -> Result<(), Fault>
     ensures cause { CountsFault result (D.failures leg.old) (D.failures leg.new) }
     ensures shown { OnOk result (D.honest leg.old
         → ShowsFlag at flag.alone (now (D.trail leg.new))) }
+    ensures settled { OnOk result (D.honest leg.old
+        → (n : ℕ) → (now (D.trail leg.new)).pending n ≡ false) }
 {
     let sector = flag.sector();
     leg.write(at, &sector)?;

@@ -1,6 +1,6 @@
 //! Two disks, and which of them are in use.
 ghost use Rattle.std.specs.Prelude.{◌≡◌, ◌<◌, true};
-ghost use Rattle.twin_disk.specs.Legs.{Joins, Reads, Stands, Syncs, Writes};
+ghost use Rattle.twin_disk.specs.Legs.{Joins, LegsRead, StandsAlone, LegsSynced, LegsWritten};
 ghost use Rattle.twin_disk.specs.declared.legs.Left.TheVariants.{First, Second};
 
 use crate::flags::{Flag, Name, put_flag};
@@ -47,7 +47,7 @@ impl<A: Disk, B: Disk> Legs<A, B> {
     /// Leaves the first leg alone in use: its flag says so for good, and then the second one is dropped.
     fn leave_first(&mut self, beside: &Beside) -> Result<(), Fault>
         requires { beside.now.sector < A.size self.old.first }
-        ensures { Stands A.Disk beside.now.sector First result self.old.first self.new.first
+        ensures { StandsAlone A.Disk beside.now.sector First result self.old.first self.new.first
             self.old.second self.new.second self.old.left self.new.left }
     {
         put_flag(&mut self.first, beside.sector, beside.alone())?;
@@ -58,7 +58,7 @@ impl<A: Disk, B: Disk> Legs<A, B> {
     /// Leaves the second leg alone in use.
     fn leave_second(&mut self, beside: &Beside) -> Result<(), Fault>
         requires { beside.now.sector < B.size self.old.second }
-        ensures { Stands B.Disk beside.now.sector Second result self.old.second self.new.second
+        ensures { StandsAlone B.Disk beside.now.sector Second result self.old.second self.new.second
             self.old.first self.new.first self.old.left self.new.left }
     {
         put_flag(&mut self.second, beside.sector, beside.alone())?;
@@ -85,12 +85,12 @@ impl<A: Disk, B: Disk> Legs<A, B> {
         }
     }
 
-    /// Reads from the first leg in use; where that fails, from the other one.
+    /// LegsRead from the first leg in use; where that fails, from the other one.
     pub(crate) fn read(&mut self, n: u32, buffer: &mut Sector, beside: &Beside) -> Result<(), Fault>
         requires within { n < beside.now.sector }
         requires first { beside.now.sector < A.size self.old.first }
         requires second { beside.now.sector < B.size self.old.second }
-        ensures { Reads A.Disk B.Disk beside.now.sector n buffer.new result self.old self.new }
+        ensures { LegsRead A.Disk B.Disk beside.now.sector n buffer.new result self.old self.new }
     {
         match self.left {
             Left::Both => self.read_both(n, buffer, beside),
@@ -104,7 +104,7 @@ impl<A: Disk, B: Disk> Legs<A, B> {
         requires first { beside.now.sector < A.size self.old.first }
         requires second { beside.now.sector < B.size self.old.second }
         requires both { self.old.left ≡ Left.Both }
-        ensures { Reads A.Disk B.Disk beside.now.sector n buffer.new result self.old self.new }
+        ensures { LegsRead A.Disk B.Disk beside.now.sector n buffer.new result self.old self.new }
     {
         if self.first.read(n, buffer).is_ok() {
             return Ok(());
@@ -113,12 +113,12 @@ impl<A: Disk, B: Disk> Legs<A, B> {
         self.leave_second(beside)
     }
 
-    /// Writes to each leg in use.
+    /// LegsWritten to each leg in use.
     pub(crate) fn write(&mut self, n: u32, bytes: &Sector, beside: &Beside) -> Result<(), Fault>
         requires within { n < beside.now.sector }
         requires first { beside.now.sector < A.size self.old.first }
         requires second { beside.now.sector < B.size self.old.second }
-        ensures { Writes A.Disk B.Disk beside.now.sector n bytes.now result self.old self.new }
+        ensures { LegsWritten A.Disk B.Disk beside.now.sector n bytes.now result self.old self.new }
     {
         match self.left {
             Left::Both => self.write_both(n, bytes, beside),
@@ -132,18 +132,18 @@ impl<A: Disk, B: Disk> Legs<A, B> {
         requires first { beside.now.sector < A.size self.old.first }
         requires second { beside.now.sector < B.size self.old.second }
         requires both { self.old.left ≡ Left.Both }
-        ensures { Writes A.Disk B.Disk beside.now.sector n bytes.now result self.old self.new }
+        ensures { LegsWritten A.Disk B.Disk beside.now.sector n bytes.now result self.old self.new }
     {
         let first = self.first.write(n, bytes);
         let second = self.second.write(n, bytes);
         self.join(first, second, beside)
     }
 
-    /// Syncs each leg in use.
+    /// LegsSynced each leg in use.
     pub(crate) fn sync(&mut self, beside: &Beside) -> Result<(), Fault>
         requires first { beside.now.sector < A.size self.old.first }
         requires second { beside.now.sector < B.size self.old.second }
-        ensures { Syncs A.Disk B.Disk beside.now.sector result self.old self.new }
+        ensures { LegsSynced A.Disk B.Disk beside.now.sector result self.old self.new }
     {
         match self.left {
             Left::Both => self.sync_both(beside),
@@ -156,7 +156,7 @@ impl<A: Disk, B: Disk> Legs<A, B> {
         requires first { beside.now.sector < A.size self.old.first }
         requires second { beside.now.sector < B.size self.old.second }
         requires both { self.old.left ≡ Left.Both }
-        ensures { Syncs A.Disk B.Disk beside.now.sector result self.old self.new }
+        ensures { LegsSynced A.Disk B.Disk beside.now.sector result self.old self.new }
     {
         let first = self.first.sync();
         let second = self.second.sync();

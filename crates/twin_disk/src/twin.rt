@@ -6,7 +6,7 @@ ghost use Rattle.std.proofs.Props.{props};
 ghost use Rattle.twin_disk.specs.declared.legs.Left.TheVariants.{First, Second};
 ghost use Rattle.twin_disk.specs.Bounded.{within};
 ghost use Rattle.twin_disk.specs.Legs.{IsHonest};
-ghost use Rattle.twin_disk.specs.Twin.{Agrees, Ends, IsFlagged, IsFollowed, marked, pending_now, twin_trail};
+ghost use Rattle.twin_disk.specs.Twin.{Agrees, TwinEnds, IsFlagged, IsLegFollowed, noted, pending_now, twin_trail};
 
 use crate::choosing::Leg;
 use crate::flags::Name;
@@ -37,14 +37,19 @@ pub struct TwinDisk<A: Disk, B: Disk> {
     ghost second_size: { beside.sector < B.Disk.size legs.second },
     ghost agree: { IsHonest (within beside.sector A.Disk) (within beside.sector B.Disk) legs
         → Agrees (within beside.sector A.Disk) (within beside.sector B.Disk) lost
-        (pending_now (within beside.sector A.Disk) (within beside.sector B.Disk) start.items calls.items) legs } by { Prim.hlevel props },
+        (pending_now (within beside.sector A.Disk)
+        (within beside.sector B.Disk) start.items calls.items) legs } by { Prim.hlevel props },
     ghost flagged: { IsHonest (within beside.sector A.Disk) (within beside.sector B.Disk) legs
         → IsFlagged A.Disk B.Disk beside.sector lost legs } by { Prim.hlevel props },
-    ghost first_followed: { IsHonest (within beside.sector A.Disk) (within beside.sector B.Disk) legs
-        → IsFollowed (within beside.sector A.Disk) (within beside.sector B.Disk) (within beside.sector A.Disk)
+    ghost first_followed: { IsHonest (within beside.sector A.Disk)
+        (within beside.sector B.Disk) legs
+        → IsLegFollowed (within beside.sector A.Disk) (within beside.sector B.Disk)
+        (within beside.sector A.Disk)
         (λ l. l.first) Second start.items calls.items legs } by { Prim.hlevel props },
-    ghost second_followed: { IsHonest (within beside.sector A.Disk) (within beside.sector B.Disk) legs
-        → IsFollowed (within beside.sector A.Disk) (within beside.sector B.Disk) (within beside.sector B.Disk)
+    ghost second_followed: { IsHonest (within beside.sector A.Disk)
+        (within beside.sector B.Disk) legs
+        → IsLegFollowed (within beside.sector A.Disk) (within beside.sector B.Disk)
+        (within beside.sector B.Disk)
         (λ l. l.second) First start.items calls.items legs } by { Prim.hlevel props },
 }
 
@@ -64,8 +69,8 @@ fn told(done: Result<(), Fault>, lost: &mut bool, failed: &mut Count) -> Result<
 
 /// Notes that a sector is written next.
 fn begin_write<A: Disk, B: Disk>(n: u32, legs: &mut Legs<A, B>, calls: &mut Notes<Legs<A, B>>)
-    ensures legs { legs.new ≡ marked (Some n) legs.old }
-    ensures calls { calls.new.items ≡ calls.old.items ++ marked (Some n) legs.old ∷ [] }
+    ensures legs { legs.new ≡ noted (Some n) legs.old }
+    ensures calls { calls.new.items ≡ calls.old.items ++ noted (Some n) legs.old ∷ [] }
 {
     legs.mark = Some(n);
     calls.add(legs);
@@ -73,9 +78,9 @@ fn begin_write<A: Disk, B: Disk>(n: u32, legs: &mut Legs<A, B>, calls: &mut Note
 
 /// Notes that all is settled, if it is.
 fn end_sync<A: Disk, B: Disk>(settled: bool, legs: &mut Legs<A, B>, calls: &mut Notes<Legs<A, B>>)
-    ensures legs { legs.new ≡ (if settled then marked None legs.old else legs.old) }
+    ensures legs { legs.new ≡ (if settled then noted None legs.old else legs.old) }
     ensures calls { calls.new.items
-        ≡ (if settled then calls.old.items ++ marked None legs.old ∷ [] else calls.old.items) }
+        ≡ (if settled then calls.old.items ++ noted None legs.old ∷ [] else calls.old.items) }
 {
     if settled {
         legs.mark = None;
@@ -87,21 +92,21 @@ impl<A: Disk, B: Disk> TwinDisk<A, B> {
     ghost use Rattle.std.specs.Prelude.{ℕ, ◌↔◌, IsTrue};
     ghost use Rattle.twin_disk.specs.Bounded.{bounded_moment};
     ghost use Rattle.twin_disk.specs.Flags.{ShowsFlag};
-    ghost use Rattle.twin_disk.specs.Survival.{IsWhole, dropped_of, either_pending, first_leg, second_leg};
+    ghost use Rattle.twin_disk.specs.Survival.{HasBothLegs, dropped_of, either_pending, first_leg, second_leg};
 
     /// The disk over two legs of which the first `sectors` read the same, and whose flags, in the sector behind them, say
     /// *in pair*. `name` is written beside a flag that is changed.
     pub fn new(first: A, second: B, sectors: u32, name: Name) -> TwinDisk<A, B>
-        requires first_size { sectors < A.size first }
-        requires second_size { sectors < B.size second }
+        requires sizes { (sectors < A.size first) × (sectors < B.size second) }
         requires same { A.honest first → B.honest second → (n : ℕ) → n < sectors
             → (now (A.trail first)).reads n ≡ (now (B.trail second)).reads n }
         requires in_pair { A.honest first → B.honest second
-            → ShowsFlag sectors false (now (A.trail first)) × ShowsFlag sectors false (now (B.trail second)) }
-        ensures first { first_leg result ≡ first }
-        ensures second { second_leg result ≡ second }
+            → ShowsFlag sectors false (now (A.trail first)) × ShowsFlag sectors false (now
+            (B.trail second)) }
+        ensures legs { (first_leg result ≡ first) × (second_leg result ≡ second) }
         ensures size { ⟦<TwinDisk<A, B> as Disk>⟧.size result ≡ sectors }
-        ensures honest { ⟦<TwinDisk<A, B> as Disk>⟧.honest result ↔ (A.honest first × B.honest second) }
+        ensures honest { ⟦<TwinDisk<A, B> as Disk>⟧.honest result ↔ (A.honest first
+            × B.honest second) }
         ensures trail { now (⟦<TwinDisk<A, B> as Disk>⟧.trail result)
             ≡ either_pending (bounded_moment sectors (now (A.trail first)))
             (bounded_moment sectors (now (B.trail second))) }
@@ -131,7 +136,7 @@ impl<A: Disk, B: Disk> TwinDisk<A, B> {
 
     /// Whether both legs are in use.
     pub fn is_whole(&self) -> bool
-        ensures { IsTrue result ↔ IsWhole self.now }
+        ensures { IsTrue result ↔ HasBothLegs self.now }
     {
         matches!(self.legs.left, Left::Both) && !self.lost
     }
@@ -179,7 +184,8 @@ impl<A: Disk, B: Disk> Disk for TwinDisk<A, B> {
 
     ghost failures = { λ d. d.failed };
 
-    ghost honest = { λ d. IsHonest (within d.beside.sector A.Disk) (within d.beside.sector B.Disk) d.legs };
+    ghost honest = { λ d. IsHonest (within d.beside.sector A.Disk)
+        (within d.beside.sector B.Disk) d.legs };
 
     fn sectors(&self) -> u32 {
         self.beside.sector
@@ -189,7 +195,7 @@ impl<A: Disk, B: Disk> Disk for TwinDisk<A, B> {
     fn read(&mut self, n: u32, buffer: &mut Sector) -> Result<(), Fault>
         requires { n < ⟦<Self as Disk>⟧.size self.old }
         ensures goes_on { GoesOn self.old self.new }
-        ensures ends { Ends A.Disk B.Disk result self.old.lost self.new.lost self.old.legs self.new.legs }
+        ensures ends { TwinEnds A.Disk B.Disk result self.old.lost self.new.lost self.old.legs self.new.legs }
         ensures kept { IsConfined ⟦<Self as Disk>⟧.size ⟦<Self as Disk>⟧.honest ⟦<Self as Disk>⟧.trail
             Nowhere self.old self.new }
         ensures cause { CountsFault result (⟦<Self as Disk>⟧.failures self.old)
@@ -209,7 +215,7 @@ impl<A: Disk, B: Disk> Disk for TwinDisk<A, B> {
     fn write(&mut self, n: u32, bytes: &Sector) -> Result<(), Fault>
         requires { n < ⟦<Self as Disk>⟧.size self.old }
         ensures goes_on { GoesOn self.old self.new }
-        ensures ends { Ends A.Disk B.Disk result self.old.lost self.new.lost self.old.legs self.new.legs }
+        ensures ends { TwinEnds A.Disk B.Disk result self.old.lost self.new.lost self.old.legs self.new.legs }
         ensures kept { IsConfined ⟦<Self as Disk>⟧.size ⟦<Self as Disk>⟧.honest ⟦<Self as Disk>⟧.trail
             (Only n) self.old self.new }
         ensures cause { CountsFault result (⟦<Self as Disk>⟧.failures self.old)
@@ -230,7 +236,7 @@ impl<A: Disk, B: Disk> Disk for TwinDisk<A, B> {
     /// Syncs each leg in use.
     fn sync(&mut self) -> Result<(), Fault>
         ensures goes_on { GoesOn self.old self.new }
-        ensures ends { Ends A.Disk B.Disk result self.old.lost self.new.lost self.old.legs self.new.legs }
+        ensures ends { TwinEnds A.Disk B.Disk result self.old.lost self.new.lost self.old.legs self.new.legs }
         ensures kept { IsConfined ⟦<Self as Disk>⟧.size ⟦<Self as Disk>⟧.honest ⟦<Self as Disk>⟧.trail
             Nowhere self.old self.new }
         ensures cause { CountsFault result (⟦<Self as Disk>⟧.failures self.old)

@@ -97,11 +97,8 @@ fn pair_new(rt: &HostRuntime, leg: Leg, path: &str, missing: WhichLeg) -> Result
         return Err(PairTrouble::Missing(missing));
     }
     leg = with_store(rt, leg)?;
-    let name = if has_name(&flag) {
-        flag.name
-    } else {
-        new_name(rt)?
-    };
+    // With another name, so that no file of an earlier pair is taken for one of this.
+    let name = new_name(rt)?;
     let aside = format!(in rt.alloc(); "{path}.new")?;
     let made = pair_aside(rt, leg, aside.as_str(), path, name, missing);
     if made.is_err() {

@@ -1,4 +1,4 @@
-use Rattle.std.proofs.Common.{◌<◌, [], refl, sym, ◌∙◌, subst, arith}
+use Rattle.std.proofs.Common.{◌<◌, [], refl, sym, subst, arith}
 use Rattle.sector_disk.specs.Trail.{Nowhere}
 use Rattle.twin_disk.specs.Bounded.{within}
 use Rattle.twin_disk.proofs.Seen.{calls_seen, read_seen}
