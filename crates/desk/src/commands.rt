@@ -34,21 +34,8 @@ const SIT: &[Argument<'static>] = &[
         kind: Kind::Wanted,
     },
     Argument {
-        name: "twin",
-        kind: Kind::Named,
-    },
-    Argument {
         name: "path",
         kind: Kind::Optional,
-    },
-];
-
-/// Those of `check`.
-const CHECK: &[Argument<'static>] = &[
-    PATH,
-    Argument {
-        name: "twin",
-        kind: Kind::Named,
     },
 ];
 
@@ -135,10 +122,6 @@ const IMPORT: &[Argument<'static>] = &[
         name: "fill",
         kind: Kind::Named,
     },
-    Argument {
-        name: "twin",
-        kind: Kind::Named,
-    },
 ];
 
 /// The commands.
@@ -153,7 +136,7 @@ pub(crate) const COMMANDS: &[CommandShape<'static>] = &[
     },
     CommandShape {
         name: "check",
-        arguments: CHECK,
+        arguments: STORE,
     },
     CommandShape {
         name: "list",

@@ -10,7 +10,6 @@ use host_files::{HostFault, LockedFile, lock_alone};
 use sector_disk::Disk;
 use std::io::BufWriter;
 use terminal_keyboard::{DeskKeyboard, StandardInput};
-use twin_files::{OpenedPair, PairTrouble, open_pair, stand_alone, tell_dropped};
 
 /// How many rows and columns a terminal has, and whether lines are filled that are typed at it.
 #[derive(Clone, Copy)]
@@ -34,10 +33,7 @@ pub(crate) struct Service {
 /// Serves a person at the desktop of a new store in memory, and returns the status.
 pub(crate) fn sit_in_memory(rt: &HostRuntime, service: Service) -> u8 {
     match in_memory(rt) {
-        Ok(store) => {
-            let mut store = store;
-            lost(rt, sit(rt, &mut store, service))
-        }
+        Ok(store) => lost(rt, sit(rt, store, service)),
         Err(trouble) => trouble.say(rt, ""),
     }
 }
@@ -45,73 +41,18 @@ pub(crate) fn sit_in_memory(rt: &HostRuntime, service: Service) -> u8 {
 /// Serves a person at the desktop of the store in a file, which is made where there is none, and returns the status.
 pub(crate) fn sit_at(rt: &HostRuntime, path: &str, service: Service) -> u8 {
     match lock_alone(rt, path) {
-        Ok(file) => sit_without_twin(rt, file, path, service),
+        Ok(file) => sit_at_locked(rt, file, path, service),
         Err(HostFault::Missing) => sit_at_new(rt, path, service),
         Err(fault) => Trouble::Host(fault).say(rt, path),
-    }
-}
-
-/// The same, in the file of that path, which is locked, and of which a twin gets nothing, if it has one.
-fn sit_without_twin(rt: &HostRuntime, file: LockedFile, path: &str, service: Service) -> u8 {
-    match stand_alone(rt, file, path) {
-        Ok(file) => sit_at_locked(rt, file, path, service),
-        Err(trouble) => trouble.say(rt, path, path),
     }
 }
 
 /// The same, in the file of that path, which is locked.
 fn sit_at_locked(rt: &HostRuntime, file: LockedFile, path: &str, service: Service) -> u8 {
     match opened_locked(rt, file) {
-        Ok(store) => {
-            let mut store = store;
-            kept(rt, path, sit(rt, &mut store, service))
-        }
+        Ok(store) => kept(rt, path, sit(rt, store, service)),
         Err(trouble) => trouble.say(rt, path),
     }
-}
-
-/// Serves a person at the desktop of the store in a file and in its twin, and returns the status. Where there is neither
-/// the store is made first.
-pub(crate) fn sit_at_pair(rt: &HostRuntime, path: &str, twin: &str, service: Service) -> u8 {
-    match open_pair(rt, path, twin) {
-        Ok(pair) => sit_at_opened(rt, pair, path, twin, service),
-        Err(PairTrouble::NoFile) => sit_at_new_pair(rt, path, twin, service),
-        Err(trouble) => trouble.say(rt, path, twin),
-    }
-}
-
-/// The same, where there is no file yet.
-fn sit_at_new_pair(rt: &HostRuntime, path: &str, twin: &str, service: Service) -> u8 {
-    if let Err(trouble) = new_store_at(rt, path) {
-        return trouble.say(rt, path);
-    }
-    match open_pair(rt, path, twin) {
-        Ok(pair) => sit_at_opened(rt, pair, path, twin, service),
-        Err(trouble) => trouble.say(rt, path, twin),
-    }
-}
-
-/// Makes a store at a path.
-fn new_store_at(rt: &HostRuntime, path: &str) -> Result<(), Trouble> {
-    let made = new_file(rt, path)?;
-    let _store = make(rt, made, path)?;
-    Ok(())
-}
-
-/// The same, over both files. At its end it is said if one of them failed.
-fn sit_at_opened(rt: &HostRuntime, pair: OpenedPair, path: &str, twin: &str, service: Service) -> u8
-    requires { pair.store.must_reopen ≡ false }
-{
-    let OpenedPair { store, swapped } = pair;
-    let mut store = store;
-    let status = kept(rt, path, sit(rt, &mut store, service));
-    let disk = store.close();
-    if swapped {
-        tell_dropped(rt, &disk, twin, path);
-    } else {
-        tell_dropped(rt, &disk, path, twin);
-    }
-    status
 }
 
 /// The same, where there is no file yet. The store is made under another name, and gets its own when it is whole: so
@@ -126,28 +67,26 @@ fn sit_at_new(rt: &HostRuntime, path: &str, service: Service) -> u8 {
 /// The same, in the file under the other name.
 fn sit_at_made(rt: &HostRuntime, made: NewFile, path: &str, service: Service) -> u8 {
     match make(rt, made, path) {
-        Ok(store) => {
-            let mut store = store;
-            kept(rt, path, sit(rt, &mut store, service))
-        }
+        Ok(store) => kept(rt, path, sit(rt, store, service)),
         Err(trouble) => trouble.say(rt, path),
     }
 }
 
 /// Serves a person at the desktop of a store. What the terminal is sent is gathered until it is flushed, so that a scene
 /// is one write.
-fn sit<D: Disk>(rt: &HostRuntime, store: &mut Store<D>, service: Service) -> SittingEnd
-    requires { store.old.must_reopen ≡ false }
+fn sit<D: Disk + Drop>(rt: &HostRuntime, store: Store<D>, service: Service) -> SittingEnd
+    requires { store.must_reopen ≡ false }
 {
     let Ok(output) = BufWriter::new(rt.alloc(), rt.stdout()) else {
         return SittingEnd::Memory;
     };
+    let mut store = store;
     let mut keyboard = DeskKeyboard::new(rt, StandardInput::new(rt.stdin()));
     serve(
         rt.alloc(),
         &mut keyboard,
         &mut CountedWriter::new(output),
-        store,
+        &mut store,
         service.window.rows,
         service.window.columns,
         service.greeting,

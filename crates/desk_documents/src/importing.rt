@@ -17,7 +17,6 @@ use store_documents::{
     Coming, FirstUnfit, Imported, MOST_BYTES, Place, Unfit, copy, documents_of, import as bring_in,
     named_before,
 };
-use twin_files::{OpenedPair, PairTrouble, open_pair, tell_dropped};
 
 // A document may have as many characters as a desktop may hold.
 const _: () = prove!(MOST_BYTES == MOST_HELD as usize);
@@ -46,35 +45,6 @@ pub fn import(rt: &HostRuntime, path: &str, words: &[&str], manner: Manner) -> R
     } else {
         bring_alone(rt, path, documents, manner)
     }
-}
-
-/// The same in the store in a file and in its twin. It is told if one of them failed.
-///
-/// The error is why the two files aren't one disk.
-pub fn import_to_pair(
-    rt: &HostRuntime,
-    path: &str,
-    twin: &str,
-    words: &[&str],
-    manner: Manner,
-) -> Result<Result<(), Stop>, PairTrouble> {
-    let documents = match documents_for(rt, words, manner) {
-        Ok(documents) => documents,
-        Err(stop) => return Ok(Err(stop)),
-    };
-    if manner.dry_run {
-        return Ok(try_out(rt, path, documents, manner));
-    }
-    let OpenedPair { store, swapped } = open_pair(rt, path, twin)?;
-    let mut store = store;
-    let done = bring_into(rt, &mut store, path, documents, manner);
-    let disk = store.close();
-    if swapped {
-        tell_dropped(rt, &disk, twin, path);
-    } else {
-        tell_dropped(rt, &disk, path, twin);
-    }
-    Ok(done)
 }
 
 /// The documents that the words mean.

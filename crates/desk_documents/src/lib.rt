@@ -21,6 +21,6 @@ pub use checking::check;
 pub use copies::backup;
 pub use exporting::{Putting, export_all, export_names};
 pub use history::{earlier, events_back};
-pub use importing::{Manner, import, import_to_pair};
+pub use importing::{Manner, import};
 pub use listing::{list, list_json};
 pub use sentences::Stop;

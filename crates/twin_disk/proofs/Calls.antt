@@ -6,7 +6,7 @@ use Rattle.sector_disk.specs.declared.disk.Disk.{Ghosts}
 use Rattle.sector_disk.specs.Trail.{now, Touches, Nowhere, Only, written, after_sync}
 use Rattle.twin_disk.specs.declared.legs.Legs.{Legs}
 use Rattle.twin_disk.specs.Legs.{reads_of, IsHonest}
-use Rattle.twin_disk.specs.Twin.{pending_first, pending_now, twin_trail, noted, Agrees}
+use Rattle.twin_disk.specs.Twin.{pending_first, pending_now, twin_trail, with_mark, Agrees}
 use Rattle.twin_disk.proofs.Seen.{Reads, Writes, Syncs}
 use Rattle.twin_disk.proofs.Moments.{now_is, pending-append, stays, goes_on}
 use Rattle.twin_disk.proofs.Steps.{reads_same, reads_on, agrees_still, read_gives, write_reads, agrees_wrote, agrees_synced}
@@ -29,7 +29,7 @@ gone (Err _) lost lost' failed failed' is = is.0
 
 -- honesty through a write
 module _ {A B : Type 0} (a : Ghosts A) (b : Ghosts B) {E : Type 0} (n : ℕ) (bytes : List ℕ) (done : Result (Unit {0}) E)
-    (old legs new : Legs A B) (is : legs ≡ noted (Some n) old) (writes : Writes a b n bytes done legs new) where
+    (old legs new : Legs A B) (is : legs ≡ with_mark (Some n) old) (writes : Writes a b n bytes done legs new) where
   pub write_honest : IsHonest a b old → IsHonest a b new
   write_honest h =
       let h' : IsHonest a b legs = subst (IsHonest a b) (sym is) (record { first = h.first; second = h.second }) in
@@ -37,7 +37,7 @@ module _ {A B : Type 0} (a : Ghosts A) (b : Ghosts B) {E : Type 0} (n : ℕ) (by
 
   pub write_was : IsHonest a b new → IsHonest a b old
   write_was h =
-      let h' : IsHonest a b (noted (Some n) old) = subst (IsHonest a b) is
+      let h' : IsHonest a b (with_mark (Some n) old) = subst (IsHonest a b) is
       (record { first = writes.moves.first.already h.first; second = writes.moves.second.already h.second }) in
       record { first = h'.first; second = h'.second }
 
@@ -58,21 +58,21 @@ module _ {A B : Type 0} (a : Ghosts A) (b : Ghosts B) (start calls : List (Legs 
 
   -- a write
   module _ {E : Type 0} (n : ℕ) (bytes : List ℕ) (done : Result (Unit {0}) E) (legs new : Legs A B) (ys : List (Legs A B))
-      (is : legs ≡ noted (Some n) old) (more : ys ≡ calls ++ noted (Some n) old ∷ [])
+      (is : legs ≡ with_mark (Some n) old) (more : ys ≡ calls ++ with_mark (Some n) old ∷ [])
       (writes : Writes a b n bytes done legs new) where
-    from_old : Writes a b n bytes done (noted (Some n) old) new
+    from_old : Writes a b n bytes done (with_mark (Some n) old) new
     from_old = subst (λ l. Writes a b n bytes done l new) is writes
 
-    agree_marked : IsHonest a b (noted (Some n) old) → Agrees a b lost (pending_now a b start calls) (noted (Some n) old)
+    agree_marked : IsHonest a b (with_mark (Some n) old) → Agrees a b lost (pending_now a b start calls) (with_mark (Some n) old)
     agree_marked h =
         let was = agree (record { first = h.first; second = h.second }) in
         record { same = was.same; same_settled = was.same_settled; first = was.first; second = was.second }
 
-    marked_honest : IsHonest a b old → IsHonest a b (noted (Some n) old)
+    marked_honest : IsHonest a b old → IsHonest a b (with_mark (Some n) old)
     marked_honest h = record { first = h.first; second = h.second }
 
     pub write_touches : IsHonest a b old → Touches (Only n) (twin_trail a b start calls old) (twin_trail a b start ys new)
-    write_touches h = goes_on a b (Only n) (pending_first a b start) calls ys (noted (Some n) old) old new more refl
+    write_touches h = goes_on a b (Only n) (pending_first a b start) calls ys (with_mark (Some n) old) old new more refl
         (reads_on a b from_old.moves (marked_honest h) left (agree_marked (marked_honest h)))
         (λ k out was. still_pending k n (pending_now a b start calls) out was)
 
@@ -83,7 +83,7 @@ module _ {A B : Type 0} (a : Ghosts A) (b : Ghosts B) (start calls : List (Legs 
         (λ reads h. now_is a b (pending_first a b start) ys new
         ∙ (λ i. record {
           reads = reads (marked_honest h) i;
-          pending = (ap (λ z. pending_now a b start z) more ∙ pending-append a b (pending_first a b start) calls (noted (Some n) old)) i;
+          pending = (ap (λ z. pending_now a b start z) more ∙ pending-append a b (pending_first a b start) calls (with_mark (Some n) old)) i;
         })
         ∙ ap (λ m. written m n bytes) (sym (now_is a b (pending_first a b start) calls old)))
         (write_reads a b n bytes lost (pending_now a b start calls) left done from_old agree_marked)
@@ -91,33 +91,33 @@ module _ {A B : Type 0} (a : Ghosts A) (b : Ghosts B) (start calls : List (Legs 
     pub write_agrees : (lost' : Bool) → OnErr done (lost' ≡ true) → IsHonest a b new
         → Agrees a b lost' (pending_now a b start ys) new
     write_agrees lost' none h =
-        let before : IsHonest a b (noted (Some n) old) =
+        let before : IsHonest a b (with_mark (Some n) old) =
         record { first = from_old.moves.first.already h.first; second = from_old.moves.second.already h.second } in
         subst (λ p. Agrees a b lost' p new)
-        (sym (ap (λ z. pending_now a b start z) more ∙ pending-append a b (pending_first a b start) calls (noted (Some n) old)))
+        (sym (ap (λ z. pending_now a b start z) more ∙ pending-append a b (pending_first a b start) calls (with_mark (Some n) old)))
         (agrees_wrote a b n bytes left done from_old before (agree_marked before) lost' none)
 
   -- a sync
   module _ (settled : Bool) (mid new : Legs A B) (ys : List (Legs A B))
-      (is : new ≡ (if settled then noted None mid else mid))
-      (more : ys ≡ (if settled then calls ++ noted None mid ∷ [] else calls)) where
-    settled_legs : settled ≡ true → new ≡ noted None mid
-    settled_legs ok = is ∙ ap (λ s. if s then noted None mid else mid) ok
+      (is : new ≡ (if settled then with_mark None mid else mid))
+      (more : ys ≡ (if settled then calls ++ with_mark None mid ∷ [] else calls)) where
+    settled_legs : settled ≡ true → new ≡ with_mark None mid
+    settled_legs ok = is ∙ ap (λ s. if s then with_mark None mid else mid) ok
 
-    settled_calls : settled ≡ true → ys ≡ calls ++ noted None mid ∷ []
-    settled_calls ok = more ∙ ap (λ s. if s then calls ++ noted None mid ∷ [] else calls) ok
+    settled_calls : settled ≡ true → ys ≡ calls ++ with_mark None mid ∷ []
+    settled_calls ok = more ∙ ap (λ s. if s then calls ++ with_mark None mid ∷ [] else calls) ok
 
     failed_legs : settled ≡ false → new ≡ mid
-    failed_legs not = is ∙ ap (λ s. if s then noted None mid else mid) not
+    failed_legs not = is ∙ ap (λ s. if s then with_mark None mid else mid) not
 
     failed_calls : settled ≡ false → ys ≡ calls
-    failed_calls not = more ∙ ap (λ s. if s then calls ++ noted None mid ∷ [] else calls) not
+    failed_calls not = more ∙ ap (λ s. if s then calls ++ with_mark None mid ∷ [] else calls) not
 
     pub sync_touches : {E : Type 0} (done : Result (Unit {0}) E) → settled ≡ is_ok done → Syncs a b done old mid
         → IsHonest a b old → Touches Nowhere (twin_trail a b start calls old) (twin_trail a b start ys new)
     sync_touches (Ok r) ok syncs h =
         subst (λ l. Touches Nowhere (twin_trail a b start calls old) (twin_trail a b start ys l)) (sym (settled_legs ok))
-        (goes_on a b Nowhere (pending_first a b start) calls ys (noted None mid) old (noted None mid) (settled_calls ok)
+        (goes_on a b Nowhere (pending_first a b start) calls ys (with_mark None mid) old (with_mark None mid) (settled_calls ok)
         (reads_same a b syncs.moves h left (agree h))
         (λ n out. ap (λ r. r n) (reads_same a b syncs.moves h left (agree h)))
         (λ n out was. refl))
@@ -139,7 +139,7 @@ module _ {A B : Type 0} (a : Ghosts A) (b : Ghosts B) (start calls : List (Legs 
           reads = (ap (reads_of a b) (settled_legs ok) ∙ reads_same a b syncs.moves h left (agree h)
               ∙ sym (ap (λ m. m.reads) (now_is a b (pending_first a b start) calls old))) i;
           pending = (ap (λ z. pending_now a b start z) (settled_calls ok)
-              ∙ pending-append a b (pending_first a b start) calls (noted None mid)) i;
+              ∙ pending-append a b (pending_first a b start) calls (with_mark None mid)) i;
         })) tt
     sync_told (Err e) told not syncs same = subst (λ r. OnOk r (IsHonest a b old
         → now (twin_trail a b start ys new) ≡ after_sync (now (twin_trail a b start calls old)))) (sym same) tt
@@ -160,14 +160,14 @@ module _ {A B : Type 0} (a : Ghosts A) (b : Ghosts B) (start calls : List (Legs 
     pub sync_agrees : {E : Type 0} (done : Result (Unit {0}) E) → settled ≡ is_ok done → Syncs a b done old mid
         → (lost' : Bool) → IsHonest a b new → Agrees a b lost' (pending_now a b start ys) new
     sync_agrees (Ok r) ok syncs lost' h =
-        let h' : IsHonest a b (noted None mid) = subst (IsHonest a b) (settled_legs ok) h in
+        let h' : IsHonest a b (with_mark None mid) = subst (IsHonest a b) (settled_legs ok) h in
         let before : IsHonest a b old =
         record { first = syncs.moves.first.already h'.first; second = syncs.moves.second.already h'.second } in
         let it = agrees_synced a b left (Ok r) refl syncs before (agree before) lost' in
         subst (λ l. Agrees a b lost' (pending_now a b start ys) l) (sym (settled_legs ok))
-        (subst (λ p. Agrees a b lost' p (noted None mid))
+        (subst (λ p. Agrees a b lost' p (with_mark None mid))
         (sym (ap (λ z. pending_now a b start z) (settled_calls ok)
-        ∙ pending-append a b (pending_first a b start) calls (noted None mid)))
+        ∙ pending-append a b (pending_first a b start) calls (with_mark None mid)))
         (record { same = it.same; same_settled = it.same_settled; first = it.first; second = it.second }))
     sync_agrees (Err e) not syncs lost' h =
         let h' : IsHonest a b mid = subst (IsHonest a b) (failed_legs not) h in
@@ -179,13 +179,13 @@ module _ {A B : Type 0} (a : Ghosts A) (b : Ghosts B) (start calls : List (Legs 
 
 -- honesty through a sync
 module _ {A B : Type 0} (a : Ghosts A) (b : Ghosts B) {E : Type 0} (done : Result (Unit {0}) E)
-    (settled : Bool) (old mid new : Legs A B) (is : new ≡ (if settled then noted None mid else mid))
+    (settled : Bool) (old mid new : Legs A B) (is : new ≡ (if settled then with_mark None mid else mid))
     (syncs : Syncs a b done old mid) where
-  by_mark : (s : Bool) → IsHonest a b mid → IsHonest a b (if s then noted None mid else mid)
+  by_mark : (s : Bool) → IsHonest a b mid → IsHonest a b (if s then with_mark None mid else mid)
   by_mark true h = record { first = h.first; second = h.second }
   by_mark false h = h
 
-  from_mark : (s : Bool) → IsHonest a b (if s then noted None mid else mid) → IsHonest a b mid
+  from_mark : (s : Bool) → IsHonest a b (if s then with_mark None mid else mid) → IsHonest a b mid
   from_mark true h = record { first = h.first; second = h.second }
   from_mark false h = h
 
@@ -198,7 +198,7 @@ module _ {A B : Type 0} (a : Ghosts A) (b : Ghosts B) {E : Type 0} (done : Resul
       let h' : IsHonest a b mid = from_mark settled (subst (IsHonest a b) is h) in
       record { first = syncs.moves.first.already h'.first; second = syncs.moves.second.already h'.second }
 
-pub mark_size : {A B : Type 0} (f : Legs A B → ℕ) → ((l : Legs A B) → f (noted None l) ≡ f l) → (s : Bool) (l : Legs A B)
-    → f (if s then noted None l else l) ≡ f l
+pub mark_size : {A B : Type 0} (f : Legs A B → ℕ) → ((l : Legs A B) → f (with_mark None l) ≡ f l) → (s : Bool) (l : Legs A B)
+    → f (if s then with_mark None l else l) ≡ f l
 mark_size f same true l = same l
 mark_size f same false l = refl

@@ -15,7 +15,7 @@ use Rattle.twin_disk.specs.declared.twin.TwinDisk.{TwinDisk}
 use Rattle.twin_disk.specs.Bounded.{bounded_content}
 use Rattle.twin_disk.specs.Flags.{ShowsFlag, says_alone}
 use Rattle.twin_disk.specs.Legs.{OrFlag}
-use Rattle.twin_disk.specs.Twin.{noted, moment_when, SinceStart}
+use Rattle.twin_disk.specs.Twin.{with_mark, moment_when, SinceStart}
 use Rattle.twin_disk.specs.Survival.{first_when, second_when}
 use Rattle.twin_disk.specs.Survival.{first_clock, second_clock, first_leg, second_leg, legs_left, is_lost, twin_size, twin_moments, HasHonestLegs}
 use Rattle.twin_disk.specs.Choosing.{CallsFollow, FirstSince, FlagsChooseNewest, GoesOn, HasPast, IsSince, KeepsFlag, LegsFollow}
@@ -264,16 +264,16 @@ module _ {A B : Type 0} (a : Ghosts A) (b : Ghosts B) where
 
 -- what is noted of a sync
 pub synced_calls : {A B : Type 0} (settled : Bool) (calls : List (Legs A B)) (mid : Legs A B)
-    → (if settled then calls ++ noted None mid ∷ [] else calls)
-    ≡ calls ++ (if settled then noted None mid ∷ [] else [])
+    → (if settled then calls ++ with_mark None mid ∷ [] else calls)
+    ≡ calls ++ (if settled then with_mark None mid ∷ [] else [])
 synced_calls true calls mid = refl
 synced_calls false calls mid = sym (append_nil calls)
 
-pub first_if : {A B : Type 0} (settled : Bool) (mid : Legs A B) → (if settled then noted None mid else mid).first ≡ mid.first
+pub first_if : {A B : Type 0} (settled : Bool) (mid : Legs A B) → (if settled then with_mark None mid else mid).first ≡ mid.first
 first_if true mid = refl
 first_if false mid = refl
 
 pub second_if : {A B : Type 0} (settled : Bool) (mid : Legs A B)
-    → (if settled then noted None mid else mid).second ≡ mid.second
+    → (if settled then with_mark None mid else mid).second ≡ mid.second
 second_if true mid = refl
 second_if false mid = refl

@@ -12,7 +12,7 @@ use Rattle.twin_disk.specs.declared.legs.Left.TheVariants.{Both, First, Second}
 use Rattle.twin_disk.specs.declared.legs.Legs.{Legs}
 use Rattle.twin_disk.specs.Flags.{ShowsFlag, says_alone}
 use Rattle.twin_disk.specs.Legs.{Calls, IsFewer, OrFlag}
-use Rattle.twin_disk.specs.Twin.{IsFlagged, noted}
+use Rattle.twin_disk.specs.Twin.{IsFlagged, with_mark}
 
 -- a flag that wasn't touched
 pub shows_still : {D : Type 0} (d : Ghosts D) (flag : ℕ) (alone : Bool) {area : ℕ → Type 0} (old new : D) → ¬ area flag
@@ -51,11 +51,11 @@ by_left Second both single = single (λ is. cc)
 
 module _ {A B : Type 0} (a : Ghosts A) (b : Ghosts B) (flag : ℕ) where
   pub flagged_marked : {lost : Bool} (mark : Option ℕ) (l : Legs A B) → IsFlagged a b flag lost l
-      → IsFlagged a b flag lost (noted mark l)
+      → IsFlagged a b flag lost (with_mark mark l)
   flagged_marked mark l is = record { whole = is.whole; one = is.one; first = is.first; second = is.second }
 
   pub flagged_if : {lost : Bool} (settled : Bool) (l : Legs A B) → IsFlagged a b flag lost l
-      → IsFlagged a b flag lost (if settled then noted None l else l)
+      → IsFlagged a b flag lost (if settled then with_mark None l else l)
   flagged_if true l is = flagged_marked None l is
   flagged_if false l is = is
 

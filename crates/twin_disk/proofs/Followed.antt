@@ -10,7 +10,7 @@ use Rattle.twin_disk.specs.declared.legs.Left.TheVariants.{Both, First, Second}
 use Rattle.twin_disk.specs.declared.legs.Legs.{Legs}
 use Rattle.twin_disk.specs.Legs.{Rests, reads_of, IsHonest}
 use Rattle.twin_disk.proofs.Seen.{Moves, Writes, bounded_image}
-use Rattle.twin_disk.specs.Twin.{pending_now, noted, Agrees, IsLegFollowed}
+use Rattle.twin_disk.specs.Twin.{pending_now, with_mark, Agrees, IsLegFollowed}
 use Rattle.twin_disk.specs.Survival.{SurvivesEach, HoldsDropped, twin_moments, first_clock, second_clock, first_when, second_when}
 use Rattle.twin_disk.specs.Survival.{dropped_at, twin_size}
 use Rattle.twin_disk.specs.declared.twin.TwinDisk.{TwinDisk}
@@ -60,13 +60,13 @@ module _ {A B : Type 0} (a : Ghosts A) (b : Ghosts B) where
       reads = λ other n quiet. second_read a b lost pending old old.left refl other agrees n quiet;
     }
 
-  unmarked : (mark : Option ℕ) (area : ℕ → Type 0) (old new : Legs A B) → Moves a b area (noted mark old) new
+  unmarked : (mark : Option ℕ) (area : ℕ → Type 0) (old new : Legs A B) → Moves a b area (with_mark mark old) new
       → Moves a b area old new
   unmarked mark area old new moves =
       record { first = moves.first; second = moves.second; fewer = moves.fewer; rests = moves.rests }
 
   remarked : (mark : Option ℕ) (area : ℕ → Type 0) (old mid : Legs A B) → Moves a b area old mid
-      → Moves a b area old (noted mark mid)
+      → Moves a b area old (with_mark mark mid)
   remarked mark area old mid moves =
       record { first = moves.first; second = moves.second; fewer = moves.fewer; rests = moves.rests }
 
@@ -89,7 +89,7 @@ module _ {A B : Type 0} (a : Ghosts A) (b : Ghosts B) where
         on new moves (record { first = moves.first.already h.first; second = moves.second.already h.second })
 
     pub write_followed : {E : Type 0} (n : ℕ) (bytes : List ℕ) (done : Result (Unit {0}) E) (legs new : Legs A B)
-        (ys : List (Legs A B)) → legs ≡ noted (Some n) old → ys ≡ calls ++ noted (Some n) old ∷ []
+        (ys : List (Legs A B)) → legs ≡ with_mark (Some n) old → ys ≡ calls ++ with_mark (Some n) old ∷ []
         → Writes a b n bytes done legs new → IsHonest a b new → BothFollowed start ys new
     write_followed n bytes done legs new ys is more writes h' =
         let writes' = subst (λ l. Writes a b n bytes done l new) is writes in
@@ -101,35 +101,35 @@ module _ {A B : Type 0} (a : Ghosts A) (b : Ghosts B) where
         λ k is. reads_on a b moves h left (agree h) k (apart k n (pending_now a b start calls) is) in
         record {
           first = followed_write a b a (λ l. l.first) Second second_single start calls old new
-              (first_follows old new moves h lost (pending_now a b start calls) (agree h)) (first h) ys (noted (Some n) old)
+              (first_follows old new moves h lost (pending_now a b start calls) (agree h)) (first h) ys (with_mark (Some n) old)
               more refl (omega arith) (moves.first.moments h.first).later refl refl
               (λ k is. apart k n (pending_now a b start calls) is) (λ k is. was_settled k n (pending_now a b start calls) is) reads;
           second = followed_write a b b (λ l. l.second) First first_single start calls old new
-              (second_follows old new moves h lost (pending_now a b start calls) (agree h)) (second h) ys (noted (Some n) old)
+              (second_follows old new moves h lost (pending_now a b start calls) (agree h)) (second h) ys (with_mark (Some n) old)
               more refl (omega arith) (moves.second.moments h.second).later refl refl
               (λ k is. apart k n (pending_now a b start calls) is) (λ k is. was_settled k n (pending_now a b start calls) is) reads;
         }
 
-    synced : (mid : Legs A B) (ys : List (Legs A B)) → ys ≡ calls ++ noted None mid ∷ [] → Moves a b Nowhere old mid
-        → IsHonest a b old → BothFollowed start ys (noted None mid)
+    synced : (mid : Legs A B) (ys : List (Legs A B)) → ys ≡ calls ++ with_mark None mid ∷ [] → Moves a b Nowhere old mid
+        → IsHonest a b old → BothFollowed start ys (with_mark None mid)
     synced mid ys more moves' h =
-        let moves : Moves a b Nowhere old (noted None mid) = remarked None Nowhere old mid moves' in
-        let same : reads_of a b (noted None mid) ≡ reads_of a b old = reads_same a b moves h left (agree h) in
+        let moves : Moves a b Nowhere old (with_mark None mid) = remarked None Nowhere old mid moves' in
+        let same : reads_of a b (with_mark None mid) ≡ reads_of a b old = reads_same a b moves h left (agree h) in
         record {
-          first = followed_sync a b a (λ l. l.first) Second second_single start calls old (noted None mid)
-              (first_follows old (noted None mid) moves h lost (pending_now a b start calls) (agree h)) (first h) ys
-              (noted None mid) more same (moves.first.moments h.first).later (omega arith) refl refl (λ n none. none);
-          second = followed_sync a b b (λ l. l.second) First first_single start calls old (noted None mid)
-              (second_follows old (noted None mid) moves h lost (pending_now a b start calls) (agree h)) (second h) ys
-              (noted None mid) more same (moves.second.moments h.second).later (omega arith) refl refl (λ n none. none);
+          first = followed_sync a b a (λ l. l.first) Second second_single start calls old (with_mark None mid)
+              (first_follows old (with_mark None mid) moves h lost (pending_now a b start calls) (agree h)) (first h) ys
+              (with_mark None mid) more same (moves.first.moments h.first).later (omega arith) refl refl (λ n none. none);
+          second = followed_sync a b b (λ l. l.second) First first_single start calls old (with_mark None mid)
+              (second_follows old (with_mark None mid) moves h lost (pending_now a b start calls) (agree h)) (second h) ys
+              (with_mark None mid) more same (moves.second.moments h.second).later (omega arith) refl refl (λ n none. none);
         }
 
     pub sync_followed : (settled : Bool) (mid new : Legs A B) (ys : List (Legs A B))
-        → new ≡ (if settled then noted None mid else mid)
-        → ys ≡ (if settled then calls ++ noted None mid ∷ [] else calls)
+        → new ≡ (if settled then with_mark None mid else mid)
+        → ys ≡ (if settled then calls ++ with_mark None mid ∷ [] else calls)
         → Moves a b Nowhere old mid → IsHonest a b new → BothFollowed start ys new
     sync_followed true mid new ys is more moves h' =
-        let h'' : IsHonest a b (noted None mid) = subst (IsHonest a b) is h' in
+        let h'' : IsHonest a b (with_mark None mid) = subst (IsHonest a b) is h' in
         let h : IsHonest a b old =
         record { first = moves.first.already h''.first; second = moves.second.already h''.second } in
         subst (BothFollowed start ys) (sym is) (synced mid ys more moves h)

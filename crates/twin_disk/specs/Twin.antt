@@ -85,8 +85,8 @@ module _ {A B : Type 0} (a : Ghosts A) (b : Ghosts B) where
     pub over : lost ≡ true → (new.first ≡ old.first) × (new.second ≡ old.second)
 
 -- legs with this to be recorded of the next call
-abbrev pub noted : {A B : Type 0} → Option ℕ → Legs A B → Legs A B
-noted mark l = record { first = l.first; second = l.second; left = l.left; mark = mark }
+abbrev pub with_mark : {A B : Type 0} → Option ℕ → Legs A B → Legs A B
+with_mark mark l = record { first = l.first; second = l.second; left = l.left; mark = mark }
 
 -- A moment within another one: what is settled in the other one is settled in it, and reads the same. So each crash image
 -- of it is one of the other.

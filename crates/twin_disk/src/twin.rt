@@ -6,7 +6,7 @@ ghost use Rattle.std.proofs.Props.{props};
 ghost use Rattle.twin_disk.specs.declared.legs.Left.TheVariants.{First, Second};
 ghost use Rattle.twin_disk.specs.Bounded.{within};
 ghost use Rattle.twin_disk.specs.Legs.{IsHonest};
-ghost use Rattle.twin_disk.specs.Twin.{Agrees, TwinEnds, IsFlagged, IsLegFollowed, noted, pending_now, twin_trail};
+ghost use Rattle.twin_disk.specs.Twin.{Agrees, TwinEnds, IsFlagged, IsLegFollowed, with_mark, pending_now, twin_trail};
 
 use crate::choosing::Leg;
 use crate::flags::Name;
@@ -69,8 +69,8 @@ fn told(done: Result<(), Fault>, lost: &mut bool, failed: &mut Count) -> Result<
 
 /// Notes that a sector is written next.
 fn begin_write<A: Disk, B: Disk>(n: u32, legs: &mut Legs<A, B>, calls: &mut Notes<Legs<A, B>>)
-    ensures legs { legs.new ≡ noted (Some n) legs.old }
-    ensures calls { calls.new.items ≡ calls.old.items ++ noted (Some n) legs.old ∷ [] }
+    ensures legs { legs.new ≡ with_mark (Some n) legs.old }
+    ensures calls { calls.new.items ≡ calls.old.items ++ with_mark (Some n) legs.old ∷ [] }
 {
     legs.mark = Some(n);
     calls.add(legs);
@@ -78,9 +78,9 @@ fn begin_write<A: Disk, B: Disk>(n: u32, legs: &mut Legs<A, B>, calls: &mut Note
 
 /// Notes that all is settled, if it is.
 fn end_sync<A: Disk, B: Disk>(settled: bool, legs: &mut Legs<A, B>, calls: &mut Notes<Legs<A, B>>)
-    ensures legs { legs.new ≡ (if settled then noted None legs.old else legs.old) }
+    ensures legs { legs.new ≡ (if settled then with_mark None legs.old else legs.old) }
     ensures calls { calls.new.items
-        ≡ (if settled then calls.old.items ++ noted None legs.old ∷ [] else calls.old.items) }
+        ≡ (if settled then calls.old.items ++ with_mark None legs.old ∷ [] else calls.old.items) }
 {
     if settled {
         legs.mark = None;
@@ -195,8 +195,10 @@ impl<A: Disk, B: Disk> Disk for TwinDisk<A, B> {
     fn read(&mut self, n: u32, buffer: &mut Sector) -> Result<(), Fault>
         requires { n < ⟦<Self as Disk>⟧.size self.old }
         ensures goes_on { GoesOn self.old self.new }
-        ensures ends { TwinEnds A.Disk B.Disk result self.old.lost self.new.lost self.old.legs self.new.legs }
-        ensures kept { IsConfined ⟦<Self as Disk>⟧.size ⟦<Self as Disk>⟧.honest ⟦<Self as Disk>⟧.trail
+        ensures ends { TwinEnds A.Disk B.Disk result self.old.lost self.new.lost
+            self.old.legs self.new.legs }
+        ensures kept { IsConfined ⟦<Self as Disk>⟧.size ⟦<Self as Disk>⟧.honest
+            ⟦<Self as Disk>⟧.trail
             Nowhere self.old self.new }
         ensures cause { CountsFault result (⟦<Self as Disk>⟧.failures self.old)
             (⟦<Self as Disk>⟧.failures self.new) }
@@ -215,8 +217,10 @@ impl<A: Disk, B: Disk> Disk for TwinDisk<A, B> {
     fn write(&mut self, n: u32, bytes: &Sector) -> Result<(), Fault>
         requires { n < ⟦<Self as Disk>⟧.size self.old }
         ensures goes_on { GoesOn self.old self.new }
-        ensures ends { TwinEnds A.Disk B.Disk result self.old.lost self.new.lost self.old.legs self.new.legs }
-        ensures kept { IsConfined ⟦<Self as Disk>⟧.size ⟦<Self as Disk>⟧.honest ⟦<Self as Disk>⟧.trail
+        ensures ends { TwinEnds A.Disk B.Disk result self.old.lost self.new.lost
+            self.old.legs self.new.legs }
+        ensures kept { IsConfined ⟦<Self as Disk>⟧.size ⟦<Self as Disk>⟧.honest
+            ⟦<Self as Disk>⟧.trail
             (Only n) self.old self.new }
         ensures cause { CountsFault result (⟦<Self as Disk>⟧.failures self.old)
             (⟦<Self as Disk>⟧.failures self.new) }
@@ -236,8 +240,10 @@ impl<A: Disk, B: Disk> Disk for TwinDisk<A, B> {
     /// Syncs each leg in use.
     fn sync(&mut self) -> Result<(), Fault>
         ensures goes_on { GoesOn self.old self.new }
-        ensures ends { TwinEnds A.Disk B.Disk result self.old.lost self.new.lost self.old.legs self.new.legs }
-        ensures kept { IsConfined ⟦<Self as Disk>⟧.size ⟦<Self as Disk>⟧.honest ⟦<Self as Disk>⟧.trail
+        ensures ends { TwinEnds A.Disk B.Disk result self.old.lost self.new.lost
+            self.old.legs self.new.legs }
+        ensures kept { IsConfined ⟦<Self as Disk>⟧.size ⟦<Self as Disk>⟧.honest
+            ⟦<Self as Disk>⟧.trail
             Nowhere self.old self.new }
         ensures cause { CountsFault result (⟦<Self as Disk>⟧.failures self.old)
             (⟦<Self as Disk>⟧.failures self.new) }

@@ -4,7 +4,7 @@ use Rattle.twin_disk.specs.Bounded.{within}
 use Rattle.std.specs.declared.option.Option.TheVariants.{None}
 use Rattle.sector_disk.specs.Confined.{IsConfined}
 use Rattle.twin_disk.specs.Legs.{OrFlag}
-use Rattle.twin_disk.specs.Twin.{IsFlagged, noted}
+use Rattle.twin_disk.specs.Twin.{IsFlagged, with_mark}
 use Rattle.twin_disk.proofs.Seen.{sync_seen}
 use Rattle.twin_disk.proofs.Flagged.{flagged_after, flagged_if}
 use Rattle.twin_disk.proofs.Followed.{sync_followed}
@@ -96,7 +96,7 @@ returns-clause-goes_on g c =
     let syncs = sync_seen a b at c.sync-done.result was.legs mid c.sync-done.ensures in
     let first = sym (ap (λ l. l.first) c.end_sync.ensures.legs ∙ first_if c.is_ok.result mid) in
     let second = sym (ap (λ l. l.second) c.end_sync.ensures.legs ∙ second_if c.is_ok.result mid) in
-    goes_on a b was _ Nowhere (if c.is_ok.result then noted None mid ∷ [] else []) (λ none. none)
+    goes_on a b was _ Nowhere (if c.is_ok.result then with_mark None mid ∷ [] else []) (λ none. none)
     (c.end_sync.ensures.calls ∙ synced_calls c.is_ok.result was.calls.items mid) refl refl
     (λ h. let run = sync_touches (within at a) (within at b) was.start.items was.calls.items was.legs was.lost
     c.if-self.false was.agree c.is_ok.result mid c.end_sync.new.legs c.end_sync.new.calls.items c.end_sync.ensures.legs

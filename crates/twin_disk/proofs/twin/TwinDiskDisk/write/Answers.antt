@@ -4,7 +4,7 @@ use Rattle.sector_disk.specs.Trail.{Only}
 use Rattle.twin_disk.specs.Bounded.{within}
 use Rattle.sector_disk.specs.Confined.{IsConfined}
 use Rattle.twin_disk.specs.Legs.{OrFlag}
-use Rattle.twin_disk.specs.Twin.{IsFlagged, noted}
+use Rattle.twin_disk.specs.Twin.{IsFlagged, with_mark}
 use Rattle.twin_disk.proofs.Seen.{write_seen}
 use Rattle.twin_disk.proofs.Flagged.{flagged_after, flagged_marked}
 use Rattle.twin_disk.proofs.Followed.{write_followed}
@@ -96,7 +96,7 @@ returns-clause-goes_on g c =
     let area = Only c.args.n in
     let writes = write_seen g.A.Disk g.B.Disk at c.args.n c.args.bytes.now c.write-done.result legs new
     c.requires c.write-done.ensures in
-    goes_on g.A.Disk g.B.Disk was _ area (noted (Some c.args.n) was.legs ∷ [])
+    goes_on g.A.Disk g.B.Disk was _ area (with_mark (Some c.args.n) was.legs ∷ [])
     (λ is. let low = c.requires in omega (arith, low, is)) c.begin_write.ensures.calls refl refl
     (λ h. let run = write_touches (within at g.A.Disk) (within at g.B.Disk) was.start.items was.calls.items was.legs was.lost
     c.if-self.false was.agree c.args.n c.args.bytes.now c.write-done.result legs new c.begin_write.new.calls.items
