@@ -1,0 +1,11 @@
+pub mod Moments
+pub mod Seen
+pub mod Steps
+pub mod Calls
+pub mod Surviving
+pub mod Following
+pub mod Followed
+pub mod Chosen
+pub mod Joining
+pub mod Flagged
+pub mod Copies

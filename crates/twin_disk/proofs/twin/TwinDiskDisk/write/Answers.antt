@@ -1,0 +1,111 @@
+use Rattle.std.proofs.Common.{◌<◌, ◌⊎◌, [], ◌∷◌, refl, ◌∙◌, ap, sym, subst, arith}
+use Rattle.std.specs.declared.option.Option.TheVariants.{Some}
+use Rattle.sector_disk.specs.Trail.{Only}
+use Rattle.twin_disk.specs.Bounded.{within}
+use Rattle.sector_disk.specs.Confined.{IsConfined}
+use Rattle.twin_disk.specs.Legs.{OrFlag}
+use Rattle.twin_disk.specs.Twin.{IsFlagged, with_mark}
+use Rattle.twin_disk.proofs.Seen.{write_seen}
+use Rattle.twin_disk.proofs.Flagged.{flagged_after, flagged_marked}
+use Rattle.twin_disk.proofs.Followed.{write_followed}
+use Rattle.twin_disk.proofs.Chosen.{goes_nowhere, goes_on}
+use Rattle.twin_disk.proofs.Calls.{write_told, write_touches, write_agrees, write_honest, write_was, gone}
+use Rattle.twin_disk.proofs.twin.TwinDiskDisk.write.Goals as goal
+
+pub invariant_of-self-2 : goal.invariant_of-self-2
+invariant_of-self-2 g c =
+    let was = c.args.self.now in
+    let at = was.beside.sector in
+    let a = within at g.A.Disk in
+    let b = within at g.B.Disk in
+    let legs = c.begin_write.new.legs in
+    let calls = c.write-done.ensures.calls in
+    let writes = write_seen g.A.Disk g.B.Disk at c.args.n c.args.bytes.now c.write-done.result legs c.write-done.new.self
+    c.requires c.write-done.ensures in
+    let followed = write_followed a b was.start.items was.calls.items was.legs was.lost c.if-self.false was.agree
+    was.first_followed was.second_followed c.args.n c.args.bytes.now c.write-done.result legs
+    c.write-done.new.self c.begin_write.new.calls.items c.begin_write.ensures.legs c.begin_write.ensures.calls
+    writes in
+    let lost = gone c.write-done.result _ _ _ _ c.told.ensures.counted in
+    record {
+      first_size = subst (λ n. at < n) (sym (calls.first.as_large ∙ ap (λ l. g.A.Disk.size l.first) c.begin_write.ensures.legs))
+          was.first_size;
+      second_size = subst (λ n. at < n) (sym (calls.second.as_large ∙ ap (λ l. g.B.Disk.size l.second) c.begin_write.ensures.legs))
+          was.second_size;
+      agree = write_agrees a b was.start.items was.calls.items was.legs was.lost c.if-self.false was.agree
+          c.args.n c.args.bytes.now c.write-done.result legs c.write-done.new.self
+          c.begin_write.new.calls.items c.begin_write.ensures.legs c.begin_write.ensures.calls writes
+          c.told.new.lost lost;
+      flagged = λ h.
+          let before = write_was a b c.args.n c.args.bytes.now c.write-done.result was.legs legs c.write-done.new.self
+          c.begin_write.ensures.legs writes h in
+          flagged_after g.A.Disk g.B.Disk at (Only c.args.n) (λ is. let low = c.requires in omega (arith, low, is)) legs
+          c.write-done.new.self was.lost c.if-self.false
+          (subst (λ l. g.A.Disk.honest l.first) (sym c.begin_write.ensures.legs) before.first)
+          (subst (λ l. g.B.Disk.honest l.second) (sym c.begin_write.ensures.legs) before.second)
+          (subst (IsFlagged g.A.Disk g.B.Disk at was.lost) (sym c.begin_write.ensures.legs)
+          (flagged_marked g.A.Disk g.B.Disk at (Some c.args.n) was.legs (was.flagged before)))
+          c.write-done.result calls c.told.new.lost lost;
+      first_followed = λ h. (followed h).first;
+      second_followed = λ h. (followed h).second;
+    }
+
+pub returns-clause-kept : goal.returns-clause-kept
+returns-clause-kept g c =
+    let was = c.args.self.now in
+    let at = was.beside.sector in
+    let a = within at g.A.Disk in
+    let b = within at g.B.Disk in
+    let legs = c.begin_write.new.legs in
+    let writes = write_seen g.A.Disk g.B.Disk at c.args.n c.args.bytes.now c.write-done.result legs c.write-done.new.self
+    c.requires c.write-done.ensures in
+    record {
+      as_large = refl;
+      still = write_honest a b c.args.n c.args.bytes.now c.write-done.result was.legs legs c.write-done.new.self
+          c.begin_write.ensures.legs writes;
+      already = write_was a b c.args.n c.args.bytes.now c.write-done.result was.legs legs c.write-done.new.self
+          c.begin_write.ensures.legs writes;
+      moments = write_touches a b was.start.items was.calls.items was.legs was.lost c.if-self.false was.agree c.args.n
+          c.args.bytes.now c.write-done.result legs c.write-done.new.self c.begin_write.new.calls.items
+          c.begin_write.ensures.legs c.begin_write.ensures.calls writes;
+    }
+
+pub returns-clause-written : goal.returns-clause-written
+returns-clause-written g c =
+    let was = c.args.self.now in
+    let at = was.beside.sector in
+    let legs = c.begin_write.new.legs in
+    write_told (within at g.A.Disk) (within at g.B.Disk) was.start.items was.calls.items
+    was.legs was.lost c.if-self.false was.agree c.args.n c.args.bytes.now
+    c.write-done.result legs c.write-done.new.self c.begin_write.new.calls.items
+    c.begin_write.ensures.legs c.begin_write.ensures.calls
+    (write_seen g.A.Disk g.B.Disk at c.args.n c.args.bytes.now c.write-done.result legs c.write-done.new.self
+    c.requires c.write-done.ensures) c.told.result c.told.ensures.same
+
+pub returns-then-self-clause-goes_on : goal.returns-then-self-clause-goes_on
+returns-then-self-clause-goes_on g c = goes_nowhere g.A.Disk g.B.Disk c.args.self.now _ refl refl refl refl
+    (λ h. record { later = omega arith; kept = λ t le. refl })
+
+pub returns-clause-goes_on : goal.returns-clause-goes_on
+returns-clause-goes_on g c =
+    let was = c.args.self.now in
+    let at = was.beside.sector in
+    let legs = c.begin_write.new.legs in
+    let new = c.write-done.new.self in
+    let calls = c.write-done.ensures.calls in
+    let area = Only c.args.n in
+    let writes = write_seen g.A.Disk g.B.Disk at c.args.n c.args.bytes.now c.write-done.result legs new
+    c.requires c.write-done.ensures in
+    goes_on g.A.Disk g.B.Disk was _ area (with_mark (Some c.args.n) was.legs ∷ [])
+    (λ is. let low = c.requires in omega (arith, low, is)) c.begin_write.ensures.calls refl refl
+    (λ h. let run = write_touches (within at g.A.Disk) (within at g.B.Disk) was.start.items was.calls.items was.legs was.lost
+    c.if-self.false was.agree c.args.n c.args.bytes.now c.write-done.result legs new c.begin_write.new.calls.items
+    c.begin_write.ensures.legs c.begin_write.ensures.calls writes h in
+    record { later = run.later; kept = run.kept }) c.if-self.false
+    (subst (λ l. IsConfined g.A.Disk.size g.A.Disk.honest g.A.Disk.trail (OrFlag l.left at area) l.first new.first)
+    c.begin_write.ensures.legs calls.first)
+    (subst (λ l. IsConfined g.B.Disk.size g.B.Disk.honest g.B.Disk.trail (OrFlag l.left at area) l.second new.second)
+    c.begin_write.ensures.legs calls.second)
+    (subst (λ l. IsConfined g.A.Disk.size g.A.Disk.honest g.A.Disk.trail area l.first new.first
+    ⊎ IsConfined g.B.Disk.size g.B.Disk.honest g.B.Disk.trail area l.second new.second)
+    c.begin_write.ensures.legs calls.one)

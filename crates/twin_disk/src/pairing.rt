@@ -1,0 +1,32 @@
+//! A twin of two disks.
+ghost use Rattle.std.specs.Prelude.{◌≡◌, ◌<◌, ◌↔◌, ℕ, IfOk};
+ghost use Rattle.sector_disk.specs.Trail.{now};
+
+use crate::copying::mirror;
+use crate::flags::Name;
+use crate::twin::TwinDisk;
+use sector_disk::{Disk, Fault};
+
+/// The twin of two disks, after the second one was made to read as the first one does (`mirror`).
+///
+/// `Fault`, after a call of either failed, as `mirror` says.
+pub fn paired<A: Disk + Drop, B: Disk + Drop>(
+    first: A,
+    second: B,
+    sectors: u32,
+    name: Name,
+) -> Result<TwinDisk<A, B>, Fault>
+    requires first { sectors < A.size first }
+    requires second { sectors < B.size second }
+    ensures size { IfOk result (λ d. ⟦<TwinDisk<A, B> as Disk>⟧.size d ≡ sectors) }
+    ensures honest { IfOk result (λ d. ⟦<TwinDisk<A, B> as Disk>⟧.honest d
+        ↔ (A.honest first × B.honest second)) }
+    ensures reads { IfOk result (λ d. A.honest first → B.honest second → (n : ℕ)
+        → n < sectors
+        → (now (⟦<TwinDisk<A, B> as Disk>⟧.trail d)).reads n ≡ (now (A.trail first)).reads n) }
+{
+    let mut first = first;
+    let mut second = second;
+    mirror(&mut first, &mut second, sectors, &name)?;
+    Ok(TwinDisk::new(first, second, sectors, name))
+}
