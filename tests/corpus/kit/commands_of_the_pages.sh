@@ -1,0 +1,2 @@
+# Each command of README.md and of docs/SIT-DOWN.md, as it stands there.
+"$TESTS/lib/pages"

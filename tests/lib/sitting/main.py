@@ -1,0 +1,216 @@
+"""Sittings at a pseudo terminal. `tests/random/sittings` says what is tried."""
+import filecmp
+import itertools
+import os
+import random
+import shutil
+import signal
+import subprocess
+import sys
+import tempfile
+
+import endings
+from model import COLUMNS, ROWS, Model
+from presses import FILES, press, spelled
+from sitting import MODES, Ended, Sitting, TooSlow
+
+PRESSES = 300
+WINDOWS = [(33, 80), (20, 60), (24, 80), (40, 100), (12, 45), (33, 80), (24, 79), (60, 200), (12, 81), (40, 50)]
+
+
+def begin(oberon, path, tool):
+    """A store with the tool text and a document in viewers."""
+    subprocess.run([oberon, 'format', path], check=True, stdout=subprocess.DEVNULL)
+    lines = ['file System.Tool ' + spelled(tool.replace('\n', '\r')), 'point m 60 31 60 31', 'point m 52 30 52 30',
+             'point l 1 30 1 30']
+    subprocess.run([oberon, 'play', path], input='\n'.join(lines).encode(), check=True, stdout=subprocess.DEVNULL)
+
+
+def sizes(chance):
+    """How many bytes come at one time."""
+    while True:
+        yield chance.choice([1, 1, 2, 3, 5, 8, 40, 300])
+
+
+def press_anyhow(sitting, model, presses, chance):
+    """Presses that come in pieces cut anywhere. Where the whole display is in sight it makes no difference what is
+    heard at one time."""
+    pieces = sizes(chance)
+    for data, meanings in presses:
+        sitting.press_in_pieces(data, pieces)
+        for meaning in meanings:
+            model.take(meaning)
+            if meaning[0] == 'file':
+                sitting.hear_long(b'')
+
+
+def hearings(presses, chance):
+    """The presses in runs that are heard at one time, each of 63 bytes at most. A longer press is alone, and so is news of
+    the window's size, which the terminal has at once. After a file of the host's, which is heard before the terminal,
+    another run begins."""
+    run, most = [], 1
+    for one in presses:
+        if run and (len(run) == most or sum(len(data) for data, _ in [*run, one]) > 63 or is_file(run[-1])
+                    or has('fit', run[-1]) or has('fit', one)):
+            yield run
+            run, most = [], chance.choice([1, 1, 2, 3, 5, 8])
+        run.append(one)
+    yield run
+
+
+def has(kind, press_and_meanings):
+    return any(meaning[0] == kind for meaning in press_and_meanings[1])
+
+
+def is_file(press_and_meanings):
+    return has('file', press_and_meanings)
+
+
+def press_by_hearings(sitting, model, presses, chance):
+    """Presses of which it is known what is heard at one time: only then do the rows in sight follow the caret."""
+    sitting.answers = False
+    for run in hearings(presses, chance):
+        if has('fit', run[0]):
+            sitting.hear_long(b'')  # (a bell may have come before the last scene)
+            sitting.rest(0.1)
+        for one in run:
+            take(sitting, model, *one)
+        data = b''.join(data for data, _ in run)
+        if len(data) < 64:
+            heard = sitting.hear(data)
+            model.take(('ring',))
+        else:
+            heard = sitting.hear_long(data)
+        if not heard:
+            return
+        if is_file(run[-1]) and not sitting.hear_long(b''):
+            return
+        model.look()
+
+
+def take(sitting, model, data, meanings):
+    """What one press comes to. What is heard at one time goes no further than to the end of a line, so behind each of
+    these the screen is shown: within a press, all of which is meant at its end, and behind it."""
+    if has_line_end(data[:-1]):
+        model.look()
+    for meaning in meanings:
+        model.take(meaning)
+        if meaning[0] == 'fit':
+            sitting.terminal.resize(*meaning[1:])
+    if has_line_end(data[-1:]):
+        model.look()
+
+
+def has_line_end(data):
+    return b'\r' in data or b'\n' in data
+
+
+def characters(cells, rows):
+    """What the first 80 columns of rows show, without spaces at their ends."""
+    return [''.join(character for character, _ in row[:80]).rstrip() for row in cells[:rows]]
+
+
+def sit(seed, desk, oberon, folder, tool):
+    """One sitting. Returns what is wrong, in words."""
+    chance = random.Random(seed)
+    rows, columns = WINDOWS[seed % len(WINDOWS)]
+    theirs, ours = f'{folder}/theirs', f'{folder}/ours'
+    begin(oberon, theirs, tool)
+    shutil.copy(theirs, ours)
+    for name, data in FILES.items():
+        with open(f'{folder}/{name}', 'wb') as file:
+            file.write(data)
+    os.mkfifo(f'{folder}/pipe')
+    sitting, model = Sitting([desk, '--no-questions', theirs], rows, columns, folder), Model(oberon, ours, rows, columns)
+    try:
+        wrong = sat(sitting, model, rows > ROWS and columns >= COLUMNS, rows, chance)
+    finally:
+        sitting.stop()
+    if model.end() != 0 or not filecmp.cmp(theirs, ours, shallow=False):
+        wrong.append('another store')
+    return wrong
+
+
+def sat(sitting, model, is_whole, rows, chance):
+    """From the first scene until the person has left."""
+    terminal, wrong = sitting.terminal, []
+    if not sitting.wait(lambda: terminal.scenes > 0):
+        return ['no scene came']
+    if not MODES <= terminal.modes:
+        wrong.append('the terminal was not set')
+    presses = [press(chance, rows, is_whole) for _ in range(PRESSES)]
+    (press_anyhow if is_whole else press_by_hearings)(sitting, model, presses, chance)
+    wanted = model.in_sight()
+    sitting.wait(lambda: characters(terminal.cells, model.rows) == wanted, 120)
+    sitting.rest(0.3)
+    if not sitting.look_anew():
+        wrong.append('no scene came after the last press')
+    wrong += compared(terminal, model, wanted)
+    sitting.press(chance.choice([b'\x11', b'\x1b[21~']))
+    if sitting.end() != 0:
+        wrong.append(f'status {sitting.status}')
+    if not sitting.is_put_back:
+        wrong.append('the terminal was not put back')
+    if terminal.mistakes:
+        wrong.append(f'unknown to the terminal: {terminal.mistakes[:3]}')
+    return wrong
+
+
+def compared(terminal, model, wanted):
+    """What the terminal shows and the rows that are wanted, in words where they differ."""
+    wrong = []
+    before, after = ([row[:80] for row in cells[:model.rows]] for cells in (terminal.before, terminal.cells))
+    painted = characters(before, model.rows)
+    if painted != wanted:
+        wrong.append('another screen: ' + repr([(g, w) for g, w in zip(painted, wanted) if g != w][:3]))
+    if before != after:
+        wrong.append('the screen that is painted anew is another one')
+    if terminal.line(model.rows) != model.line():
+        wrong.append(f'the line below is {terminal.line(model.rows)!r} and not {model.line()!r}')
+    caret = model.screen().caret()
+    place = caret and (caret[0] - model.left(), model.top - caret[1])
+    if place and not (0 <= place[0] < model.columns() and 0 <= place[1] < model.rows):
+        place = None
+    if (place is not None) != (25 in terminal.modes):
+        wrong.append('the cursor is %s' % ('hidden' if place else 'to be seen'))
+    if place and place != (terminal.column, terminal.row):
+        wrong.append(f'the cursor is at {terminal.column, terminal.row} and not at {place}')
+    return wrong
+
+
+def tried(seed, *others):
+    """The same, once more where the machine had no time for it."""
+    for turn in itertools.count():
+        folder = tempfile.mkdtemp()
+        try:
+            wrong = sit(seed, *others[:2], folder, others[2])
+        except TooSlow:
+            if turn == 5:
+                return ['the machine is too slow for it']
+            continue
+        except Ended:
+            wrong = ['the program ended by itself']
+        finally:
+            shutil.rmtree(folder)
+        return wrong
+    return []
+
+
+def main():
+    desk, oberon, tool_path, runs, first = sys.argv[1:6]
+    with open(tool_path, encoding='ascii') as text:
+        tool = text.read()
+    signal.signal(signal.SIGHUP, signal.SIG_IGN)
+    faults = 0
+    for seed in range(int(first), int(first) + int(runs)):
+        wrong = tried(seed, desk, oberon, tool)
+        if wrong:
+            faults += 1
+            print(f'sitting {seed}: ' + '; '.join(wrong))
+    print(f'{runs} sittings, {faults} differ')
+    failed = endings.run_all(desk, oberon, int(runs))
+    sys.exit(1 if faults or failed else 0)
+
+
+if __name__ == '__main__':
+    main()

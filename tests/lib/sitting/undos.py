@@ -1,0 +1,389 @@
+"""Sittings in which events are taken back and done again, and scripts with the same. `tests/random/undos` says what is tried."""
+import os
+import random
+import shutil
+import signal
+import subprocess
+import sys
+import tempfile
+
+from main import begin, characters
+from model import Model, called_word
+from presses import FILES, drag, press
+from sitting import MODES, Ended, Sitting, TooSlow
+
+PRESSES = 100
+MOST_AGAIN = 512  # presses that can be done again
+MOST_DONE = 512  # presses of which it is known what they did
+JOURNAL = 256  # events of a journal
+ROWS = 33  # of the window, which shows the whole display
+KEYS = {'back': 'a character deleted', 'copy': 'a copy', 'paste': 'what was put in', 'cut': 'a cut', 'escape': 'Escape'}
+CLICKS = {'l': 'the caret, or a viewer that was drawn', 'm': 'a command', 'r': 'a selection',
+          'lm': 'what was copied to the caret', 'lr': 'a look', 'rl': 'what was deleted', 'rm': 'what was copied',
+          'ml': 'a click', 'mr': 'a click'}
+PART = "a part of it, and the rest can't be"
+
+
+class Deed:
+    """What a press did whose first event is this line."""
+
+    def __init__(self, line):
+        word, *rest = line.split(' ', 2)
+        self.typed, self.cell = None, None
+        if word == 'type':
+            self.typed = self.length(line)
+        elif word == 'key':
+            self.words = KEYS[rest[0]]
+        elif word == 'mark':
+            self.words = 'the marker'
+        else:
+            self.words = CLICKS[rest[0]]
+            if rest[0] == 'm':
+                self.cell = tuple(int(number) for number in rest[1].split(' ')[:2])
+
+    @classmethod
+    def named(cls, words):
+        """What is said in these words."""
+        deed = cls('mark')
+        deed.words = words
+        return deed
+
+    @staticmethod
+    def length(line):
+        text = line[len('type '):]
+        return len(text) - 2 * text.count('%')
+
+    def add(self, line):
+        """Its press has an event more."""
+        if self.typed is not None and line.startswith('type '):
+            self.typed += self.length(line)
+
+    def told(self, screen=None):
+        """In the words of the line below. The screen as it was before the press shows the word that it called."""
+        if self.typed is not None:
+            return f'typed {self.typed} character' + ('s' if self.typed != 1 else '')
+        return screen and self.cell and called_word(screen, *self.cell) or self.words
+
+
+class History:
+    """The events that a store can take back: those of its journal, and of the one before it. An event that is refused
+    stands there too."""
+
+    def __init__(self, lines):
+        self.before, self.journal = [], list(lines)
+
+    def add(self, line):
+        if len(self.journal) == JOURNAL:
+            self.checkpoint()
+        self.journal.append(line)
+
+    def checkpoint(self):
+        self.before, self.journal = self.journal, []
+
+    def take_back(self, count):
+        """So many of the last events, or all: those of the journal before too, where this one has too few."""
+        whole = self.before + self.journal
+        at = max(0, len(whole) - count)
+        if at < len(self.before):
+            self.before, self.journal = [], self.before[:at]
+        else:
+            self.journal = whole[len(self.before):at]
+        return whole[at:]
+
+    def __len__(self):
+        return len(self.before) + len(self.journal)
+
+
+class Undoing(Model):
+    """The desktop of the events that stand: where some are taken back, all the others are played to a new store. What the
+    presses did is known as far as they changed something: how many events each has, and its deed. An event that is
+    refused goes with the press before it."""
+
+    def __init__(self, oberon, store, window, folder):
+        self.base, self.folder, self.count = store, folder, 0
+        self.history, self.undone, self.stands = History(['', '', '', '']), [], []
+        self.presses, self.refused, self.joins = [], 0, False
+        copy = self.copied()
+        super().__init__(oberon, copy, window)
+        self.oberon = oberon
+
+    def copied(self):
+        self.count += 1
+        name = f'{self.folder}/model.{self.count}'
+        shutil.copy(self.base, name)
+        return name
+
+    def take(self, meaning):
+        self.begin_press()
+        super().take(meaning)
+
+    def begin_press(self):
+        self.joins = False
+
+    def post(self, line):
+        self.undone = []
+        return self.posted(line)
+
+    def posted(self, line):
+        self.history.add(line)
+        self.stands.append(line)
+        done = super().post(line)
+        if not done and not self.presses:
+            self.refused += 1
+        elif not done:
+            self.presses[-1][0] += 1
+        elif self.joins:
+            self.presses[-1][0] += 1
+            self.presses[-1][1].add(line)
+        else:
+            self.presses = [*self.presses, [1, Deed(line)]][-MOST_DONE:]
+            self.joins = True
+        return done
+
+    def name_press(self, words):
+        if self.joins:
+            self.presses[-1][1] = Deed.named(words)
+
+    def undo(self):
+        """The last press is taken back, of this sitting."""
+        self.replacing.typed = None
+        lines = self.history.take_back(self.presses[-1][0] if self.presses else self.refused + 1)
+        if not lines:
+            self.saying = 'There is nothing to take back.'
+            return
+        self.stands = self.stands[:-len(lines)]
+        deed = self.deed_of(lines)
+        self.undone = [*self.undone, (lines, deed)][-MOST_AGAIN:]
+        self.end()
+        self.store = self.copied()
+        self.play = subprocess.Popen([self.oberon, 'play', self.store], stdin=subprocess.PIPE, stdout=subprocess.PIPE)
+        for line in self.stands:
+            self.ask(line)
+        self.follows = True
+        self.saying = 'took back: ' + (deed.told(self.screen()) if deed else PART)
+
+    def deed_of(self, lines):
+        """What these events did, which were taken back; None where they are a part of a press."""
+        if not self.presses:
+            self.refused = max(0, self.refused - len(lines))
+            return Deed(lines[0])
+        press = self.presses[-1]
+        if press[0] > len(lines):
+            press[0] -= len(lines)
+            return None
+        self.presses.pop()
+        return press[1]
+
+    def redo(self):
+        self.replacing.typed = None
+        if not self.undone:
+            self.saying = 'There is nothing to do again.'
+            return
+        lines, deed = self.undone.pop()
+        self.joins = False
+        for line in lines:
+            self.posted(line)
+        if self.joins:
+            self.presses[-1][1] = deed or Deed.named(PART)
+        self.saying = 'did again: ' + (deed.told() if deed else PART)
+
+
+def presses_of(chance, model):
+    """One press, or a run of Ctrl-Z or Ctrl-Y. Of these the bytes come alone."""
+    kind = chance.randrange(12)
+    if kind < 2:
+        for _ in range(min(chance.choice([1, 1, 2, 3, 5, 12, 40]), len(model.presses))):
+            yield b'\x1a', model.undo
+    elif kind == 2:
+        for _ in range(chance.choice([1, 1, 2, 3, 40])):
+            yield b'\x19', model.redo
+    else:
+        data, meanings = press(chance, ROWS, True)
+        if any(meaning[0] == 'fit' for meaning in meanings):
+            return
+        yield data, lambda: [model.take(meaning) for meaning in meanings]
+
+
+def sit(seed, desk, oberon, folder, tool):
+    """One sitting. Returns what is wrong, in words."""
+    chance = random.Random(seed)
+    theirs, ours = f'{folder}/theirs', f'{folder}/ours'
+    begin(oberon, theirs, tool)
+    shutil.copy(theirs, ours)
+    for name, data in FILES.items():
+        with open(f'{folder}/{name}', 'wb') as file:
+            file.write(data)
+    sitting, model = Sitting([desk, '--no-questions', theirs], ROWS, 80, folder), Undoing(oberon, ours, ROWS, folder)
+    terminal = sitting.terminal
+    try:
+        if not sitting.wait(lambda: terminal.scenes > 0 and MODES <= terminal.modes):
+            return ['no scene came']
+        model.saying = terminal.line(model.rows)
+        for turn in range(PRESSES):
+            for data, does in presses_of(chance, model):
+                sitting.press(data)
+                does()
+            if not sitting.hear_long(b''):
+                return [f'no scene came after turn {turn}']
+            wanted = model.in_sight()
+            if not sitting.wait(lambda: characters(terminal.cells, model.rows) == wanted, 5):
+                seen = characters(terminal.cells, model.rows)
+                return [f'another screen after turn {turn}: ' + repr([(g, w) for g, w in zip(seen, wanted) if g != w][:3])]
+            if terminal.line(model.rows) != model.saying:
+                return [f'the line below after turn {turn} is {terminal.line(model.rows)!r} and not {model.saying!r}']
+        sitting.press(b'\x11')
+        wrong = [] if sitting.end() == 0 else [f'status {sitting.status}']
+    finally:
+        sitting.stop()
+    if played(oberon, theirs, ['list']) != model.lines('list') + ['end']:
+        wrong.append('another list')
+    model.end()
+    return wrong
+
+
+def played(oberon, store, lines):
+    done = subprocess.run([oberon, 'play', store], input=''.join(line + '\n' for line in lines).encode(), check=True,
+                          stdout=subprocess.PIPE)
+    return done.stdout.decode().split('\n')[:-1]
+
+
+# ---- after a kill
+
+def click(key, column, row):
+    return drag(random.Random(0), key, (column, row), (column, row))
+
+
+# What a person does, and how many events that is: opens a document, types, pastes, deletes a paragraph (the right button is
+# drawn over it, and the left one pressed meanwhile), has the document stored (the marker, and then the command, once more
+# since another viewer has the name), closes the viewer and deletes the document.
+DEEDS = [(click('m', 52, 2), 2), (click('l', 2, 2), 1), *((b'A letter\r'[k:k + 1], 1) for k in range(9)),
+         (b'\x1b[200~a paragraph to go\ranother one\r\x1b[201~', 1), (drag(random.Random(0), 'rl', (2, 3), (19, 3)), 1),
+         (b'\x1bOP' + click('l', 5, 5), 1), (click('m', 52, 27) * 2, 1), (b'\x03', 1), (click('m', 15, 1), 1), (click('m', 52, 8), 1)]
+
+
+def kills(seed, desk, oberon, folder, tool):
+    """The program is killed by signal 9 after these deeds; at a new start Ctrl-Z, for each event, shows what was seen before."""
+    store = f'{folder}/store'
+    begin(oberon, store, tool)
+    words = [desk, store]
+    had = played(oberon, store, ['list'])
+    sitting = Sitting(words, ROWS, 80, folder)
+    seen, wrong = [], []
+    try:
+        if not sitting.wait(lambda: sitting.terminal.scenes > 0):
+            return ['no scene came']
+        seen.append(characters(sitting.terminal.cells, ROWS - 1))
+        for data, _ in DEEDS:
+            sitting.press(data)
+            sitting.hear_long(b'')
+            seen.append(characters(sitting.terminal.cells, ROWS - 1))
+        os.kill(sitting.program(), signal.SIGKILL)
+        sitting.end()
+    finally:
+        sitting.stop()
+    sitting = Sitting(words, ROWS, 80, folder)
+    try:
+        if not sitting.wait(lambda: sitting.terminal.scenes > 0):
+            return ['no scene came after the kill']
+        for at in range(len(seen) - 1, -1, -1):
+            if characters(sitting.terminal.cells, ROWS - 1) != seen[at]:
+                wrong.append(f'another screen than that after {at} deeds')
+            if at:
+                sitting.press(b'\x1a' * DEEDS[at - 1][1])
+                sitting.hear_long(b'')
+        sitting.press(b'\x11')
+        sitting.end()
+    finally:
+        sitting.stop()
+    return wrong if played(oberon, store, ['list']) == had else [*wrong, 'another list']
+
+
+# ---- scripts
+
+
+def line(chance):
+    """An event, or a checkpoint. The words of the tool text are called too, `System.Collect` among them."""
+    kind = chance.randrange(16)
+    if kind < 5:
+        return 'type ' + chance.choice(['a', 'hello ', '%0d', 'Edit.Open B.Text ', 'x' * 300])
+    if kind < 7:
+        return 'key ' + chance.choice(list(KEYS))
+    if kind == 7:
+        return 'mark %d %d' % (chance.randrange(80), chance.randrange(32))
+    if kind == 8:
+        return 'file %s.Text %s' % (chance.choice('ABC'), chance.choice(['', 'short', 'a longer text%0d' * 40]))
+    if kind == 9:
+        return 'checkpoint'
+    x, y = chance.choice([(1, 30), (52, 30), (52, chance.randrange(32)), (chance.randrange(80), chance.randrange(32))])
+    if kind < 13:
+        return f'point {chance.choice("lmm")} {x} {y} {x} {y}'
+    return 'point %s %d %d %d %d' % (chance.choice(list(CLICKS)), x, y, chance.randrange(80), chance.randrange(32))
+
+
+def plays(seed, desk, oberon, folder, tool):
+    """A script with undos between its lines. Returns what is wrong, in words."""
+    chance = random.Random(seed)
+    theirs, ours, copy = f'{folder}/theirs', f'{folder}/ours', f'{folder}/copy'
+    begin(oberon, theirs, tool)
+    shutil.copy(theirs, ours)
+    history, stands = History(['', '', '', '']), []
+    for _ in range(chance.randrange(2, 7)):
+        lines = [line(chance) for _ in range(chance.choice([1, 3, 10, 40]))]
+        if chance.random() < 0.15:
+            lines += ['key escape'] * chance.randrange(200, 260)
+        played(oberon, theirs, lines)
+        for each in lines:
+            if each == 'checkpoint':
+                history.checkpoint()
+            else:
+                history.add(each)
+                stands.append(each)
+        count = min(chance.choice([0, 1, 1, 2, 5, 30, 100, 300]), len(history), len(stands))
+        if count:
+            subprocess.run([desk, 'earlier', theirs, str(count), copy], check=True, stdout=subprocess.DEVNULL)
+            os.replace(copy, theirs)
+            history.take_back(count)
+            stands = stands[:-count]
+    played(oberon, ours, stands)
+    looks = ['screen', 'list', *(f'show {name}.Text' for name in 'ABC'), 'show System.Tool']
+    if played(oberon, theirs, looks) != played(oberon, ours, looks):
+        return ['another desktop']
+    told = subprocess.run([desk, 'history', theirs], check=True, stdout=subprocess.PIPE).stdout.decode().split('\n')[:-1]
+    return [] if len(told) == len(history) else [f'{len(told)} events in the history, and not {len(history)}']
+
+
+def tried(does, seed, *others):
+    """The same, once more where the machine had no time for it."""
+    for _ in range(5):
+        folder = tempfile.mkdtemp()
+        try:
+            return does(seed, *others[:2], folder, others[2])
+        except TooSlow:
+            continue
+        except Ended:
+            return ['the program ended by itself']
+        finally:
+            shutil.rmtree(folder)
+    return ['the machine is too slow for it']
+
+
+def main():
+    desk, oberon, tool_path, sittings, scripts, first = sys.argv[1:7]
+    with open(tool_path, encoding='ascii') as text:
+        tool = text.read()
+    faults = 0
+    for does, runs, words in ((sit, int(sittings), 'sittings with Ctrl-Z and Ctrl-Y'), (kills, 1, 'desks killed amid them'),
+                              (plays, int(scripts), 'scripts with undos')):
+        differ = 0
+        for seed in range(int(first), int(first) + runs):
+            wrong = tried(does, seed, desk, oberon, tool)
+            if wrong:
+                differ += 1
+                print(f'{words}, {seed}: ' + '; '.join(wrong), flush=True)
+        print(f'{runs} {words}, {differ} differ', flush=True)
+        faults += differ
+    sys.exit(1 if faults else 0)
+
+
+if __name__ == '__main__':
+    main()

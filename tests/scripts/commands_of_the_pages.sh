@@ -1,2 +1,0 @@
-# Each command of README.md and of docs/SIT-DOWN.md, as it stands there.
-"$TESTS/pages"

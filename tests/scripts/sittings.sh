@@ -1,2 +1,0 @@
-# Random sittings at a pseudo terminal, and how sittings begin and end. tests/sittings says what is compared.
-"$TESTS/sittings" 20

@@ -1,3 +1,0 @@
-# What a crash may leave of the bytes of a store's file, drawn from the calls that the program was seen to make: the
-# program opens each image, and shows a desktop of before or after the event that was under way (tests/torn).
-python3 "$TESTS/torn" 300 1 | sed 's/, [0-9]* of the later/, some of the later/'
