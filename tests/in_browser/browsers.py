@@ -17,6 +17,26 @@ BUTTONS = {'left': (0, 1), 'middle': (1, 4), 'right': (2, 2)}
 SILENT = {'stdout': subprocess.DEVNULL, 'stderr': subprocess.DEVNULL, 'start_new_session': True}
 ROWS = '''JSON.stringify([...document.querySelectorAll('#screen text')].map(t =>
     [t.getAttribute('x') / 9, Math.floor(t.getAttribute('y') / 19), t.textContent]))'''
+# What counts the presses that a scene has answered, and how long each took: around what goes to the worker and comes from it.
+HARNESS = '''(() => {
+    if (window.tried) return;
+    const tried = window.tried = { sent: [], times: [], said: [], worker: null }, post = Worker.prototype.postMessage;
+    Worker.prototype.postMessage = function (...words) {
+        if (this !== tried.worker) {
+            tried.worker = this;
+            tried.sent = [];
+            this.addEventListener('message', ({ data }) => {
+                if ('svg' in data && tried.sent.length) tried.times.push(performance.now() - tried.sent.shift());
+            });
+        }
+        const said = words[0], press = said.press || said.words?.press;
+        if (press) tried.said.push(String.fromCharCode(...press));
+        if (press || said.bring || said.ask === 'bring') tried.sent.push(performance.now());
+        return post.apply(this, words);
+    };
+})()'''
+READY = 'document.body && (document.body.dataset.ready || document.body.dataset.failed)'
+IS_SET = "document.body && ['file', 'table', 'memory'].includes(document.body.dataset.ready) || document.body.dataset.failed"
 KEYS = {'\r': ('Enter', '\ue007'), '\x1b': ('Escape', '\ue00c')}
 
 
@@ -30,18 +50,42 @@ class Page:
             if value:
                 return value
             time.sleep(0.02)
-        raise TimeoutError(f'{code}; {self.js("JSON.stringify(document.body.dataset)")}; {self.js("note.textContent")}')
+        raise TimeoutError(f'{code}; {self.js("JSON.stringify(document.body.dataset)")}; {self.note()}')
 
-    def begin(self, url):
+    def ended(self):
+        """Waits for the end. A page with a desktop in memory asks first: then it is killed."""
+        try:
+            self.process.wait(8)
+        except subprocess.TimeoutExpired:
+            os.killpg(self.process.pid, signal.SIGKILL)
+            self.process.wait()
+
+    def note(self):
+        """What the line says of how the desktop is kept, and of what was asked for last."""
+        return self.js('document.getElementById("note").textContent')
+
+    def begin(self, url, plain=True):
+        """Opens the page. The text that a new desktop opens with is closed again, if it isn't wanted."""
         self.go(url)
-        self.until('document.body && (document.body.dataset.ready || document.body.dataset.failed)')
-        self.count = self.js('times.length')
-        return self.js('document.body.dataset.ready || "failed: " + document.body.dataset.failed')
+        self.until(IS_SET)
+        self.js(HARNESS)
+        self.count = self.js('tried.times.length')
+        kept = self.js('document.body.dataset.ready || "failed: " + document.body.dataset.failed')
+        if plain and not kept.startswith('failed'):
+            self.plain()
+        return kept
+
+    def plain(self):
+        """Closes the text that a new desktop opens with. It isn't stored, so the desktop asks: the second press closes it."""
+        if self.js('document.title') == 'Nealtsjom' and any('Five steps' in row for row in self.text(0, 50)):
+            self.call('System.Close', 0, 50)
+            if any('Five steps' in row for row in self.text(0, 50)):
+                self.call('System.Close', 0, 50)
 
     def wait(self, more):
         """Until so many more presses have been answered by a scene."""
         self.count += more
-        self.until(f'times.length >= {self.count}')
+        self.until(f'tried.times.length >= {self.count}')
 
     def rows(self):
         """The texts of the screen, with their places in cells."""
@@ -58,7 +102,7 @@ class Page:
     def cell(self, x, y):
         """The point in the middle of a cell."""
         return self.js(f'(box => [box.left + ({x} + 0.5) * box.width / 80, box.top + ({y} + 0.5) * box.height / 32])'
-                       '(screen_.getBoundingClientRect())')
+                       '(document.getElementById("screen").getBoundingClientRect())')
 
     def find(self, word, low=0, high=80):
         """The cell of the first character of a word that is shown."""
@@ -95,23 +139,26 @@ class Chromium(Page):
         message = {'id': self.number, 'method': method, 'params': params, **({'sessionId': self.session} if self.session else {})}
         os.write(self.to, json.dumps(message).encode() + b'\0')
         while True:
-            while b'\0' not in self.left:
-                more = os.read(self.back, 1 << 20)
-                if not more:
-                    raise EOFError
-                self.left += more
-            one, self.left = self.left.split(b'\0', 1)
-            got = json.loads(one)
+            got = json.loads(self.line())
             if got.get('id') == self.number:
                 if 'error' in got:
                     raise RuntimeError(got['error'])
                 return got['result']
             self.events.append(got)
 
+    def line(self):
+        parts = [self.left]
+        while b'\0' not in parts[-1]:
+            parts.append(os.read(self.back, 1 << 20))
+            if not parts[-1]:
+                raise EOFError
+        one, self.left = b''.join(parts).split(b'\0', 1)
+        return one
+
     def go(self, url):
         self.session = None
-        target = self.ask('Target.createTarget', url='about:blank')['targetId']
-        self.session = self.ask('Target.attachToTarget', targetId=target, flatten=True)['sessionId']
+        self.target = self.ask('Target.createTarget', url='about:blank')['targetId']
+        self.session = self.ask('Target.attachToTarget', targetId=self.target, flatten=True)['sessionId']
         self.ask('Page.enable')
         self.ask('Runtime.enable')
         self.ask('Page.navigate', url=url)
@@ -175,7 +222,7 @@ class Chromium(Page):
             self.ask('Browser.close')
         except (EOFError, OSError):
             pass
-        self.process.wait(30)
+        self.ended()
         os.close(self.to)
         os.close(self.back)
 
@@ -231,9 +278,9 @@ class Firefox(Page):
         self.ask('WebDriver:Navigate', url=url)
 
     def js(self, code, wait=False):
-        script = 'return window.eval(arguments[0])'
+        script = 'return eval(arguments[0])'              # not window.eval, which the page's own policy forbids
         if wait:
-            script = 'const done = arguments[1]; Promise.resolve(window.eval(arguments[0])).then(done)'
+            script = 'const done = arguments[1]; Promise.resolve(eval(arguments[0])).then(done)'
         how = 'WebDriver:ExecuteAsyncScript' if wait else 'WebDriver:ExecuteScript'
         return self.ask(how, script=script, args=[code], sandbox=None)['value']
 
@@ -284,23 +331,55 @@ class Firefox(Page):
             self.ask('Marionette:Quit', flags=['eForceQuit'])
         except (EOFError, OSError, RuntimeError):
             pass
-        self.process.wait(30)
+        self.ended()
 
 
 def browsers():
-    """Those that are on this machine."""
-    return [one for one, program in ((Chromium, 'chromium'), (Firefox, 'firefox-esr')) if shutil.which(program)]
+    """Those that are on this machine, or the one that BROWSER in the environment names."""
+    there = [one for one, program in ((Chromium, 'chromium'), (Firefox, 'firefox-esr')) if shutil.which(program)]
+    return [one for one in there if os.environ.get('BROWSER', one.__name__) == one.__name__]
 
 
-def served(folder=f'{TOP}/docs'):
+# The file that is tried: that of docs, or the one that PAGE in the environment names.
+FILE = os.environ.get('PAGE', f'{TOP}/docs/desk.html')
+
+
+def copied(into, name='desk.html', change=lambda text: text):
+    """A copy of the file in a folder, changed."""
+    with open(FILE, encoding='utf-8', newline='') as file:
+        text = file.read()
+    with open(f'{into}/{name}', 'w', encoding='utf-8', newline='') as file:
+        file.write(change(text))
+
+
+def served(folder=None):
     """The address of the page, served from this machine."""
+    if not folder:
+        folder = room()
+        copied(folder)
+
+    return f'{site(folder)}/desk.html'
+
+
+def site(folder, asked=None):
+    """The address of a folder, served from this machine. Each path that begins with /leak goes to the list."""
     class Quiet(http.server.SimpleHTTPRequestHandler):
         def log_message(self, *words):
-            pass
+            if asked is not None and self.path.startswith('/leak'):
+                asked.append(self.path)
 
     server = http.server.ThreadingHTTPServer(('127.0.0.1', 0), functools.partial(Quiet, directory=folder))
     threading.Thread(target=server.serve_forever, daemon=True).start()
-    return f'http://127.0.0.1:{server.server_port}/desk.html'
+    return f'http://127.0.0.1:{server.server_port}'
+
+
+def leaks(worker=''):
+    """The address of the page, and a list of what is asked for beside it. Its worker begins with these words, in which %s is
+    the address of the site."""
+    folder, asked = room(), []
+    address, head = site(folder, asked), '<script type="text/plain" id="worker">\n'
+    copied(folder, change=lambda text: text.replace(head, head + worker.replace('%s', address)))
+    return f'{address}/desk.html', asked
 
 
 def room():

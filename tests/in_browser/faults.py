@@ -1,12 +1,10 @@
 #!/usr/bin/env python3
 """faults.py: the browser's medium fails. A flush that throws, a write that throws and one that is cut short end the sitting
-with a sentence, and the page opened anew has all that was shown; a full quota gives a desktop in memory, and says so; a
-second page of the same store is refused, and the first one goes on."""
+with a sentence, and the page opened anew has all that was shown; a full quota gives a desktop in memory, and says so."""
 import shutil
 import sys
-import tempfile
 
-from browsers import TOP, Chromium, browsers, room, served
+from browsers import Chromium, browsers, copied, room, served
 
 COUNTED = ('{ const old = FileSystemSyncAccessHandle.prototype.%s; let left = %d; '
            'FileSystemSyncAccessHandle.prototype.%s = function (...words) { '
@@ -26,21 +24,16 @@ def shown(page):
     return ''.join(page.text(1, 50))
 
 
-def broken(call, calls, how):
-    """The address of a page whose medium fails after so many calls."""
-    with open(f'{TOP}/docs/desk.html', encoding='utf-8') as file:
-        text = file.read()
+def broken(folder, call, calls, how):
+    """A file beside the page in its folder, so over the same store, whose medium fails after so many calls."""
     head = '<script type="text/plain" id="worker">\n'
-    folder = tempfile.mkdtemp(prefix='desk-broken-')
-    with open(f'{folder}/desk.html', 'w', encoding='utf-8') as file:
-        file.write(text.replace(head, head + COUNTED % (call, calls, call, how)))
-    return folder
+    copied(folder, 'broken.html', lambda text: text.replace(head, head + COUNTED % (call, calls, call, how)))
 
 
 def faults(kind):
-    served_folder = tempfile.mkdtemp(prefix='desk-served-')
-    shutil.copy(f'{TOP}/docs/desk.html', served_folder)
-    address = served(served_folder)
+    folder = room()
+    copied(folder)
+    address = served(folder)
     for call, how in FAULTS:
         profile = room()
         page = kind(profile)
@@ -49,9 +42,8 @@ def faults(kind):
         page.click(2, 1)
         page.type('abc')
         page.quit()
-        folder = broken(call, 30, how)
+        broken(folder, call, 30, how)
         page = kind(profile)
-        shutil.copy(f'{folder}/desk.html', f'{served_folder}/broken.html')          # the same origin, so the same store
         page.begin(address.replace('desk.html', 'broken.html'))
         seen = shown(page)
         for _ in range(60):
@@ -62,7 +54,7 @@ def faults(kind):
             except TimeoutError:
                 seen = shown(page)
         page.until('document.body.dataset.failed', 10)
-        print('  ' + page.js('note.textContent'))
+        print('  ' + page.note())
         check(f'{kind.__name__}: {call} fails, and the sitting ends with {seen!r} in sight', seen.startswith('abcx'))
         page.quit()
         page = kind(profile)
@@ -76,27 +68,13 @@ def faults(kind):
         page.go('about:blank')
         page.ask('Storage.overrideQuotaForOrigin', origin=address.rsplit('/', 1)[0], quotaSize=1_000_000)
     check('a full quota', page.begin(address) == 'memory')
-    print('  ' + page.js('note.textContent'))
+    print('  ' + page.note())
     page.call('Edit.Open', 50)
     page.click(2, 1)
     page.type('in memory')
     check('and it works', shown(page).startswith('in memory'))
     page.quit()
     shutil.rmtree(profile, ignore_errors=True)
-    if kind is Chromium:
-        profile = room()
-        page = kind(profile)
-        page.begin(address)
-        first = page.session
-        second = page.begin(address)
-        print('  ' + second)
-        check('a second page is refused', second.startswith('failed') and 'another tab' in second)
-        page.session = first
-        page.count = page.js('times.length')
-        page.call('Edit.Open', 50)
-        check('and the first one goes on', page.text(0, 50)[0].startswith('A.Text'))
-        page.quit()
-        shutil.rmtree(profile, ignore_errors=True)
 
 
 kinds = browsers()

@@ -12,7 +12,7 @@ import sys
 import tempfile
 import zlib
 
-from browsers import TOP, browsers, room
+from browsers import FILE, TOP, browsers, room
 
 COUNT = int(sys.argv[1]) if len(sys.argv) > 1 else 10000
 random.seed(int(sys.argv[2]) if len(sys.argv) > 2 else 1)
@@ -88,8 +88,8 @@ def natively(gestures):
 kinds = browsers()
 if not kinds:
     sys.exit(print('no browser here: skipped'))
-with open(f'{TOP}/docs/desk.html', encoding='utf-8') as file:
-    packed = bytes.fromhex(re.search(r'id="wasm">\s*(\S+)\s*<', file.read())[1])
+with open(FILE, encoding='utf-8') as file:
+    packed = base64.b64decode(re.search(r'id="wasm">\s*(\S+)\s*<', file.read())[1])
 module = base64.b64encode(zlib.decompress(packed, -15)).decode()
 all_gestures = [gesture() for _ in range(COUNT)]
 wanted = list(natively(all_gestures))

@@ -9,11 +9,11 @@ import sys
 import threading
 import time
 
-from browsers import TOP, browsers, room, served
+from browsers import FILE, browsers, room, served
 
 ROUNDS = int(sys.argv[1]) if len(sys.argv) > 1 else 30
 random.seed(int(sys.argv[2]) if len(sys.argv) > 2 else 1)
-SHOWN = '''[...document.querySelectorAll('#screen text')].filter(t => +t.getAttribute('x') == 9 && +t.getAttribute('y') > 14)
+SHOWN = '''[...document.querySelectorAll('#screen text')].filter(t => +t.getAttribute('x') === 9 && +t.getAttribute('y') > 14)
     .map(t => t.textContent.trimEnd()).join('')'''
 
 
@@ -66,7 +66,7 @@ if not kinds:
     sys.exit(print('no browser here: skipped'))
 failed = 0
 for one in kinds:
-    for address in (served(), f'file://{TOP}/docs/desk.html'):
+    for address in (served(), f'file://{FILE}'):
         failed += rounds(one, address)
 print('lost', failed)
 sys.exit(failed != 0)

@@ -1,6 +1,6 @@
 #!/usr/bin/env python3
-"""looks.py [FOLDER]: dark surroundings, a phone with touch, the text that a screen reader is given, and that the keyboard
-leaves the screen by Shift-Tab, in Chromium, with pictures in the folder."""
+"""looks.py [FOLDER]: what a visitor finds, dark surroundings, a phone with touch, the text that a screen reader is given, and
+that the keyboard leaves the screen by Shift-Tab, in Chromium, with pictures in the folder."""
 import shutil
 import sys
 
@@ -16,10 +16,36 @@ def same(what, got, wanted):
 
 
 def tap(page, x, y):
+    page.js(f"void (document.getElementById('view').scrollLeft = {0 if x < 50 else 999})")
     at = page.cell(x, y)
     page.ask('Input.dispatchTouchEvent', type='touchStart', touchPoints=[{'x': at[0], 'y': at[1]}])
     page.ask('Input.dispatchTouchEvent', type='touchEnd', touchPoints=[])
     page.wait(2)
+
+
+def visits(page):
+    """What a visitor finds: a text of five steps with the caret in it, commands by a double click, and the plug."""
+    same('a text is open', any('Five steps' in row for row in page.text(0, 50)), True)
+    page.count = page.js('tried.times.length')
+    page.type('typed at once')
+    same('with the caret in it', page.text(1, 50)[-1], 'typed at once')
+    x, y = page.find('System.OpenLog', 50)
+    at = page.cell(x + 1, y)
+    page.ask('Input.dispatchMouseEvent', type='mouseMoved', x=at[0], y=at[1])
+    same('a command is underlined', page.js('Boolean(document.getElementById("command"))'), True)
+    for count in (1, 2):
+        for what in ('mousePressed', 'mouseReleased'):
+            page.ask('Input.dispatchMouseEvent', type=what, x=at[0], y=at[1], button='left', clickCount=count)
+    page.wait(6)
+    same('a double click calls it', any(row.startswith('System.Log') for row in page.text(50)), True)
+    before = page.rows()
+    page.js('document.getElementById("plug").click()')
+    page.until('document.getElementById("note").textContent.includes("The plug was pulled")')
+    same('after the plug was pulled', page.rows(), before)
+    wheel = 'new WheelEvent("wheel", {deltaY: 100, ctrlKey: %s, bubbles: true, cancelable: true})'
+    for held, taken in (('true', False), ('false', True)):
+        page.js(f'void (window.wheel = {wheel % held}, document.getElementById("screen").dispatchEvent(wheel))')
+        same(f'the wheel with Ctrl {held}', page.js('wheel.defaultPrevented'), taken)
 
 
 def looks(page):
@@ -27,30 +53,30 @@ def looks(page):
     same('light surroundings', page.js(ground), 'rgb(233, 231, 225)')
     page.ask('Emulation.setEmulatedMedia', features=[{'name': 'prefers-color-scheme', 'value': 'dark'}])
     same('dark surroundings', page.js(ground), 'rgb(27, 28, 30)')
-    same('and the sheet stays white', page.js('getComputedStyle(screen_).backgroundColor'), 'rgb(255, 255, 255)')
+    same('and the sheet is dark too',
+         page.js("getComputedStyle(document.getElementById('screen')).backgroundColor"), 'rgb(0, 0, 0)')
     if PICTURES:
         page.shot(f'{PICTURES}/dark.png')
     same('what is focused', page.js('document.activeElement.id'), 'keys')
     page.ask('Input.dispatchKeyEvent', type='keyDown', key='Tab', code='Tab', windowsVirtualKeyCode=9, modifiers=8)
     page.ask('Input.dispatchKeyEvent', type='keyUp', key='Tab', code='Tab', windowsVirtualKeyCode=9, modifiers=8)
     same('after Shift-Tab', page.js('document.activeElement.id') != 'keys', True)
-    page.js('keys.focus()')
+    page.js('document.getElementById("keys").focus()')
     page.until('document.getElementById("words").textContent.includes("Edit.Open A.Text")')
+    same('a region a viewer', page.js('document.querySelector("#words section").getAttribute("aria-label")'), 'System.Tool')
     tree = str(page.ask('Accessibility.getFullAXTree'))
-    same('in the tree of the browser', 'Edit.Open A.Text' in tree and 'What the desktop shows' in tree, True)
+    same('in the tree of the browser', 'Edit.Open A.Text' in tree and "'System.Tool'" in tree, True)
     page.ask('Emulation.setDeviceMetricsOverride', width=400, height=800, deviceScaleFactor=2, mobile=True)
     page.ask('Emulation.setTouchEmulationEnabled', enabled=True)
     same('no row is wider than a phone', page.js('document.documentElement.scrollWidth <= 400'), True)
-    page.js('document.querySelector("#bar [data-key=F2]").click()')
-    page.wait(1)
     x, y = page.find('Edit.Open', 50)
     tap(page, x + 1, y)
-    same('a button and a finger call', page.text(0, 50)[0].split(' |')[0], 'A.Text')
+    same('a tap on a command calls it', page.text(0, 50)[0].split(' |')[0], 'A.Text')
     tap(page, 5, 1)
     page.type('by hand')
     same('typed', page.text(1, 50)[0], 'by hand')
     page.control('z')
-    page.until("line.textContent.includes('back')")
+    page.until("document.getElementById('line').textContent.includes('back')")
     same('the last letter is taken back', page.text(1, 50)[0], 'by han')
     if PICTURES:
         page.shot(f'{PICTURES}/phone.png')
@@ -60,7 +86,10 @@ if Chromium not in browsers():
     sys.exit(print('no Chromium here: skipped'))
 profile = room()
 desk = Chromium(profile)
-desk.begin(served())
+address = served()
+desk.begin(address, plain=False)
+visits(desk)
+desk.begin(address.replace('desk.html', 'desk.html?store=another'))
 looks(desk)
 desk.quit()
 shutil.rmtree(profile, ignore_errors=True)

@@ -7,7 +7,7 @@ import os
 import shutil
 import sys
 
-from browsers import TOP, Firefox, browsers, room, served
+from browsers import FILE, Firefox, browsers, room, served
 
 KEYS = int(sys.argv[1]) if len(sys.argv) > 1 else 200
 BARE = '''{ const code = `let file, n = 0; const sector = new Uint8Array(1024), write = at => file.write(sector, { at: 1024 * at });
@@ -21,6 +21,8 @@ BARE = '''{ const code = `let file, n = 0; const sector = new Uint8Array(1024), 
         postMessage(performance.now() - began); };`;
     const worker = new Worker(URL.createObjectURL(new Blob([code])));
     window.bare = () => new Promise(done => { worker.onmessage = event => done(event.data); worker.postMessage(0); }); }'''
+# When the desktop was opened (today's page, and the one before it).
+STARTED = "window.started || performance.getEntriesByName('opened')[0].startTime"
 FINE_CLOCK = ['"privacy.reduceTimerPrecision", false']
 
 
@@ -32,16 +34,16 @@ def of(times):
 def measured(one, profile):
     page = one(profile, *(FINE_CLOCK if one is Firefox else []))
     page.begin(served())
-    start = page.js('started')
+    start = page.js(STARTED)
     page.call('Edit.Open', 50)
     page.click(2, 1)
     page.js(BARE)
     page.js('bare()', wait=True)
-    bare, count = [], page.js('times.length')
+    bare, count = [], page.js('tried.times.length')
     for i in range(KEYS):
         page.type('\r' if i % 30 == 29 else 'a')
         bare.append(page.js('bare()', wait=True))
-    keys = json.loads(page.js(f'JSON.stringify(times.slice({count}))'))
+    keys = json.loads(page.js(f'JSON.stringify(tried.times.slice({count}))'))
     page.quit()
     more = [key - alone for key, alone in zip(keys, bare, strict=True)]
     print(f'{one.__name__}: start {start:.0f} ms; key to its scene {of(keys)}; bare {of(bare)}; more {of(more)}', flush=True)
@@ -50,12 +52,12 @@ def measured(one, profile):
 kinds = browsers()
 if not kinds:
     sys.exit(print('no browser here: skipped'))
-print(f'desk.html: {os.path.getsize(f"{TOP}/docs/desk.html")} bytes')
+print(f"{FILE}: {os.path.getsize(FILE)} bytes")
 for one in kinds:
     where = room()
     measured(one, where)
     page = one(where)
     page.begin(served())
-    print(f'{one.__name__}: start over a store that is there {page.js("started"):.0f} ms', flush=True)
+    print(f'{one.__name__}: start over a store that is there {page.js(STARTED):.0f} ms', flush=True)
     page.quit()
     shutil.rmtree(where, ignore_errors=True)

@@ -12,34 +12,45 @@ import sys
 from browsers import ROWS, TOP, browsers, room, served
 
 PICTURES = sys.argv[1] if len(sys.argv) > 1 else None
+LINE = "document.getElementById('line').textContent"
 PASTE = '''(event => {
     Object.defineProperty(event, 'clipboardData', {value: {getData: () => %r}});
     document.getElementById('keys').dispatchEvent(event);
 })(new Event('paste', {bubbles: true, cancelable: true}))'''
 SAVED = '''new Promise(done => {
-    const old = download;
-    download = bytes => {
-        download = old;
-        let s = '';
-        for (let i = 0; i < bytes.length; i += 30000) s += String.fromCharCode(...bytes.subarray(i, i + 30000));
-        done(btoa(s));
+    const old = URL.createObjectURL;
+    HTMLAnchorElement.prototype.click = () => {};
+    URL.createObjectURL = blob => {
+        URL.createObjectURL = old;
+        blob.arrayBuffer().then(buffer => {
+            const bytes = new Uint8Array(buffer);
+            let s = '';
+            for (let i = 0; i < bytes.length; i += 30000) s += String.fromCharCode(...bytes.subarray(i, i + 30000));
+            done(btoa(s));
+        });
+        return old.call(URL, blob);
     };
     %s; })'''
 FILE = '''(() => {
-    const d = new DataTransfer();
-    d.items.add(new File([%r], %r));
-    dispatchEvent(Object.assign(new Event('drop', {cancelable: true}), {dataTransfer: d}));
+    const files = [new File([%r], %r)];
+    dispatchEvent(Object.assign(new Event('drop', {cancelable: true}), {dataTransfer: { files }}));
 })()'''
-LOAD = '''window.there = new Uint8Array(15621 * 1024);
-for (const [n, bytes] of %s) there.set(Uint8Array.from(atob(bytes), c => c.charCodeAt(0)), 1024 * n);
-worker.postMessage({load: there})'''
+LOAD = '''(() => {
+    const all = new Uint8Array(15621 * 1024), files = new DataTransfer(), input = document.getElementById('load');
+    for (const [n, bytes] of %s) all.set(Uint8Array.from(atob(bytes), c => c.charCodeAt(0)), 1024 * n);
+    files.items.add(new File([all], 'my.disk'));
+    window.confirm = () => true;
+    input.files = files.files;
+    input.dispatchEvent(new Event('change'));
+})()'''
 
-# What is pressed with Shift (1), Alt (2) and Ctrl (4), and the bytes that the page tells of it; none stay the browser's.
+# What is pressed with Shift (1), Alt (2) and Ctrl (4), and the bytes that the page tells of it; none where the key stays the
+# browser's.
 TOLD = [('a', 0, 'a'), ('A', 1, 'A'), ('s', 4, '\x13'), ('c', 4, ''), ('s', 5, ''), ('5', 4, ''), ('2', 2, '\x1b2'), (' ', 2, '\x1b '),
         ('z', 2, '\x1bz'), ('Tab', 0, '\t'), ('Enter', 0, '\r'), ('Backspace', 0, '\x7f'), ('Escape', 0, '\x1b'),
         ('Delete', 0, '\x1b[3~'), ('F2', 0, '\x1bOQ'), ('F11', 0, '\x1b[23~'), ('F12', 0, ''), ('ArrowLeft', 0, '\x1b[D'),
         ('ArrowLeft', 1, '\x1b[1;2D'), ('ArrowLeft', 2, '\x1b[1;3D'), ('ArrowLeft', 4, '\x1b[1;5D'), ('Home', 4, '\x1b[1;5H'),
-        ('PageUp', 2, '\x1b[5;3~'), ('Shift', 1, ''), ('\u00e9', 0, '\u00e9')]
+        ('PageUp', 2, '\x1b[5;3~'), ('Shift', 1, ''), ('p', 4, ''), ('F5', 0, ''), ('\u00e9', 0, '\u00e9')]
 KEY = """pressed(new KeyboardEvent('keydown', {key: %r, shiftKey: %d, altKey: %d, ctrlKey: %d}))"""
 
 
@@ -74,7 +85,7 @@ def kept_by(profile, store):
 def walk(kind, url, profile):
     page = kind(profile)
     print(kind.__name__, page.begin(url), page.js('navigator.userAgent.split(" ").at(-1)'), 'ready after',
-          round(page.js('started')), 'ms')
+          round(page.js("performance.getEntriesByName('opened')[0].startTime")), 'ms')
     shot = lambda name: PICTURES and page.shot(f'{PICTURES}/{kind.__name__.lower()}-{name}.png')
     shot('1-begin')
     page.call('Edit.Open', 50)                                   # Edit.Open A.Text
@@ -118,32 +129,33 @@ def walk(kind, url, profile):
     same('right with left deletes', any('pasted' in row for row in page.text(1, 50)), False)
     page.control('z')
     same('Ctrl-Z takes it back', any('pasted' in row for row in page.text(1, 50)), True)
-    print('  the line says:', page.js('line.textContent'))
+    print('  the line says:', page.js(LINE))
     page.control('y')
     same('Ctrl-Y does it again', any('pasted' in row for row in page.text(1, 50)), False)
     page.js('document.querySelector("#bar [data-key=F2]").click()')
     page.wait(1)
-    same('the line below', page.js('line.textContent'), 'the next click calls the word there; Escape calls it off')
+    same('the line below', page.js(LINE), 'the next click calls the word there; Escape calls it off')
     x, y = page.find('System.Directory', 50)
     page.click(x + 1, y, 'left')
     same('one button calls', any('A.Text' in row for row in page.text(50, 80)), True)
     page.click(2, 1, 'middle')
-    same('a refusal', page.js('line.textContent').startswith('refused (4)'), True)
+    same('a refusal', page.js(LINE).startswith('refused (4)'), True)
     for key, held, bytes_told in TOLD:
         told = page.js(KEY % (key, held & 1, held & 2, held & 4))
         if told != bytes_told:
             sys.exit(f'{key!r} with {held} is told as {told!r}')
     print('  keys are told as a terminal tells them: ok')
     for key, is_shown in (('F11', True), ('ArrowDown', True), ('Escape', False)):
-        page.js(f"keys.dispatchEvent(new KeyboardEvent('keydown', {{key: '{key}'}}))")
+        page.js(f"document.getElementById('keys').dispatchEvent(new KeyboardEvent('keydown', {{key: '{key}'}}))")
         page.wait(1)
-        same(f'the pointer after {key}', page.js('by("pointer").style.display') == '', is_shown)
+        same(f'the pointer after {key}', page.js('Boolean(document.getElementById("pointer"))'), is_shown)
     page.js(FILE % ('dropped\r\nlines\n', 'Drop-ped.Text'))
     page.wait(0)
-    page.until('note.textContent.includes("Dropped.Text")')
-    got = base64.b64decode(page.js(SAVED % 'worker.postMessage({give: spelled("Dropped.Text")})', wait=True)).decode()
+    page.until('document.getElementById("note").textContent.includes("Dropped.Text")')
+    page.js('void (window.prompt = () => "Dropped.Text")')
+    got = base64.b64decode(page.js(SAVED % 'document.getElementById("export-link").click()', wait=True)).decode()
     same('brought in and given out', got, 'dropped\nlines\n')
-    store = base64.b64decode(page.js(SAVED % 'worker.postMessage({save: true})', wait=True))
+    store = base64.b64decode(page.js(SAVED % 'document.getElementById("save-link").click()', wait=True))
     same('the size of the store', len(store), 15621 * 1024)
     with open(f'{profile}/my.disk', 'wb') as file:
         file.write(store)

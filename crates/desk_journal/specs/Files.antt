@@ -43,7 +43,8 @@ module _ {F : Type 0} (f : Ghosts F) where
   -- and from now on each of them means the one after it
   abbrev pub FileLeavesAfter : Event → StoreView (FileDisk F f) → StoreView (FileDisk F f) → Type 0
   FileLeavesAfter event old new = HasHonestFile old
-      → FileLeaves (current (bytes_under new)) (Means (sectors_under new.disk) (step old.desktop event).desktop)
+      → FileLeaves (current (bytes_under new))
+      (Means (sectors_under old.disk) (step old.desktop event).desktop)
 
   -- Between two states of a store a crash leaves bytes that mean the desktop after a prefix of these events, and at the
   -- second of them one that holds every event that was acknowledged.

@@ -24,6 +24,7 @@ ghost use Rattle.desk_slots.specs.Words.{Leaves, Nowhere, now, IsConfined, Fails
 ghost use Rattle.desk_slots.specs.Words.{ListsUnread, shown_screen};
 
 mod bringing;
+mod copying;
 mod scrolling;
 mod views;
 

@@ -17,6 +17,7 @@ ghost use Rattle.desk_input.specs.Scrolling.{Scrolls};
 ghost use Rattle.desk_slots.specs.Words.{Nowhere, now, IsConfined, FailsAs, entries_of, shown_screen};
 ghost use Rattle.desk_slots.specs.Words.{Content, ListsUnread};
 
+mod copying;
 mod views;
 
 use crate::Error;

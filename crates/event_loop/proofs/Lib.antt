@@ -5,4 +5,5 @@ pub mod UnreadEvents
 pub mod FilingSteps
 pub mod Stepping
 pub mod LossLemmas
+pub mod CopyLemmas
 mod StaleLemmas

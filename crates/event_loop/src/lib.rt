@@ -7,6 +7,7 @@
 //! reads them is handed. The calls promise what the definitions say of the desktop as it is seen among its characters.
 #![tactic(auto)]
 
+mod copies;
 mod desktop;
 mod events;
 mod gestures;

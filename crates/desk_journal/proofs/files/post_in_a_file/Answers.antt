@@ -1,6 +1,5 @@
 use Rattle.std.proofs.Common.{ap, subst}
 use Rattle.std.proofs.lemmas.Result.{IfOk-weaker}
-use Rattle.sector_disk.specs.declared.file.TheConstants.{FILE_SECTORS}
 use Rattle.desktop_definitions.specs.Step.{Outcome}
 use Rattle.store_layout.specs.Meaning.{Means}
 use Rattle.sector_disk.proofs.FileLeaving.{file_leaves, file_leaves_only}
@@ -14,7 +13,8 @@ returns-clause-any_moment g c = λ usable honest. file_leaves_only _ _ _ (c.post
 pub returns-clause-ok : goal.returns-clause-ok
 returns-clause-ok g c = IfOk-weaker c.post.result _ _ (λ reply acknowledged honest.
     let new = c.post.new.self in
-    file_leaves _ _ (λ content image. subst (λ desktop. Means FILE_SECTORS desktop content)
+    file_leaves _ _ (λ content image. subst (λ desktop. Means c.args.store.now.disk.sectors desktop content)
     (ap (λ (o : Outcome). o.desktop) (stepped_newest _ acknowledged honest))
-    (shows_means FILE_SECTORS new.epoch new.events new.desktop content
-    (acknowledged.durable (c.post.ensures.behaves.device.still honest) content image)))) c.post.ensures.ok
+    (subst (λ n. Means n new.desktop content) c.post.ensures.behaves.device.as_large
+    (shows_means new.disk.sectors new.epoch new.events new.desktop content
+    (acknowledged.durable (c.post.ensures.behaves.device.still honest) content image))))) c.post.ensures.ok

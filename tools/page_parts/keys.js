@@ -1,0 +1,177 @@
+// ---- Keys, as xterm spells them. `held` is 1 for Shift, 2 for Alt and 4 for Ctrl, added up.
+const SHIFT = 1, ALT = 2, CTRL = 4;
+const PLAIN = { Enter: '\r', Tab: '\t', Backspace: '\x7f', Escape: '\x1b' };
+const LETTERS = {
+    ArrowUp: 'A', ArrowDown: 'B', ArrowRight: 'C', ArrowLeft: 'D', End: 'F', Home: 'H', F1: 'P', F2: 'Q', F3: 'R', F4: 'S',
+};
+const NUMBERS = { Delete: 3, PageUp: 5, PageDown: 6, F5: 15, F6: 17, F7: 18, F8: 19, F9: 20, F10: 21, F11: 23 };
+const MEANT = new Set('aefghoqrstwyz[');                 // letters that mean something with Ctrl; C, X and V come as events
+const MAC = /^(Mac|iP)/.test(navigator.platform);
+function control(letter) {                                // the byte of a letter with Ctrl
+    return String.fromCharCode(letter.toUpperCase().charCodeAt(0) & 31);
+}
+function spell(key, held) {                               // nothing where the key stays the browser's
+    const more = held ? ';' + (1 + held) : '';
+    if (key in NUMBERS) return `\x1b[${NUMBERS[key]}${more}~`;
+    if (key in LETTERS) {
+        if (held) return `\x1b[1${more}${LETTERS[key]}`;
+        return (key[0] === 'F' ? '\x1bO' : '\x1b[') + LETTERS[key];
+    }
+    let byte = PLAIN[key] || (key.length === 1 ? key : '');
+    if (held & CTRL && byte === key) byte = held & SHIFT || !/[ @-_a-z]/.test(key) ? '' : control(key);
+    return byte && (held & ALT ? '\x1b' : '') + byte;
+}
+function isBrowsers({ key, metaKey, isComposing, shiftKey, altKey }, held) {  // whether it means nothing to the desktop
+    if (isComposing || key === 'F5' || key === 'F12') return true;
+    if (metaKey) return !/^[asyz]$/i.test(key);
+    if (held & CTRL && key.length === 1) return shiftKey || !altKey && !MEANT.has(key.toLowerCase());
+    return false;
+}
+function pressed(event) {                                 // the bytes of a key that goes down
+    const { key, code, shiftKey, altKey, ctrlKey, metaKey } = event;
+    const held = SHIFT * shiftKey + ALT * altKey + CTRL * (ctrlKey || metaKey);
+    // A sign that needs AltGr, or Alt on a Mac, is typed as it is.
+    const isTyped = event.getModifierState('AltGraph') || MAC && altKey && /^[!-/:-@[-`{-~]$/.test(key);
+    if (isTyped) return key.length === 1 ? key : spell(key, 0);
+    // Where the key of another alphabet is held with Ctrl or Alt, the letter is that of its place.
+    const isForeign = held >= ALT && /^(Digit|Key)/.test(code) && !/^[ -~]$/.test(key);
+    const letter = isForeign ? code.at(-1).toLowerCase() : key;
+    if (isBrowsers({ ...modifiers(event), key: letter }, held)) return '';
+    if (key.length === 1 && held < ALT) return key;
+    return spell(letter, held);
+}
+function modifiers({ metaKey, isComposing, shiftKey, altKey }) {
+    return { metaKey, isComposing, shiftKey, altKey };
+}
+keys.addEventListener('keydown', event => {
+    const bytes = pressed(event);
+    if (event.key === 'Tab' && event.shiftKey) by('bar').querySelector('[data-key]').focus();  // Shift-Tab leaves the screen
+    else if (bytes === control('o') || bytes === spell('F8', 0)) by('typed').click();
+    else if (bytes.length === 1 && bytes > '~') type(bytes);
+    else if (bytes) send(bytes);
+    else return;
+    event.preventDefault();
+});
+for (const key of document.querySelectorAll('#bar [data-key]')) {
+    key.onclick = () => { send(spell(key.dataset.key, +key.dataset.held || 0)); keys.focus(); };
+}
+by('keyboard').onclick = () => keys.focus();
+
+// ---- Text goes to the desktop as a paste does, in ASCII: what isn't becomes what is nearest, as by `desk import --ascii`.
+const LIKE = {
+    '‘': '\'', '’': '\'', '‚': '\'', '‛': '\'', '′': '\'', '“': '"', '”': '"', '„': '"', '‟': '"', '″': '"',
+    '‐': '-', '‑': '-', '‒': '-', '–': '-', '—': '-', '―': '-', '−': '-', '«': '<<', '»': '>>', '‹': '<', '›': '>',
+    '•': '*', '·': '*', '×': 'x', '©': '(c)', '®': '(r)', 'ß': 'ss', 'æ': 'ae', 'Æ': 'AE', 'œ': 'oe', 'Œ': 'OE',
+    'ø': 'o', 'Ø': 'O', 'đ': 'd', 'ð': 'd', 'Đ': 'D', 'Ð': 'D', 'þ': 'th', 'Þ': 'Th', 'ł': 'l', 'Ł': 'L', 'ı': 'i',
+};
+function inAscii(text) {
+    return Array.from(text, sign => {
+        if (/[\t\n\r -~]/.test(sign)) return sign;
+        if (/\p{M}/u.test(sign)) return '';
+        return LIKE[sign] || sign.normalize('NFKD').replace(/[^ -~]/g, '') || '?';
+    }).join('');
+}
+let hasToldAscii = false;
+function type(text) {
+    const ascii = inAscii(text.normalize('NFC'));
+    if (ascii !== text && !hasToldAscii) {
+        hasToldAscii = true;
+        tell({ said: 'Texts are ASCII: another sign is put in as the nearest one, as é as e, or as a question mark.' });
+    }
+    if (/^[ -~]$/.test(ascii)) send(ascii);
+    else if (ascii) send(`\x1b[200~${ascii}\x1b[201~`);
+}
+
+// ---- What comes from an input method or the keyboard of a phone. The field keeps a sign, so that there is something to
+// delete before the caret; what is composed shows in the field, which then stands at the caret of the desktop.
+const KEEPER = '\u200b';
+const DEEDS = {
+    deleteContentBackward: '\x7f', deleteWordBackward: '\x7f', deleteContentForward: '\x1b[3~',
+    insertLineBreak: '\r', insertParagraph: '\r',
+};
+let composing = false;
+function empty() {
+    keys.value = KEEPER;
+    keys.setSelectionRange(1, 1);
+}
+function commit() {                                       // what was composed is typed, before a press elsewhere
+    const text = keys.value.replaceAll(KEEPER, '');
+    composing = false;
+    keys.classList.remove('composing');
+    empty();
+    if (text) type(text);
+}
+function standAtCaret() {
+    const [x, y] = caretCell() || [0, ROWS - 1];
+    keys.style.left = `${100 * x / COLUMNS}%`;
+    keys.style.top = `${y * screen_.clientHeight / ROWS}px`;
+    keys.classList.add('composing');
+}
+keys.addEventListener('beforeinput', event => {
+    if (composing || event.isComposing || !DEEDS[event.inputType] || !event.cancelable) return;
+    event.preventDefault();
+    send(DEEDS[event.inputType]);
+});
+keys.addEventListener('input', event => {                 // what couldn't be held back is done as well
+    if (composing || event.isComposing) return;
+    if (DEEDS[event.inputType]) {
+        empty();
+        send(DEEDS[event.inputType]);
+    } else commit();
+});
+keys.addEventListener('compositionstart', () => { composing = true; standAtCaret(); });
+keys.addEventListener('compositionend', commit);
+keys.addEventListener('blur', () => { if (composing) commit(); });
+
+// ---- Copying. What the desktop copies goes to the clipboard too, whole or not at all; from there it comes with its looks.
+// A module that can't hand out what is selected (`selection` is null) is asked over copies of the store, by way of the viewers
+// in which a text can be stored; what came of it holds until the next scene.
+let copied = null;                                        // what the clipboard has of the desktop
+function clickBytes(button, x, y) {
+    return `\x1b[<${button};${x + 1};${y + 1}M\x1b[<${button};${x + 1};${y + 1}m`;
+}
+function viewersThatStore() {
+    return titles(0, BORDER).flatMap(y => {
+        const row = rowOf(y, 0, BORDER), store = /(?<=Edit\.Search +)Edit[.\w]*/.exec(row);
+        if (!store) return [];
+        return [{ name: row.split('|')[0].trim(), first: clickBytes(LEFT, 1, y + 1), store: clickBytes(MIDDLE, store.index, y) }];
+    });
+}
+async function askWhole() {
+    const of = drawn, { selected } = await ask('selected', { viewers: viewersThatStore() });
+    if (of === drawn) whole = { selected };
+    return selected;
+}
+const NOT_WHOLE = 'This page can\'t hand out all that is selected:', BLANK = ' ';
+function forClipboard(text, isCut) {                      // of what is selected: '' where nothing is, null where it isn't known
+    return text ?? (isCut ? '' : BLANK);
+}
+function copy(event, isCut) {
+    event.preventDefault();
+    if (selection === null && !whole) return copyLater(isCut);  // a quick hand, or a selection out of sight
+    const text = selection ?? whole.selected, given = forClipboard(text, isCut);
+    if (given) event.clipboardData.setData('text/plain', given);
+    return goOn(text, isCut);
+}
+async function copyLater(isCut) {
+    const text = await askWhole(), given = forClipboard(text, isCut);
+    try {
+        if (given) await navigator.clipboard.writeText(given);
+        goOn(text, isCut);
+    } catch {
+        tell({ said: 'The browser didn\'t give the clipboard: press that again.' });
+    }
+}
+function goOn(text, isCut) {
+    if (text === null && isCut) return tell({ said: `${NOT_WHOLE} nothing was cut. Ctrl-C copies it for this desktop.` });
+    if (text === null) tell({ said: `${NOT_WHOLE} it is copied for this desktop alone, and the clipboard has a blank.` });
+    if (text !== '') copied = text ?? BLANK;
+    return send(isCut ? control('x') : control('c'));
+}
+keys.addEventListener('copy', event => copy(event, false));
+keys.addEventListener('cut', event => copy(event, true));
+addEventListener('paste', event => {
+    const text = event.clipboardData.getData('text');
+    event.preventDefault();
+    if (!text || text.replaceAll('\r\n', '\n') === copied) send(control('v')); else type(text);
+});
