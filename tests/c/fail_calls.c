@@ -3,8 +3,9 @@
    `pwrite SECTOR`, `fdatasync`, and `fsync NAME` with the last part of the path. The call named FAIL, number AT of that
    name counted from 0, isn't made, and fails with the error number ERROR (5, an input or output error, where it isn't
    set; 4 is a signal that interrupted it). With ONWARD it and all later ones of its name fail, as on a medium that
-   stays full. Where PART is set this call, a pread or a pwrite, doesn't fail: it moves PART bytes at most. Where KILLED
-   is set it doesn't fail either: the program is killed by signal 9 in its place.
+   stays full. Where PART is set this call, a pread or a pwrite, doesn't fail: it moves PART bytes at most. Where SPOILED
+   is set a pwrite doesn't fail either: it is told as done, and its first byte is another one. Where KILLED is set the
+   program is killed by signal 9 in its place.
 
    FAIL may also be a call that is no line: `open`, `flock`, `ftruncate`, `statx`, `realpath`, `link`, `rename`,
    `mkdir`, `write`, on standard output, and `file_read` and `file_write`, on a file that was opened. In each case the
@@ -126,6 +127,12 @@ ssize_t pwrite(int file, const void *bytes, size_t size, off_t to) {
     char text[64];
     snprintf(text, sizeof text, "pwrite %ld\n", (long)(to / 1024));
     tell(text);
+    if (getenv("SPOILED") && size && is_refused("pwrite", &pwrites)) {
+        char first = *(const char *)bytes ^ 1;
+        tell("failed\n");
+        ssize_t moved = syscall(SYS_pwrite64, file, bytes, size, to);
+        return syscall(SYS_pwrite64, file, &first, 1, to) == 1 ? moved : -1;
+    }
     ssize_t moved = share("pwrite", &pwrites, size);
     return moved < 0 ? -1 : syscall(SYS_pwrite64, file, bytes, moved, to);
 }

@@ -9,6 +9,7 @@ ghost use Rattle.sector_disk.specs.Trail.{Leaves, now};
 ghost use Rattle.desktop_definitions.specs.Desktop.{empty_desktop};
 ghost use Rattle.store_layout.specs.Meaning.{Shows};
 ghost use Rattle.store_layout.specs.declared.layout.TheConstants.{LAYOUT};
+ghost use Rattle.desk_journal.specs.Errors.{OfFormat, OfOpen};
 ghost use Rattle.desk_journal.specs.Opening.{IsOpened, IsNoStore};
 ghost use Rattle.host_stores.specs.Found.{IsFoundIn, IsNoneIn};
 
@@ -25,6 +26,7 @@ pub fn opened<D: Disk + Drop>(rt: &HostRuntime, disk: D) -> Result<Store<D>, Err
     ensures usable { IfOk result (λ store. store.must_reopen ≡ false) }
     ensures ok { IfOk result (λ store. IsOpened D.Disk disk store) }
     ensures no_store { IfErr result (λ e. IsNoStore D.Disk disk e) }
+    ensures errors { IfErr result OfOpen }
 {
     match Store::open(rt.alloc(), disk) {
         Ok(store) => Ok(store),
@@ -36,8 +38,9 @@ pub fn opened<D: Disk + Drop>(rt: &HostRuntime, disk: D) -> Result<Store<D>, Err
 ///
 /// Errors: those of `Store::format`.
 pub fn formatted<D: Disk + Drop>(disk: D) -> Result<D, Error>
-    ensures { IfOk result (λ new. D.honest disk
+    ensures empty { IfOk result (λ new. D.honest disk
         → Leaves (now (D.trail new)) (Shows (D.size new) LAYOUT 1 0 empty_desktop)) }
+    ensures errors { IfErr result OfFormat }
 {
     match Store::format(disk) {
         Ok(disk) => Ok(disk),
@@ -56,6 +59,7 @@ pub fn in_locked_file<F: HostFile + Drop>(
     ensures usable { IfOk result (λ store. store.must_reopen ≡ false) }
     ensures ok { IfOk result (IsFoundIn F.HostFile file) }
     ensures no_store { IfErr result (IsNoneIn F.HostFile file) }
+    ensures errors { IfErr result OfOpen }
 {
     opened(rt, FileDisk::new(file))
 }

@@ -5,6 +5,7 @@ pub mod Lines
 pub mod Moments
 pub mod Played
 pub mod Runs
+pub mod Saying
 pub mod Sessions
 pub mod Surviving
 pub mod Told

@@ -3,7 +3,7 @@ ghost use Rattle.std.specs.Prelude.{◌≡◌, ◌⊎◌, false};
 ghost use Rattle.std.specs.Io.KnownBytes.{Appends};
 ghost use Rattle.oberon_main.specs.declared.playing.PlayEnd.TheVariants as ends;
 ghost use Rattle.screen_cells.specs.Sent.{AppendsFront, Sends};
-ghost use Rattle.byte_streams.specs.Counting.{RisesWhere};
+ghost use Rattle.byte_streams.specs.Counting.{CountsFault, RisesWhere};
 ghost use Rattle.oberon_main.specs.Report.{check_line, error_line, refusal_status, end_status};
 
 use crate::playing::PlayEnd;
@@ -66,14 +66,23 @@ pub fn status(end: &PlayEnd) -> u8
     }
 }
 
-/// Says why a store was refused, as far as the writer takes it. Returns the status of the program: 3 where
+/// Says why a store was refused, whole where no call of the writer fails, and else as far as it takes it. Returns the status of the program: 3 where
 /// there is no store or a damaged one, 5 for want of memory, else 4.
 pub fn refuse<W: AnswerWriter>(writer: &mut W, error: &Error) -> u8
     ensures status { result ≡ refusal_status error.now }
     ensures said { AppendsFront (W.contents writer.old) (W.contents writer.new)
         (error_line error.now) }
+    ensures whole { W.failures writer.new ≡ W.failures writer.old
+        → Appends (W.contents writer.old) (W.contents writer.new) (error_line error.now) }
 {
     let _ = say_refusal(writer, error);
+    status_of(error)
+}
+
+/// The status of the program where a store was refused.
+fn status_of(error: &Error) -> u8
+    ensures { result ≡ refusal_status error.now }
+{
     match error {
         Error::NotAStore | Error::Damaged(_) => 3,
         Error::NoMemory => 5,
@@ -83,7 +92,9 @@ pub fn refuse<W: AnswerWriter>(writer: &mut W, error: &Error) -> u8
 
 /// Writes the line about a refusal.
 fn say_refusal<W: AnswerWriter>(writer: &mut W, error: &Error) -> Result<(), OutputFault>
-    ensures { Sends result (W.contents writer.old) (W.contents writer.new) (error_line error.now) }
+    ensures sent { Sends result (W.contents writer.old) (W.contents writer.new)
+        (error_line error.now) }
+    ensures cause { CountsFault result (W.failures writer.old) (W.failures writer.new) }
 {
     let line = refusal_bytes(error);
     send(writer, line.as_slice())

@@ -15,6 +15,11 @@ use Rattle.screen_drawing.specs.declared.pen.TheConstants.{BLACK, DARK_GREY, GRE
 use Rattle.screen_drawing.specs.declared.pen.TheConstants.{WHITE}
 use Rattle.screen_drawing.specs.declared.face.Face.{Face}
 
+-- Colours among the terminal's 256: black, two greys, the blue of what is selected, the grey where no viewer is, red and
+-- white.
+abbrev pub terminal_colours : List ℕ
+terminal_colours = 16 ∷ 238 ∷ 246 ∷ 153 ∷ 250 ∷ 160 ∷ 231 ∷ []
+
 -- Oberon's sixteen colours among the terminal's
 abbrev pub inks : List ℕ
 inks =

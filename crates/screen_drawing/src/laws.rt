@@ -1,7 +1,7 @@
 //! What holds of all operations and grids.
-ghost use Rattle.std.specs.Prelude.{◌≡◌, ◌++◌, ◌<◌, ◌≤◌, ◌+◌, ℕ, List, [], Option, Some, length, true};
+ghost use Rattle.std.specs.Prelude.{◌≡◌, ◌++◌, ◌<◌, ◌≤◌, ◌+◌, ℕ, List, [], Option, Some, length, true, ◌∷◌};
 ghost use Rattle.screen_drawing.specs.declared.face.Face.{Face as AFace};
-ghost use Rattle.screen_drawing.specs.declared.pen.TheConstants.{WHITE};
+ghost use Rattle.screen_drawing.specs.declared.pen.TheConstants.{BLACK, DARK_GREY, GREY, LIGHT_BLUE, LIGHT_GREY, RED, WHITE};
 ghost use Rattle.screen_drawing.specs.declared.scene.Scene.{Scene as AScene};
 ghost use Rattle.screen_drawing.specs.declared.operation.Operation.{Operation as AnOperation};
 ghost use Rattle.screen_pictures.specs.Screen.{column_at};
@@ -9,7 +9,7 @@ ghost use Rattle.screen_drawing.specs.Changes.{changes};
 ghost use Rattle.screen_drawing.specs.Grid.{Grid, done};
 ghost use Rattle.screen_drawing.specs.Scene.{scene_rows, height_of, letter_face, seen_row, text_below};
 ghost use Rattle.screen_drawing.specs.Painting.{HasGridRoom, are_of_size, painting};
-ghost use Rattle.screen_drawing.specs.Pen.{blank_face, face_of};
+ghost use Rattle.screen_drawing.specs.Pen.{blank_face, face_of, terminal_colours};
 ghost use Rattle.screen_drawing.specs.Shows.{ShowsRows, ShowsFrom};
 ghost use Rattle.screen_drawing.specs.Spelling.{AreSendable, IsSendable, operation_bytes, spelled_all, operation_told};
 
@@ -69,4 +69,10 @@ pub fn cells_are_shown()
 /// Where no row is known, every grid shows the known rows.
 pub fn nothing_is_shown()
     ensures { (g : Grid) → ShowsRows [] g }
+{}
+
+/// The colours by name are the numbers that the definitions say.
+pub fn constants_are_defined()
+    ensures { (BLACK ∷ DARK_GREY ∷ GREY ∷ LIGHT_BLUE ∷ LIGHT_GREY ∷ RED ∷ WHITE ∷ [])
+        ≡ terminal_colours }
 {}

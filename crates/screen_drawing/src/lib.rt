@@ -29,8 +29,8 @@ pub use changes::{Changes, row_changes};
 pub use drawing::draw;
 pub use face::Face;
 pub use laws::{
-    cells_are_shown, nothing_is_shown, one_telling, rest_is_kept, rows_are_shown,
-    same_rows_change_nothing, spelled_is_told,
+    cells_are_shown, constants_are_defined, nothing_is_shown, one_telling, rest_is_kept,
+    rows_are_shown, same_rows_change_nothing, spelled_is_told,
 };
 pub use operation::Operation;
 pub use painter::{Painter, ring};

@@ -63,9 +63,9 @@ impl Painter {
 
     /// Has the terminal show a scene, with the cursor at its pointer, or else at a caret in sight.
     ///
-    /// Only what changed since the last scene is sent, and all of it where none is known. It returns `OutputFault`
-    /// where a write or the flush fails: then a front of the painting may have been taken, and nothing is known of the
-    /// terminal.
+    /// Only what changed since the last scene is sent, and all of it where none is known, and then it is flushed. It
+    /// returns `OutputFault` where a write or the flush fails: then a front of the painting may have been taken, and
+    /// nothing is known of the terminal.
     pub fn paint<W: AnswerWriter>(
         &mut self,
         writer: &mut W,
@@ -78,6 +78,7 @@ impl Painter {
         ensures front { OnErr result (PaintsFront (W.contents writer.old)
             (W.contents writer.new) self.old scene.now) }
         ensures unknown { OnErr result (self.new ≡ []) }
+        ensures handed { OnOk result (W.unflushed writer.new ≡ 0) }
         ensures cause { CountsFault result (W.failures writer.old) (W.failures writer.new) }
     {
         match paint_known(writer, &mut self.known, scene) {
@@ -90,10 +91,11 @@ impl Painter {
     }
 }
 
-/// Rings the terminal's bell.
+/// Rings the terminal's bell, and flushes the writer.
 pub fn ring<W: AnswerWriter>(writer: &mut W) -> Result<(), OutputFault>
     ensures sent { Sends result (W.contents writer.old) (W.contents writer.new)
         (operation_bytes Operation.Ring) }
+    ensures handed { OnOk result (W.unflushed writer.new ≡ 0) }
     ensures cause { CountsFault result (W.failures writer.old) (W.failures writer.new) }
 {
     send_last(writer, &[Operation::Ring])
@@ -111,6 +113,7 @@ fn paint_known<W: AnswerWriter>(
     ensures known { OnOk result (known.new.items ≡ scene_rows scene.now) }
     ensures front { OnErr result (PaintsFront (W.contents writer.old)
         (W.contents writer.new) known.old.items scene.now) }
+    ensures handed { OnOk result (W.unflushed writer.new ≡ 0) }
     ensures cause { CountsFault result (W.failures writer.old) (W.failures writer.new) }
 {
     let place = scene.cursor();
@@ -289,6 +292,7 @@ fn finish<W: AnswerWriter>(writer: &mut W, place: Option<(u8, u8)>) -> Result<()
     requires { IfSome place (λ place. (place.0 < columns) × (place.1 < rows)) }
     ensures sent { Sends result (W.contents writer.old) (W.contents writer.new)
         (spelled_all (ending place)) }
+    ensures handed { OnOk result (W.unflushed writer.new ≡ 0) }
     ensures cause { CountsFault result (W.failures writer.old) (W.failures writer.new) }
 {
     let Some((x, y)) = place else {
@@ -305,6 +309,7 @@ fn finish<W: AnswerWriter>(writer: &mut W, place: Option<(u8, u8)>) -> Result<()
 fn send_last<W: AnswerWriter>(writer: &mut W, operations: &[Operation]) -> Result<(), OutputFault>
     ensures sent { Sends result (W.contents writer.old) (W.contents writer.new)
         (spelled_all operations.now) }
+    ensures handed { OnOk result (W.unflushed writer.new ≡ 0) }
     ensures cause { CountsFault result (W.failures writer.old) (W.failures writer.new) }
 {
     send(writer, operations)?;

@@ -2,7 +2,7 @@
 ghost use Rattle.std.specs.Prelude.{◌≡◌, ◌<◌, ◌≤◌, ℕ, false, IsTrue, OnOk, IfOk};
 ghost use Rattle.sector_disk.specs.Trail.{now, Nowhere};
 ghost use Rattle.sector_disk.specs.Confined.{IsConfined};
-ghost use Rattle.store_documents.specs.Copying.{HaveSame};
+ghost use Rattle.store_documents.specs.Copying.{FailsWithEither, HaveSame};
 
 use sector_disk::{Disk, Fault, SECTOR_BYTES};
 
@@ -31,6 +31,8 @@ pub fn copy<D: Disk, E: Disk, W: Watch>(
         → (now (E.trail to.new)).pending n ≡ false) }
     ensures read { IsConfined D.size D.honest D.trail Nowhere from.old from.new }
     ensures written { IsConfined E.size E.honest E.trail (λ n. n < count) to.old to.new }
+    ensures cause { FailsWithEither result (D.failures from.old) (D.failures from.new)
+        (E.failures to.old) (E.failures to.new) }
 {
     let mut sector = [0; SECTOR_BYTES as usize];
     for n in 0..count {
@@ -42,13 +44,19 @@ pub fn copy<D: Disk, E: Disk, W: Watch>(
 }
 
 /// Whether the first sectors of two disks hold the same, so many of them.
+///
+/// `Fault` where either disk fails.
 pub fn are_same<D: Disk, E: Disk>(first: &mut D, second: &mut E, count: u32) -> Result<bool, Fault>
     requires first { count ≤ D.size first.old }
     requires second { count ≤ E.size second.old }
     ensures same { IfOk result (λ same. IsTrue same → D.honest first.old → E.honest second.old
         → HaveSame count (now (D.trail first.old)).reads (now (E.trail second.old)).reads) }
+    ensures other { IfOk result (λ same. same ≡ false → D.honest first.old → E.honest second.old
+        → ¬ HaveSame count (now (D.trail first.old)).reads (now (E.trail second.old)).reads) }
     ensures read { IsConfined D.size D.honest D.trail Nowhere first.old first.new }
     ensures beside { IsConfined E.size E.honest E.trail Nowhere second.old second.new }
+    ensures cause { FailsWithEither result (D.failures first.old) (D.failures first.new)
+        (E.failures second.old) (E.failures second.new) }
 {
     let mut one = [0; SECTOR_BYTES as usize];
     let mut other = [0; SECTOR_BYTES as usize];

@@ -18,10 +18,11 @@ abbrev pub is_coming : {R : Type 0} → Option (HostPaste R) → Bool
 is_coming None = false
 is_coming (Some paste) = goes_on paste.stage
 
--- nothing of it is told, and so many bytes of it may be read
-abbrev pub IsUntold : {R : Type 0} → ℕ → Option (HostPaste R) → Type 0
-IsUntold most None = ⊥
-IsUntold most (Some paste) = (paste.stage ≡ Begins) × (paste.left ≡ most)
+-- The host was asked for it by this name, nothing of it is told, and so many bytes of it may be read.
+abbrev pub IsUntold : {R : Type 0} → ℕ → List ℕ → Option (HostPaste R) → Type 0
+IsUntold most name None = ⊥
+IsUntold most name (Some paste) =
+    (paste.name.items ≡ name) × (paste.stage ≡ Begins) × (paste.left ≡ most)
 
 module _ {R : Type 0} (remaining : R → Option (List ℕ)) where
   -- What is told next of a text, and the bytes that are read for it. The text ends where no more may be read or the

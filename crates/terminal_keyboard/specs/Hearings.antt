@@ -1,12 +1,13 @@
 -- What is heard at one time.
 use Rattle.std.specs.Prelude.{◌≡◌, ◌≤◌, ◌<◌, ◌-◌, ◌^◌, ◌⊎◌, ℕ, suc, Bool, true, false, ◌==◌, ◌||◌, ◌&&◌}
-use Rattle.std.specs.Prelude.{if◌then◌else◌, List, [], ◌∷◌, length}
+use Rattle.std.specs.Prelude.{if◌then◌else◌, List, [], ◌∷◌, ◌++◌, length}
 use Rattle.std.specs.Prelude.{Option, Some, None}
 use Rattle.std.specs.Io.KnownBytes.{IsAtEnd}
 use Rattle.terminal_presses.specs.declared.press.Heard.{Heard}
 use Rattle.terminal_presses.specs.declared.press.Heard.TheVariants.{Byte, Quiet}
 use Rattle.terminal_keyboard.specs.declared.keyboard.KeyboardEnd.{KeyboardEnd}
 use Rattle.terminal_keyboard.specs.declared.keyboard.KeyboardEnd.TheVariants.{Closed, Fault}
+use Rattle.terminal_keyboard.specs.declared.terminal.ReadCounts.{ReadCounts}
 
 -- the bytes of what is heard
 abbrev pub heard_bytes : List Heard → List ℕ
@@ -49,8 +50,12 @@ abbrev pub kept_for_later : Option (List Heard) → List Heard
 kept_for_later None = []
 kept_for_later (Some heard) = heard
 
--- A reader, with these bytes left, has come to this end: it gives no more, or a read has failed. After as many reads as
--- can be counted that gave nothing to tell it counts as failed too.
-abbrev pub HasEnded : Option (List ℕ) → ℕ → ℕ → KeyboardEnd → Type 0
-HasEnded left failed idle Closed = IsAtEnd left
-HasEnded left failed idle Fault = (0 < failed) ⊎ (2 ^ 64 - 1 ≤ idle)
+-- a name that is asked for, and behind it whether its text will be heard
+abbrev pub asked_for : List ℕ → Bool → List ℕ
+asked_for name will_be_heard = name ++ (if will_be_heard then 1 else 0) ∷ []
+
+-- A reader, with these bytes left, has come to this end: it gives no more, and the host says that it is no terminal; or a
+-- read has failed. After as many reads as can be counted that gave nothing to tell it counts as failed too.
+abbrev pub HasEnded : Option (List ℕ) → ReadCounts → KeyboardEnd → Type 0
+HasEnded left counts Closed = IsAtEnd left × (0 < counts.foreign)
+HasEnded left counts Fault = (0 < counts.failed) ⊎ (2 ^ 64 - 1 ≤ counts.idle)

@@ -1,5 +1,5 @@
 //! A terminal and files of the host's as one keyboard.
-ghost use Rattle.std.specs.Prelude.{◌≡◌, ◌≢◌, ◌++◌, Bool, true, false, None, [], IfOk, IfErr, IfSome, IsNone, OnErr};
+ghost use Rattle.std.specs.Prelude.{◌≡◌, ◌≢◌, ◌++◌, Bool, true, false, Some, None, [], IfOk, IfErr, IfSome, IsNone, OnErr};
 ghost use Rattle.std.specs.Io.KnownBytes.{Consumes};
 ghost use Rattle.terminal_keyboard.specs.Hearings.{IsWithinLine, heard_bytes};
 ghost use Rattle.terminal_keyboard.specs.Bringing.{IsUntold, TellsFile, is_coming};
@@ -29,12 +29,14 @@ pub struct DeskKeyboard<'a, K> {
     terminal: K,
     brought: Option<HostPaste<File>>,
     log: Trace<Heard>,
+    asked: Trace<u8>,
 }
 
 impl<'a, K: KeySource> DeskKeyboard<'a, K> {
     /// A keyboard of which nothing was heard.
     pub fn new(host: &'a HostRuntime, terminal: K) -> DeskKeyboard<'a, K>
         ensures none { result.log.items ≡ [] }
+        ensures unasked { result.asked.items ≡ [] }
         ensures terminal { result.terminal ≡ terminal }
         ensures calm { is_coming result.brought ≡ false }
     {
@@ -43,12 +45,14 @@ impl<'a, K: KeySource> DeskKeyboard<'a, K> {
             terminal,
             brought: None,
             log: Trace::new(),
+            asked: Trace::new(),
         }
     }
 
     /// What is told next of the file that is brought in. None where there is none, or all is told of it.
     fn told_of_file(&mut self) -> Option<Hearing>
         ensures log { self.new.log ≡ self.old.log }
+        ensures asked { self.new.asked ≡ self.old.asked }
         ensures terminal { self.new.terminal ≡ self.old.terminal }
         ensures none { is_coming self.old.brought ≡ false → result ≡ None }
         ensures some { is_coming self.old.brought ≡ true → result ≢ None }
@@ -68,13 +72,16 @@ impl<K: KeySource> Keyboard for DeskKeyboard<'_, K> {
 
     ghost left = { λ k. K.left k.terminal };
 
+    ghost asked = { λ k. k.asked.items };
+
     ghost brings = { λ k. is_coming k.brought };
 
     ghost tells = { λ old new told. TellsFile ⟦<File as Read>⟧.remaining old.brought new.brought told };
 
     ghost ended = { λ k why. K.ended k.terminal why };
 
-    ghost answers = { λ _ new _ will. will ≡ true → IsUntold MOST_BROUGHT new.brought };
+    ghost answers = { λ _ new name will. will ≡ true
+        → IsUntold MOST_BROUGHT name new.brought };
 
     fn hear(&mut self) -> Result<Hearing, KeyboardEnd> {
         let hearing = match self.told_of_file() {
@@ -87,21 +94,19 @@ impl<K: KeySource> Keyboard for DeskKeyboard<'_, K> {
 
     /// The file has to be a regular one of `MOST_BROUGHT` bytes at most.
     fn bring(&mut self, name: &[u8]) -> bool {
-        match opened(self.host, name) {
-            Some(file) => {
-                self.brought = Some(HostPaste::new(file, MOST_BROUGHT));
-                true
-            }
-            None => {
-                self.brought = None;
-                false
-            }
-        }
+        self.brought = paste_of(self.host, name);
+        let will_be_heard = self.brought.is_some();
+        self.asked.add(name);
+        self.asked.add(&[will_be_heard as u8]);
+        will_be_heard
     }
 }
 
-/// The file of that name. None where it can't be read, is no regular one, or is too long.
-fn opened(host: &HostRuntime, name: &[u8]) -> Option<File> {
-    let name = str::from_utf8(name).ok()?;
-    open_regular(host, name, MOST_BROUGHT).ok()
+/// The text of the file of that name. None where it can't be read, is no regular one, or is too long.
+fn paste_of(host: &HostRuntime, name: &[u8]) -> Option<HostPaste<File>>
+    ensures untold { IfSome result (λ paste. IsUntold MOST_BROUGHT name.now (Some paste)) }
+{
+    let path = str::from_utf8(name).ok()?;
+    let file = open_regular(host, path, MOST_BROUGHT).ok()?;
+    Some(HostPaste::new(file, MOST_BROUGHT, name))
 }

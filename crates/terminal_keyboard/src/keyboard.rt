@@ -2,7 +2,7 @@
 ghost use Rattle.std.specs.Prelude.{◌≡◌, ◌++◌, ℕ, Bool, true, false, [], List, Option, IfOk, IfErr, OnErr};
 ghost use Rattle.std.specs.Io.KnownBytes.{Consumes};
 ghost use Rattle.terminal_presses.specs.declared.press.Heard.{Heard};
-ghost use Rattle.terminal_keyboard.specs.Hearings.{IsWithinLine, heard_bytes};
+ghost use Rattle.terminal_keyboard.specs.Hearings.{IsWithinLine, asked_for, heard_bytes};
 
 use crate::hearing::Hearing;
 
@@ -50,6 +50,9 @@ pub trait Keyboard {
     /// The bytes of the terminal that are still to be heard, where they are known.
     ghost left: { Self → Option (List ℕ) };
 
+    /// The names for which `bring` was called so far: the bytes of each, and behind them what was answered, as 1 or 0.
+    ghost asked: { Self → List ℕ };
+
     /// Whether the text of a host file is on its way in.
     ghost brings: { Self → Bool };
 
@@ -67,9 +70,9 @@ pub trait Keyboard {
     /// will come. `Fault`: what is below failed in this call. In both cases nothing was heard.
     fn hear(&mut self) -> Result<Hearing, KeyboardEnd>
         ensures told { IfOk result (λ told. heard self.new ≡ heard self.old ++ told) }
-        ensures bytes { brings self.old ≡ false
-            → IfOk result (λ told. Consumes (left self.old) (left self.new) (heard_bytes told)) }
-        ensures line { brings self.old ≡ false → IfOk result IsWithinLine }
+        ensures unasked { asked self.new ≡ asked self.old }
+        ensures bytes { brings self.old ≡ false → IfOk result (λ told. IsWithinLine told
+            × Consumes (left self.old) (left self.new) (heard_bytes told)) }
         ensures file { brings self.old ≡ true
             → IfOk result (λ told. tells self.old self.new told × (left self.new ≡ left self.old)) }
         ensures alone { brings self.old ≡ false → brings self.new ≡ false }
@@ -81,6 +84,7 @@ pub trait Keyboard {
     /// such file, or it can't be read. Nothing is heard in this call.
     fn bring(&mut self, name: &[u8]) -> bool
         ensures silent { heard self.new ≡ heard self.old }
+        ensures asked { asked self.new ≡ asked self.old ++ asked_for name.now result }
         ensures answered { answers self.old self.new name.now result }
         ensures unread { left self.new ≡ left self.old }
         ensures brings { brings self.new ≡ result };

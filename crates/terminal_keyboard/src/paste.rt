@@ -4,7 +4,7 @@ ghost use Rattle.std.specs.Io.KnownBytes.{Consumes, IsAtEnd};
 ghost use Rattle.terminal_keyboard.specs.HostPastes.{TakesText, harmless};
 ghost use Rattle.terminal_keyboard.specs.Bringing.{TellsNext, goes_on as has_more};
 
-use crate::{Count, Hearing, MOST_HEARD};
+use crate::{Count, Hearing, MOST_HEARD, Trace};
 use std::io::{ErrorKind, Read};
 
 /// What is told first: an escape byte and `[200~`.
@@ -41,20 +41,26 @@ pub(crate) struct HostPaste<R> {
     stage: Stage,
     /// The reads that failed.
     failed: Count,
+    /// The name by which the host was asked for it. Contracts alone see it.
+    name: Trace<u8>,
 }
 
 impl<R: Read> HostPaste<R> {
-    /// What the reader has left, but for what comes after so many bytes.
-    pub fn new(reader: R, most: u64) -> HostPaste<R>
+    /// What the reader has left, but for what comes after so many bytes. The host was asked for it by this name.
+    pub fn new(reader: R, most: u64, name: &[u8]) -> HostPaste<R>
+        ensures name { result.name.items ≡ name.now }
         ensures stage { result.stage ≡ Stage.Begins }
         ensures left { result.left ≡ most }
         ensures text { R.remaining result.reader ≡ R.remaining reader }
     {
+        let mut named = Trace::new();
+        named.add(name);
         HostPaste {
             reader,
             left: most,
             stage: Stage::Begins,
             failed: Count::new(),
+            name: named,
         }
     }
 

@@ -4,6 +4,7 @@ ghost use Rattle.terminal_keyboard.specs.declared.keyboard.KeyboardEnd.TheVarian
 ghost use Rattle.terminal_keyboard.specs.Hearings.{IsWithinLine};
 ghost use Rattle.terminal_keyboard.specs.declared.hearing.TheConstants.{MOST_HEARD};
 
+use crate::Trace;
 use crate::hearing::{Hearing, MOST_HEARD, line_length};
 use crate::keyboard::{Keyboard, KeyboardEnd};
 use terminal_presses::Heard;
@@ -15,6 +16,7 @@ pub struct ScriptedKeyboard<'a> {
     script: &'a [Heard],
     piece: usize,
     told: usize,
+    asked: Trace<u8>,
     ghost piece_least: { 1 ≤ piece },
     ghost piece_most: { piece ≤ MOST_HEARD },
     ghost told_in: { told ≤ length script.now },
@@ -28,11 +30,13 @@ impl<'a> ScriptedKeyboard<'a> {
         ensures script { result.script.now ≡ script.now }
         ensures piece { result.piece ≡ piece }
         ensures told { result.told ≡ 0 }
+        ensures unasked { result.asked.items ≡ [] }
     {
         ScriptedKeyboard {
             script,
             piece,
             told: 0,
+            asked: Trace::new(),
         }
     }
 }
@@ -41,6 +45,8 @@ impl Keyboard for ScriptedKeyboard<'_> {
     ghost heard = { λ k. take k.told k.script.now };
 
     ghost left = { λ _. None };
+
+    ghost asked = { λ k. k.asked.items };
 
     ghost brings = { λ _. false };
 
@@ -64,7 +70,9 @@ impl Keyboard for ScriptedKeyboard<'_> {
     }
 
     /// A script has no host files.
-    fn bring(&mut self, _name: &[u8]) -> bool {
+    fn bring(&mut self, name: &[u8]) -> bool {
+        self.asked.add(name);
+        self.asked.add(&[0]);
         false
     }
 }

@@ -28,10 +28,32 @@ pub struct TerminalInput<R> {
     /// What was read, and isn't told yet.
     later: Option<Hearing>,
     log: Trace<Heard>,
+    counts: ReadCounts,
+}
+
+/// How often reads of a terminal came to nothing. Contracts alone see it.
+#[derive(Drop)]
+pub(crate) struct ReadCounts {
     /// The reads that failed, but for those that were interrupted.
-    failed: Count,
+    pub failed: Count,
     /// The reads that gave nothing to tell.
-    idle: Count,
+    pub idle: Count,
+    /// The reads that gave no byte.
+    pub empty: Count,
+    /// How often the host said that it is no terminal.
+    pub foreign: Count,
+}
+
+impl ReadCounts {
+    /// None yet.
+    fn new() -> ReadCounts {
+        ReadCounts {
+            failed: Count::new(),
+            idle: Count::new(),
+            empty: Count::new(),
+            foreign: Count::new(),
+        }
+    }
 }
 
 impl<R: Read + IsTerminal> TerminalInput<R> {
@@ -47,8 +69,7 @@ impl<R: Read + IsTerminal> TerminalInput<R> {
             was_quiet: false,
             later: None,
             log: Trace::new(),
-            failed: Count::new(),
-            idle: Count::new(),
+            counts: ReadCounts::new(),
         }
     }
 }
@@ -58,7 +79,7 @@ impl<R: Read + IsTerminal> KeySource for TerminalInput<R> {
 
     ghost left = { λ k. prepend_known (heard_bytes (kept_for_later k.later)) (R.remaining k.reader) };
 
-    ghost ended = { λ k why. HasEnded (R.remaining k.reader) k.failed k.idle why };
+    ghost ended = { λ k why. HasEnded (R.remaining k.reader) k.counts why };
 
     fn hear(&mut self) -> Result<Hearing, KeyboardEnd> {
         let heard = self.gathered()?;
@@ -83,59 +104,72 @@ impl<R: Read + IsTerminal> TerminalInput<R> {
             (R.remaining self.new.reader)) []) }
         ensures log { self.new.log.items ≡ self.old.log.items }
         ensures cause { IfErr result (λ why.
-            HasEnded (R.remaining self.new.reader) self.new.failed self.new.idle why) }
+            HasEnded (R.remaining self.new.reader) self.new.counts why) }
     {
         match self.later.take() {
             Some(heard) => Ok(heard),
-            None => listen(
-                &mut self.reader,
-                &mut self.was_quiet,
-                &mut self.failed,
-                &mut self.idle,
-            ),
+            None => listen(&mut self.reader, &mut self.was_quiet, &mut self.counts),
         }
     }
 }
 
-/// Reads until there is something to tell. An interrupted read is tried again.
+/// Reads until there is something to tell. An interrupted read is tried again. A quiet while is told where a read gives
+/// no byte, at once, and not again before a byte has come.
 fn listen<R: Read + IsTerminal>(
     reader: &mut R,
     was_quiet: &mut bool,
-    failed: &mut Count,
-    idle: &mut Count,
+    counts: &mut ReadCounts,
 ) -> Result<Hearing, KeyboardEnd>
     ensures bytes { IfOk result
         (λ told. Consumes (R.remaining reader.old) (R.remaining reader.new) (heard_bytes told)) }
     ensures none { OnErr result (Consumes (R.remaining reader.old) (R.remaining reader.new) []) }
     ensures quiet { IfOk result (λ told. is_quiet_while told ≡ was_quiet.new) }
     ensures once { IfOk result (λ told. is_quiet_while told ≡ true → was_quiet.old ≡ false) }
-    ensures closed { result ≡ Err Closed → IsAtEnd (R.remaining reader.new) }
-    ensures cause { result ≡ Err Fault → (failed.old < failed.new)
-        ⊎ (idle.old + (2 ^ 64 - 1) ≤ idle.new) }
+    ensures paused { IfOk result (λ told. is_quiet_while told ≡ true
+        → counts.old.empty < counts.new.empty) }
+    ensures prompt { IfOk result (λ told. is_quiet_while told ≡ false → was_quiet.old ≡ false
+        → counts.new.empty ≡ counts.old.empty) }
+    ensures closed { result ≡ Err Closed → IsAtEnd (R.remaining reader.new)
+        × (counts.old.foreign < counts.new.foreign) }
+    ensures cause { result ≡ Err Fault → (counts.old.failed < counts.new.failed)
+        ⊎ (counts.old.idle + (2 ^ 64 - 1) ≤ counts.new.idle) }
 {
     let mut piece = [0; MOST_HEARD];
     for _count in 0..u64::MAX {
         match reader.read(&mut piece) {
             Ok(0) => {
-                if !reader.is_terminal() {
+                counts.empty.rise();
+                if !is_terminal(reader, &mut counts.foreign) {
                     return Err(KeyboardEnd::Closed);
                 }
                 if !*was_quiet {
                     *was_quiet = true;
                     return Ok(Hearing::quiet());
                 }
-                idle.rise();
+                counts.idle.rise();
             }
             Ok(count) => {
                 *was_quiet = false;
                 return Ok(Hearing::of_bytes(&piece[..count]));
             }
-            Err(error) if error.kind() == ErrorKind::Interrupted => idle.rise(),
+            Err(error) if error.kind() == ErrorKind::Interrupted => counts.idle.rise(),
             Err(_) => {
-                failed.rise();
+                counts.failed.rise();
                 return Err(KeyboardEnd::Fault);
             }
         }
     }
     Err(KeyboardEnd::Fault)
+}
+
+/// Whether it is a terminal, as the host says now. It counts that it is none.
+fn is_terminal<R: IsTerminal>(reader: &R, foreign: &mut Count) -> bool
+    ensures there { result ≡ true → foreign.new ≡ foreign.old }
+    ensures none { result ≡ false → foreign.old < foreign.new }
+{
+    let is = reader.is_terminal();
+    if !is {
+        foreign.rise();
+    }
+    is
 }

@@ -79,4 +79,17 @@ desk check nowhere.disk
 printf 'x' | dd of=copy.disk bs=1024 seek=2 conv=notrunc 2> dd.said
 desk check copy.disk
 desk backup copy.disk other.disk
+
+echo '--- beside another program that looks'
+exec 4< my.disk
+flock -s 4
+desk list my.disk | tail -n 1
+exec 4<&-
+
+echo '--- never through a link that has the name aside'
+mkdir linked
+echo mine > victim
+ln -s ../victim linked/.short.txt.desk
+desk export my.disk --all linked | tail -n 1
+cat victim
 ls

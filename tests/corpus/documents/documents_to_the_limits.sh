@@ -55,7 +55,8 @@ desk import prose.disk --fill wide prose 2>&1 | cut -c 1-40
 
 echo '--- room by System.Collect'
 "$PROGRAM" format worn.disk
-printf 'file System.Tool Edit.Search%%20System.Collect%%20%%0d\npoint m 60 10 60 10\n' | "$PROGRAM" play worn.disk
+# Longer words stand before it, which are others.
+printf 'file System.Tool System.Collector%%20NoSystem.Collect%%0dEdit.Search%%20System.Collect%%20%%0d\npoint m 60 10 60 10\n' | "$PROGRAM" play worn.disk
 head -c 200000 /dev/zero | tr '\0' x > large
 for n in $(seq 21); do
     echo "$n" >> large

@@ -20,6 +20,8 @@ is_right() {
 refused=0
 for call in mkdir open flock pread file_write fsync link realpath write; do
     each_call $call
+    # Each of the three files is synced.
+    [ $call != fsync ] || [ $tried -ge 3 ] || echo "only $tried syncs of three files"
     diff -r in out && [ $status = 0 ] && [ $tried -gt 0 ] && echo "export: each $call was refused once"
     refused=$((refused + tried))
 done
@@ -52,3 +54,10 @@ for call in pread pwrite; do
     echo "backup: some $call were refused"
 done
 count 'calls refused, desk backup' $refused
+# A medium that keeps another byte than it is given, in any sector: the copy is compared, and doesn't stay.
+for number in 0 1 500 15620; do
+    with_a_failure FAIL=pwrite AT=$number SPOILED=1 2> shell
+    status=$?
+    grep -q failed calls && [ $status != 0 ] && [ ! -e copy.disk ] || echo "pwrite $number spoiled: status $status, $(head -c 200 got said)"
+done
+echo 'backup: some pwrite were spoiled'

@@ -1,6 +1,7 @@
-use Rattle.std.proofs.Common.{subst, sym}
 use Rattle.std.proofs.lemmas.Result.{IfOk-weaker, IfErr-weaker}
+use Rattle.std.proofs.Common.{subst}
 use Rattle.sector_disk.specs.declared.file.TheConstants.{FILE_SECTORS}
+use Rattle.sector_disk.specs.FileSectors.{sectors_of}
 use Rattle.sector_disk.specs.Trail.{now}
 use Rattle.store_layout.specs.Finding.{IsForeign, IsDamagedAt}
 use Rattle.store_layout.specs.Meaning.{Shows}
@@ -9,12 +10,17 @@ use Rattle.host_stores.proofs.in_locked_file.Goals as goal
 pub returns-clause-ok : goal.returns-clause-ok
 returns-clause-ok g c = IfOk-weaker c.opened.result _ _ (λ store found honest.
     subst (λ t. Shows FILE_SECTORS store.layout store.epoch store.events store.desktop (now t).reads)
-    c.new.ensures.trail (found.found (c.new.ensures.honest.1 honest))) c.opened.ensures.ok
+    c.new.ensures.trail
+    (subst (λ n. Shows n store.layout store.epoch store.events store.desktop
+    (now (sectors_of (g.F.HostFile.trail c.new.result.file))).reads) c.new.ensures.size
+    (found.found (c.new.ensures.honest.1 honest)))) c.opened.ensures.ok
 
 pub returns-clause-no_store : goal.returns-clause-no_store
 returns-clause-no_store g c = IfErr-weaker c.opened.result _ _ (λ error none. record {
   foreign = λ is honest. subst (λ t. IsForeign FILE_SECTORS (now t).reads) c.new.ensures.trail
-      (none.foreign is (c.new.ensures.honest.1 honest));
+      (subst (λ n. IsForeign n (now (sectors_of (g.F.HostFile.trail c.new.result.file))).reads) c.new.ensures.size
+      (none.foreign is (c.new.ensures.honest.1 honest)));
   damaged = λ n is honest. subst (λ t. IsDamagedAt FILE_SECTORS (now t).reads n) c.new.ensures.trail
-      (none.damaged n is (c.new.ensures.honest.1 honest));
+      (subst (λ k. IsDamagedAt k (now (sectors_of (g.F.HostFile.trail c.new.result.file))).reads n) c.new.ensures.size
+      (none.damaged n is (c.new.ensures.honest.1 honest)));
 }) c.opened.ensures.no_store

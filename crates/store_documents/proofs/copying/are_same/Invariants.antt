@@ -1,3 +1,4 @@
+use Rattle.std.proofs.Common.{◌≡◌}
 use Rattle.sector_disk.specs.Confined.{IsConfined}
 use Rattle.sector_disk.specs.Trail.{now, Nowhere}
 use Rattle.store_documents.specs.Copying.{HaveSame}
@@ -8,3 +9,4 @@ invariant-loop-n g l = (IsConfined g.D.Disk.size g.D.Disk.honest g.D.Disk.trail 
     × (IsConfined g.E.Disk.size g.E.Disk.honest g.E.Disk.trail Nowhere l.fn.second l.second)
     × (g.D.Disk.honest l.fn.first → g.E.Disk.honest l.fn.second
     → HaveSame l.n (now (g.D.Disk.trail l.fn.first)).reads (now (g.E.Disk.trail l.fn.second)).reads)
+    × (g.D.Disk.failures l.first ≡ g.D.Disk.failures l.fn.first) × (g.E.Disk.failures l.second ≡ g.E.Disk.failures l.fn.second)
