@@ -51,6 +51,6 @@ while :; do
     number=$((number + $(trials 1 5)))
 done
 [ $number -gt 90 ] && echo 'every allocation was refused once'
-[ $same -gt $(trials 2 0) ] && echo 'of some nothing was seen'
+[ $same -gt $(trials 2 -1) ] && echo 'of some nothing was seen'
 count 'allocations refused, over pages' $number
 count 'allocations refused, over pages, of which nothing was seen' $same
