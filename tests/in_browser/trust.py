@@ -140,6 +140,8 @@ def select(page, first, last):
 
 def clipboard(page, kind, before):
     """What the clipboard has after the page copies or cuts."""
+    if kind == 'copy':                                    # (and once without the key that goes before it)
+        page.js("void document.getElementById('keys').dispatchEvent(new KeyboardEvent('keydown', {key: 'Control'}))")
     time.sleep(1)
     page.js(COPY % kind)
     try:

@@ -142,6 +142,10 @@ async function askWhole() {
     if (of === drawn) whole = { selected };
     return selected;
 }
+keys.addEventListener('keydown', ({ key, repeat }) => {   // Ctrl may become Ctrl-C: it is asked for beforehand
+    if (repeat || !/^(Control|Meta)$/.test(key) || selection !== null || whole) return;
+    if (texts().some(text => text.marked)) askWhole();
+});
 const NOT_WHOLE = 'This page can\'t hand out all that is selected:', BLANK = ' ';
 function forClipboard(text, isCut) {                      // of what is selected: '' where nothing is, null where it isn't known
     return text ?? (isCut ? '' : BLANK);

@@ -41,14 +41,9 @@ function show(scene) {
     selection = scene.selected;
     whole = null;
     clearTimeout(lastRead);
-    lastRead = setTimeout(rest, 150);                     // a reader of the screen has time
+    lastRead = setTimeout(tellReaders, 150);              // a reader of the screen has time
     if (scene.rings || scene.status) ring();
     if (scene.left) tell({ left: true });
-}
-
-function rest() {                                         // what is done when no key has come for a while
-    tellReaders();
-    if (selection === null && texts().some(text => text.marked) && !asked.size) askWhole();
 }
 
 // ---- What a row of the drawing says: its texts between two columns, each with the column where it begins.
