@@ -77,12 +77,18 @@ unfoldable pub at_caret_plan : AClick → Option (ℕ × ℕ) → Plan
 at_caret_plan click None = Refused NoText
 at_caret_plan click (Some place) = Events [] (Some (Post (caret_event click place)))
 
+-- what is said where there is nothing to which the caret could go, or nothing to delete
+unfoldable pub nothing_there : KeyWish → Saying
+nothing_there (Step step) = NoText
+nothing_there DeleteNext = NothingAfter
+
 -- what is said where no events do what is wished of the caret
 unfoldable pub why_not : KeyWish → WhyNot → Saying
 why_not wish why.NoRow = NoScroll
 why_not wish why.TooFar = NoScroll
-why_not (Step step) reason = NoText
-why_not DeleteNext reason = NothingAfter
+why_not wish why.NoCaret = nothing_there wish
+why_not wish why.NothingBehind = nothing_there wish
+why_not wish why.PastEdge = nothing_there wish
 
 -- the events for what is wished of the caret
 abbrev pub lead_plan : KeyWish → Result (List Event) WhyNot → Plan

@@ -1,7 +1,7 @@
 //! What a task becomes over a desktop.
 ghost use Rattle.std.specs.Prelude.{◌≡◌, true, false, None, option_map};
 ghost use Rattle.std.specs.Result.{result_map_both};
-ghost use Rattle.desk_tasks.specs.Plans.{Plans, caret_place, empty_plan, entry_plan, is_call, lead_plan};
+ghost use Rattle.desk_tasks.specs.Plans.{Plans, caret_place, empty_plan, entry_plan, is_call, lead_plan, nothing_there};
 ghost use Rattle.desk_tasks.specs.Plans.{opened_plan, opened_viewer, page_plan, page_wish, place_meant, plan_of};
 ghost use Rattle.desk_tasks.specs.Plans.{plan_on, scroll_plan, seen_plan, shown_plan, shown_then, why_not};
 ghost use Rattle.desk_journal.specs.Views.{desk_info};
@@ -307,14 +307,27 @@ fn lead_plan(wish: KeyWish, told: Result<Vec<Event>, WhyNot>) -> Plan
     }
 }
 
+/// What is said where there is nothing to which the caret could go, or nothing to delete.
+#[tactic(auto, unfolding(crate::specs::Plans::nothing_there))]
+fn nothing_there(wish: KeyWish) -> Saying
+    ensures { result ≡ nothing_there wish }
+{
+    match wish {
+        KeyWish::Step(_) => Saying::NoText,
+        KeyWish::DeleteNext => Saying::NothingAfter,
+    }
+}
+
 /// What is said where no events do what is wished of the caret.
 #[tactic(auto, unfolding(crate::specs::Plans::why_not))]
 fn why_not(wish: KeyWish, why: WhyNot) -> Saying
     ensures { result ≡ why_not wish why }
 {
-    match (wish, why) {
-        (_, WhyNot::NoRow | WhyNot::TooFar) => Saying::NoScroll,
-        (KeyWish::Step(_), _) => Saying::NoText,
-        (KeyWish::DeleteNext, _) => Saying::NothingAfter,
+    match why {
+        WhyNot::NoRow => Saying::NoScroll,
+        WhyNot::TooFar => Saying::NoScroll,
+        WhyNot::NoCaret => nothing_there(wish),
+        WhyNot::NothingBehind => nothing_there(wish),
+        WhyNot::PastEdge => nothing_there(wish),
     }
 }
