@@ -255,10 +255,10 @@ def click(key, column, row):
 
 # What a person does, and how many events that is: opens a document, types, pastes, deletes a paragraph (the right button is
 # drawn over it, and the left one pressed meanwhile), has the document stored (the marker, and then the command, once more
-# since another viewer has the name), closes the viewer and deletes the document.
+# since another viewer has the name), closes the viewer and deletes the document (once more, since that is asked).
 DEEDS = [(click('m', 52, 2), 2), (click('l', 2, 2), 1), *((b'A letter\r'[k:k + 1], 1) for k in range(9)),
          (b'\x1b[200~a paragraph to go\ranother one\r\x1b[201~', 1), (drag(random.Random(0), 'rl', (2, 3), (19, 3)), 1),
-         (b'\x1bOP' + click('l', 5, 5), 1), (click('m', 52, 27) * 2, 1), (b'\x03', 1), (click('m', 15, 1), 1), (click('m', 52, 8), 1)]
+         (b'\x1bOP' + click('l', 5, 5), 1), (click('m', 52, 27) * 2, 1), (b'\x03', 1), (click('m', 15, 1), 1), (click('m', 52, 8) * 2, 1)]
 
 
 def kills(seed, desk, oberon, folder, tool):
