@@ -20,7 +20,7 @@ desk earlier my.disk 7 none.disk
 desk earlier my.disk 1 earlier.disk
 ls
 
-# Keys of the mouse, alone and two at a time, are told in the order in which they go down.
+# Clicks with keys of the mouse, alone and two at a time, are told by what they do, in words of their own.
 "$PROGRAM" format keys.disk
 for keys in l lm lr m ml mr r rl rm; do echo "point $keys 1 1 1 1"; done | "$PROGRAM" play keys.disk | sort -u
 desk history keys.disk

@@ -1,5 +1,5 @@
-# Where there is no file, or one that is no store, nothing is made, changed or printed, and the status says why; `format` makes
-# a store of what is there. Arguments that are none of the desk's have status 2.
+# Where there is no file, or one that is no store, nothing is made, changed or printed, and the status says why; but `import`
+# makes a store where there is no file, and `format` makes one of what is there. Arguments that are none of the desk's have status 2.
 echo text > text.disk
 "$OBERON" format damaged.disk
 printf 'OPENGATE' | dd of=damaged.disk bs=1024 seek=5 conv=notrunc status=none
