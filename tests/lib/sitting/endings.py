@@ -582,7 +582,8 @@ def deleting(trial):
     trial.check(sitting.wait(lambda: 'System.DeleteFiles' in terminal.line(ROWS), 5), terminal.line(ROWS))
     trial.leaves(sitting)
     ran = subprocess.run([trial.desk, 'list', trial.path], capture_output=True, check=False)
-    trial.check(b'A.Text' not in ran.stdout, 'the document is there still')
+    # (what is open and not stored has a line of other words)
+    trial.check(not any(line.split()[-1:] == [b'A.Text'] for line in ran.stdout.splitlines()), 'the document is there still')
 
 
 def first_scene(trial):
