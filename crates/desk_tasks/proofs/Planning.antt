@@ -11,7 +11,7 @@ use Rattle.desk_journal.specs.Errors.{Error}
 use Rattle.desk_journal.specs.Looking.{OnlyLooks}
 use Rattle.caret_moves.specs.declared.wish.KeyWish.{KeyWish}
 use Rattle.caret_moves.specs.declared.wish.WhyNot.{WhyNot}
-use Rattle.desk_journal.specs.Leading.{Leads, led}
+use Rattle.desk_journal.specs.Leading.{DoesWish, led}
 use Rattle.desk_journal.specs.Scrolling.{Scrolls, Wish, presses_to}
 use Rattle.desk_journal.specs.View.{StoreView}
 use Rattle.desk_journal.specs.Views.{DeskInfo, ShownViewer, desk_info, last_log_line}
@@ -156,7 +156,7 @@ module _ {D : Type 0} (d : Ghosts D) where
 
   -- of what the store told about a wish
   pub plans_by_lead : (wish : KeyWish) (plan : MadePlan) {told : Result (List Event) WhyNot} (store : StoreView D)
-      → seen_plan plan ≡ lead_plan wish told → (d.honest store.disk → Leads store.desktop wish told)
+      → seen_plan plan ≡ lead_plan wish told → (d.honest store.disk → DoesWish store.desktop wish told)
       → d.honest store.disk → seen_plan plan ≡ plan_of (kind.Lead wish) store.desktop
   unfolding plan_of
   plans_by_lead wish plan store is leads honest = is ∙ ap (lead_plan wish) (leads honest).exact
