@@ -42,7 +42,9 @@ fn decline_order(rt: &HostRuntime, command: Option<&String>) -> u8 {
     let command = command.map_or("", |command| command.as_str());
     let _ = match usage_of(command) {
         Some(usage) => eprintln!(rt; "desk: the arguments aren't these: desk {usage}"),
-        None => eprintln!(rt; "desk: there is no command {command:?}; desk --help says what there is"),
+        None => eprintln!(rt;
+            "desk: there is no command {command:?}; desk --help says what there is"
+        ),
     };
     2
 }

@@ -2,8 +2,8 @@
 //! is closed, and what each close would lose is heard before it. So covered viewers come to sight, too, and of two viewers
 //! of one text the one that is closed last has it alone.
 
-use arrayvec::ArrayVec;
 use crate::sentences::Stop;
+use arrayvec::ArrayVec;
 use desk_journal::{Loss, Store};
 use desktop_definitions::{Entry, Reply};
 use event_bytes::{Event, Keys};
