@@ -1,4 +1,5 @@
 //! How a store is.
+ghost use Rattle.std.specs.Prelude.{◌≤◌};
 
 use crate::sentences::Stop;
 use crate::stores::{LockedDisk, LockedStore};
@@ -7,7 +8,7 @@ use desk_stores::{Trouble, looked_at};
 use desktop_definitions::MOST_WRITTEN;
 use host_files::length_of;
 use host_stores::{FileDisk, opened};
-use sector_disk::{FILE_SECTORS, SECTOR_BYTES};
+use sector_disk::{Disk, FILE_SECTORS, SECTOR_BYTES};
 use std::io;
 use store_documents::{Examined, Part, SlotState, examine, part_of};
 use store_layout::{JOURNAL_EVENTS, LAST_EPOCH};
@@ -27,7 +28,9 @@ pub fn check(rt: &HostRuntime, path: &str) -> Result<(), Stop> {
 }
 
 /// Tells what stands in the file, and returns its length.
-fn look(rt: &HostRuntime, path: &str, disk: &mut LockedDisk) -> Result<u64, Stop> {
+fn look(rt: &HostRuntime, path: &str, disk: &mut LockedDisk) -> Result<u64, Stop>
+    requires { FILE_SECTORS ≤ ⟦<LockedDisk as Disk>⟧.size disk.old }
+{
     let Ok(length) = length_of(rt, path) else {
         return Err(faulty());
     };

@@ -1,4 +1,5 @@
 //! A copy of a store.
+ghost use Rattle.std.specs.Prelude.{◌≡◌};
 
 use crate::checking::WHOLE;
 use crate::progress::Progress;
@@ -10,7 +11,7 @@ use host_files::{
     HostFault, LockedFile, is_there, length_of, lock_new, remove, rename_new, sync_folder,
 };
 use host_stores::{FileDisk, opened as opened_on};
-use sector_disk::FILE_SECTORS;
+use sector_disk::{Disk, FILE_SECTORS};
 use store_documents::{are_same, copy};
 
 // The number that is told beside those that were copied.
@@ -72,7 +73,7 @@ fn copy_aside(
     to: &str,
 ) -> Result<(), Stop> {
     let file = new_copy(rt, aside, to)?;
-    let mut made = copied(rt, path, disk, FileDisk::new(file));
+    let mut made = copied(rt, path, disk, FileDisk::with_sectors(file, disk.sectors()));
     if made.is_ok() {
         made = name_copy(rt, aside, to);
     }
@@ -104,7 +105,9 @@ fn copied(
     path: &str,
     disk: &mut LockedDisk,
     copy_disk: LockedDisk,
-) -> Result<(), Stop> {
+) -> Result<(), Stop>
+    requires { ⟦<LockedDisk as Disk>⟧.size copy_disk ≡ ⟦<LockedDisk as Disk>⟧.size disk.old }
+{
     let mut other = copy_disk;
     fill_copy(rt, path, disk, &mut other)?;
     opened_on(rt, other)?;
@@ -117,15 +120,18 @@ fn fill_copy(
     path: &str,
     disk: &mut LockedDisk,
     other: &mut LockedDisk,
-) -> Result<(), Stop> {
+) -> Result<(), Stop>
+    requires { ⟦<LockedDisk as Disk>⟧.size other.old ≡ ⟦<LockedDisk as Disk>⟧.size disk.old }
+{
+    let sectors = disk.sectors();
     let mut progress = Progress::new(rt, "of 15621 sectors copied");
-    let done = copy(disk, other, FILE_SECTORS, &mut progress);
+    let done = copy(disk, other, sectors, &mut progress);
     progress.end();
     if done.is_err() {
         let _ = eprintln!(rt; "desk: copying {path:?} failed; a copy needs 16 MB");
         return Err(Stop::Host);
     }
-    match are_same(disk, other, FILE_SECTORS) {
+    match are_same(disk, other, sectors) {
         Ok(true) => Ok(()),
         Ok(false) => {
             let _ = eprintln!(rt;
