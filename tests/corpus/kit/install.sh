@@ -12,7 +12,7 @@ for page in oberon desk; do cmp new/share/man/man1/$page.1 "$TESTS/../docs/$page
 PATH=$PWD/new/bin:$PATH
 oberon < "$TESTS/corpus/events/hello.in"
 oberon format my.disk
-desk import my.disk A.Text "$TESTS/corpus/events/hello.in" && desk export my.disk A.Text | head -n 1
+desk import my.disk A.Text="$TESTS/corpus/events/hello.in" && desk export my.disk A.Text | head -n 1
 "$tools/install" new/
 "$tools/install" --remove new
 echo "$?"

@@ -23,7 +23,7 @@ find root/usr -type f -printf '%M %P\n' | sort -k 2
 PATH=$PWD/root/usr/bin:$PATH
 oberon < "$TESTS/corpus/events/hello.in"
 oberon format my.disk
-desk import my.disk A.Text "$TESTS/corpus/events/hello.in" && desk export my.disk A.Text | head -n 1
+desk import my.disk A.Text="$TESTS/corpus/events/hello.in" && desk export my.disk A.Text | head -n 1
 desk --version | sed 's/commit [0-9a-f]*\( and changes since\)\{0,1\}/commit C/; s/no commit/commit C/; s/by .*/by a kit/'
 cmp root/usr/bin/oberon "$TESTS/../crates/oberon/out/oberon"
 cmp root/usr/libexec/nealtsjom/desk "$TESTS/../crates/desk/out/desk"
