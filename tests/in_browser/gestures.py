@@ -89,7 +89,7 @@ kinds = browsers()
 if not kinds:
     sys.exit(print('no browser here: skipped'))
 with open(FILE, encoding='utf-8') as file:
-    packed = base64.b64decode(re.search(r'id="wasm">\s*(\S+)\s*<', file.read())[1])
+    packed = base64.b64decode(re.search(r'id="wasm">\s*(\S+)\s*<', file.read())[1], b'._')
 module = base64.b64encode(zlib.decompress(packed, -15)).decode()
 all_gestures = [gesture() for _ in range(COUNT)]
 wanted = list(natively(all_gestures))

@@ -70,9 +70,10 @@ setInterval(async () => {
     if (there === false) tell({ kind: 'cleared' });
 }, 10000);
 
-// ---- The module, which stands here packed.
+// ---- The module, which stands here packed, in base64 with . and _ for its two signs.
 async function unpacked() {
-    const letters = atob(by('wasm').textContent.trim()), packed = Uint8Array.from(letters, letter => letter.charCodeAt(0));
+    const letters = atob(by('wasm').textContent.trim().replaceAll('.', '+').replaceAll('_', '/'));
+    const packed = Uint8Array.from(letters, letter => letter.charCodeAt(0));
     const stream = new Blob([packed]).stream().pipeThrough(new DecompressionStream('deflate-raw'));
     return new Uint8Array(await new Response(stream).arrayBuffer());
 }
