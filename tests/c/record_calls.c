@@ -1,7 +1,10 @@
-/* Preloaded before a program that has a store in a file. It makes each call as it is, and then adds it to the file RECORD:
-   a pwrite as `w`, its offset and its size in decimal, each before a blank, a line feed, and the bytes that it took; an
-   fdatasync that was done as the line `s`; a write to standard output as the line `a` and its size. */
+/* Preloaded before a program that has a store in a file. It makes each call by the next library, if another one is preloaded
+   behind it, and then adds it to the file RECORD:
+   a pwrite as `w`, its offset, its size and its file's number in decimal, each before a blank, a line feed, and the bytes
+   that it took; an fdatasync that was done as the line `s` and that number; a write to standard output as the line `a` and
+   its size. */
 #define _GNU_SOURCE
+#include <dlfcn.h>
 #include <fcntl.h>
 #include <stdio.h>
 #include <stdlib.h>
@@ -21,15 +24,18 @@ static void record(const char *head, const void *bytes, size_t size) {
 }
 
 ssize_t pwrite(int file, const void *bytes, size_t size, off_t to) {
-    ssize_t moved = syscall(SYS_pwrite64, file, bytes, size, to);
+    ssize_t (*made)(int, const void *, size_t, off_t) = dlsym(RTLD_NEXT, "pwrite");
+    ssize_t moved = made(file, bytes, size, to);
     char head[64];
-    if (moved >= 0) snprintf(head, sizeof head, "w %ld %ld\n", (long)to, (long)moved), record(head, bytes, moved);
+    if (moved >= 0) snprintf(head, sizeof head, "w %ld %ld %d\n", (long)to, (long)moved, file), record(head, bytes, moved);
     return moved;
 }
 
 int fdatasync(int file) {
-    int done = syscall(SYS_fdatasync, file);
-    if (!done) record("s\n", 0, 0);
+    int (*made)(int) = dlsym(RTLD_NEXT, "fdatasync");
+    int done = made(file);
+    char head[64];
+    if (!done) snprintf(head, sizeof head, "s %d\n", file), record(head, 0, 0);
     return done;
 }
 

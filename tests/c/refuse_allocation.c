@@ -1,5 +1,7 @@
-/* Preloaded before the program oberon: refuses one allocation, number REFUSE counted from 0, and makes the file REFUSED when it does. */
+/* Preloaded before a program: refuses one allocation, number REFUSE counted from 0, and makes the file REFUSED when it does. When
+   the program ends the file ALLOCATED has how many allocations there were. */
 #include <fcntl.h>
+#include <stdio.h>
 #include <stdlib.h>
 #include <unistd.h>
 
@@ -10,7 +12,8 @@ static long allocations;
 
 static int is_refused(void) {
     const char *wanted = getenv("REFUSE");
-    if (!wanted || allocations++ != atol(wanted)) return 0;
+    long number = allocations++;
+    if (!wanted || number != atol(wanted)) return 0;
     const char *told = getenv("REFUSED");
     int file = told ? open(told, O_CREAT | O_WRONLY, 0600) : -1;
     if (file >= 0) close(file);
@@ -20,3 +23,12 @@ static int is_refused(void) {
 void *malloc(size_t size) { return is_refused() ? 0 : __libc_malloc(size); }
 
 void *realloc(void *block, size_t size) { return is_refused() ? 0 : __libc_realloc(block, size); }
+
+__attribute__((destructor)) static void tell(void) {
+    const char *path = getenv("ALLOCATED");
+    long number = allocations;
+    FILE *file = path ? fopen(path, "w") : 0;
+    if (!file) return;
+    fprintf(file, "%ld\n", number);
+    fclose(file);
+}

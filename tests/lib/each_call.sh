@@ -13,7 +13,7 @@ with_a_failure() {
 # Makes attempts in which call 0, 1, 2 .. of the kind $1 fails, or before which the program is killed where $2 is `killed`,
 # until no such call is made any more. What each comes to is judged by `is_right $1`. Afterwards $status is that of the last
 # attempt, in which no call failed, and $tried is how many calls there are. Where few are to be tried these are the first six
-# and of the others one in seven.
+# and of the others one in seven, or in FEW.
 each_call() {
     tried=0
     while :; do
@@ -21,6 +21,6 @@ each_call() {
         status=$?
         grep -q "${2:-failed}" calls || return
         is_right "$1" || echo "$1 $tried ${2:-refused}: status $status, $(head -c 200 got said)"
-        [ $tried -lt 6 ] && tried=$((tried + 1)) || tried=$((tried + $(trials 1 7)))
+        [ $tried -lt 6 ] && tried=$((tried + 1)) || tried=$((tried + $(trials 1 ${FEW:-7})))
     done
 }

@@ -31,15 +31,17 @@ const listed = names => names.length > 3 ? `${names.slice(0, 3).join(', ')} and 
 async function importFiles(files) {
     const names = distinctNames(files), documents = [];
     for (const [i, file] of files.entries()) documents.push({ name: names[i], bytes: await bytesOf(file, LONGEST_FILE) });
-    const { there } = await ask('there', { names });
+    const { there, failed } = await ask('there', { names });
+    if (failed) return null;
     const asks = `There ${there.length > 1 ? 'are documents' : 'is a document'} ${listed(there)} in this desktop. ` +
         'Put what is imported in its place? Cancel imports nothing.';
     if (there.length && !confirm(asks)) return tell({ said: 'Nothing was imported.' });
     state.changed = true;
     const answer = await ask('bring', { documents });
+    if (answer.failed) return null;
     if (answer.refused) {
-        const file = files[names.indexOf(answer.of)].name;
-        return tell({ said: `“${file}”: ${wordsOf(answer.refused)} Nothing was imported.` });
+        const of = answer.of ? `“${files[names.indexOf(answer.of)].name}”: ` : '';
+        return tell({ said: `${of}${wordsOf(answer.refused)} Nothing was imported.` });
     }
     tell({ said: imported(files, names) });
     return askToKeep();
@@ -67,7 +69,8 @@ function download(bytes, name) {
 async function giveOut() {
     const name = prompt('Which document? It has to be stored (Edit.Store).', 'A.Text');
     if (!name) return;
-    const { refused, bytes } = await ask('give', { name });
+    const { refused, bytes, failed } = await ask('give', { name });
+    if (failed) return;
     if (refused) tell({ said: `${name}: ${wordsOf(refused)}` }); else download(bytes, name);
 }
 

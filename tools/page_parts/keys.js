@@ -5,7 +5,7 @@ const LETTERS = {
     ArrowUp: 'A', ArrowDown: 'B', ArrowRight: 'C', ArrowLeft: 'D', End: 'F', Home: 'H', F1: 'P', F2: 'Q', F3: 'R', F4: 'S',
 };
 const NUMBERS = { Delete: 3, PageUp: 5, PageDown: 6, F5: 15, F6: 17, F7: 18, F8: 19, F9: 20, F10: 21, F11: 23 };
-const MEANT = new Set('aefghoqrstwyz[');                 // letters that mean something with Ctrl; C, X and V come as events
+const MEANT = new Set('aefghkoqrstwyz[');                 // letters that mean something with Ctrl; C, X and V come as events
 const MAC = /^(Mac|iP)/.test(navigator.platform);
 function control(letter) {                                // the byte of a letter with Ctrl
     return String.fromCharCode(letter.toUpperCase().charCodeAt(0) & 31);
@@ -123,57 +123,29 @@ keys.addEventListener('compositionstart', () => { composing = true; standAtCaret
 keys.addEventListener('compositionend', commit);
 keys.addEventListener('blur', () => { if (composing) commit(); });
 
-// ---- Copying. What the desktop copies goes to the clipboard too, whole or not at all; from there it comes with its looks.
-// A module that can't hand out what is selected (`selection` is null) is asked over copies of the store, by way of the viewers
-// in which a text can be stored; what came of it holds until the next scene.
+// ---- Copying. What the desktop copies goes to the clipboard too, whole; from there it comes with its looks.
 let copied = null;                                        // what the clipboard has of the desktop
-function clickBytes(button, x, y) {
-    return `\x1b[<${button};${x + 1};${y + 1}M\x1b[<${button};${x + 1};${y + 1}m`;
-}
-function viewersThatStore() {
-    return titles(0, BORDER).flatMap(y => {
-        const row = rowOf(y, 0, BORDER), store = /(?<=Edit\.Search +)Edit[.\w]*/.exec(row);
-        if (!store) return [];
-        return [{ name: row.split('|')[0].trim(), first: clickBytes(LEFT, 1, y + 1), store: clickBytes(MIDDLE, store.index, y) }];
-    });
-}
-async function askWhole() {
-    const of = drawn, { selected } = await ask('selected', { viewers: viewersThatStore() });
-    if (of === drawn) whole = { selected };
-    return selected;
-}
-keys.addEventListener('keydown', ({ key, repeat }) => {   // Ctrl may become Ctrl-C: it is asked for beforehand
-    if (repeat || !/^(Control|Meta)$/.test(key) || selection !== null || whole) return;
-    if (texts().some(text => text.marked)) askWhole();
-});
-const NOT_WHOLE = 'This page can\'t hand out all that is selected:', BLANK = ' ';
-function forClipboard(text, isCut) {                      // of what is selected: '' where nothing is, null where it isn't known
-    return text ?? (isCut ? '' : BLANK);
-}
-function copy(event, isCut) {
+function copy(event, letter) {
     event.preventDefault();
-    if (selection === null && !whole) return copyLater(isCut);  // a quick hand, or a selection out of sight
-    const text = selection ?? whole.selected, given = forClipboard(text, isCut);
-    if (given) event.clipboardData.setData('text/plain', given);
-    return goOn(text, isCut);
+    if (asked.size) return copyLater(letter);             // a quick hand: what is selected now isn't known yet
+    if (selection) event.clipboardData.setData('text/plain', selection);
+    return goOn(selection, letter);
 }
-async function copyLater(isCut) {
-    const text = await askWhole(), given = forClipboard(text, isCut);
+async function copyLater(letter) {
+    const { selected } = await ask('selected');
     try {
-        if (given) await navigator.clipboard.writeText(given);
-        goOn(text, isCut);
+        if (selected) await navigator.clipboard.writeText(selected);
+        goOn(selected, letter);
     } catch {
         tell({ said: 'The browser didn\'t give the clipboard: press that again.' });
     }
 }
-function goOn(text, isCut) {
-    if (text === null && isCut) return tell({ said: `${NOT_WHOLE} nothing was cut. Ctrl-C copies it for this desktop.` });
-    if (text === null) tell({ said: `${NOT_WHOLE} it is copied for this desktop alone, and the clipboard has a blank.` });
-    if (text !== '') copied = text ?? BLANK;
-    return send(isCut ? control('x') : control('c'));
+function goOn(text, letter) {
+    if (text) copied = text;
+    return send(control(letter));
 }
-keys.addEventListener('copy', event => copy(event, false));
-keys.addEventListener('cut', event => copy(event, true));
+keys.addEventListener('copy', event => copy(event, 'c'));
+keys.addEventListener('cut', event => copy(event, 'x'));
 addEventListener('paste', event => {
     const text = event.clipboardData.getData('text');
     event.preventDefault();

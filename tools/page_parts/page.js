@@ -3,10 +3,10 @@ const WELCOME = [
     'Oberon\'s desktop, proved. Close this tab amid a',
     'word: nothing you saw is lost. Five steps:', '',
     '1 Type: the caret is below. Each key is on the',
-    '  disk before you see it. Ctrl-Z takes it back.',
+    '  disk before you see it. Ctrl-Z undoes it.',
     '2 Press "Pull the plug": all ends, and is there.',
     '3 Double click a command: System.Directory',
-    '4 Draw over words with the right button (or F3),',
+    '4 Drag over words with the right button (or F3),',
     '  then double click Edit.ChangeColor 3',
     '5 Ctrl-S stores this text under the name above.', '', '',
 ];

@@ -1,7 +1,7 @@
 // ---- What is shown. Each line of a drawing but the first and the last is an element: those that changed are replaced.
 const WIDE = 9, HIGH = 19, COLUMNS = 80, ROWS = 32, BORDER = 50;  // of a cell, the screen, and where the system's track begins
 const SELECTED = '#afd7ff';
-let drawn = [], lastRead = 0, selection = null, whole = null;
+let drawn = [], lastRead = 0, selection = '';           // what is selected, all of it
 function draw(svg) {
     const lines = svg.split('\n').slice(1, -2), root = screen_.firstChild, least = Math.min(lines.length, drawn.length);
     let low = 0, high = 0;                                // how many lines are as before, from the first and from the last
@@ -39,7 +39,6 @@ function show(scene) {
     if (scene.pointer || by('pointer')) point(scene.pointer);
     setLine(scene.status ? wordsOf(scene.status) : scene.line);
     selection = scene.selected;
-    whole = null;
     clearTimeout(lastRead);
     lastRead = setTimeout(tellReaders, 150);              // a reader of the screen has time
     if (scene.rings || scene.status) ring();

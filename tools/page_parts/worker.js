@@ -2,6 +2,7 @@
 // after the one before, before what they led to is shown.
 const DRAWING = 0, LINE = 1, CALLS = 2, TEXT = 3;         // what the module hands out
 const ENDS = [1, 2, 3, 4, 5];                             // statuses after which nothing is kept; status.js has the words
+const NO_ROOM = 9;                                        // the status where documents don't fit, one or all of them
 const none = new Uint8Array(0);
 const text = bytes => new TextDecoder().decode(bytes), spelled = words => new TextEncoder().encode(words);
 const told = error => error?.message || error?.name || error;
@@ -38,15 +39,8 @@ class Desk {
         this.module.page_give_back(at);
         return bytes;
     }
-    selected() {                                          // null where the module can't tell what is selected
-        if (!this.module.page_copied) return null;
+    selected() {                                          // all of it; '' where nothing is
         return this.call('page_copied') ? '' : text(this.made(TEXT));
-    }
-    press(words) {                                        // of which nothing goes to a medium: for a copy of the store
-        return this.call('page_press', spelled(words)) || this.module.page_rings(this.held);
-    }
-    given(name) {                                         // the text of a document, or null
-        return this.call('page_give', spelled(name)) ? null : text(this.made(TEXT));
     }
     scene(status) {
         const { page_rings: rings, page_leaves: leaves, page_pointer: pointer } = this.module, held = this.held;
@@ -104,27 +98,6 @@ async function replaced(sectors) {                        // this one in the pla
     over = false;
     return opening(false);
 }
-async function copyOfDesk() {                             // over a copy of the store, in which anything can be tried
-    return Desk.of(code, used(await medium.load()));
-}
-async function selectedBy({ first, store, name }) {       // what is selected, by way of a viewer; null where that fails
-    const copy = await copyOfDesk();
-    if (copy.press('\x03')) return '';                    // nothing is selected
-    copy.press(first + '\x1b[1;5H');                      // the caret goes to the beginning of its text
-    copy.press(first + store);
-    const before = copy.given(name);
-    copy.press('\x16' + store);
-    const after = copy.given(name);
-    return after?.endsWith(before) ? after.slice(0, after.length - before.length) || null : null;
-}
-async function tried(documents) {                         // which of them the desktop wouldn't take
-    const copy = await copyOfDesk();
-    for (const { name, bytes } of documents) {
-        const refused = copy.call('page_bring', spelled(name), bytes);
-        if (refused) return { refused, of: name };
-    }
-    return null;
-}
 const ASKED = {
     async open({ store, module }) {
         code = module;
@@ -141,27 +114,18 @@ const ASKED = {
     press: ({ press }) => done(desk.call('page_press', press)),
     there: ({ names }) => ({ there: names.filter(name => desk.call('page_give', spelled(name)) === 0) }),
     async bring({ documents }) {                          // all of them, or none where one is refused
-        const refused = documents.length > 1 && await tried(documents);
-        if (refused) return refused;
-        let scene;
-        for (const { name, bytes } of documents) {
-            const status = desk.call('page_bring', spelled(name), bytes);
-            scene = await done(0);
-            if (status) return { ...scene, refused: status, of: name };
+        for (const [i, { name, bytes }] of documents.entries()) {
+            const isLast = i === documents.length - 1;
+            const refused = desk.call(isLast ? 'page_bring' : 'page_bring_more', spelled(name), bytes);
+            if (refused) return { refused, of: refused === NO_ROOM ? '' : name };
         }
-        return scene;
+        return done(0);
     },
     give({ name }) {
         const refused = desk.call('page_give', spelled(name));
         return refused ? { refused } : { bytes: desk.made(TEXT) };
     },
-    async selected({ viewers }) {                         // where the module doesn't hand it out: tried over copies
-        for (const viewer of viewers) {
-            const selected = await selectedBy(viewer);
-            if (selected !== null) return { selected };
-        }
-        return { selected: null };
-    },
+    selected: () => ({ selected: desk.selected() }),
     save: async () => ({ bytes: await medium.load() }),
     load: ({ bytes }) => replaced(used(bytes)),
     anew: async () => replaced((await newDesk())[1]),

@@ -1,40 +1,34 @@
 -- The events for a wish lead the caret where it is wished, and change nothing else.
 use Rattle.std.specs.Prelude.{◌≡◌, ℕ, zero, suc, ◌+◌, ◌-◌, ◌<◌, ◌≤◌, ◌==◌, ◌&&◌, nat_le, nat_lt, min, Bool, true, false}
-use Rattle.std.specs.Prelude.{◌⊎◌, if◌then◌else◌, List, [], ◌∷◌, ◌++◌, length, Option, Some, None, IfSome, IsSome, Result, Ok, Err, IfOk}
-use Rattle.std.specs.Option.{option_map, unwrap_or, ok_or}
+use Rattle.std.specs.Prelude.{◌⊎◌, if◌then◌else◌, List, [], ◌∷◌, length, Option, Some, None, IfSome, IsSome, Result, Ok, Err, IfOk}
+use Rattle.std.specs.Option.{unwrap_or, ok_or}
 use Rattle.std.proofs.Common.{refl, sym, ap, subst, ◌∙◌, inl, inr, arith}
-use Rattle.std.proofs.lemmas.Bool.{eq-eqb, eqb-true, lt-ltb, le-ltb, le-leb, ltb-true, and_parts}
-use Rattle.std.proofs.lemmas.Bool.Decides.{eqb_tells}
+use Rattle.std.proofs.lemmas.Bool.{eq-eqb, eqb-true, le-leb, ltb-true, and_parts}
 use Rattle.std.proofs.lemmas.List.{length-map}
-use Rattle.event_bytes.specs.declared.keys.Keys.TheVariants.{Left}
 use Rattle.event_bytes.specs.declared.keys.Key.TheVariants.{Back}
 use Rattle.event_bytes.specs.declared.event.Event.{Event}
 use Rattle.event_bytes.specs.declared.event.Event.TheVariants.{Key}
+use Rattle.event_bytes.specs.Bytes.{carriage_return}
 use Rattle.piece_ring.specs.declared.piece.Look.{Look}
 use Rattle.viewer_tracks.specs.declared.display.Track.{Track}
 use Rattle.viewer_tracks.specs.declared.display.Track.TheVariants.{User, System}
-use Rattle.viewer_tracks.specs.declared.display.TheConstants.{ROWS, COLUMNS, SYSTEM_LEFT}
-use Rattle.viewer_tracks.specs.Display.{track_at, left_of}
-use Rattle.viewer_tracks.specs.Columns.{IsColumns, IsOnTop, track_of, placed_top, seen_at}
+use Rattle.viewer_tracks.specs.Columns.{IsOnTop, track_of, placed_bottom, placed_top}
 use Rattle.screen_pictures.specs.Picture.{width_of}
 use Rattle.text_frames.specs.Lines.{begins_line}
 use Rattle.text_frames.specs.Cells.{column_of, row_of, position_at}
 use Rattle.text_frames.specs.Rules.{is_in_rows}
-use Rattle.desktop_definitions.specs.declared.region.Region.TheVariants.{Menu, Bar, Body}
 use Rattle.desktop_definitions.specs.declared.reply.Reply.TheVariants.{Done}
 use Rattle.desktop_definitions.specs.declared.viewer.Viewer.{Viewer}
 use Rattle.desktop_definitions.specs.declared.viewer.Caret.{Caret}
-use Rattle.desktop_definitions.specs.Limits.{newest_version, most_written, most_held, outside}
-use Rattle.desktop_definitions.specs.Needs.{unless}
+use Rattle.desktop_definitions.specs.Limits.{most_written, most_held}
 use Rattle.desktop_definitions.specs.Tables.{text_numbered}
 use Rattle.desktop_definitions.specs.Desktop.{Desktop, characters_held}
 use Rattle.desktop_definitions.specs.Viewers.{bare_viewer, viewer_in, viewer_of, main_of, text_in, text_of, rows_of}
 use Rattle.desktop_definitions.specs.Viewers.{with_org, with_caret}
 use Rattle.desktop_definitions.specs.Change.{bytes_of, caret_shown, deletion}
 use Rattle.desktop_definitions.specs.Changed.{CountsHeld}
-use Rattle.desktop_definitions.specs.Gesture.{is_on_display, left, width, part_of, region_at, frame_row, text_column}
-use Rattle.desktop_definitions.specs.Gesture.{text_row, text_position, pointed, done_at}
-use Rattle.desktop_definitions.specs.Keys.{after_key, without_character_before}
+use Rattle.desktop_definitions.specs.Gesture.{width}
+use Rattle.desktop_definitions.specs.Keys.{after_key, after_typing, without_character_before}
 use Rattle.desktop_definitions.specs.Step.{step, step_in, raw, outcome_after, outcome_of, fits}
 use Rattle.desktop_definitions.specs.Sound.{IsSound}
 use Rattle.desktop_definitions.proofs.ChangeLaws.{with_org_counts, with_caret_counts, counts_further, deletion_counts}
@@ -43,84 +37,26 @@ use Rattle.desktop_definitions.proofs.RowLaws.{shown_rest, fit_sound}
 use Rattle.desktop_definitions.proofs.StepLaws.{settled_done}
 use Rattle.desk_input.specs.Lines.{lines_in_sight}
 use Rattle.desk_input.specs.Scrolling.{line_presses, LeadTo}
-use Rattle.desk_input.proofs.BarLaws.{seen_left, seen_across}
-use Rattle.desk_input.proofs.ScrollLaws.{line_leads, org_found, org_own, step_leads, there}
+use Rattle.desk_input.proofs.ScrollLaws.{line_leads, org_found, org_own, there}
 use Rattle.caret_moves.specs.declared.wish.Step.{Step as AStep}
+use Rattle.caret_moves.specs.declared.wish.CaretCommand.{CaretCommand}
 use Rattle.caret_moves.specs.declared.wish.KeyWish.{KeyWish}
-use Rattle.caret_moves.specs.declared.wish.KeyWish.TheVariants.{Step, DeleteNext}
+use Rattle.caret_moves.specs.declared.wish.KeyWish.TheVariants.{Select, SelectOn, SelectAll, CutSelected, CutLine}
+use Rattle.caret_moves.specs.declared.wish.KeyWish.TheVariants.{Step, DeleteNext, Call, CallLine, Mark as MarkWish, Break, Place}
+use Rattle.caret_moves.specs.Filling.{line_break, IsBreak}
 use Rattle.caret_moves.specs.declared.wish.WhyNot.{WhyNot}
-use Rattle.caret_moves.specs.declared.wish.WhyNot.TheVariants.{NoRow, TooFar, NothingBehind, PastEdge}
+use Rattle.caret_moves.specs.declared.wish.WhyNot.TheVariants.{NoRow, TooFar, NothingBehind, PastEdge, NotInSight}
 use Rattle.caret_moves.specs.Steps.{column_cut}
 use Rattle.caret_moves.specs.Leading.{text_width, text_click, step_goal_in, org_in, has_column, landing_in, stood, after_wish}
-use Rattle.caret_moves.specs.Leading.{click_for, org_presses, events_to, and_back, led_from, led_with, led, DoesWish}
+use Rattle.caret_moves.specs.Leading.{click_for, org_presses, events_to, and_back, led_from, led_with, led, Fulfils, DoesWish}
 use Rattle.caret_moves.proofs.RowLaws.{org_shown, org_begins, org_from, sight_is, lands_there}
 use Rattle.caret_moves.proofs.StepLaws.{stepped_within}
-
--- ---- events one after another
-
-pub leads_on : (d mid last : Desktop) (xs ys : List Event) → LeadTo d xs mid → LeadTo mid ys last → LeadTo d (xs ++ ys) last
-leads_on d mid last [] ys first rest = subst (λ (x : Desktop). LeadTo x ys last) (sym first) rest
-leads_on d mid last (x ∷ xs) ys first rest = (first.0, leads_on (step d x).desktop mid last xs ys first.1 rest)
-
-leads_more : (d mid last : Desktop) (event : Event) (events : Option (List Event))
-    → IfSome events (λ events. LeadTo d events mid) → step mid event ≡ outcome_of last Done
-    → IfSome (option_map (λ events. events ++ event ∷ []) events) (λ events. LeadTo d events last)
-leads_more d mid last event None lead is = tt
-leads_more d mid last event (Some events) lead is =
-    leads_on d mid last events (event ∷ []) lead (step_leads mid last last event [] is refl)
-
--- ---- a click in a viewer's text
-
-in_track : (k : Track) (column : ℕ) → column + 1 < width_of k → track_at (left_of k + 1 + column) ≡ k
-in_track User column low = ap (λ (b : Bool). if b then User else System)
-    (lt-ltb (0 + 1 + column) SYSTEM_LEFT (omega (arith, low)))
-in_track System column low = ap (λ (b : Bool). if b then User else System)
-    (le-ltb (SYSTEM_LEFT + 1 + column) SYSTEM_LEFT (omega arith))
-
-in_display : (k : Track) (column : ℕ) → column + 1 < width_of k → left_of k + 1 + column < COLUMNS
-in_display User column low = omega (arith, low)
-in_display System column low = omega (arith, low)
-
-module _ (d : Desktop) (v column row : ℕ) (columns : IsColumns d.columns) (top : IsOnTop v d.columns)
-    (narrow : column + 1 < width d v) (low : row < rows_of d v) where
-  is_body : region_at d (left d v + 1 + column) (frame_row d v row) ≡ Body v
-  unfolding region_at
-  is_body =
-      let x = left d v + 1 + column in
-      let y = frame_row d v row in
-      let seen : seen_at d.columns x y ≡ Some v = seen_across d.columns v x y columns top
-      (in_track (track_of d.columns v) column narrow) (omega (arith, low)) (omega (arith, low)) in
-      let below : (y + 1 == placed_top d.columns v) ≡ false = elim (eqb_tells (y + 1) (placed_top d.columns v)) [
-        | inl same ↦ absurd (let no : ⊥ = omega (arith, same.1, low) in no)
-        | inr other ↦ other.0
-      ] in
-      let right : (x == left d v) ≡ false = elim (eqb_tells x (left d v)) [
-        | inl same ↦ absurd (let no : ⊥ = omega (arith, same.1) in no)
-        | inr other ↦ other.0
-      ] in
-      ap (part_of d x y) seen ∙ (λ k. if below k then Menu v else (if right k then Bar v else Body v))
-
-  on_display : is_on_display (left d v + 1 + column) (frame_row d v row) ≡ true
-  on_display =
-      let y = frame_row d v row in
-      let here = seen_left d.columns v y columns top (omega (arith, low)) (omega (arith, low)) in
-      λ k. lt-ltb (left d v + 1 + column) COLUMNS (in_display (track_of d.columns v) column narrow) k
-      && lt-ltb y ROWS (let fits = here.top in omega (arith, low, fits)) k
-
-  column_is : text_column d v (left d v + 1 + column) ≡ column
-  column_is = omega (arith, narrow)
-
-  row_is : text_row d v (frame_row d v row) ≡ row
-  row_is = omega (arith, low)
-
-  is_done_at : raw newest_version d (text_click d v column row)
-      ≡ Ok (with_caret d v (position_at (bytes_of (main_of d v)) (viewer_of d v).org column row))
-  unfolding raw pointed text_click text_position done_at
-  is_done_at =
-      let x = left d v + 1 + column in
-      let y = frame_row d v row in
-      (λ k. unless (on_display k && on_display k) outside (pointed newest_version d (is_body k) Left x y x y))
-      ∙ (λ k. Ok (with_caret d v (position_at (bytes_of (main_of d v)) (viewer_of d v).org (column_is k) (row_is k))))
+use Rattle.caret_moves.proofs.CallLaws.{call_leads}
+use Rattle.caret_moves.specs.Leading.{near_events, place_wished, line_end, and_line_end, ended_led, break_led, break_in, LeadThen, BreaksLine}
+use Rattle.caret_moves.proofs.BreakLaws.{break_low, breaks_behind}
+use Rattle.caret_moves.proofs.ClickLaws.{is_done_at, leads_more, leads_then}
+use Rattle.caret_moves.proofs.LineLaws.{line_calls, mark_leads}
+use Rattle.caret_moves.proofs.StretchLaws.{step_selected, step_selected_on, all_selected, selected_cut, line_cut}
 
 module _ (d : Desktop) (v : ℕ) (sound : IsSound d) (top : IsOnTop v d.columns) where
   caret_fits : (b p : ℕ) → fits (with_caret (with_org d v b) v p) ≡ true
@@ -260,7 +196,7 @@ module _ (d : Desktop) (sound : IsSound d) (c : Caret) (is : d.caret ≡ Some c)
   c_within = (sound.shaped.marks.caret_stands c is).within
 
   step_led : (s : AStep) → 0 < rows_of d c.viewer
-      → IfOk (led_from d c.viewer c.position (Step s)) (λ events. LeadTo d events (after_wish d c (Step s)))
+      → IfOk (led_from d c.viewer c.position (Step s)) (Fulfils d c (Step s))
   unfolding led_from after_wish step_goal_in
   step_led s some =
       let bs = bytes_of (main_of d c.viewer) in
@@ -284,8 +220,7 @@ module _ (d : Desktop) (sound : IsSound d) (c : Caret) (is : d.caret ≡ Some c)
       ≡ outcome_of (without_character_before (with_caret (with_org d c.viewer t) c.viewer q) spot) Done) (sym lands)
       (back_steps d c.viewer sound c_top t p low))
 
-  delete_leads : 0 < rows_of d c.viewer
-      → IfOk (led_from d c.viewer c.position DeleteNext) (λ events. LeadTo d events (after_wish d c DeleteNext))
+  delete_leads : 0 < rows_of d c.viewer → IfOk (led_from d c.viewer c.position DeleteNext) (Fulfils d c DeleteNext)
   unfolding led_from
   delete_leads some = (elim (nat_lt c.position (length (main_of d c.viewer))) as (λ (b : Bool).
       nat_lt c.position (length (main_of d c.viewer)) ≡ b
@@ -302,15 +237,122 @@ module _ (d : Desktop) (sound : IsSound d) (c : Caret) (is : d.caret ≡ Some c)
         | false ↦ λ none. tt
       ]) refl
 
-  wish_led : (wish : KeyWish) → 0 < rows_of d c.viewer
-      → IfOk (led_from d c.viewer c.position wish) (λ events. LeadTo d events (after_wish d c wish))
+  stand_led : 0 < rows_of d c.viewer → (p : ℕ) → p ≤ length (main_of d c.viewer)
+      → IfSome (events_to d c.viewer p) (λ events. LeadTo d events (stood d c.viewer p))
+  stand_led some p low = events_lead d c.viewer sound c_top p low some
+
+  -- ---- a line is broken
+
+  typed_step : (x : Desktop) → step x line_end ≡ outcome_after x (after_typing x (carriage_return ∷ []))
+  unfolding step step_in raw
+  typed_step x = refl
+
+  abbrev Ends : ℕ → List Event → Type 0
+  Ends q events =
+      let mid = with_caret (with_org d c.viewer (org_in d c.viewer q)) c.viewer q in
+      LeadThen d events mid (outcome_after mid (after_typing mid (carriage_return ∷ [])))
+
+  near_lead : 0 < rows_of d c.viewer → (q : ℕ) → q ≤ length (main_of d c.viewer)
+      → IfSome (near_events d c.viewer q) (λ events. LeadTo d events (stood d c.viewer q))
+  unfolding near_events
+  near_lead some q low = elim (org_in d c.viewer q == (viewer_of d c.viewer).org) as (λ (b : Bool).
+      IfSome (if b then events_to d c.viewer q else None) (λ events. LeadTo d events (stood d c.viewer q))) [
+        | true ↦ events_lead d c.viewer sound c_top q low some
+        | false ↦ tt
+      ]
+
+  place_leads : (n : ℕ) → 0 < rows_of d c.viewer
+      → IfOk (led_from d c.viewer c.position (Place n)) (Fulfils d c (Place n))
+  unfolding led_from after_wish
+  place_leads n some = if_ok_or (λ events. LeadTo d events (stood d c.viewer (place_wished d c.viewer n)))
+      (near_events d c.viewer (place_wished d c.viewer n)) NotInSight
+      (near_lead some (place_wished d c.viewer n) (omega arith))
+
+  ended_there : 0 < rows_of d c.viewer → (q : ℕ) → q ≤ length (main_of d c.viewer) → has_column d c.viewer q ≡ true
+      → IfSome (and_line_end (near_events d c.viewer q)) (Ends q)
+  unfolding stood
+  ended_there some q low column =
+      let v : ℕ = c.viewer in
+      let mid : Desktop = with_caret (with_org d v (org_in d v q)) v q in
+      leads_then d mid line_end (outcome_after mid (after_typing mid (carriage_return ∷ []))) (near_events d v q)
+      (subst (λ (r : ℕ). IfSome (near_events d v q) (λ events. LeadTo d events (with_caret (with_org d v (org_in d v q)) v r)))
+      (lands_in d v sound c_top q low column) (near_lead some q low))
+      (typed_step mid)
+
+  ended_leads : 0 < rows_of d c.viewer → (q : ℕ) → q ≤ length (main_of d c.viewer) → IfOk (ended_led d c.viewer q) (Ends q)
+  ended_leads some q low = (elim (has_column d c.viewer q) as (λ (b : Bool). has_column d c.viewer q ≡ b
+      → IfOk (if b then ok_or (and_line_end (near_events d c.viewer q)) NotInSight else Err PastEdge) (Ends q)) [
+        | true ↦ λ column. if_ok_or (Ends q) (and_line_end (near_events d c.viewer q)) NotInSight
+            (ended_there some q low column)
+        | false ↦ λ none. tt
+      ]) refl
+
+  by_break : 0 < rows_of d c.viewer → (o : Option ℕ) → IfSome o (λ q. q ≤ length (main_of d c.viewer))
+      → IfOk (break_led d c.viewer c.position o) (λ events. BreaksLine d events c o)
+  by_break some None low = tt
+  by_break some (Some q) low = elim (q == c.position) as (λ (b : Bool).
+      IfOk (if b then Ok (line_end ∷ []) else ended_led d c.viewer q) (λ events.
+      let mid = if b then d else with_caret (with_org d c.viewer (org_in d c.viewer q)) c.viewer q in
+      LeadThen d events mid (outcome_after mid (after_typing mid (carriage_return ∷ []))))) [
+        | true ↦ (refl, typed_step d)
+        | false ↦ ended_leads some q low
+      ]
+
+  breaks_within : (n : ℕ) → IfSome (break_in d c.viewer n c.position) (λ q. q ≤ length (main_of d c.viewer))
+  unfolding break_in
+  breaks_within n =
+      let long : length (bytes_of (main_of d c.viewer)) ≡ length (main_of d c.viewer) =
+      length-map (main_of d c.viewer) (λ (x : ℕ × Look). x.0) in
+      subst (λ (m : ℕ). IfSome (line_break (bytes_of (main_of d c.viewer)) (text_width d c.viewer) n c.position) (λ q. q ≤ m))
+      long (break_low (bytes_of (main_of d c.viewer)) c.position (text_width d c.viewer) n (omega (arith, c_within, long)))
+
+  break_leads : (n : ℕ) → 0 < rows_of d c.viewer
+      → IfOk (led_from d c.viewer c.position (Break n)) (Fulfils d c (Break n))
+  unfolding led_from
+  break_leads n some = by_break some (break_in d c.viewer n c.position) (breaks_within n)
+
+  pub broken_behind : (n : ℕ) → IfSome (break_in d c.viewer n c.position)
+      (IsBreak (bytes_of (main_of d c.viewer)) c.position)
+  unfolding break_in
+  broken_behind n = breaks_behind (bytes_of (main_of d c.viewer)) c.position (text_width d c.viewer) n
+
+  text_long : c.position ≤ length (bytes_of (main_of d c.viewer))
+  text_long = let long = length-map (main_of d c.viewer) (λ (x : ℕ × Look). x.0) in
+      let is : length (bytes_of (main_of d c.viewer)) ≡ length (main_of d c.viewer) = long in omega (arith, c_within, is)
+
+  some_place : 0 < rows_of d c.viewer → placed_bottom d.columns c.viewer < placed_top d.columns c.viewer
+  some_place some = omega (arith, some)
+
+  mark_led : 0 < rows_of d c.viewer → IfOk (led_from d c.viewer c.position MarkWish) (Fulfils d c MarkWish)
+  unfolding led_from after_wish
+  mark_led some = mark_leads d c.viewer sound c_top c.position text_long (some_place some)
+
+  line_called : IfOk (led_from d c.viewer c.position CallLine) (Fulfils d c CallLine)
+  unfolding led_from
+  line_called = line_calls d c.viewer sound c_top c.position text_long
+
+  command_called : (command : CaretCommand) → 0 < rows_of d c.viewer
+      → IfOk (led_from d c.viewer c.position (Call command)) (Fulfils d c (Call command))
+  unfolding led_from
+  command_called command some = call_leads d c.viewer sound c_top (some_place some) command
+
+  wish_led : (wish : KeyWish) → 0 < rows_of d c.viewer → IfOk (led_from d c.viewer c.position wish) (Fulfils d c wish)
   wish_led (Step s) some = step_led s some
   wish_led DeleteNext some = delete_leads some
+  wish_led (Call command) some = command_called command some
+  wish_led CallLine some = line_called
+  wish_led MarkWish some = mark_led some
+  wish_led (Select s) some = step_selected d sound c c_top c_within (stand_led some) s
+  wish_led (SelectOn s) some = step_selected_on d sound c c_top c_within (stand_led some) s
+  wish_led SelectAll some = all_selected d sound c c_top c_within (stand_led some)
+  wish_led CutSelected some = selected_cut d sound c c_top c_within
+  wish_led CutLine some = line_cut d sound c c_top c_within
+  wish_led (Break n) some = break_leads n some
+  wish_led (Place n) some = place_leads n some
 
-  leads_from : (wish : KeyWish) → IfOk (led_with d (Some c) wish) (λ events. LeadTo d events (after_wish d c wish))
+  leads_from : (wish : KeyWish) → IfOk (led_with d (Some c) wish) (Fulfils d c wish)
   leads_from wish = (elim (rows_of d c.viewer == 0) as (λ (b : Bool). (rows_of d c.viewer == 0) ≡ b
-      → IfOk (if b then Err NoRow else led_from d c.viewer c.position wish)
-      (λ events. LeadTo d events (after_wish d c wish))) [
+      → IfOk (if b then Err NoRow else led_from d c.viewer c.position wish) (Fulfils d c wish)) [
         | true ↦ λ none. tt
         | false ↦ λ other. wish_led wish (some_row (rows_of d c.viewer) other)
       ]) refl
@@ -321,7 +363,7 @@ module _ (d : Desktop) (sound : IsSound d) (c : Caret) (is : d.caret ≡ Some c)
 
 module _ (d : Desktop) (sound : IsSound d) (wish : KeyWish) where
   by_caret : (caret : Option Caret) → d.caret ≡ caret
-      → IfSome caret (λ c. IfOk (led_with d caret wish) (λ events. LeadTo d events (after_wish d c wish)))
+      → IfSome caret (λ c. IfOk (led_with d caret wish) (Fulfils d c wish))
   by_caret None is = tt
   by_caret (Some c) is = leads_from d sound c is wish
 
@@ -330,10 +372,15 @@ module _ (d : Desktop) (sound : IsSound d) (wish : KeyWish) where
   all_land None is = tt
   all_land (Some c) is = λ p low column. lands_in d c.viewer sound (sound.shaped.marks.caret_stands c is).placed p low column
 
+  all_break : (caret : Option Caret) → d.caret ≡ caret → IfSome caret (λ c. (n : ℕ)
+      → IfSome (break_in d c.viewer n c.position) (IsBreak (bytes_of (main_of d c.viewer)) c.position))
+  all_break None is = tt
+  all_break (Some c) is = λ n. broken_behind d sound c is n
+
   -- The events for a wish lead to it.
   pub wish_leads : DoesWish d wish (led d wish)
   unfolding led
-  wish_leads = record { exact = refl; lead = by_caret d.caret refl; lands = all_land d.caret refl }
+  wish_leads = record { exact = refl; lead = by_caret d.caret refl; lands = all_land d.caret refl; breaks = all_break d.caret refl }
 
   pub told_leads : (told : Result (List Event) WhyNot) → told ≡ led d wish → DoesWish d wish told
   told_leads told is = subst (λ (r : Result (List Event) WhyNot). DoesWish d wish r) (sym is) wish_leads

@@ -1,6 +1,16 @@
 pub mod RunLaws
 pub mod RowLaws
 pub mod StepLaws
+pub mod FirstLaws
+pub mod ReadsThen
+pub mod CallReads
+pub mod BreakLaws
+pub mod NearLaws
+pub mod CallLaws
+pub mod ClickLaws
+pub mod LineLaws
+pub mod StretchLaws
 pub mod LeadLaws
 pub mod Told
+pub mod StretchTold
 pub mod ReadLemmas

@@ -168,11 +168,13 @@ module _ (bs : List ℕ) (org p : ℕ) (from : org ≤ p) (within : p ≤ length
     }))
   ]
 
+  pub own_there : position_at bs org (column_of bs org p) (row_of bs org p) ≡ p
+  own_there = sym (at_cell_only bs org (column_of bs org p) (row_of bs org p) p (from, own_cell))
+
   pub lands_there : (w : ℕ) → column_of bs org p < w → landing bs w org p ≡ p
   lands_there w low =
       let uncut : column_cut bs w org p ≡ column_of bs org p = omega (arith, low) in
-      ap (λ (c : ℕ). position_at bs org c (row_of bs org p)) uncut
-      ∙ sym (at_cell_only bs org (column_of bs org p) (row_of bs org p) p (from, own_cell))
+      ap (λ (c : ℕ). position_at bs org c (row_of bs org p)) uncut ∙ own_there
 
 -- a column that is cut at the last one
 pub cut_is : (w column : ℕ) → 0 < w → unwrap_or (below w column) (w - 1) ≡ min column (w - 1)

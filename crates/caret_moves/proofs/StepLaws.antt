@@ -15,7 +15,7 @@ use Rattle.caret_moves.proofs.RunLaws.{end_within, start_within}
 level_within : (bs : List ℕ) (w p start : ℕ) → level_with bs w p start ≤ length bs
 level_within bs w p start = greatest_within (stands_by bs start (column_cut bs w 0 p) 0) (length bs)
 
-line_end_within : (bs : List ℕ) (p : ℕ) → end_of_line bs p ≤ length bs
+pub line_end_within : (bs : List ℕ) (p : ℕ) → end_of_line bs p ≤ length bs
 line_end_within bs p = elim (nat_lt p (start_below bs p)) as (λ (b : Bool).
     (if b then start_below bs p - 1 else length bs) ≤ length bs) [
       | true ↦ let low = below_start_within bs p in omega (arith, low)

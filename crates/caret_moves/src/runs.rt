@@ -47,7 +47,12 @@ fn run_end<S: CharSource>(text: &Text, gaps: bool, pos: u32, source: &mut S) -> 
 }
 
 /// Where a run begins that ends before the position. `Fault`: the source failed in this call.
-fn run_start<S: CharSource>(text: &Text, gaps: bool, pos: u32, source: &mut S) -> Result<u32, Fault>
+pub(crate) fn run_start<S: CharSource>(
+    text: &Text,
+    gaps: bool,
+    pos: u32,
+    source: &mut S,
+) -> Result<u32, Fault>
     requires { CanWalk (S.characters source.old) (flat text.now) 0 pos }
     ensures start { IfOk result (λ start. S.honest source.old
         → start ≡ run_start gaps (bytes_of_text (S.characters source.old) (flat text.now)) pos) }

@@ -17,7 +17,7 @@ use text_core::Text;
 use text_frames::{Frame, line_start};
 
 /// A frame that shows a text from a position on.
-fn frame_from(org: u32) -> Frame
+pub(crate) fn frame_from(org: u32) -> Frame
     ensures { result.org ≡ org }
 {
     Frame {
@@ -158,7 +158,11 @@ fn lines_down<S: CharSource>(
 }
 
 /// Where the line of a position ends. `Fault`: the source failed in this call.
-fn end_of_line<S: CharSource>(text: &Text, pos: u32, source: &mut S) -> Result<u32, Fault>
+pub(crate) fn end_of_line<S: CharSource>(
+    text: &Text,
+    pos: u32,
+    source: &mut S,
+) -> Result<u32, Fault>
     requires { CanWalk (S.characters source.old) (flat text.now) 0 pos }
     ensures end { IfOk result (λ end. S.honest source.old
         → end ≡ end_of_line (bytes_of_text (S.characters source.old) (flat text.now)) pos) }

@@ -29,6 +29,15 @@ pub enum Step {
     PageDown,
 }
 
+/// A command on the viewer of the caret that has a key.
+#[derive(Clone, Copy, Debug, PartialEq, Eq)]
+pub enum CaretCommand {
+    /// Edit.Search: on to where the pattern comes next.
+    Search,
+    /// Edit.Store: the text of the viewer becomes a document.
+    Store,
+}
+
 /// What is wished of the caret by a key.
 #[derive(Clone, Copy, Debug, PartialEq, Eq)]
 pub enum KeyWish {
@@ -36,6 +45,26 @@ pub enum KeyWish {
     Step(Step),
     /// The character behind it is deleted.
     DeleteNext,
+    /// A command is called on its viewer.
+    Call(CaretCommand),
+    /// The command is called whose word the caret stands in, or else the first of its line.
+    CallLine,
+    /// The marker goes to it.
+    Mark,
+    /// It goes a step, and what it passes is selected.
+    Select(Step),
+    /// The same with what is selected up to it: where that leaves nothing it only goes there.
+    SelectOn(Step),
+    /// It goes to the end of its text, and all of that is selected.
+    SelectAll,
+    /// What is selected up to it is cut.
+    CutSelected,
+    /// Its line is cut, with the end of the line.
+    CutLine,
+    /// Its line is broken, where that has no room for a word of so many characters more.
+    Break(u8),
+    /// It goes to a position of its text, or to the end of that, where its line is in sight.
+    Place(u32),
 }
 
 /// Why no events do what is wished.
@@ -49,6 +78,16 @@ pub enum WhyNot {
     TooFar,
     /// The caret stands at the end of the text.
     NothingBehind,
-    /// The character behind the caret stands right of the last column that the viewer shows.
+    /// The position stands right of the last column that the viewer shows.
     PastEdge,
+    /// No word of the command is in sight, or none of any command stands in the line.
+    NoWord,
+    /// The word of the command isn't in sight, or the line to which the caret is to go, or not both ends of what is to be
+    /// selected or cut.
+    NotInSight,
+    /// There is no character to cut.
+    NothingThere,
+    /// The line has room for the word, or no blank behind which it could be broken, or the caret stands right of what the
+    /// viewer shows of it.
+    NoBreak,
 }

@@ -7,7 +7,7 @@ use Rattle.lru.specs.LruCache.{LruCache, lru_cache, promoted, put_entries}
 use Rattle.lru.proofs.CallerLemmas.{Contains-lookup, Contains-promoted, Contains-put_entries}
 use Rattle.lru.proofs.Splits.{Contains-head, Contains-nil}
 use Rattle.sector_disk.specs.Trail.{Content}
-use Rattle.char_pages.specs.Cached.{AreTrue, AreBelow, AddsSector}
+use Rattle.char_pages.specs.Cached.{AreTrue, AreBelow, AddsNone, AddsSector}
 
 -- the newest entry is one of them
 pub first_entry : (cached : List (ℕ × List ℕ)) (entry : ℕ × List ℕ) → slice_get cached 0 ≡ Some entry
@@ -30,6 +30,19 @@ pub promoting_adds : {honest : Type 0} {c : Content} {n : ℕ} {old new : LruCac
 promoting_adds {honest = honest} {c = c} {n = n} {old = old} is =
     subst (λ (l : LruCache ℕ (List ℕ)). AddsSector honest c n old.entries l.entries) (sym is)
     (record { each = λ entry there. inl (Contains-promoted (nat_eq n) old.entries entry there) })
+
+pub promoting_none : (n : ℕ) {old new : LruCache ℕ (List ℕ)}
+    → new ≡ lru_cache (promoted (nat_eq n) old.entries) old.cap → AddsNone old.entries new.entries
+promoting_none n {old = old} is =
+    subst (λ (l : LruCache ℕ (List ℕ)). AddsNone old.entries l.entries) (sym is)
+    (record { each = Contains-promoted (nat_eq n) old.entries })
+
+pub still_true : {c : Content} {old new : List (ℕ × List ℕ)} → AddsNone old new → AreTrue c old → AreTrue c new
+still_true none was = record { is = λ entry there. was.is entry (none.each entry there) }
+
+pub none_adds : {honest : Type 0} {c : Content} {n : ℕ} {old new : List (ℕ × List ℕ)} → AddsNone old new
+    → AddsSector honest c n old new
+none_adds none = record { each = λ entry there. inl (none.each entry there) }
 
 put_adds : (honest : Type 0) (c : Content) (n : ℕ) (old : LruCache ℕ (List ℕ)) (bytes : List ℕ)
     → (honest → bytes ≡ c n) → AddsSector honest c n old.entries (put_entries nat_eq old n bytes)
@@ -57,6 +70,16 @@ putting_adds {honest = honest} {c = c} {n = n} old new {bytes = bytes} (Ok t) is
 putting_adds {honest = honest} {c = c} {n = n} old new (Err e) is ok err =
     subst (λ (l : LruCache ℕ (List ℕ)). AddsSector honest c n old.entries l.entries) (sym err)
     (record { each = λ entry there. inl there })
+
+-- after a call that added none
+pub adds_after : {honest : Type 0} {c : Content} {n : ℕ} {old mid new : List (ℕ × List ℕ)} → AddsNone old mid
+    → AddsSector honest c n mid new → AddsSector honest c n old new
+adds_after none adds = record {
+  each = λ entry there. elim (adds.each entry there) [
+    | inl was ↦ inl (none.each entry was)
+    | inr put ↦ inr put
+  ];
+}
 
 -- with one more, each is still what the disk reads
 pub true_with : {honest : Type 0} {c : Content} {n : ℕ} {old new : List (ℕ × List ℕ)} → AddsSector honest c n old new

@@ -1,13 +1,15 @@
 -- Where a byte occurs: counted between two indices, and a byte more.
 use Rattle.std.proofs.Common.{◌≡◌, ℕ, suc, zero, ◌+◌, ◌<◌, ◌≤◌, ◌==◌, Bool, true, false, cond, nat_lt, List, [], ◌∷◌, ◌++◌}
 use Rattle.std.proofs.Common.{length, take, drop, count_by, slice_range, if◌then◌else◌, ◌-◌, refl, sym, ◌∙◌, ap, subst, arith}
-use Rattle.std.proofs.Common.{Option, Some, None, Vec, Global, get_or, slice_get, slice_set, ◌⊎◌, inl, inr}
+use Rattle.std.proofs.Common.{Option, Some, None, IfSome, get_or, slice_get, slice_set, ◌⊎◌, inl, inr}
 use Rattle.std.proofs.lemmas.Bool.Decides.{nat_tests}
 use Rattle.std.proofs.lemmas.List.{length-take, append_assoc, append-nil, drop_all}
 use lib.Seq.{drop-cons}
+use Rattle.std.proofs.lemmas.Option.{same_Some}
 use Rattle.std.proofs.lemmas.List.Sums.{sum_by-cons, count_by-le-length}
 use Rattle.sector_disk.specs.declared.disk.TheConstants.{SECTOR_BYTES}
-use Rattle.char_pages.specs.Occurrences.{occurrences_from, occurrences, is_between, AreIndices, AreFew, EachKnown}
+use Rattle.char_pages.specs.declared.occurrences.Counted.{Counted}
+use Rattle.char_pages.specs.Occurrences.{occurrences_from, occurrences, is_between, AreIndices, AreFew, EachKnown, indices_of, indices_in}
 
 -- of a list with one more element in front
 counted_first : (p : ℕ → Bool) (x : ℕ) (xs : List ℕ) → count_by p (x ∷ xs) ≡ cond (p x) 1 0 + count_by p xs
@@ -191,41 +193,76 @@ are_few {wanted} {bytes} {indices} are = record {
       let same = counted_part from few are in omega (arith, most, same, long);
 }
 
--- a sector of which nothing is known
-still_known : (known : List (Option (Vec ℕ Global))) (n : ℕ) (indices : Vec ℕ Global)
-    → slice_get (known ++ None ∷ []) n ≡ Some (Some indices) → slice_get known n ≡ Some (Some indices)
-still_known [] zero indices h = absurd cc
-still_known [] (suc n) indices h = h
-still_known (x ∷ known) zero indices h = h
-still_known (x ∷ known) (suc n) indices h = still_known known n indices h
+-- a place in which nothing is known
+still_known : (known : List (Option Counted)) (k : ℕ) (counted : Counted)
+    → slice_get (known ++ None ∷ []) k ≡ Some (Some counted) → slice_get known k ≡ Some (Some counted)
+still_known [] zero counted h = absurd cc
+still_known [] (suc k) counted h = h
+still_known (x ∷ known) zero counted h = h
+still_known (x ∷ known) (suc k) counted h = still_known known k counted h
 
-pub each_more : (P : ℕ → List ℕ → Type 0) (known : List (Option (Vec ℕ Global))) → EachKnown P known
+pub each_more : (P : ℕ → List ℕ → Type 0) (known : List (Option Counted)) → EachKnown P known
     → EachKnown P (known ++ None ∷ [])
-each_more P known each n indices there = each n indices (still_known known n indices there)
+each_more P known each k counted there = each k counted (still_known known k counted there)
 
-pub each_pushed : (P : ℕ → List ℕ → Type 0) (old : List (Option (Vec ℕ Global)))
-    {new : List (Option (Vec ℕ Global))} (grew : Bool)
+pub each_pushed : (P : ℕ → List ℕ → Type 0) (old : List (Option Counted))
+    {new : List (Option Counted)} (grew : Bool)
     → new ≡ (if grew then old ++ None ∷ [] else old) → EachKnown P old → EachKnown P new
 each_pushed P old true is each = subst (EachKnown P) (sym is) (each_more P old each)
 each_pushed P old false is each = subst (EachKnown P) (sym is) each
 
 -- one of which it is known now
-new_or_known : (known : List (Option (Vec ℕ Global))) (n m : ℕ) (put indices : Vec ℕ Global)
-    → slice_get (slice_set known n (Some put)) m ≡ Some (Some indices)
-    → ((m ≡ n) × (indices ≡ put)) ⊎ (slice_get known m ≡ Some (Some indices))
-new_or_known [] n m put indices h = inr h
-new_or_known (x ∷ known) zero zero put indices h = inl (refl, cc)
-new_or_known (x ∷ known) zero (suc m) put indices h = inr h
-new_or_known (x ∷ known) (suc n) zero put indices h = inr h
-new_or_known (x ∷ known) (suc n) (suc m) put indices h = elim (new_or_known known n m put indices h) [
-  | inl new ↦ inl (ap suc new.0, new.1)
-  | inr was ↦ inr was
+new_or_known : (known : List (Option Counted)) (k m : ℕ) (put counted : Counted)
+    → slice_get (slice_set known k (Some put)) m ≡ Some (Some counted)
+    → (counted ≡ put) ⊎ (slice_get known m ≡ Some (Some counted))
+new_or_known [] k m put counted h = inr h
+new_or_known (x ∷ known) zero zero put counted h = inl cc
+new_or_known (x ∷ known) zero (suc m) put counted h = inr h
+new_or_known (x ∷ known) (suc k) zero put counted h = inr h
+new_or_known (x ∷ known) (suc k) (suc m) put counted h = new_or_known known k m put counted h
+
+pub each_set : (P : ℕ → List ℕ → Type 0) (known : List (Option Counted)) (k : ℕ) (put : Counted)
+    → P put.number put.indices.items → EachKnown P known → EachKnown P (slice_set known k (Some put))
+each_set P known k put is each m counted there = elim (new_or_known known k m put counted there) [
+  | inl new ↦ subst (λ (c : Counted). P c.number c.indices.items) (sym new) is
+  | inr was ↦ each m counted was
 ]
 
-pub each_set : (P : ℕ → List ℕ → Type 0) (known : List (Option (Vec ℕ Global))) (n : ℕ) (put : Vec ℕ Global)
-    → P n put.items → EachKnown P known → EachKnown P (slice_set known n (Some put))
-each_set P known n put is each m indices there = elim (new_or_known known n m put indices there) [
-  | inl new ↦ subst (λ k. P k indices.items) (sym new.0)
-      (subst (λ (l : Vec ℕ Global). P n l.items) (sym new.1) is)
-  | inr was ↦ each m indices was
-]
+-- So many indices are known at most, where each list has no more than a sector has bytes.
+pub few_of : (known : Option Counted) → IfSome known (λ counted. AreFew counted.indices.items)
+    → indices_of known ≤ SECTOR_BYTES
+few_of None few = omega arith
+few_of (Some counted) few = few.all
+
+-- what is known in a place whose sector has that number
+pub is_known : (P : ℕ → List ℕ → Type 0) (known : List (Option Counted)) (k n : ℕ) (counted : Counted)
+    → EachKnown P known → slice_get known k ≡ Some (Some counted) → counted.number ≡ n → P n counted.indices.items
+is_known P known k n counted each there is = subst (λ m. P m counted.indices.items) is (each k counted there)
+
+-- of the first places, one more
+pub indices_more : (known : List (Option Counted)) (k : ℕ) (here : Option Counted) → slice_get known k ≡ Some here
+    → indices_in (take (k + 1) known) ≡ indices_in (take k known) + indices_of here
+indices_more [] k here there = absurd cc
+indices_more (x ∷ known) zero here there =
+    sum_by-cons indices_of x (take 0 known) ∙ turned (indices_of x) ∙ ap (λ y. 0 + indices_of y) (same_Some x here there)
+  where
+    turned : (n : ℕ) → n + 0 ≡ 0 + n
+    turned n = omega arith
+indices_more (x ∷ known) (suc k) here there =
+    ap (λ n. indices_in (take n (x ∷ known))) next
+    ∙ sum_by-cons indices_of x (take (k + 1) known)
+    ∙ ap (λ n. indices_of x + n) (indices_more known k here there)
+    ∙ moved_in (indices_of x) (indices_in (take k known)) (indices_of here)
+    ∙ ap (λ n. n + indices_of here) (sym (sum_by-cons indices_of x (take k known)))
+  where
+    next : suc k + 1 ≡ suc (k + 1)
+    next = omega arith
+
+    moved_in : (a b c : ℕ) → a + (b + c) ≡ a + b + c
+    moved_in a b c = omega arith
+
+-- the list that is known in a place is that of a sector
+pub few_known : (known : List (Option Counted)) (k : ℕ) (here : Option Counted) → EachKnown (λ n. AreFew) known
+    → slice_get known k ≡ Some here → IfSome here (λ counted. AreFew counted.indices.items)
+few_known known k None each there = tt
+few_known known k (Some counted) each there = each k counted there

@@ -13,9 +13,9 @@ use Rattle.sector_disk.specs.Confined.{IsConfined}
 use Rattle.sector_disk.proofs.Touching.{still_all}
 use Rattle.char_file.specs.Source.{OnlyReads}
 use Rattle.char_pages.specs.declared.pages.Pages.{Pages}
+use Rattle.char_pages.specs.declared.occurrences.Counted.{Counted}
 use Rattle.char_pages.specs.Cached.{AddsSector}
-use Rattle.std.proofs.Common.{Some, Vec, Global, slice_get}
-use Rattle.std.proofs.lemmas.Option.{slice_get_within}
+use Rattle.std.proofs.Common.{Some, slice_get}
 use Rattle.char_pages.specs.Occurrences.{AreIndices}
 use Rattle.char_pages.specs.Found.{AreFound}
 use Rattle.char_pages.specs.Pages.{paged_characters, base_of, saved_of, saved_sectors, rest_of, renewed_of, cached_of, IsTrueOf}
@@ -97,15 +97,13 @@ pub told_on : {c c' : Content} (p : Pages)
     → ((n : ℕ) → base_of p ≤ n → n < base_of p + saved_sectors p → c' n ≡ c n) → IsTrueOf c p → IsTrueOf c' p
 told_on {c} {c'} p same was = record {
   cached = true_on p.below same was.cached;
-  found = λ n indices there. subst (λ bytes. AreIndices p.occurrences.wanted bytes indices.items)
-      (sym (same (p.base + n) (omega arith) (low n indices there))) (was.found n indices there);
+  found = λ k counted there. subst (λ bytes. AreIndices p.occurrences.wanted bytes counted.indices.items)
+      (sym (same (p.base + counted.number) (omega arith) (low k counted there))) (was.found k counted there);
 }
   where
-    low : (n : ℕ) (indices : Vec ℕ Global) → slice_get p.occurrences.known.items n ≡ Some (Some indices)
-        → p.base + n < p.base + p.saved / SECTOR_BYTES
-    low n indices there =
-        let within = slice_get_within p.occurrences.known.items n (Some indices) there in
-        let few = p.known in omega (arith, within, few)
+    low : (k : ℕ) (counted : Counted) → slice_get p.occurrences.known.items k ≡ Some (Some counted)
+        → p.base + counted.number < p.base + p.saved / SECTOR_BYTES
+    low k counted there = let less = p.known k counted there in omega (arith, less)
 
 -- where more of them stand on the disk by now, those needn't be in memory
 pub paged_settled : (c : Content) (base saved more : ℕ) (rest : List ℕ) → saved ≤ more

@@ -23,6 +23,10 @@ pub record AddsSector (honest : Type 0) (c : Content) (n : ℕ)
   pub each : (entry : ℕ × List ℕ) → Contains new entry
       → Contains old entry ⊎ ((entry.0 ≡ n) × (honest → entry.1 ≡ c n))
 
+-- each entry was there before
+pub record AddsNone (old new : List (ℕ × List ℕ)) : Type 0 where
+  pub each : (entry : ℕ × List ℕ) → Contains new entry → Contains old entry
+
 -- What a call leaves that wants sector n, of a cache and of the disk behind it: the cache may hold that sector besides,
 -- and the disk is only read.
 pub record LooksUp {D : Type 0} (d : Ghosts D) (n : ℕ) {T E : Type 0} (result : Result T E)

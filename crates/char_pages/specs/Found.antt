@@ -1,5 +1,5 @@
 -- What is known of where a byte occurs in sectors of a disk.
-use Rattle.std.specs.Prelude.{◌+◌, ℕ}
+use Rattle.std.specs.Prelude.{◌+◌, ◌<◌, ℕ}
 use Rattle.sector_disk.specs.Trail.{Content}
 use Rattle.char_pages.specs.declared.occurrences.Occurrences.{Occurrences}
 use Rattle.char_pages.specs.Occurrences.{AreIndices, EachKnown}
@@ -8,3 +8,7 @@ use Rattle.char_pages.specs.Occurrences.{AreIndices, EachKnown}
 abbrev pub AreFound : Content → ℕ → Occurrences → Type 0
 AreFound c base found = EachKnown (λ n indices. AreIndices found.wanted (c (base + n)) indices)
     found.known.items
+
+-- each sector of which something is known is one of the first so many
+abbrev pub AreKnownBelow : ℕ → Occurrences → Type 0
+AreKnownBelow many found = EachKnown (λ n indices. n < many) found.known.items

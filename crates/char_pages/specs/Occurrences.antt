@@ -1,8 +1,8 @@
 -- Where a byte occurs in sectors.
 use Rattle.std.specs.Prelude.{◌≡◌, ◌+◌, ◌≤◌, ◌==◌, ℕ, Bool, List, [], ◌∷◌, length, count_by, slice_get, Option, Some, nat_lt, false}
-use Rattle.std.specs.Prelude.{if◌then◌else◌, Vec}
-use Rattle.std.specs.declared.alloc.Global.{Global}
+use Rattle.std.specs.Prelude.{if◌then◌else◌, sum_by, option_map, unwrap_or}
 use Rattle.sector_disk.specs.declared.disk.TheConstants.{SECTOR_BYTES}
+use Rattle.char_pages.specs.declared.occurrences.Counted.{Counted}
 
 -- the indices at which it stands in bytes of which the first has this index
 unfoldable pub occurrences_from : ℕ → ℕ → List ℕ → List ℕ
@@ -30,6 +30,13 @@ pub record AreFew (indices : List ℕ) : Type 0 where
       → count_by (is_between from (from + few)) indices ≤ few
 
 -- each list that is known is one of this sort, of the sector of its number
-abbrev pub EachKnown : (ℕ → List ℕ → Type 0) → List (Option (Vec ℕ Global)) → Type 0
-EachKnown P known = (n : ℕ) (indices : Vec ℕ Global) → slice_get known n ≡ Some (Some indices)
-    → P n indices.items
+abbrev pub EachKnown : (ℕ → List ℕ → Type 0) → List (Option Counted) → Type 0
+EachKnown P known = (k : ℕ) (counted : Counted) → slice_get known k ≡ Some (Some counted)
+    → P counted.number counted.indices.items
+
+-- how many indices are known of a sector, and of these
+abbrev pub indices_of : Option Counted → ℕ
+indices_of known = unwrap_or (option_map (λ counted. length counted.indices.items) known) 0
+
+abbrev pub indices_in : List (Option Counted) → ℕ
+indices_in known = sum_by indices_of known

@@ -6,6 +6,7 @@ use Rattle.sector_disk.specs.Stored.{stored}
 use Rattle.char_pages.specs.declared.pages.Pages.{Pages}
 use Rattle.char_pages.specs.Cached.{AreTrue}
 use Rattle.char_pages.specs.Found.{AreFound}
+use Rattle.char_pages.specs.Occurrences.{indices_in}
 
 -- the first sector of those on the disk
 abbrev pub base_of : Pages → ℕ
@@ -34,9 +35,11 @@ cached_of p = p.cache.entries
 abbrev pub renewed_of : Pages → Bool
 renewed_of p = p.renewed
 
--- how many characters are in memory
+-- How many bytes are in memory: the characters there, the sectors that were read, and two bytes for each place at which a
+-- byte that was counted is known to stand.
 abbrev pub held_in : Pages → ℕ
 held_in p = length (rest_of p) + SECTOR_BYTES * length (cached_of p)
+    + 2 * indices_in p.occurrences.known.items
 
 -- all characters, where the disk reads this
 abbrev pub paged_characters : Content → Pages → List ℕ

@@ -3,7 +3,7 @@ ghost use Rattle.std.specs.Prelude.{◌≡◌, ◌<◌, ◌≤◌, ◌+◌, get_
 ghost use Rattle.sector_disk.specs.declared.disk.TheConstants.{SECTOR_BYTES};
 ghost use Rattle.sector_disk.specs.Trail.{Content, CountsFault, Nowhere, now};
 ghost use Rattle.sector_disk.specs.Confined.{IsConfined};
-ghost use Rattle.char_pages.specs.Cached.{AreTrue, AddsSector, LooksUp, IsCountIn, TellsSector};
+ghost use Rattle.char_pages.specs.Cached.{AreTrue, AddsNone, AddsSector, LooksUp, IsCountIn, TellsSector};
 
 use crate::part::Part;
 use char_file::count_range;
@@ -61,6 +61,32 @@ pub(crate) fn sector_of<D: Disk>(disk: &mut D, cache: &mut Cache, n: u32) -> Res
     Ok(sector)
 }
 
+/// Byte `at` of sector n, if the cache holds that sector, which then is the one that was asked for last. No byte is
+/// copied.
+fn held(cache: &mut Cache, n: u32, at: usize) -> Option<u8>
+    requires { at < SECTOR_BYTES }
+    ensures value { IfSome result (λ byte. (c : Content) → AreTrue c cache.old.entries
+        → byte ≡ get_or (c n) at 0) }
+    ensures cached { AddsNone cache.old.entries cache.new.entries }
+    ensures capacity { cache.new.cap ≡ cache.old.cap }
+{
+    cache.promote(&n);
+    newest(cache, n, at)
+}
+
+/// Byte `at` of sector n, which isn't in the cache.
+#[inline(never)]
+fn read_in<D: Disk>(disk: &mut D, cache: &mut Cache, n: u32, at: usize) -> Result<u8, Fault>
+    requires there { n < D.size disk.old }
+    requires within { at < SECTOR_BYTES }
+    ensures value { TellsSector D.Disk n (λ sector byte. byte
+        ≡ get_or sector at 0) result disk.old cache.old }
+    ensures looked { LooksUp D.Disk n result disk.old disk.new cache.old cache.new }
+{
+    let sector = sector_of(disk, cache, n)?;
+    Ok(sector[at])
+}
+
 /// Byte `at` of sector n, which mostly isn't the one that was asked for last. It is compiled apart, so that a byte of the
 /// newest sector takes no room for a sector on the stack.
 #[inline(never)]
@@ -71,8 +97,10 @@ fn looked_up<D: Disk>(disk: &mut D, cache: &mut Cache, n: u32, at: usize) -> Res
         ≡ get_or sector at 0) result disk.old cache.old }
     ensures looked { LooksUp D.Disk n result disk.old disk.new cache.old cache.new }
 {
-    let sector = sector_of(disk, cache, n)?;
-    Ok(sector[at])
+    match held(cache, n, at) {
+        Some(byte) => Ok(byte),
+        None => read_in(disk, cache, n, at),
+    }
 }
 
 /// Byte `at` of sector n. A sector that the cache doesn't hold is read from the disk and put into it. Where there is no

@@ -12,5 +12,6 @@ mod paged;
 mod pages;
 mod part;
 
+pub use occurrences::COUNTED_SECTORS;
 pub use paged::Paged;
 pub use pages::{CACHED_SECTORS, Pages};

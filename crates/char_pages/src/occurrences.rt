@@ -1,25 +1,57 @@
 //! Where a byte occurs in sectors, so that it is counted in a part of one without its bytes.
 ghost use Rattle.std.specs.Prelude.{◌≡◌, ℕ, ◌+◌, ◌^◌, ◌<◌, ◌≤◌, [], ◌∷◌, ◌++◌, length, count_by, max};
-ghost use Rattle.std.specs.Prelude.{if◌then◌else◌, IfOk, IfSome, OnOk};
+ghost use Rattle.std.specs.Prelude.{if◌then◌else◌, ◌*◌, IfOk, IfSome, OnOk};
 ghost use Rattle.sector_disk.specs.declared.disk.TheConstants.{SECTOR_BYTES};
 ghost use Rattle.sector_disk.specs.Trail.{Content};
 ghost use Rattle.char_pages.specs.Cached.{IsCountIn};
-ghost use Rattle.char_pages.specs.Occurrences.{is_between, AreFew, AreIndices, EachKnown};
+ghost use Rattle.char_pages.specs.declared.occurrences.TheConstants.{COUNTED_SECTORS};
+ghost use Rattle.char_pages.specs.Occurrences.{is_between, AreFew, AreIndices, EachKnown, indices_in, indices_of};
 
 use crate::part::Part;
 use char_file::NoMemory;
 use sector_disk::{SECTOR_BYTES, Sector};
 use std::alloc::Global;
 
-/// Where one byte occurs in sectors of an area, each under its number there. It is the byte that was counted last.
+/// Of how many sectors at most it is known where a byte occurs.
+pub const COUNTED_SECTORS: u32 = 256;
+
+/// Where a byte occurs in a sector: the sector's number in its area, and the indices of the byte there, in order.
+#[derive(Drop)]
+pub(crate) struct Counted {
+    pub(crate) number: usize,
+    pub(crate) indices: Vec<u16>,
+}
+
+/// Where one byte occurs in some sectors of an area. It is the byte that was counted last. A sector has its place among
+/// 256 by its number, and the one that was counted last has it.
 #[derive(Drop)]
 pub(crate) struct Occurrences {
     alloc: Global,
     wanted: u8,
 
-    /// Of each sector, as far as it is known, the indices of the byte there, in order.
-    known: Vec<Option<Vec<u16>>>,
+    /// The sectors that were counted, each in its place.
+    known: Vec<Option<Counted>>,
     ghost real: { EachKnown (λ n indices. AreFew indices) known.items },
+    ghost bound: { length known.items ≤ COUNTED_SECTORS },
+}
+
+/// The place of a sector.
+fn place_of(n: usize) -> usize
+    ensures least { result ≤ n }
+    ensures most { result < COUNTED_SECTORS }
+{
+    n % COUNTED_SECTORS as usize
+}
+
+/// How many indices are known of a sector.
+fn many_in(known: &Option<Counted>) -> u32
+    requires { IfSome known.now (λ counted. length counted.indices.items < 2 ^ 32) }
+    ensures { result ≡ indices_of known.now }
+{
+    match known {
+        Some(counted) => counted.indices.len() as u32,
+        None => 0,
+    }
 }
 
 /// Adds an index, if the wanted byte is there. `NoMemory`: an allocation was refused.
@@ -65,7 +97,7 @@ fn count_between(indices: &[u16], from: u32, to: u32) -> u32
 }
 
 impl Occurrences {
-    ghost use Rattle.char_pages.specs.Found.{AreFound};
+    ghost use Rattle.char_pages.specs.Found.{AreFound, AreKnownBelow};
 
     /// Of no sector yet. It takes no memory.
     pub(crate) fn new(alloc: Global) -> Occurrences
@@ -97,18 +129,18 @@ impl Occurrences {
             → AreFound c base self.now → AreIndices self.now.wanted (c (base + n)) indices.now) }
         ensures few { IfSome result (λ indices. AreFew indices.now) }
     {
-        match self.known.get(n)? {
-            Some(indices) => Some(indices.as_slice()),
-            None => None,
+        match self.known.get(place_of(n))? {
+            Some(counted) if counted.number == n => Some(counted.indices.as_slice()),
+            _ => None,
         }
     }
 
-    /// Another byte is wanted from now on, of which nothing is known yet.
+    /// A byte is wanted from now on. Of another one than before nothing is known yet.
     fn want(&mut self, wanted: u8)
         ensures wanted { self.new.wanted ≡ wanted }
         ensures found { (c : Content) (base : ℕ) → AreFound c base self.old
             → AreFound c base self.new }
-        ensures few { length self.new.known.items ≤ length self.old.known.items }
+        ensures below { (many : ℕ) → AreKnownBelow many self.old → AreKnownBelow many self.new }
     {
         if wanted != self.wanted {
             self.known.clear();
@@ -116,12 +148,13 @@ impl Occurrences {
         }
     }
 
-    /// Makes place for what is known of sector n, if there is memory for it.
+    /// Makes place n, if there is memory for it.
     fn reach(&mut self, n: usize)
+        requires { n < COUNTED_SECTORS }
         ensures wanted { self.new.wanted ≡ self.old.wanted }
         ensures found { (c : Content) (base : ℕ) → AreFound c base self.old
             → AreFound c base self.new }
-        ensures few { length self.new.known.items ≤ max (length self.old.known.items) (n + 1) }
+        ensures below { (many : ℕ) → AreKnownBelow many self.old → AreKnownBelow many self.new }
     {
         while self.known.len() <= n {
             if self.known.push(None).is_err() {
@@ -134,16 +167,30 @@ impl Occurrences {
     pub(crate) fn note(&mut self, n: usize, wanted: u8, sector: &Sector)
         ensures found { (c : Content) (base : ℕ) → AreFound c base self.old
             → sector.now ≡ c (base + n) → AreFound c base self.new }
-        ensures few { length self.new.known.items ≤ max (length self.old.known.items) (n + 1) }
+        ensures below { (many : ℕ) → n < many → AreKnownBelow many self.old
+            → AreKnownBelow many self.new }
     {
         self.want(wanted);
         let Ok(indices) = occurrences_in(self.alloc, sector, wanted) else {
             return;
         };
-        self.reach(n);
-        if n < self.known.len() {
-            self.known[n] = Some(indices);
+        let place = place_of(n);
+        self.reach(place);
+        if place < self.known.len() {
+            self.known[place] = Some(Counted { number: n, indices });
         }
+    }
+
+    /// How many indices are in memory.
+    pub(crate) fn held(&self) -> u32
+        ensures held { result ≡ indices_in self.now.known.items }
+        ensures few { result ≤ SECTOR_BYTES * COUNTED_SECTORS }
+    {
+        let mut held = 0;
+        for known in &self.known {
+            held += many_in(known);
+        }
+        held
     }
 
     /// Forgets all that is known.

@@ -4,7 +4,9 @@ ghost use Rattle.std.specs.NonZero.{non_zero_usize_get};
 ghost use Rattle.sector_disk.specs.declared.disk.TheConstants.{SECTOR_BYTES};
 ghost use Rattle.char_file.specs.declared.source.TheConstants.{MOST_CHARACTERS};
 ghost use Rattle.char_pages.specs.declared.pages.TheConstants.{CACHED_SECTORS};
+ghost use Rattle.char_pages.specs.declared.occurrences.TheConstants.{COUNTED_SECTORS};
 ghost use Rattle.char_pages.specs.Cached.{AreBelow};
+ghost use Rattle.char_pages.specs.Found.{AreKnownBelow};
 
 use crate::cached::{Cache, byte_of, count_in, sector_of};
 use crate::occurrences::Occurrences;
@@ -43,7 +45,7 @@ pub struct Pages {
     ghost few: { saved + length rest.items ≤ MOST_CHARACTERS },
     ghost room: { cache.cap ≡ CACHED_SECTORS },
     ghost below: { AreBelow base (saved / SECTOR_BYTES) cache.entries },
-    ghost known: { length occurrences.known.items ≤ saved / SECTOR_BYTES },
+    ghost known: { AreKnownBelow (saved / SECTOR_BYTES) occurrences },
     ghost anew: { renewed ≡ true → saved ≡ 0 },
 }
 
@@ -117,14 +119,16 @@ impl Pages {
         self.saved / SECTOR_BYTES
     }
 
-    /// How many characters are in memory: those that aren't on the disk, and a sector's for each that was read and is
-    /// still there. They are few: those that aren't on the disk, and 64 sectors at most.
+    /// How many bytes are in memory: the characters that aren't on the disk, the sectors that were read and are still
+    /// there, and two for each place at which the byte that was counted last is known to stand. They are few: beside
+    /// the characters 64 sectors at most, and such places in 256 sectors.
     pub fn held(&self) -> u32
         ensures held { result ≡ held_in self.now }
         ensures few { result ≤ many_of self.now - saved_of self.now
-            + SECTOR_BYTES * CACHED_SECTORS }
+            + SECTOR_BYTES * CACHED_SECTORS + 2 * SECTOR_BYTES * COUNTED_SECTORS }
     {
-        self.rest.len() as u32 + SECTOR_BYTES * self.cache.len() as u32
+        let counted = 2 * self.occurrences.held();
+        self.rest.len() as u32 + SECTOR_BYTES * self.cache.len() as u32 + counted
     }
 
     /// The characters that aren't on the disk.

@@ -8,6 +8,12 @@ const PATH: Argument<'static> = Argument {
     kind: Kind::Wanted,
 };
 
+/// The path of its twin.
+const TWIN: Argument<'static> = Argument {
+    name: "twin",
+    kind: Kind::Named,
+};
+
 /// Those of a command that takes the path of a store alone.
 const STORE: &[Argument<'static>] = &[PATH];
 
@@ -29,6 +35,7 @@ const SIT: &[Argument<'static>] = &[
         name: "columns",
         kind: Kind::Named,
     },
+    TWIN,
     Argument {
         name: "rows",
         kind: Kind::Wanted,
@@ -38,6 +45,9 @@ const SIT: &[Argument<'static>] = &[
         kind: Kind::Optional,
     },
 ];
+
+/// Those of `check`.
+const CHECK: &[Argument<'static>] = &[PATH, TWIN];
 
 /// Those of `list`.
 const LIST: &[Argument<'static>] = &[
@@ -130,6 +140,7 @@ const IMPORT: &[Argument<'static>] = &[
         name: "fill",
         kind: Kind::Named,
     },
+    TWIN,
 ];
 
 /// The commands.
@@ -144,7 +155,7 @@ pub(crate) const COMMANDS: &[CommandShape<'static>] = &[
     },
     CommandShape {
         name: "check",
-        arguments: STORE,
+        arguments: CHECK,
     },
     CommandShape {
         name: "list",

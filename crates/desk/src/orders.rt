@@ -9,12 +9,14 @@ use std::alloc::{AllocError, Global};
 #[derive(Drop)]
 pub enum Order<'a> {
     /// To serve a person at a terminal of this size, at the desktop of a store, or at one in memory where no path is
-    /// given; with word there whether the program is unproved, and whether it asks before a press loses something.
+    /// given; with word there whether the program is unproved, whether it asks before a press loses something, and the
+    /// store's twin, if it is to have one.
     Sit {
         window: Window,
         unproved: bool,
         questions: bool,
         path: Option<&'a str>,
+        twin: Option<&'a str>,
     },
     /// To print the screen of a store as a picture.
     Picture(&'a str),
@@ -32,8 +34,11 @@ pub enum Order<'a> {
         path: &'a str,
         copy: &'a str,
     },
-    /// To say how a store is.
-    Check(&'a str),
+    /// To say how a store is, and if so asked how it is beside its twin.
+    Check {
+        path: &'a str,
+        twin: Option<&'a str>,
+    },
     /// To list the events that can be taken back.
     History(&'a str),
     /// To copy a store as it was before so many of its last events.
@@ -68,6 +73,8 @@ pub struct Export<'a> {
 pub struct Import<'a> {
     /// The store's file.
     pub path: &'a str,
+    /// Its twin, if it is to have one.
+    pub twin: Option<&'a str>,
     /// The files, folders, or names with files.
     pub words: Vec<&'a str>,
     /// Whether documents that are there may be replaced.
@@ -109,6 +116,7 @@ fn short_order<'a>(asked: &Asked<'a>) -> Option<Order<'a>> {
             unproved: asked.chooses("unproved"),
             questions: !asked.chooses("no-questions"),
             path: asked.word("path"),
+            twin: asked.word("twin"),
         }),
         "picture" => Some(Order::Picture(asked.word("path")?)),
         "list" => Some(Order::List {
@@ -119,7 +127,10 @@ fn short_order<'a>(asked: &Asked<'a>) -> Option<Order<'a>> {
             path: asked.word("path")?,
             copy: asked.word("copy")?,
         }),
-        "check" => Some(Order::Check(asked.word("path")?)),
+        "check" => Some(Order::Check {
+            path: asked.word("path")?,
+            twin: asked.word("twin"),
+        }),
         "history" => Some(Order::History(asked.word("path")?)),
         "earlier" => Some(Order::Earlier {
             path: asked.word("path")?,
@@ -153,6 +164,7 @@ fn importing<'a>(alloc: Global, asked: &Asked<'a>) -> Result<Option<Order<'a>>, 
     };
     Ok(Some(Order::Import(Import {
         path,
+        twin: asked.word("twin"),
         words: words_of(alloc, asked, "files")?,
         replace: asked.chooses("replace"),
         dry_run: asked.chooses("dry-run"),

@@ -1,17 +1,18 @@
 //! What a run of the program `desk` does: its arguments say what (`orders`), and it is done over a store (the crates
-//! `desk_stores` and `desk_documents`). A person who sits down is served by `serve` of `desk_sitting` (`sitting`).
+//! `cli_stores` and `cli_documents`). A person who sits down is served by `serve` of `desk_sitting` (`sitting`).
 
 use crate::orders::{Export, Import, Order, order_of};
-use crate::sitting::{Service, sit_at, sit_in_memory};
+use crate::sitting::{Service, sit_at, sit_at_pair, sit_in_memory};
 use crate::usages::usage_of;
-use desk_documents::{
+use cli_documents::{
     Putting, Stop, backup, check, earlier, events_back, export_all, export_names, list, list_json,
 };
-use desk_imports::{Manner, import};
+use cli_imports::{Manner, import, import_to_pair};
+use cli_stores::{Trouble, picture};
 use desk_sitting::Saying;
-use desk_stores::{Trouble, picture};
 use host_files::hold_streams;
 use program_arguments::{Refusal, words};
+use twin_files::{PairTrouble, check_pair};
 
 /// Does what the arguments of the program ask for, and returns the status: 0 when done, 1 where a document is refused,
 /// 2 for other arguments, 3 where the file holds no store or a damaged one, 4 where there is no file, the host refuses
@@ -81,13 +82,17 @@ fn follow(rt: &HostRuntime, order: &Order<'_>) -> u8 {
             unproved,
             questions,
             path: Some(path),
+            twin,
         } => {
             let service = Service {
                 window: *window,
                 greeting: greeting(*unproved),
                 questions: *questions,
             };
-            sit_at(rt, path, service)
+            match twin {
+                None => sit_at(rt, path, service),
+                Some(twin) => sit_at_pair(rt, path, twin, service),
+            }
         }
         Order::Picture(path) => told(rt, path, picture(rt, path)),
         other => follow_over_documents(rt, other),
@@ -98,11 +103,15 @@ fn follow(rt: &HostRuntime, order: &Order<'_>) -> u8 {
 fn follow_over_documents(rt: &HostRuntime, order: &Order<'_>) -> u8 {
     match order {
         Order::Export(order) => done(rt, order.path, put_out(rt, order)),
-        Order::Import(order) => done(rt, order.path, take_in(rt, order)),
+        Order::Import(order) => take_in(rt, order),
         Order::List { path, json: false } => done(rt, path, list(rt, path)),
         Order::List { path, json: true } => done(rt, path, list_json(rt, path)),
         Order::Backup { path, copy } => done(rt, path, backup(rt, path, copy)),
-        Order::Check(path) => done(rt, path, check(rt, path)),
+        Order::Check { path, twin: None } => done(rt, path, check(rt, path)),
+        Order::Check {
+            path,
+            twin: Some(twin),
+        } => check_both(rt, path, twin),
         Order::History(path) => done(rt, path, events_back(rt, path)),
         Order::Earlier { path, count, copy } => done(rt, path, earlier(rt, path, *count, copy)),
         _ => 0,
@@ -123,8 +132,8 @@ fn put_out(rt: &HostRuntime, order: &Export<'_>) -> Result<(), Stop> {
     }
 }
 
-/// Takes documents in.
-fn take_in(rt: &HostRuntime, order: &Import<'_>) -> Result<(), Stop> {
+/// Takes documents in, and returns the status.
+fn take_in(rt: &HostRuntime, order: &Import<'_>) -> u8 {
     let manner = Manner {
         replace: order.replace,
         dry_run: order.dry_run,
@@ -133,7 +142,35 @@ fn take_in(rt: &HostRuntime, order: &Import<'_>) -> Result<(), Stop> {
         fill: order.fill.map(usize::from),
         collect: order.collect,
     };
-    import(rt, order.path, order.words.as_slice(), manner)
+    let words = order.words.as_slice();
+    match order.twin {
+        None => done(rt, order.path, import(rt, order.path, words, manner)),
+        Some(twin) => {
+            let outcome = import_to_pair(rt, order.path, twin, words, manner);
+            done_to_pair(rt, order.path, twin, outcome)
+        }
+    }
+}
+
+/// Tells how a store and its twin are, and returns the status.
+fn check_both(rt: &HostRuntime, path: &str, twin: &str) -> u8 {
+    match check_pair(rt, path, twin) {
+        Ok(()) => done(rt, path, check(rt, path)),
+        Err(trouble) => trouble.say(rt, path, twin),
+    }
+}
+
+/// Says why an order over two files was not done, if it wasn't, and returns the status.
+fn done_to_pair(
+    rt: &HostRuntime,
+    path: &str,
+    twin: &str,
+    outcome: Result<Result<(), Stop>, PairTrouble>,
+) -> u8 {
+    match outcome {
+        Ok(outcome) => done(rt, path, outcome),
+        Err(trouble) => trouble.say(rt, path, twin),
+    }
 }
 
 /// Says why an order was not done, if it wasn't, and returns the status.

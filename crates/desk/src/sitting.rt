@@ -1,15 +1,23 @@
 //! A person at a terminal, over a store in a file or in memory.
 ghost use Rattle.std.specs.Prelude.{◌≡◌, false};
+ghost use Rattle.desk_sitting.specs.Serving.{IsUsableAt};
 
 use crate::endings::{kept, lost};
-use byte_streams::CountedWriter;
+use byte_streams::{AnswerWriter, CountedWriter};
+use cli_stores::{NewFile, Trouble, in_memory, make, new_file};
 use desk_journal::Store;
-use desk_sitting::{Saying, SittingEnd, serve};
-use desk_stores::{NewFile, Trouble, in_memory, make, new_file, opened_locked};
+use desk_sitting::{Past, Saying, SittingEnd, serve};
 use host_files::{HostFault, LockedFile, lock_alone};
+use host_stores::without_twin;
+use screen_drawing::{ring, send_bytes};
 use sector_disk::Disk;
 use std::io::BufWriter;
-use terminal_keyboard::{DeskKeyboard, StandardInput};
+use terminal_keyboard::{DeskKeyboard, Keyboard, StandardInput};
+use twin_disk::Leg;
+use twin_files::{OpenedPair, PairTrouble, PairWatch, WatchedKeyboard, open_pair};
+
+/// What a terminal answers with its size: its cursor goes to the last cell, says where it is, and goes back.
+const ASK_SIZE: &[u8] = b"\x1b7\x1b[999;999H\x1b[6n\x1b8";
 
 /// How many rows and columns a terminal has, and whether lines are filled that are typed at it.
 #[derive(Clone, Copy)]
@@ -47,11 +55,17 @@ pub(crate) fn sit_at(rt: &HostRuntime, path: &str, service: Service) -> u8 {
     }
 }
 
-/// The same, in the file of that path, which is locked.
+/// The same, in the file of that path, which is locked. If it has a twin, the line below says first that this gets nothing.
 fn sit_at_locked(rt: &HostRuntime, file: LockedFile, path: &str, service: Service) -> u8 {
-    match opened_locked(rt, file) {
-        Ok(store) => kept(rt, path, sit(rt, store, service)),
-        Err(trouble) => trouble.say(rt, path),
+    let mut service = service;
+    match without_twin(rt, file) {
+        Ok((store, left_twin)) => {
+            if left_twin {
+                service.greeting = Saying::WithoutTwin;
+            }
+            kept(rt, path, sit(rt, store, service))
+        }
+        Err(error) => Trouble::Store(error).say(rt, path),
     }
 }
 
@@ -72,25 +86,138 @@ fn sit_at_made(rt: &HostRuntime, made: NewFile, path: &str, service: Service) ->
     }
 }
 
-/// Serves a person at the desktop of a store. What the terminal is sent is gathered until it is flushed, so that a scene
-/// is one write.
+/// Serves a person at the desktop of the store in a file and in its twin, and returns the status. Where there is neither
+/// the store is made first.
+pub(crate) fn sit_at_pair(rt: &HostRuntime, path: &str, twin: &str, service: Service) -> u8 {
+    match open_pair(rt, path, twin) {
+        Ok(pair) => sit_at_opened(rt, pair, path, twin, service),
+        Err(PairTrouble::NoFile) => sit_at_new_pair(rt, path, twin, service),
+        Err(trouble) => trouble.say(rt, path, twin),
+    }
+}
+
+/// The same, where there is no file yet.
+fn sit_at_new_pair(rt: &HostRuntime, path: &str, twin: &str, service: Service) -> u8 {
+    if let Err(trouble) = make_at(rt, path) {
+        return trouble.say(rt, path);
+    }
+    match open_pair(rt, path, twin) {
+        Ok(pair) => sit_at_opened(rt, pair, path, twin, service),
+        Err(trouble) => trouble.say(rt, path, twin),
+    }
+}
+
+/// Makes a store at a path.
+fn make_at(rt: &HostRuntime, path: &str) -> Result<(), Trouble> {
+    let _store = make(rt, new_file(rt, path)?, path)?;
+    Ok(())
+}
+
+/// The same, over both files. At its end it is said if one of them failed.
+fn sit_at_opened(rt: &HostRuntime, pair: OpenedPair, path: &str, twin: &str, service: Service) -> u8
+    requires { pair.store.must_reopen ≡ false }
+{
+    let mut pair = pair;
+    let watch = PairWatch::new(rt, path, twin).ok();
+    let status = kept(rt, path, sit_watched(rt, &mut pair.store, watch, service));
+    pair.end(rt, path, twin);
+    status
+}
+
+/// Serves a person at the desktop of a store.
 fn sit<D: Disk + Drop>(rt: &HostRuntime, store: Store<D>, service: Service) -> SittingEnd
     requires { store.must_reopen ≡ false }
+{
+    let mut store = store;
+    sit_watched(rt, &mut store, None, service)
+}
+
+/// The same, and where one of the store's two files fails the line below says so until a key is pressed. What the terminal
+/// is sent is gathered until it is flushed, so that a scene is one write.
+fn sit_watched<D: Disk>(
+    rt: &HostRuntime,
+    store: &mut Store<D>,
+    watch: Option<PairWatch>,
+    service: Service,
+) -> SittingEnd
+    requires { store.old.must_reopen ≡ false }
 {
     let Ok(output) = BufWriter::new(rt.alloc(), rt.stdout()) else {
         return SittingEnd::Memory;
     };
-    let mut store = store;
-    let mut keyboard = DeskKeyboard::new(rt, StandardInput::new(rt.stdin()));
+    let mut writer = CountedWriter::new(output);
+    let keyboard = DeskKeyboard::new(rt, StandardInput::new(rt.stdin()));
+    let mut keyboard = WatchedKeyboard::new(keyboard, watch);
+    let end = serve_by(rt, &mut keyboard, &mut writer, store, service);
+    match keyboard.failed() {
+        Some(leg) if matches!(end, SittingEnd::Closed) => {
+            let told = Service {
+                greeting: failure_of(leg),
+                ..service
+            };
+            serve_told(rt, &mut keyboard, &mut writer, store, told)
+        }
+        _ => end,
+    }
+}
+
+/// What is said of a file that failed.
+fn failure_of(leg: Leg) -> Saying {
+    match leg {
+        Leg::First => Saying::FirstFailed,
+        Leg::Second => Saying::TwinFailed,
+    }
+}
+
+/// Rings, asks for the size of the terminal, and goes on serving.
+fn serve_told<K: Keyboard, W: AnswerWriter, D: Disk>(
+    rt: &HostRuntime,
+    keyboard: &mut K,
+    writer: &mut W,
+    store: &mut Store<D>,
+    service: Service,
+) -> SittingEnd
+    requires { store.old.must_reopen ≡ false }
+{
+    if send_bytes(writer, ASK_SIZE).is_err() || ring(writer).is_err() {
+        return SittingEnd::Output;
+    }
+    serve_by(rt, keyboard, writer, store, service)
+}
+
+/// Serves a person by these devices.
+fn serve_by<K: Keyboard, W: AnswerWriter, D: Disk>(
+    rt: &HostRuntime,
+    keyboard: &mut K,
+    writer: &mut W,
+    store: &mut Store<D>,
+    service: Service,
+) -> SittingEnd
+    requires { store.old.must_reopen ≡ false }
+    ensures { IsUsableAt result store.new }
+{
+    let past = past_of(rt, store);
     serve(
         rt.alloc(),
-        &mut keyboard,
-        &mut CountedWriter::new(output),
-        &mut store,
+        keyboard,
+        writer,
+        store,
         service.window.rows,
         service.window.columns,
         service.greeting,
         service.questions,
         service.window.fills,
+        past,
     )
+}
+
+/// What was done at the desktop of a store, as far as it can be taken back. Where that can't be read nothing is known of it,
+/// and undos take back event by event.
+fn past_of<D: Disk>(rt: &HostRuntime, store: &mut Store<D>) -> Past
+    ensures usable { store.new.must_reopen ≡ store.old.must_reopen }
+{
+    match store.history(rt.alloc()) {
+        Ok(events) => Past::of(events.as_slice()),
+        Err(_) => Past::none(),
+    }
 }

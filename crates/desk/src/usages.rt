@@ -3,9 +3,11 @@
 /// What stands behind `desk` where a command is used. None where there is no such command.
 pub(crate) fn usage_of(command: &str) -> Option<&'static str> {
     match command {
-        "sit" => Some("sit [--unproved] [--no-questions] [--no-fill] [--columns N] ROWS [PATH]"),
+        "sit" => Some(
+            "sit [--unproved] [--no-questions] [--no-fill] [--columns N] [--twin PATH2] ROWS [PATH]",
+        ),
         "picture" => Some("picture PATH"),
-        "check" => Some("check PATH"),
+        "check" => Some("check PATH [--twin PATH2]"),
         "list" => Some("list PATH [--json]"),
         "backup" => Some("backup PATH COPY"),
         "history" => Some("history PATH"),
@@ -14,7 +16,7 @@ pub(crate) fn usage_of(command: &str) -> Option<&'static str> {
             "export PATH NAME.. [--join] [--open], or export PATH NAME --looks [--open], or export PATH --all FOLDER [--looks] [--join] [--replace] [--open]",
         ),
         "import" => Some(
-            "import PATH FILE.. [--replace] [--dry-run] [--ascii] [--rename] [--fill N] [--collect]",
+            "import PATH FILE.. [--replace] [--dry-run] [--ascii] [--rename] [--fill N] [--collect] [--twin PATH2]",
         ),
         _ => None,
     }

@@ -2,15 +2,15 @@
 use Rattle.std.proofs.Common.{◌≡◌, inl, inr, ℕ, ◌+◌, ◌-◌, ◌≤◌, List, [], ◌∷◌, ◌++◌, length, take, drop, Result, Ok, Err}
 use Rattle.std.proofs.Common.{sym, ◌∙◌, ap, arith, length-append}
 use Rattle.std.specs.Prelude.{IfOk}
-use Rattle.desk_slots.specs.declared.error.Error.{Error}
+use Rattle.store_slots.specs.declared.error.Error.{Error}
 use Rattle.std.proofs.Math.Seq.{take-append_seam, drop-append_seam}
 use Rattle.sector_disk.specs.declared.disk.Disk.{Ghosts}
 use Rattle.event_bytes.specs.declared.event.Event.{Event}
 use Rattle.desktop_definitions.specs.declared.reply.Reply.{Reply}
 use Rattle.store_layout.specs.Meaning.{Standing, desktop_of, and_all, and_then, cut_to}
 use Rattle.sector_disk.specs.Trail.{Content}
-use Rattle.desk_slots.specs.Beside.{IsRest, across, within}
-use Rattle.desk_slots.specs.Device.{IsSameDevice}
+use Rattle.store_slots.specs.Beside.{IsRest, across, within}
+use Rattle.store_slots.specs.Device.{IsSameDevice}
 use Rattle.desk_journal.specs.Posting.{IsAcknowledged}
 use Rattle.desk_journal.specs.Session.{session_of}
 use Rattle.desk_journal.specs.Undoing.{IsAdded, IsTakenBack}
@@ -27,6 +27,7 @@ module _ (s : Standing) (event : Event) (n : ℕ) (one : n ≡ 1) where
     slot = s.slot;
     version = s.version;
     epoch = s.epoch;
+    past = s.past;
     start = s.start;
     events = (ap (λ m. take m (s.events ++ event ∷ [])) shorter ∙ take-append_seam s.events (event ∷ [])) i;
   }
@@ -45,6 +46,7 @@ rest_is events s rest is = sym (ap (λ x. cut_to (length x.events - length event
   slot = rest.slot;
   version = rest.version;
   epoch = rest.epoch;
+  past = rest.past;
   start = rest.start;
   events = (ap (λ m. take m (rest.events ++ events)) long ∙ take-append_seam rest.events events) i;
 }))

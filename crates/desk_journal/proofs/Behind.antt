@@ -15,11 +15,11 @@ use Rattle.desktop_definitions.specs.Step.{step, step_in, steps, steps_in, Outco
 use Rattle.store_layout.specs.declared.layout.TheConstants.{JOURNAL_EVENTS, LAYOUT}
 use Rattle.store_layout.specs.Finding.{StandingLaw}
 use Rattle.store_layout.specs.Meaning.{Standing, Shows, desktop_of, and_all}
-use Rattle.desk_slots.proofs.Recording.{in_newest, steps_in_on}
-use Rattle.desk_slots.specs.Beside.{IsRest, across, within}
+use Rattle.store_slots.proofs.Recording.{in_newest, steps_in_on}
+use Rattle.store_slots.specs.Beside.{IsRest, across, within}
 use Rattle.desk_journal.proofs.BackAgain.{last_of, rest_is}
 use Rattle.desk_journal.proofs.Passing.{steps_on}
-use Rattle.desk_slots.specs.Device.{IsSameDevice}
+use Rattle.store_slots.specs.Device.{IsSameDevice}
 use Rattle.desk_journal.specs.Posting.{IsAcknowledged}
 use Rattle.desk_journal.proofs.Stepped.{stepped_newest}
 use Rattle.desk_journal.specs.Undoing.{IsAdded, ShowsStanding, IsBehind, IsLedOn, IsTakenBack}
@@ -59,6 +59,7 @@ module _ {D : Type 0} (d : Ghosts D) (old : StoreView D) where
       slot = s.slot;
       version = s.version;
       epoch = s.epoch;
+      past = s.past;
       start = s.start;
       events = l;
     })) (sym (append-nil s.events)) at;
@@ -80,6 +81,7 @@ module _ {D : Type 0} (d : Ghosts D) (old : StoreView D) where
         slot = s.slot;
         version = s.version;
         epoch = s.epoch;
+        past = s.past;
         start = s.start;
         events = l;
       })) (append_assoc s.events events (event ∷ []))
@@ -129,6 +131,7 @@ module _ {D : Type 0} (d : Ghosts D) (old : StoreView D) where
               slot = s.slot;
               version = s.version;
               epoch = s.epoch;
+              past = s.past;
               start = s.start;
               events = last_behind s.events events (length undone) low i;
             })

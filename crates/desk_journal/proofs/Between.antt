@@ -5,9 +5,9 @@ use Rattle.std.proofs.lemmas.Result.{IfErr-weaker, IfErr-at_err}
 use Rattle.sector_disk.specs.declared.disk.Disk.{Ghosts}
 use Rattle.event_bytes.specs.declared.event.Event.{Event}
 use Rattle.desktop_definitions.specs.declared.reply.Reply.{Reply}
-use Rattle.desk_slots.specs.declared.error.Error.{Error}
-use Rattle.desk_slots.specs.declared.error.Error.TheVariants.{NoMemory, Fault, Worn}
-use Rattle.desk_slots.specs.Errors.{OfCheckpoint, OfLook, OfPost}
+use Rattle.store_slots.specs.declared.error.Error.{Error}
+use Rattle.store_slots.specs.declared.error.Error.TheVariants.{NoMemory, Fault, Worn}
+use Rattle.store_slots.specs.Errors.{OfCheckpoint, OfLook, OfPost}
 use Rattle.desk_journal.specs.Checkpointing.{IsCheckpointed, IsRenewed, LeavesDesktop}
 use Rattle.desk_journal.specs.Migrating.{ChecksFirst}
 use Rattle.desk_journal.specs.Posting.{Behaves, HasJournalRoom, IsAcknowledged, IsBroken, IsLast, IsPosted, IsStarved}

@@ -8,17 +8,17 @@ use Rattle.desktop_definitions.specs.declared.reply.Reply.{Reply}
 use Rattle.desktop_definitions.specs.declared.reply.Reply.TheVariants.{No}
 use Rattle.desktop_definitions.specs.Desktop.{Desktop}
 use Rattle.desktop_definitions.specs.Step.{Outcome, outcome_of}
-use Rattle.desk_bringing.specs.Bringing.{Documents, brought_in}
-use Rattle.desk_bringing.proofs.BringingLaws.{refused_same}
+use Rattle.document_filing.specs.Bringing.{Documents, brought_in}
+use Rattle.document_filing.proofs.BringingLaws.{refused_same}
 use Rattle.store_layout.specs.declared.layout.TheConstants.{LAYOUT}
 use Rattle.store_layout.specs.Kept.{ShowsSettled}
 use Rattle.store_layout.specs.Meaning.{Means, MeansEither}
-use Rattle.desk_slots.specs.declared.live.LiveDesktop.{LiveDesktop}
-use Rattle.desk_slots.specs.declared.place.SlotPlace.{SlotPlace}
-use Rattle.desk_slots.specs.Device.{IsSameDevice}
-use Rattle.desk_slots.specs.Live.{seen_live, IsLive, IsNamed, HasTrueCache}
-use Rattle.desk_slots.specs.Written.{ContinuesArea, IsBeside, KeepsShown, ShowsAnew}
-use Rattle.desk_slots.proofs.Settling.{at_start, kept_on, kept_shows, means_on, shows_means}
+use Rattle.store_slots.specs.declared.live.LiveDesktop.{LiveDesktop}
+use Rattle.store_slots.specs.declared.place.SlotPlace.{SlotPlace}
+use Rattle.store_slots.specs.Device.{IsSameDevice}
+use Rattle.store_slots.specs.Live.{seen_live, IsLive, IsNamed, HasTrueCache}
+use Rattle.store_slots.specs.Written.{ContinuesArea, IsBeside, KeepsShown, ShowsAnew}
+use Rattle.store_slots.proofs.Settling.{at_start, kept_on, kept_shows, means_on, shows_means}
 use Rattle.desk_journal.proofs.Storing.{Knows, beside}
 
 -- `old` is the disk, `live` the desktop that it shows; `mid` the disk, to which nothing was written, when `live'` is in
@@ -65,7 +65,7 @@ module _ {D : Type 0} (d : Ghosts D) (slot version epoch events : ℕ) (old mid 
   -- Done: its checkpoint goes beside what the disk shows
   module _ (place : SlotPlace) (is : IsLive live') (two : slot + place.slot ≡ 1) (next : epoch + 1 ≡ place.epoch)
       (goes : ContinuesArea place live') where
-    stands_beside : d.honest old → IsBeside place (d.size mid) (d.trail mid) slot version epoch events shown
+    pub stands_beside : d.honest old → IsBeside place (d.size mid) (d.trail mid) slot version epoch events shown
     stands_beside honest =
         subst (λ n. IsBeside place n (d.trail mid) slot version epoch events shown) (sym run.as_large)
         (beside place live' (still_kept honest) is (named slot honest (was.5 honest).1) two next goes)

@@ -3,6 +3,7 @@ pub mod Storing
 pub mod Brought
 pub mod Passing
 pub mod Prefixes
+pub mod Aside
 mod Between
 mod Opened
 pub mod Undoing

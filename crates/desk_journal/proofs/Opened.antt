@@ -3,9 +3,9 @@ use Rattle.std.proofs.Common.{◌≡◌, inl, inr, Result, Ok, Err, IfErr}
 use Rattle.sector_disk.specs.declared.disk.Disk.{Ghosts}
 use Rattle.sector_disk.specs.Trail.{now}
 use Rattle.desktop_definitions.specs.Desktop.{Desktop}
-use Rattle.desk_slots.specs.declared.error.Error.{Error}
-use Rattle.desk_slots.specs.Device.{result_of}
-use Rattle.desk_slots.specs.Errors.{OfOpen}
+use Rattle.store_slots.specs.declared.error.Error.{Error}
+use Rattle.store_slots.specs.Device.{result_of}
+use Rattle.store_slots.specs.Errors.{OfOpen}
 use Rattle.store_layout.specs.Finding.{FindsOneThing}
 use Rattle.store_layout.specs.Meaning.{Means}
 use Rattle.desk_journal.specs.Files.{StopsOpening}

@@ -5,7 +5,7 @@ use Rattle.sector_disk.specs.declared.disk.Disk.{Ghosts}
 use Rattle.event_bytes.specs.declared.event.Event.{Event}
 use Rattle.desktop_definitions.specs.declared.reply.Reply.{Reply}
 use Rattle.desktop_definitions.specs.Step.{step, outcome_of}
-use Rattle.desk_slots.proofs.Recording.{in_newest}
+use Rattle.store_slots.proofs.Recording.{in_newest}
 use Rattle.desk_journal.specs.Posting.{IsAcknowledged}
 use Rattle.desk_journal.specs.View.{StoreView}
 

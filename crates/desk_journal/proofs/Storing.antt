@@ -17,15 +17,15 @@ use Rattle.store_layout.specs.Kept.{ShowsSettled, SparesArea, chosen_area}
 use Rattle.char_pages.specs.Pages.{renewed_of, saved_sectors}
 use Rattle.store_layout.specs.Layout.{head}
 use Rattle.store_layout.specs.Meaning.{Means, MeansEither, full_sectors}
-use Rattle.desk_slots.specs.declared.live.LiveDesktop.{LiveDesktop}
-use Rattle.desk_slots.specs.declared.place.SlotPlace.{SlotPlace}
-use Rattle.desk_slots.specs.Written.{ContinuesArea, IsBeside, KeepsShown, ShowsAnew}
+use Rattle.store_slots.specs.declared.live.LiveDesktop.{LiveDesktop}
+use Rattle.store_slots.specs.declared.place.SlotPlace.{SlotPlace}
+use Rattle.store_slots.specs.Written.{ContinuesArea, IsBeside, KeepsShown, ShowsAnew}
 use Rattle.desk_journal.specs.Checkpointing.{LeavesDesktop, IsRenewed}
-use Rattle.desk_slots.specs.Device.{IsSameDevice}
-use Rattle.desk_slots.specs.Live.{seen_live, IsLive, IsNamed, HasTrueCache, StaysLive}
+use Rattle.store_slots.specs.Device.{IsSameDevice}
+use Rattle.store_slots.specs.Live.{seen_live, IsLive, IsNamed, HasTrueCache, StaysLive}
 use Rattle.desk_journal.specs.Posting.{LeavesEither, IsStarved, RecordsDone}
 use Rattle.desk_journal.specs.View.{StoreView}
-use Rattle.desk_slots.proofs.Settling.{kept_on}
+use Rattle.store_slots.proofs.Settling.{kept_on}
 
 -- a version is one that there is
 pub known : (version : Version) → (FIRST_LAYOUT ≤ version_number version) × (version_number version ≤ LAYOUT)

@@ -13,16 +13,16 @@ use Rattle.store_layout.specs.Layout.{head_of, slot_head}
 use Rattle.store_layout.specs.Meaning.{Standing, Stands, desktop_of, and_all, full_sectors}
 use Rattle.store_layout.specs.Kept.{IsSettled}
 use Rattle.store_layout.specs.Finding.{StandingLaw}
-use Rattle.desk_slots.specs.declared.live.LiveDesktop.{LiveDesktop}
-use Rattle.desk_slots.specs.Beside.{GoesBackTo, InUndo, IsCountedBack, IsEarlier, IsRest, StandsOneOf, within}
-use Rattle.desk_slots.specs.Live.{seen_live, IsLive, HasTrueCache}
-use Rattle.desk_slots.specs.Written.{IsUpTo}
-use Rattle.desk_slots.proofs.Settling.{kept_shows}
-use Rattle.desk_slots.proofs.Staying.{IsApart, apart_nowhere, live_stays, shown_stays}
-use Rattle.desk_slots.proofs.TakingBack.{still_up_to}
-use Rattle.desk_slots.specs.declared.error.Error.{Error}
-use Rattle.desk_slots.specs.Device.{IsSameDevice, StaysWithin}
-use Rattle.desk_slots.specs.Errors.{OfDesktop, OfLook}
+use Rattle.store_slots.specs.declared.live.LiveDesktop.{LiveDesktop}
+use Rattle.store_slots.specs.Beside.{GoesBackTo, InUndo, IsCountedBack, IsEarlier, IsRest, StandsOneOf, within}
+use Rattle.store_slots.specs.Live.{seen_live, IsLive, HasTrueCache}
+use Rattle.store_slots.specs.Written.{IsUpTo}
+use Rattle.store_slots.proofs.Settling.{kept_shows}
+use Rattle.store_slots.proofs.Staying.{IsApart, apart_nowhere, live_stays, shown_stays}
+use Rattle.store_slots.proofs.TakingBack.{still_up_to}
+use Rattle.store_slots.specs.declared.error.Error.{Error}
+use Rattle.store_slots.specs.Device.{IsSameDevice, StaysWithin}
+use Rattle.store_slots.specs.Errors.{OfDesktop, OfLook}
 use Rattle.sector_disk.proofs.Confinement as confined
 use Rattle.desk_journal.specs.Checkpointing.{IsRenewed}
 use Rattle.desk_journal.specs.Posting.{IsDueBefore}
@@ -92,6 +92,7 @@ none_behind_it s = λ i. record {
   slot = s.slot;
   version = s.version;
   epoch = s.epoch;
+  past = s.past;
   start = s.start;
   events = sym (append-nil s.events) i;
 }

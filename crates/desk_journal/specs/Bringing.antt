@@ -4,11 +4,11 @@ use Rattle.sector_disk.specs.declared.disk.Disk.{Ghosts}
 use Rattle.sector_disk.specs.Trail.{LeavesOnly}
 use Rattle.desktop_definitions.specs.declared.reply.Reply.{Reply}
 use Rattle.desktop_definitions.specs.declared.reply.Reply.TheVariants.{Done, No}
-use Rattle.desk_bringing.specs.Bringing.{Documents, brought_in}
-use Rattle.desk_bringing.specs.Bringing.{IsBringing}
+use Rattle.document_filing.specs.Bringing.{Documents, brought_in}
+use Rattle.document_filing.specs.Bringing.{IsBringing}
 use Rattle.store_layout.specs.declared.layout.TheConstants.{LAYOUT}
 use Rattle.store_layout.specs.Meaning.{MeansEither}
-use Rattle.desk_slots.specs.Device.{IsOnlyRead}
+use Rattle.store_slots.specs.Device.{IsOnlyRead}
 use Rattle.desk_journal.specs.View.{StoreView, IsDurable}
 
 -- in the newest version, with an empty journal, in the slot that comes next

@@ -4,9 +4,9 @@ use Rattle.sector_disk.specs.declared.disk.Disk.{Ghosts}
 use Rattle.sector_disk.specs.Trail.{LeavesOnly}
 use Rattle.store_layout.specs.declared.layout.TheConstants.{LAYOUT}
 use Rattle.store_layout.specs.Meaning.{Means}
-use Rattle.desk_slots.specs.declared.error.Error.{Error}
-use Rattle.desk_slots.specs.declared.error.Error.TheVariants.{Fault, Worn}
-use Rattle.desk_slots.specs.Errors.{OfCheckpoint}
+use Rattle.store_slots.specs.declared.error.Error.{Error}
+use Rattle.store_slots.specs.declared.error.Error.TheVariants.{Fault, Worn}
+use Rattle.store_slots.specs.Errors.{OfCheckpoint}
 use Rattle.desk_journal.specs.Posting.{TurnsAway, IsBroken, IsLast, Behaves}
 use Rattle.desk_journal.specs.View.{StoreView, IsDurable}
 

@@ -1,2 +1,2 @@
 -- What is said of the disk of a store, passed on from the crate below.
-pub use Rattle.desk_slots.specs.Device.{IsOnlyRead, IsSameDevice, StaysWithin, WritesNothing, disk_after, result_of}
+pub use Rattle.store_slots.specs.Device.{IsOnlyRead, IsSameDevice, StaysWithin, WritesNothing, disk_after, result_of}

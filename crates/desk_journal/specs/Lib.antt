@@ -15,3 +15,4 @@ pub mod Scrolling
 pub mod Leading
 pub mod Losses
 pub mod Views
+pub mod Behind

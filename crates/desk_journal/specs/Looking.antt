@@ -2,10 +2,10 @@
 use Rattle.std.specs.Prelude.{◌≡◌, ◌↔◌, true, Result, IsErrOf}
 use Rattle.sector_disk.specs.declared.disk.Disk.{Ghosts}
 use Rattle.sector_disk.specs.Faults.{FailsAs}
-use Rattle.desk_slots.specs.declared.error.Error.{Error}
-use Rattle.desk_slots.specs.declared.error.Error.TheVariants.{Fault, MustReopen}
-use Rattle.desk_slots.specs.Device.{IsOnlyRead}
-use Rattle.desk_slots.specs.Errors.{OfLook}
+use Rattle.store_slots.specs.declared.error.Error.{Error}
+use Rattle.store_slots.specs.declared.error.Error.TheVariants.{Fault, MustReopen}
+use Rattle.store_slots.specs.Device.{IsOnlyRead}
+use Rattle.store_slots.specs.Errors.{OfLook}
 use Rattle.desk_journal.specs.View.{StoreView}
 
 -- It only looks, whatever it returns.

@@ -3,7 +3,7 @@ use Rattle.std.specs.Prelude.{◌≡◌, ⊤, Result, Err, OnOk, IfErr}
 use Rattle.sector_disk.specs.declared.disk.Disk.{Ghosts}
 use Rattle.event_bytes.specs.declared.event.Event.{Event}
 use Rattle.desktop_definitions.specs.declared.reply.Reply.{Reply}
-use Rattle.desk_slots.specs.declared.error.Error.{Error}
+use Rattle.store_slots.specs.declared.error.Error.{Error}
 use Rattle.desk_journal.specs.Checkpointing.{IsCheckpointed}
 use Rattle.desk_journal.specs.Posting.{HasJournalRoom, IsPosted}
 use Rattle.desk_journal.specs.View.{StoreView}

@@ -2,9 +2,9 @@
 use Rattle.std.specs.Prelude.{◌≡◌, ◌≤◌, ℕ, false}
 use Rattle.sector_disk.specs.declared.disk.Disk.{Ghosts}
 use Rattle.sector_disk.specs.Trail.{now}
-use Rattle.desk_slots.specs.declared.error.Error.{Error}
-use Rattle.desk_slots.specs.declared.error.Error.TheVariants.{NotAStore, Damaged, NoMemory}
-use Rattle.desk_slots.specs.Load.{HasSlotInUse}
+use Rattle.store_slots.specs.declared.error.Error.{Error}
+use Rattle.store_slots.specs.declared.error.Error.TheVariants.{NotAStore, Damaged, NoMemory}
+use Rattle.store_slots.specs.Load.{HasSlotInUse}
 use Rattle.store_layout.specs.declared.layout.TheConstants.{FIRST_LAYOUT, LAYOUT}
 use Rattle.store_layout.specs.Finding.{IsForeign, IsDamagedAt}
 use Rattle.store_layout.specs.Meaning.{Shows}

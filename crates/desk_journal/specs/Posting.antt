@@ -7,11 +7,11 @@ use Rattle.event_bytes.specs.declared.event.Event.{Event}
 use Rattle.desktop_definitions.specs.declared.reply.Reply.{Reply}
 use Rattle.desktop_definitions.specs.Step.{step}
 use Rattle.desktop_definitions.specs.Stepped.{IsStep}
-use Rattle.desk_slots.specs.declared.error.Error.{Error}
-use Rattle.desk_slots.specs.declared.error.Error.TheVariants.{NoMemory, Fault, MustReopen, Worn}
+use Rattle.store_slots.specs.declared.error.Error.{Error}
+use Rattle.store_slots.specs.declared.error.Error.TheVariants.{NoMemory, Fault, MustReopen, Worn}
 use Rattle.store_layout.specs.declared.layout.TheConstants.{JOURNAL_EVENTS, LAST_EPOCH, LAYOUT}
-use Rattle.desk_slots.specs.Device.{IsSameDevice, StaysWithin}
-use Rattle.desk_slots.specs.Errors.{OfPost}
+use Rattle.store_slots.specs.Device.{IsSameDevice, StaysWithin}
+use Rattle.store_slots.specs.Errors.{OfPost}
 use Rattle.store_layout.specs.Meaning.{Means, MeansEither}
 use Rattle.desk_journal.specs.View.{StoreView, IsDurable}
 

@@ -7,10 +7,10 @@ use Rattle.event_bytes.specs.declared.event.Event.{Event}
 use Rattle.desktop_definitions.specs.Step.{steps}
 use Rattle.store_layout.specs.declared.layout.TheConstants.{LAYOUT}
 use Rattle.store_layout.specs.Meaning.{Standing, Stands, desktop_of, and_all, and_then}
-use Rattle.desk_slots.specs.declared.error.Error.{Error}
-use Rattle.desk_slots.specs.Beside.{InUndo, IsRest, StandsOneOf}
-use Rattle.desk_slots.specs.Device.{IsOnlyRead}
-use Rattle.desk_slots.specs.Errors.{OfLook, OfOpen}
+use Rattle.store_slots.specs.declared.error.Error.{Error}
+use Rattle.store_slots.specs.Beside.{InUndo, IsRest, StandsOneOf}
+use Rattle.store_slots.specs.Device.{IsOnlyRead}
+use Rattle.store_slots.specs.Errors.{OfLook, OfOpen}
 use Rattle.desk_journal.specs.Posting.{HasJournalRoom}
 use Rattle.desk_journal.specs.View.{StoreView, IsDurable}
 

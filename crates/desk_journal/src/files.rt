@@ -5,12 +5,12 @@ ghost use Rattle.desktop_definitions.specs.Desktop.{Desktop};
 ghost use Rattle.desk_journal.specs.Files.{BytesMean, StopsOpening, FileLeavesEither, FileLeavesAfter};
 
 use crate::store::Store;
-use desk_slots::Error;
 use desktop_definitions::Reply;
 use event_bytes::Event;
 use sector_disk::{FileDisk, HostFile};
 use std::alloc::Global;
 use store_layout::finding_law;
+use store_slots::Error;
 
 /// Posts an event to a store in a file: `Store::post`, said of the bytes of the file. At every moment each image that a
 /// crash may leave of them means the desktop before the event or the one after it, and from `Ok` on the one after it.

@@ -4,10 +4,10 @@
 //! `specs/Opening.antt`, `specs/Posting.antt`, `specs/Checkpointing.antt` and `specs/Looking.antt`.
 ghost use Rattle.std.specs.Prelude.{◌≡◌, ◌≢◌, ◌<◌, ◌≤◌, ◌↔◌, true, false, Ok, Err, None, IfOk, IfErr, IfSome, IfNone, OnOk};
 ghost use Rattle.std.specs.Prelude.{IsErr, IsErrOf};
-ghost use Rattle.std.specs.Prelude.{option_map, IsTrue};
+ghost use Rattle.std.specs.Prelude.{ℕ, option_map, IsTrue};
 ghost use Rattle.desktop_definitions.specs.Desktop.{empty_desktop, file_of};
-ghost use Rattle.desk_slots.specs.Device.{IsOnlyRead, StaysWithin, disk_after, result_of};
-ghost use Rattle.desk_slots.specs.Errors.{OfFormat, OfOpen, OfPost, OfLook, OfCheckpoint};
+ghost use Rattle.store_slots.specs.Device.{IsOnlyRead, StaysWithin, disk_after, result_of};
+ghost use Rattle.store_slots.specs.Errors.{OfFormat, OfOpen, OfPost, OfLook, OfCheckpoint};
 ghost use Rattle.desk_journal.specs.Looking.{OnlyLooks};
 ghost use Rattle.store_layout.specs.Meaning.{Shows, Standing};
 ghost use Rattle.store_layout.specs.declared.layout.TheConstants.{FIRST_LAYOUT};
@@ -17,12 +17,15 @@ ghost use Rattle.desk_journal.specs.Posting.{LeavesEither, IsAcknowledged, IsSta
 ghost use Rattle.desk_journal.specs.Posting.{Behaves, HasJournalRoom, AnswersMustReopen, IsDueBefore, RecordsDone, TurnsAway};
 ghost use Rattle.desk_journal.specs.Migrating.{ChecksFirst};
 ghost use Rattle.command_table.specs.Versions.{version_number};
-ghost use Rattle.desk_slots.specs.Beside.{IsHistory};
-ghost use Rattle.desk_journal.specs.Undoing.{IsAdded, ShowsStanding, IsLeft, IsTakenBack, LeavesUndone, OfUndo};
+ghost use Rattle.store_slots.specs.Beside.{IsHistory};
+ghost use Rattle.desk_journal.specs.Undoing.{ShowsStanding, IsLeft, IsTakenBack, LeavesUndone, OfUndo};
+ghost use Rattle.desk_journal.specs.Behind.{AddsEvent, GoesToNext, LeavesNext, renewed_from};
+ghost use Rattle.store_layout.specs.Layout.{untold};
 ghost use Rattle.desk_journal.specs.View.{IsDurable};
-ghost use Rattle.desk_slots.specs.Words.{Leaves, Nowhere, now, IsConfined, FailsAs, entries_of};
-ghost use Rattle.desk_slots.specs.Words.{ListsUnread, shown_screen};
+ghost use Rattle.store_slots.specs.Words.{Leaves, Nowhere, now, IsConfined, FailsAs, entries_of};
+ghost use Rattle.store_slots.specs.Words.{ListsUnread, shown_screen};
 
+mod behind;
 mod bringing;
 mod copying;
 mod leading;
@@ -30,10 +33,6 @@ mod scrolling;
 mod views;
 
 use command_table::{NEWEST, Version};
-use desk_slots::{
-    Earlier, Error, LiveDesktop, SlotPlace, lay_out, load, load_earlier, read_history, record,
-    renew, undo_to,
-};
 use desktop_definitions::{Entry, Reply};
 use event_bytes::{Event, Name};
 use piece_ring::Look;
@@ -41,7 +40,10 @@ use screen_cells::Screen;
 use sector_disk::{Disk, Fault};
 use std::alloc::Global;
 use std::marker::Model;
-use store_layout::{JOURNAL_EVENTS, LAST_EPOCH, LAYOUT, STORE_SECTORS, standing_law};
+use store_layout::{JOURNAL_EVENTS, LAYOUT, STORE_SECTORS, UNTOLD, standing_law};
+use store_slots::{
+    Earlier, Error, LiveDesktop, lay_out, load, load_earlier, read_history, record, undo_to,
+};
 
 /// What a store says of itself: the version of the slot in use and its epoch, the number of events in its journal, and
 /// how many characters count as written.
@@ -77,7 +79,7 @@ impl<D: Disk> Model for Store<D> {
     ghost use Rattle.command_table.specs.Versions.{version_number};
     ghost use Rattle.store_layout.specs.declared.layout.TheConstants.{JOURNAL_EVENTS, SLOTS, STORE_SECTORS};
     ghost use Rattle.store_layout.specs.Kept.{ShowsSettled};
-    ghost use Rattle.desk_slots.specs.Live.{seen_live, IsLive, IsNamed, HasTrueCache};
+    ghost use Rattle.store_slots.specs.Live.{seen_live, IsLive, IsNamed, HasTrueCache};
     ghost use Rattle.desk_journal.specs.View.{StoreView};
 
     ghost Value = { StoreView D };
@@ -196,7 +198,7 @@ impl<D: Disk> Store<D> {
         ensures behaves { Behaves D.Disk OfPost result self.old self.new }
         ensures first { self.old.must_reopen ≡ false → IsDueBefore self.old
             → ChecksFirst D.Disk event.now result self.old self.new }
-        ensures added { OnOk result (IsAdded D.Disk event.now self.old self.new) }
+        ensures added { AddsEvent D.Disk event.now result self.old self.new }
     {
         if self.needs() {
             self.checkpoint()?;
@@ -222,7 +224,7 @@ impl<D: Disk> Store<D> {
         ensures fault { IsErrOf result Error.Fault → IsBroken self.new
             × RecordsDone D.Disk event.now self.old self.new }
         ensures behaves { Behaves D.Disk OfLook result self.old self.new }
-        ensures added { OnOk result (IsAdded D.Disk event.now self.old self.new) }
+        ensures added { AddsEvent D.Disk event.now result self.old self.new }
     {
         standing_law();
         if self.must_reopen {
@@ -326,27 +328,10 @@ impl<D: Disk> Store<D> {
         ensures fault { IsErrOf result Error.Fault → IsBroken self.new }
         ensures worn { TurnsAway (IsErrOf result Error.Worn) (IsLast self.old) self.old self.new }
         ensures behaves { Behaves D.Disk OfCheckpoint result self.old self.new }
+        ensures standings { LeavesNext D.Disk (renewed_from untold) self.old self.new }
+        ensures next { OnOk result (GoesToNext D.Disk (renewed_from untold) self.old self.new) }
     {
-        if self.must_reopen {
-            return Err(Error::MustReopen);
-        }
-        if self.epoch == LAST_EPOCH {
-            return Err(Error::Worn);
-        }
-        let place = SlotPlace {
-            slot: 1 - self.slot,
-            epoch: self.epoch + 1,
-            area: self.desktop.next_area(),
-            saved: self.desktop.saved(),
-        };
-        self.must_reopen = true;
-        renew(&mut self.disk, &mut self.desktop, place)?;
-        self.slot = place.slot;
-        self.version = NEWEST;
-        self.epoch = place.epoch;
-        self.events = 0;
-        self.must_reopen = false;
-        Ok(())
+        self.checkpoint_with(UNTOLD)
     }
 
     /// The characters of the file of that name, each a byte and its look; None where there is none.
@@ -427,6 +412,8 @@ impl<D: Disk> Store<D> {
     pub fn shows_what_crashes_leave(&self)
         ensures few { self.now.must_reopen ≡ false → self.now.events ≤ JOURNAL_EVENTS }
         ensures durable { self.now.must_reopen ≡ false → IsDurable D.Disk self.now }
+        ensures quiet { self.now.must_reopen ≡ false → D.honest self.now.disk → (n : ℕ)
+            → (now (D.trail self.now.disk)).pending n ≡ false }
     {
         // What every store keeps is known once a part of it is read.
         let _must_reopen = self.must_reopen;

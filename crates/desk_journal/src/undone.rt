@@ -6,11 +6,11 @@ ghost use Rattle.desk_journal.specs.Undoing.{IsBehind, IsLedOn};
 ghost use Rattle.desk_journal.specs.View.{IsDurable};
 
 use crate::store::Store;
-use desk_slots::Error;
 use event_bytes::Event;
 use sector_disk::Disk;
 use std::alloc::Global;
 use store_layout::standing_law;
+use store_slots::Error;
 
 /// Posts the event, and takes it back: the store shows what it showed before, and the event that is handed back is that
 /// one. So it is too where a checkpoint came before the event.

@@ -28,6 +28,11 @@ pub ends_more : (calls calls' since since' : List DiskCall) (call : DiskCall) �
 ends_more calls calls' since since' call is more added =
     (is.0, more ∙ ap (λ l. l ++ call ∷ []) is.1 ∙ append_assoc is.0 since (call ∷ []) ∙ ap (λ l. is.0 ++ l) (sym added))
 
+-- all calls are those since then, as long as none is forgotten
+pub whole_more : {A : Type 0} (calls calls' since since' : List DiskCall) (call : DiskCall) → (A → calls ≡ since)
+    → calls' ≡ calls ++ call ∷ [] → since' ≡ since ++ call ∷ [] → A → calls' ≡ since'
+whole_more calls calls' since since' call whole more added a = more ∙ ap (λ l. l ++ call ∷ []) (whole a) ∙ sym added
+
 pub ends_at : (calls since : List DiskCall) → since ≡ [] → EndsWith calls since
 ends_at calls since is = (calls, sym (append-nil' calls) ∙ ap (λ l. calls ++ l) (sym is))
   where

@@ -1,20 +1,122 @@
 -- What a call does to a page, put together of what the calls below it do. `d` is what is known of the disk.
-use Rattle.std.proofs.Common.{◌≡◌, ◌∙◌, ap, subst, List, ℕ, Result, Ok, Err, IfOk, is_none, true, false}
+use Rattle.std.proofs.Common.{◌≡◌, ◌≢◌, ◌∙◌, ◌⊎◌, inl, inr, ap, subst, sym, List, [], ℕ, Result, Ok, Err, IfOk, is_none}
+use Rattle.std.proofs.Common.{true, false, Bool, Option, Some, None, IfErr, length, not, refl, ◌==◌}
+use Rattle.std.specs.Prelude.{is_some}
+use Rattle.std.proofs.lemmas.Bool.{true≢false}
 use Rattle.sector_disk.specs.declared.disk.Disk.{Ghosts}
 use Rattle.desktop_definitions.specs.Desktop.{Desktop}
 use Rattle.desktop_definitions.specs.Shown.{shown_screen}
-use Rattle.desk_journal.specs.Errors.{Error}
+use Rattle.desk_journal.specs.Device.{IsOnlyRead}
+use Rattle.desk_journal.specs.Errors.{Error, NoMemory, Fault, MustReopen, OfOpen, OfPost, Worn}
+use Rattle.desk_journal.specs.Opening.{IsNoStore, IsOpened}
+use Rattle.desk_journal.specs.Posting.{IsLast}
 use Rattle.desk_journal.specs.Session.{Session, session_of}
+use Rattle.desk_journal.specs.View.{StoreView}
+use Rattle.status_line.specs.declared.saying.Saying.TheVariants.{Greeting}
+use Rattle.viewer_tracks.specs.declared.display.TheConstants.{COLUMNS}
 use Rattle.terminal_presses.specs.declared.press.Heard.{Heard}
-use Rattle.terminal_keyboard.specs.Presses.{parser_after, presses_heard}
-use Rattle.desk_sitting.specs.Sittings.{looked}
+use Rattle.terminal_keyboard.specs.Presses.{at_rest, parser_after, presses_heard}
+use Rattle.desk_sitting.specs.declared.serving.TheConstants.{MOST_TURNS}
+use Rattle.desk_sitting.specs.declared.sitting.Sitting.{Sitting}
+use Rattle.desk_sitting.specs.Sittings.{looked, new_sitting}
 use Rattle.screen_drawing.specs.Drawn.{drawing_of}
+use Rattle.store_documents.proofs.Looks.{read_twice}
 use Rattle.desk_page.specs.Recording.{Recording}
 use Rattle.desk_page.specs.Spelling.{spelling_of_calls}
 use Rattle.desk_page.specs.Hearing.{Hears, heard_of}
 use Rattle.desk_page.specs.Lines.{page_line}
+use Rattle.desk_page.specs.Loading.{HasLoaded}
 use Rattle.desk_page.specs.declared.scene.Scene.{Scene}
-use Rattle.desk_page.specs.Turns.{HostPage, AreTravelled, IsOpenedAnew, Presses, IsHanded}
+use Rattle.desk_page.specs.contracts.disk.RecordedDiskDisk.TheImpl.{ghosts}
+use Rattle.desk_page.specs.declared.page.TheConstants.{HEIGHT}
+use Rattle.desk_page.specs.Turns.{HostPage, AreTravelled, Begins, IsHanded, IsNotBegun, IsNotPressed, IsOpenedAnew}
+use Rattle.desk_page.specs.Turns.{IsUnbrought, IsWithheld, OfTravels, Presses, damaged, faulty, foreign, starved}
+
+-- ---- why a page isn't handed out
+
+-- for want of memory, or of the disk's
+pub withheld_so : (page : HostPage) (error : Error) → (error ≡ NoMemory) ⊎ (error ≡ Fault) → IsWithheld page error
+withheld_so page error why = elim why [
+  | inl memory ↦ inl memory
+  | inr fault ↦ inr (inl fault)
+]
+
+-- a later page can be used
+pub withheld_later : (old page : HostPage) (error : Error) → page.store.must_reopen ≡ false → IsWithheld page error
+    → IsWithheld old error
+withheld_later old page error usable why = elim why [
+  | inl memory ↦ inl memory
+  | inr (inl fault) ↦ inr (inl fault)
+  | inr (inr both) ↦ absurd (true≢false (sym both.1 ∙ usable))
+]
+
+-- documents weren't brought
+pub unbrought : (page : HostPage) (error : Error) → OfPost error
+    → (error ≡ MustReopen → page.store.must_reopen ≡ true) → (error ≡ Worn → IsLast page.store) → IsUnbrought page error
+unbrought page error why reopen worn = elim why [
+  | inl memory ↦ inl (inl memory)
+  | inr (inl fault) ↦ inl (inr (inl fault))
+  | inr (inr (inl is)) ↦ inl (inr (inr (is, reopen is)))
+  | inr (inr (inr is)) ↦ inr (is, worn is)
+]
+
+-- bytes that were loaded are found to be no store
+pub is_not_begun : (bytes : List ℕ) (disk : Recording) (error : Error) → bytes ≢ [] → HasLoaded bytes disk
+    → IsNoStore ghosts disk error → OfOpen error → IsNotBegun ghosts bytes error
+is_not_begun bytes disk error some loaded none why = elim why [
+  | inl (inl is) ↦ subst (IsNotBegun ghosts bytes) (sym is) starved
+  | inl (inr (inl is)) ↦ subst (IsNotBegun ghosts bytes) (sym is) faulty
+  | inl (inr (inr is)) ↦ subst (IsNotBegun ghosts bytes) (sym is) (foreign disk some loaded (none.foreign is tt))
+  | inr damage ↦ subst (IsNotBegun ghosts bytes) (sym damage.1)
+      (damaged disk damage.0 some loaded (none.damaged damage.0 damage.1 tt))
+]
+
+pub not_begun_of : (bytes : List ℕ) (disk : Recording) → bytes ≢ [] → HasLoaded bytes disk
+    → (result : Result HostPage Error) → IfErr result (IsNoStore ghosts disk) → IfErr result OfOpen
+    → IfErr result (IsNotBegun ghosts bytes)
+not_begun_of bytes disk some loaded (Ok page) none why = none
+not_begun_of bytes disk some loaded (Err error) none why = is_not_begun bytes disk error some loaded none why
+
+-- there are bytes
+pub some_bytes : (bytes : List ℕ) (empty : Bool) → empty ≡ (length bytes == 0) → empty ≡ false → bytes ≢ []
+some_bytes bytes empty is filled none =
+    true≢false (sym (ap (λ (l : List ℕ). length l == 0) none) ∙ sym is ∙ filled)
+
+-- a page before the store that was loaded
+pub begins_loaded : (bytes : List ℕ) (disk : Recording) → bytes ≢ [] → HasLoaded bytes disk
+    → (result : Result HostPage Error) → IfOk result (λ page. IsOpened ghosts disk page.store)
+    → IfOk result (λ page. IsOnlyRead ghosts disk page.store.disk)
+    → IfOk result (λ page. page.sitting ≡ new_sitting HEIGHT COLUMNS Greeting true)
+    → IfOk result (λ page. page.parser ≡ at_rest) → IfOk result (Begins ghosts bytes)
+begins_loaded bytes disk some loaded (Ok page) opened read sitting parser = record {
+  made = λ none. absurd (some none);
+  whole = λ none. absurd (some none);
+  disk = disk;
+  loaded = λ _. loaded;
+  opened = λ _. opened;
+  read = λ _. read;
+  durable = opened.durable;
+  sitting = sitting;
+  parser = parser;
+  usable = opened.usable;
+}
+begins_loaded bytes disk some loaded (Err error) none read sitting parser = none
+
+-- something is asked for
+pub asked_for : {T : Type 0} (asked : Option T) (none : Bool) → is_some asked ≡ not none → none ≡ false
+    → is_none asked ≡ false
+asked_for None none is some = absurd (true≢false (sym (is ∙ ap not some)))
+asked_for (Some x) none is some = refl
+
+-- it isn't MustReopen that a step ended with
+pub no_endless : {T : Type 0} {A : Type 0} (result : Result T Error) (error : Error) → result ≡ Err error
+    → (error ≡ NoMemory) ⊎ (error ≡ Fault) → result ≡ Err MustReopen → A
+no_endless result error is why wrong = elim why [
+  | inl memory ↦ absurd cc
+  | inr fault ↦ absurd cc
+]
+
+-- ---- what is handed out
 
 module _ (d : Ghosts Recording) where
   pub handed_over : (page reopened after : HostPage) (scene : Scene) → IsOpenedAnew d page reopened
@@ -23,8 +125,9 @@ module _ (d : Ghosts Recording) where
       → scene.calls.items ≡ spelling_of_calls page.store.disk.since → scene.rings ≡ page.sitting.rings
       → after.sitting ≡ looked (shown_screen reopened.store.desktop) reopened.sitting
       → after.parser ≡ reopened.parser → session_of after.store ≡ session_of reopened.store
-      → after.store.must_reopen ≡ false → IsHanded page after scene
-  handed_over page reopened after scene same drawn line told rings sitting parser session usable = record {
+      → after.store.must_reopen ≡ false → IsOnlyRead d reopened.store.disk after.store.disk → IsHanded d page after scene
+  handed_over page reopened after scene same drawn line told rings sitting parser session usable read = record {
+    durable = same.left;
     drawn = drawn ∙ ap (λ (desktop : Desktop). drawing_of (shown_screen desktop)) same.desktop;
     line = line ∙ ap (λ (desktop : Desktop). page_line (shown_screen desktop) after.sitting) same.desktop;
     told = told;
@@ -34,21 +137,54 @@ module _ (d : Ghosts Recording) where
         ∙ ap (looked (shown_screen page.store.desktop)) same.sitting;
     parser = parser ∙ same.parser;
     usable = usable;
+    forgot = read_twice d same.forgot read;
   }
+
+  -- what is asked for isn't done
+  pub not_travelled : (bytes : List ℕ) (heard : List Heard) (old mid : HostPage) (last : Sitting)
+      (new : StoreView Recording) (error : Error) → heard ≡ heard_of bytes
+      → Hears d (presses_heard old.parser heard) old.sitting mid.sitting old.store mid.store → OfTravels error
+      → (error ≡ MustReopen → (count : ℕ) × (count ≡ MOST_TURNS)
+      × AreTravelled d count mid.sitting last mid.store new)
+      → IsNotPressed d bytes old error
+  not_travelled bytes heard old mid last new error is hears why endless = elim why [
+    | inl memory ↦ inl (inl memory)
+    | inr (inl fault) ↦ inl (inr (inl fault))
+    | inr (inr reopen) ↦ inr (
+      reopen,
+      record {
+        sitting = mid.sitting;
+        store = mid.store;
+        hears = subst (λ h. Hears d (presses_heard old.parser h) old.sitting mid.sitting old.store mid.store) is hears;
+        last = last;
+        new = new;
+        steps = (endless reopen).0;
+        many = (endless reopen).1;
+        travelled = (endless reopen).2;
+      },
+    )
+  ]
+
+  -- the page that all this comes to isn't drawn
+  pub not_settled : (bytes : List ℕ) (old page : HostPage) (result : Result (HostPage × Scene) Error)
+      → page.store.must_reopen ≡ false → IfErr result (IsWithheld page) → IfErr result (IsNotPressed d bytes old)
+  not_settled bytes old page (Ok both) usable why = why
+  not_settled bytes old page (Err error) usable why = inl (withheld_later old page error usable why)
 
   pub presses : (bytes : List ℕ) (heard : List Heard) (old mid page : HostPage) → heard ≡ heard_of bytes
       → Hears d (presses_heard old.parser heard) old.sitting mid.sitting old.store mid.store
       → page.parser ≡ parser_after old.parser heard
-      → AreTravelled d mid.sitting page.sitting mid.store page.store → is_none page.sitting.travels ≡ true
-      → (result : Result (HostPage × Scene) Error) → IfOk result (λ both. IsHanded page both.0 both.1)
-      → IfOk result (λ both. Presses d bytes old both.0 both.1)
+      → (count : ℕ) × AreTravelled d count mid.sitting page.sitting mid.store page.store
+      → is_none page.sitting.travels ≡ true → (result : Result (HostPage × Scene) Error)
+      → IfOk result (λ both. IsHanded d page both.0 both.1) → IfOk result (λ both. Presses d bytes old both.0 both.1)
   presses bytes heard old mid page is hears parsed travelled rests (Ok both) settled = record {
     sitting = mid.sitting;
     store = mid.store;
     hears = subst (λ h. Hears d (presses_heard old.parser h) old.sitting mid.sitting old.store mid.store) is hears;
     page = page;
     parser = parsed ∙ ap (parser_after old.parser) is;
-    travelled = travelled;
+    steps = travelled.0;
+    travelled = travelled.1;
     rests = rests;
     handed_over = settled;
   }

@@ -1,17 +1,19 @@
 -- A medium on which the calls of a disk are repeated, in order.
-use Rattle.std.specs.Prelude.{◌≡◌, ◌≤◌, ◌+◌, ℕ, List, ◌++◌, length, take}
-use Rattle.sector_disk.specs.declared.call.DiskCall.{DiskCall}
+use Rattle.std.specs.Prelude.{◌≡◌, ◌≤◌, ℕ, length, take}
 use Rattle.sector_disk.specs.Trail.{now}
-use Rattle.sector_disk.specs.Memory.{replayed, trail_of}
+use Rattle.sector_disk.specs.Memory.{replayed}
+use Rattle.desk_page.specs.Recording.{Recording, first_moment, forgotten, trail_since}
 
--- The first k of the calls since then, repeated on a medium as the disk was then, give the disk's k-th moment from
--- then on.
+-- The first k of the calls that it still has to tell, repeated on a medium as the disk was when it was last told to
+-- forget, give the k-th moment of its trail.
 abbrev pub RepeatsMoments : Type 0
-RepeatsMoments = (before since : List DiskCall) (k : ℕ) → k ≤ length since
-    → replayed (take k since) (now (trail_of before))
-    ≡ (trail_of (before ++ since)).at (length before + k)
+RepeatsMoments = (d : Recording) (k : ℕ) → k ≤ length d.since
+    → replayed (take k d.since) (first_moment d) ≡ (trail_since d).at k
 
 -- all of them give its present moment
 abbrev pub RepeatsAll : Type 0
-RepeatsAll = (before since : List DiskCall)
-    → replayed since (now (trail_of before)) ≡ now (trail_of (before ++ since))
+RepeatsAll = (d : Recording) → replayed d.since (first_moment d) ≡ now (trail_since d)
+
+-- which is the first one once it was told to forget
+abbrev pub BeginsAnew : Type 0
+BeginsAnew = (d : Recording) → first_moment (forgotten d) ≡ now (trail_since d)

@@ -1,21 +1,29 @@
 -- What a call does to a page, and what a host is handed of it. `d` is what is known of the disk.
-use Rattle.std.specs.Prelude.{◌≡◌, ◌≢◌, ℕ, List, [], ◌∷◌, is_none, true, false}
+use Rattle.std.specs.Prelude.{◌≡◌, ◌≢◌, ◌+◌, ◌⊎◌, ℕ, List, [], Option, Some, None, is_none, true, false}
 use Rattle.sector_disk.specs.declared.disk.Disk.{Ghosts}
-use Rattle.desktop_definitions.specs.declared.reply.Reply.{Reply}
+use Rattle.sector_disk.specs.Memory.{zero_moment}
+use Rattle.sector_disk.specs.Trail.{now}
+use Rattle.desktop_definitions.specs.declared.reply.Reply.TheVariants.{Done, No}
 use Rattle.desktop_definitions.specs.Desktop.{empty_desktop}
 use Rattle.desktop_definitions.specs.Shown.{shown_screen}
 use Rattle.desktop_definitions.specs.Step.{steps}
-use Rattle.first_desk.specs.FirstDesk.{furnishing}
-use Rattle.desk_journal.specs.Bringing.{AreBrought}
+use Rattle.starter_desktop.specs.StarterDesktop.{furnishing}
+pub use Rattle.document_filing.specs.Bringing.{Documents}
+use Rattle.store_layout.specs.Finding.{IsForeign, IsDamagedAt}
+use Rattle.desk_journal.specs.Bringing.{AreBrought, LeavesAllOrNone}
+use Rattle.desk_journal.specs.Device.{IsOnlyRead}
+use Rattle.desk_journal.specs.Errors.{Error, NotAStore, Damaged, Worn, Fault, NoMemory, MustReopen}
 use Rattle.desk_journal.specs.Opening.{IsOpened}
+use Rattle.desk_journal.specs.Posting.{IsLast}
 use Rattle.desk_journal.specs.View.{StoreView, IsDurable}
 use Rattle.terminal_keyboard.specs.Presses.{at_rest, parser_after, presses_heard}
+use Rattle.desk_sitting.specs.declared.serving.TheConstants.{MOST_TURNS}
 use Rattle.desk_sitting.specs.declared.sitting.Sitting.{Sitting}
-use Rattle.desk_sayings.specs.declared.saying.Saying.TheVariants.{Greeting}
+use Rattle.status_line.specs.declared.saying.Saying.TheVariants.{Greeting}
 use Rattle.desk_sitting.specs.Sittings.{looked, new_sitting}
 use Rattle.desk_sitting.specs.Travels.{IsTravelled}
 use Rattle.screen_drawing.specs.Drawn.{drawing_of}
-use Rattle.desk_page.specs.Recording.{Recording}
+use Rattle.desk_page.specs.Recording.{Recording, first_moment, forgotten}
 use Rattle.desk_page.specs.Spelling.{spelling_of_calls}
 use Rattle.desk_page.specs.declared.page.Page.{Page}
 use Rattle.viewer_tracks.specs.declared.display.TheConstants.{COLUMNS}
@@ -29,44 +37,76 @@ use Rattle.desk_page.specs.Loading.{HasLoaded}
 abbrev pub HostPage : Type 0
 HostPage = Page Recording
 
--- A host is handed the drawing of what the page shows, the line below it, and each call of its disk that it hasn't been
--- told. It is the same page afterwards, at which somebody has looked.
-pub record IsHanded (page after : HostPage) (scene : Scene) : Type 0 where
-  pub drawn : scene.drawing.items ≡ drawing_of (shown_screen page.store.desktop)
-  pub line : scene.line.items ≡ page_line (shown_screen page.store.desktop) after.sitting
-  pub told : scene.calls.items ≡ spelling_of_calls page.store.disk.since
-  pub rings : scene.rings ≡ page.sitting.rings
-  pub desktop : after.store.desktop ≡ page.store.desktop
-  pub sitting : after.sitting ≡ looked (shown_screen page.store.desktop) page.sitting
-  pub parser : after.parser ≡ page.parser
-  pub usable : after.store.must_reopen ≡ false
+-- Why a page isn't handed out: for want of memory (the disk stands in it), or since its store had to be opened again.
+abbrev pub IsWithheld : HostPage → Error → Type 0
+IsWithheld page error = (error ≡ NoMemory) ⊎ (error ≡ Fault)
+    ⊎ (error ≡ MustReopen) × (page.store.must_reopen ≡ true)
+
+-- the errors of what is asked for beside the presses
+abbrev pub OfTravels : Error → Type 0
+OfTravels error = (error ≡ NoMemory) ⊎ (error ≡ Fault) ⊎ (error ≡ MustReopen)
+
+-- why documents are neither brought nor refused
+abbrev pub IsUnbrought : HostPage → Error → Type 0
+IsUnbrought old error = IsWithheld old error ⊎ (error ≡ Worn) × IsLast old.store
 
 module _ (d : Ghosts Recording) where
-  -- It stands before the store that these bytes are, or before a new one where there are none.
+  -- A host is handed the drawing of what the page shows, the line below it, and each call of its disk that it hasn't been
+  -- told, after which a crash leaves what the page shows. It is the same page afterwards, at which somebody has looked.
+  -- What its disk has still to tell writes nothing.
+  pub record IsHanded (page after : HostPage) (scene : Scene) : Type 0 where
+    pub durable : IsDurable d page.store
+    pub drawn : scene.drawing.items ≡ drawing_of (shown_screen page.store.desktop)
+    pub line : scene.line.items ≡ page_line (shown_screen page.store.desktop) after.sitting
+    pub told : scene.calls.items ≡ spelling_of_calls page.store.disk.since
+    pub rings : scene.rings ≡ page.sitting.rings
+    pub desktop : after.store.desktop ≡ page.store.desktop
+    pub sitting : after.sitting ≡ looked (shown_screen page.store.desktop) page.sitting
+    pub parser : after.parser ≡ page.parser
+    pub usable : after.store.must_reopen ≡ false
+    pub forgot : IsOnlyRead d (forgotten page.store.disk) after.store.disk
+
+  -- It stands before the store that these bytes are, or before a new one where there are none. What its disk has to tell
+  -- came after a disk of these bytes, and only read it; that of a new one came after a disk of zeros.
   pub record Begins (bytes : List ℕ) (page : HostPage) : Type 0 where
     pub made : bytes ≡ [] → page.store.desktop ≡ steps empty_desktop furnishing
+    pub whole : bytes ≡ [] → first_moment page.store.disk ≡ zero_moment
     pub disk : Recording
     pub loaded : bytes ≢ [] → HasLoaded bytes disk
     pub opened : bytes ≢ [] → IsOpened d disk page.store
+    pub read : bytes ≢ [] → IsOnlyRead d disk page.store.disk
     pub durable : IsDurable d page.store
     pub sitting : page.sitting ≡ new_sitting HEIGHT COLUMNS Greeting true
     pub parser : page.parser ≡ at_rest
     pub usable : page.store.must_reopen ≡ false
 
-  -- The same page, with the store opened anew.
+  -- Why there is none. The bytes are said to be no store, or a damaged one, only where they are.
+  pub data IsNotBegun (bytes : List ℕ) : Error → Type 0 where
+    starved : IsNotBegun bytes NoMemory
+    faulty : IsNotBegun bytes Fault
+    foreign : (disk : Recording) → bytes ≢ [] → HasLoaded bytes disk
+        → IsForeign (d.size disk) (now (d.trail disk)).reads → IsNotBegun bytes NotAStore
+    damaged : (disk : Recording) (n : ℕ) → bytes ≢ [] → HasLoaded bytes disk
+        → IsDamagedAt (d.size disk) (now (d.trail disk)).reads n → IsNotBegun bytes (Damaged n)
+
+  -- The same page, with the store opened anew: a crash had left what it shows. What its disk has still to tell writes
+  -- nothing.
   pub record IsOpenedAnew (old new : HostPage) : Type 0 where
+    pub left : IsDurable d old.store
     pub desktop : new.store.desktop ≡ old.store.desktop
     pub sitting : new.sitting ≡ old.sitting
     pub parser : new.parser ≡ old.parser
     pub durable : IsDurable d new.store
     pub usable : new.store.must_reopen ≡ false
+    pub forgot : IsOnlyRead d (forgotten old.store.disk) new.store.disk
 
-  -- what is asked for beside the presses is done, one step after another
-  pub data AreTravelled : Sitting → Sitting → StoreView Recording → StoreView Recording
+  -- what is asked for beside the presses is done, so many steps one after another
+  pub data AreTravelled : ℕ → Sitting → Sitting → StoreView Recording → StoreView Recording
       → Type 0 where
-    none : {s : Sitting} {store : StoreView Recording} → AreTravelled s s store store
-    one_more : {s s' s'' : Sitting} {old mid new : StoreView Recording} → AreTravelled s s' old mid
-        → IsTravelled d s' s'' mid new → AreTravelled s s'' old new
+    none : {s : Sitting} {store : StoreView Recording} → AreTravelled 0 s s store store
+    one_more : {count : ℕ} {s s' s'' : Sitting} {old mid new : StoreView Recording}
+        → AreTravelled count s s' old mid → is_none s'.travels ≡ false
+        → IsTravelled d s' s'' mid new → AreTravelled (count + 1) s s'' old new
 
   -- What is pressed by these bytes and a quiet while is done, press after press, as at a terminal; then what they ask
   -- for, until nothing is asked for; and the page that this comes to is handed to the host.
@@ -77,15 +117,44 @@ module _ (d : Ghosts Recording) where
         old.store store
     pub page : HostPage
     pub parser : page.parser ≡ parser_after old.parser (heard_of bytes)
-    pub travelled : AreTravelled sitting page.sitting store page.store
+    pub steps : ℕ
+    pub travelled : AreTravelled steps sitting page.sitting store page.store
     pub rests : is_none page.sitting.travels ≡ true
     pub handed_over : IsHanded page after scene
 
-  -- The document is brought, or refused, and the page that this comes to is handed to the host.
-  pub record Brings (document : List ℕ × List ℕ) (reply : Reply) (old after : HostPage)
-      (scene : Scene) : Type 0 where
+  -- More is asked for by them than so many steps can do.
+  pub record IsEndless (bytes : List ℕ) (old : HostPage) : Type 0 where
+    pub sitting : Sitting
+    pub store : StoreView Recording
+    pub hears : Hears d (presses_heard old.parser (heard_of bytes)) old.sitting sitting
+        old.store store
+    pub last : Sitting
+    pub new : StoreView Recording
+    pub steps : ℕ
+    pub many : steps ≡ MOST_TURNS
+    pub travelled : AreTravelled steps sitting last store new
+
+  -- why they aren't done
+  abbrev pub IsNotPressed : List ℕ → HostPage → Error → Type 0
+  IsNotPressed bytes old error = IsWithheld old error ⊎ (error ≡ MustReopen) × IsEndless bytes old
+
+  -- The documents are brought, at every moment all or none, and the page that this comes to is handed to the host.
+  pub record Brings (documents : Documents) (old after : HostPage) (scene : Scene) : Type 0 where
     pub page : HostPage
-    pub brought : AreBrought d (document ∷ []) reply old.store page.store
+    pub any_moment : LeavesAllOrNone d documents old.store page.store
+    pub brought : AreBrought d documents Done old.store page.store
     pub sitting : page.sitting ≡ old.sitting
     pub parser : page.parser ≡ old.parser
     pub handed_over : IsHanded page after scene
+
+  -- There is no room for them: the page is as it was, and nothing was written.
+  pub record TurnsDown (documents : Documents) (old after : HostPage) : Type 0 where
+    pub code : ℕ
+    pub refused : AreBrought d documents (No code) old.store after.store
+    pub sitting : after.sitting ≡ old.sitting
+    pub parser : after.parser ≡ old.parser
+
+  -- by whether a host is handed anything
+  abbrev pub BringsOrTurnsDown : Documents → HostPage → HostPage → Option Scene → Type 0
+  BringsOrTurnsDown documents old after (Some scene) = Brings documents old after scene
+  BringsOrTurnsDown documents old after None = TurnsDown documents old after

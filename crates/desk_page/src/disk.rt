@@ -1,12 +1,12 @@
 //! A disk in memory, and what is spelled of it.
 //!
-//! A clause sees it as a `Recording`: the disk in memory, and its calls since it was last told to forget.
-ghost use Rattle.std.specs.Prelude.{◌≡◌, ◌<◌, ◌≤◌, ◌+◌, [], ◌∷◌, ◌++◌, length, OnOk, OnErr, IfOk, IsOk};
+//! A clause sees it as a `Recording`: the calls of the disk in memory, and which of them came after it was last told to
+//! forget. Its trail begins there: what a store that is opened over it still has to tell is all of its trail.
+ghost use Rattle.std.specs.Prelude.{◌≡◌, ◌<◌, ◌≤◌, ◌+◌, [], ◌∷◌, ◌++◌, length, OnOk, OnErr, IfOk, IsOk, IsTrue};
 ghost use Rattle.std.specs.Int.{w32, to_le_bytes};
 ghost use Rattle.std.specs.Vec.{vec_len, vec_capacity};
 ghost use Rattle.sector_disk.specs.Trail.{now, CountsFault};
-ghost use Rattle.sector_disk.specs.Memory.{trail_of};
-ghost use Rattle.desk_page.specs.Recording.{blank_recording, forgotten, recorded};
+ghost use Rattle.desk_page.specs.Recording.{blank_recording, forgotten, recorded, trail_since};
 ghost use Rattle.desk_page.specs.Spelling.{spelling_of_calls};
 
 use ghost_traces::{Count, Trace};
@@ -28,21 +28,26 @@ pub struct RecordedDisk {
     since: Trace<DiskCall>,
     spelled: Vec<u8>,
     refused: Count,
+    /// Whether it was never told to forget.
+    whole: bool,
 }
 
 impl Model for RecordedDisk {
-    ghost use Rattle.std.specs.Prelude.{◌≡◌, ◌+◌};
-    ghost use Rattle.desk_page.specs.Recording.{Recording, EndsWith};
+    ghost use Rattle.std.specs.Prelude.{◌≡◌, ◌+◌, true};
+    ghost use Rattle.desk_page.specs.Recording.{Recording, EndsWith, told_before};
     ghost use Rattle.desk_page.specs.Spelling.{spelling_of_calls};
 
     ghost Value = { Recording };
 
     ghost view = { λ d. record {
-      memory = record { size = d.disk.size; calls = d.disk.calls; failures = d.disk.failures + d.refused };
+      size = d.disk.size;
+      told = told_before d.disk.calls d.since.items;
       since = d.since.items;
+      failures = d.disk.failures + d.refused;
     } };
 
-    ghost invariant = { λ d. EndsWith d.disk.calls d.since.items × (d.spelled.items ≡ spelling_of_calls d.since.items) };
+    ghost invariant = { λ d. EndsWith d.disk.calls d.since.items × (d.spelled.items ≡ spelling_of_calls d.since.items)
+        × (d.whole ≡ true → d.disk.calls ≡ d.since.items) };
 }
 
 impl RecordedDisk {
@@ -56,6 +61,7 @@ impl RecordedDisk {
             since: Trace::new(),
             spelled: Vec::new(alloc),
             refused: Count::new(),
+            whole: true,
         })
     }
 
@@ -67,12 +73,20 @@ impl RecordedDisk {
         self.spelled.as_slice()
     }
 
+    /// Whether all of its calls are spelled, from the first one on: it was never told to forget.
+    pub fn is_whole(&self) -> bool
+        ensures { IsTrue result → self.now.told ≡ [] }
+    {
+        self.whole
+    }
+
     /// Forgets what is spelled. The disk stays as it is, and its next call is the first one that is spelled.
     pub fn forget(&mut self)
         ensures { self.new ≡ forgotten self.old }
     {
         self.spelled.clear();
         self.since = Trace::new();
+        self.whole = false;
     }
 }
 
@@ -99,11 +113,11 @@ fn spell(spelled: &mut Vec<u8>, number: u32, bytes: &[u8])
 }
 
 impl Disk for RecordedDisk {
-    ghost size = { λ d. d.memory.size };
+    ghost size = { λ d. d.size };
 
-    ghost trail = { λ d. trail_of d.memory.calls };
+    ghost trail = { λ d. trail_since d };
 
-    ghost failures = { λ d. d.memory.failures };
+    ghost failures = { λ d. d.failures };
 
     ghost honest = { λ _. Unit {0} };
 
@@ -113,21 +127,21 @@ impl Disk for RecordedDisk {
 
     /// Copies sector `n` to the buffer. It never fails.
     fn read(&mut self, n: u32, buffer: &mut Sector) -> Result<(), Fault>
-        requires { n < self.old.memory.size }
+        requires { n < self.old.size }
         ensures done { IsOk result }
         ensures unchanged { self.new ≡ self.old }
-        ensures bytes { buffer.new ≡ (now (trail_of self.old.memory.calls)).reads n }
+        ensures bytes { buffer.new ≡ (now (trail_since self.old)).reads n }
     {
         self.disk.read(n, buffer)
     }
 
     /// Writes the sector. Where no memory is left for it the call returns `Fault` and changes nothing.
     fn write(&mut self, n: u32, bytes: &Sector) -> Result<(), Fault>
-        requires { n < self.old.memory.size }
-        ensures size { self.new.memory.size ≡ self.old.memory.size }
-        ensures cause { CountsFault result self.old.memory.failures self.new.memory.failures }
+        requires { n < self.old.size }
+        ensures size { self.new.size ≡ self.old.size }
+        ensures cause { CountsFault result self.old.failures self.new.failures }
         ensures recorded { OnOk result (self.new ≡ recorded (DiskCall.Write n bytes.now) self.old) }
-        ensures refused { OnErr result (self.new.memory.calls ≡ self.old.memory.calls) }
+        ensures refused { OnErr result (self.new.told ≡ self.old.told) }
         ensures unspelled { OnErr result (self.new.since ≡ self.old.since) }
     {
         make_room(&mut self.spelled, &mut self.refused)?;
@@ -139,10 +153,10 @@ impl Disk for RecordedDisk {
 
     /// Settles every pending sector. Where no memory is left to spell it the call returns `Fault` and changes nothing.
     fn sync(&mut self) -> Result<(), Fault>
-        ensures size { self.new.memory.size ≡ self.old.memory.size }
-        ensures cause { CountsFault result self.old.memory.failures self.new.memory.failures }
+        ensures size { self.new.size ≡ self.old.size }
+        ensures cause { CountsFault result self.old.failures self.new.failures }
         ensures recorded { OnOk result (self.new ≡ recorded DiskCall.Sync self.old) }
-        ensures refused { OnErr result (self.new.memory.calls ≡ self.old.memory.calls) }
+        ensures refused { OnErr result (self.new.told ≡ self.old.told) }
         ensures unspelled { OnErr result (self.new.since ≡ self.old.since) }
     {
         make_room(&mut self.spelled, &mut self.refused)?;

@@ -1,34 +1,41 @@
 //! Documents on their way into a page's desktop and out of it.
-ghost use Rattle.std.specs.Prelude.{◌≡◌, [], ◌∷◌, Option, IfOk, IsErrOf, map, option_map};
-ghost use Rattle.desktop_definitions.specs.Desktop.{file_of};
+ghost use Rattle.std.specs.Prelude.{◌≡◌, Option, true, IfOk, IfErr, IsErrOf, option_map};
 ghost use Rattle.desk_journal.specs.Bringing.{AreBrought, IsUnwritten, LeavesAllOrNone};
-ghost use Rattle.desk_journal.specs.Device.{IsOnlyRead};
-ghost use Rattle.desk_journal.specs.Session.{session_of};
-ghost use Rattle.store_documents.specs.HostText.{exported};
+ghost use Rattle.desk_journal.specs.Errors.{OfLook, OfPost};
+ghost use Rattle.desk_journal.specs.Posting.{Behaves, IsLast, TurnsAway};
+ghost use Rattle.desk_page.specs.Giving.{LooksAtPage, given_out as out_of, given_text, selected_text};
 
 use crate::page::Page;
-use desk_bringing::Document;
 use desk_journal::Error;
 use desktop_definitions::Reply;
+use document_filing::Document;
 use event_bytes::Name;
+use piece_ring::Look;
 use sector_disk::Disk;
 use std::alloc::Global;
 use store_documents::host_text;
 
-/// The document becomes the file of its name. No where there would be more files than there may be, or where the desktop
-/// would pass the limits on characters: then nothing is written.
+/// Each document becomes the file of its name, in their order, or none does. No where there would be more files than there
+/// may be, or where the desktop would pass the limits on characters: then nothing is written.
 ///
 /// Errors: those of `Store::bring`.
-pub fn bring<D: Disk>(alloc: Global, page: &mut Page<D>, document: Document) -> Result<Reply, Error>
-    ensures any_moment { LeavesAllOrNone D.Disk (document ∷ []) page.old.store page.new.store }
+pub fn bring<D: Disk>(
+    alloc: Global,
+    page: &mut Page<D>,
+    documents: &[Document],
+) -> Result<Reply, Error>
+    ensures any_moment { LeavesAllOrNone D.Disk documents.now page.old.store page.new.store }
     ensures brought { IfOk result (λ reply.
-        AreBrought D.Disk (document ∷ []) reply page.old.store page.new.store) }
+        AreBrought D.Disk documents.now reply page.old.store page.new.store) }
     ensures memory { IsErrOf result Error.NoMemory
         → IsUnwritten D.Disk page.old.store page.new.store }
+    ensures worn { TurnsAway (IsErrOf result Error.Worn) (IsLast page.old.store) page.old.store
+        page.new.store }
+    ensures behaves { Behaves D.Disk OfPost result page.old.store page.new.store }
     ensures sitting { page.new.sitting ≡ page.old.sitting }
     ensures parser { page.new.parser ≡ page.old.parser }
 {
-    page.store.bring(alloc, &[document])
+    page.store.bring(alloc, documents)
 }
 
 /// The text of the document of that name, as a file of the host's: each CR is LF. None where there is no such document.
@@ -41,19 +48,41 @@ pub fn give<D: Disk>(
 ) -> Result<Option<Vec<u8>>, Error>
     ensures given { IfOk result (λ text. D.honest page.old.store.disk
         → option_map (λ bytes. bytes.items) text
-        ≡ option_map (λ characters. exported (map (λ character. character.0) characters))
-        (file_of page.old.store.desktop name.now)) }
-    ensures disk { IsOnlyRead D.Disk page.old.store.disk page.new.store.disk }
-    ensures usable { page.new.store.must_reopen ≡ page.old.store.must_reopen }
-    ensures session { D.honest page.old.store.disk
-        → session_of page.new.store ≡ session_of page.old.store }
-    ensures sitting { page.new.sitting ≡ page.old.sitting }
-    ensures parser { page.new.parser ≡ page.old.parser }
+        ≡ given_text name.now page.old.store.desktop) }
+    ensures looked { LooksAtPage D.Disk page.old page.new }
+    ensures errors { IfErr result (λ error. OfLook error
+        × (error ≡ Error.MustReopen → page.old.store.must_reopen ≡ true)) }
 {
-    let Some(characters) = page.store.file(alloc, name)? else {
+    let found = page.store.file(alloc, name)?;
+    given_out(alloc, &found)
+}
+
+/// The characters that are selected, all of them, as `give` gives those of a document. None where nothing is selected.
+///
+/// Errors: `MustReopen`; `NoMemory`; `Fault`.
+pub fn selected<D: Disk>(alloc: Global, page: &mut Page<D>) -> Result<Option<Vec<u8>>, Error>
+    ensures given { IfOk result (λ text. D.honest page.old.store.disk
+        → option_map (λ bytes. bytes.items) text ≡ selected_text page.old.store.desktop) }
+    ensures looked { LooksAtPage D.Disk page.old page.new }
+    ensures errors { IfErr result (λ error. OfLook error
+        × (error ≡ Error.MustReopen → page.old.store.must_reopen ≡ true)) }
+{
+    let found = page.store.selected(alloc)?;
+    given_out(alloc, &found)
+}
+
+/// Characters as they are given out.
+///
+/// Error: `NoMemory`.
+fn given_out(alloc: Global, characters: &Option<Vec<(u8, Look)>>) -> Result<Option<Vec<u8>>, Error>
+    ensures given { IfOk result (λ text. option_map (λ bytes. bytes.items) text
+        ≡ out_of (option_map (λ those. those.items) characters.now)) }
+    ensures errors { IfErr result (λ error. error ≡ Error.NoMemory) }
+{
+    let Some(characters) = characters else {
         return Ok(None);
     };
-    match host_text(alloc, &characters) {
+    match host_text(alloc, characters) {
         Ok(text) => Ok(Some(text)),
         Err(_) => Err(Error::NoMemory),
     }

@@ -1,18 +1,24 @@
 //! What is kept between calls, and what a call does to it.
-ghost use Rattle.std.specs.Prelude.{◌≡◌, ◌++◌, ◌<◌, length, take, drop, min, IfOk, IfErr, Some, Ok};
+ghost use Rattle.std.specs.Prelude.{◌≡◌, ◌≢◌, ◌≤◌, ◌++◌, ◌∷◌, [], ℕ, List, length, take, drop, min, IfOk, IfErr, IfSome};
+ghost use Rattle.std.specs.Prelude.{Some, None, Ok};
 ghost use Rattle.store_documents.specs.HostText.{imported};
-ghost use Rattle.desk_page.specs.Calls.{IsBegun, IsPressed, IsBrought, IsGiven, made_by, has_left, made_numbered};
-ghost use Rattle.desk_page.specs.Calls.{pointer_number};
+ghost use Rattle.desk_page.specs.Calls.{AnswersAsk, AnswersBegin, AnswersBring, AnswersBringMore, AnswersGive, AnswersPress};
+ghost use Rattle.desk_page.specs.Calls.{IsNoFile, has_left, made_by, made_numbered, pointer_number};
+ghost use Rattle.desk_page.specs.Giving.{selected_text};
+ghost use Rattle.desk_page.specs.Statuses.{no_room, not_there, status_of_error};
 
 use crate::disk::RecordedDisk;
-use crate::documents::give;
+use crate::documents::{give, selected};
 use crate::scene::{HostPage, Scene, begun, brought, pressed, settled};
-use crate::status::{DONE, GONE, NO_DOCUMENT, NO_NAME, NO_ROOM, status_of, status_of_unfit};
-use desk_bringing::Document;
-use desktop_definitions::Reply;
+use crate::status::{
+    DONE, GONE, NO_DOCUMENT, NO_MEMORY, NO_NAME, NO_ROOM, status_of, status_of_unfit,
+};
+use desk_journal::Error;
+use document_filing::Document;
 use event_bytes::Name;
 use sector_disk::Disk;
 use std::alloc::Global;
+use std::mem::replace;
 use store_documents::document;
 use viewer_tracks::COLUMNS;
 
@@ -21,8 +27,10 @@ use viewer_tracks::COLUMNS;
 pub struct Kept {
     pub page: Option<HostPage>,
     pub scene: Scene,
-    /// The text of the document that was asked for last.
+    /// The text that was asked for last.
     pub text: Vec<u8>,
+    /// Documents that are brought with the next one.
+    pub coming: Vec<Document>,
 }
 
 /// Which of the things is meant that a call made.
@@ -51,7 +59,10 @@ impl Made {
 
 impl Kept {
     /// Nothing yet.
-    pub fn new(alloc: Global) -> Kept {
+    pub fn new(alloc: Global) -> Kept
+        ensures page { result.page ≡ None }
+        ensures coming { result.coming.items ≡ [] }
+    {
         Kept {
             page: None,
             scene: Scene {
@@ -61,14 +72,18 @@ impl Kept {
                 rings: false,
             },
             text: Vec::new(alloc),
+            coming: Vec::new(alloc),
         }
     }
 
     /// Opens the store that these bytes are, or makes a new one where there are none.
-    #[tactic(auto, using(crate::proofs::Keeping::begun))]
     pub fn begin(&mut self, alloc: Global, bytes: &[u8]) -> u32
-        ensures { result ≡ 0 → IsBegun ⟦<RecordedDisk as Disk>⟧ bytes.now self.new }
+        ensures answers { AnswersBegin ⟦<RecordedDisk as Disk>⟧ bytes.now self.old self.new result }
+        ensures untold { result ≢ 0 → self.new.scene.calls.items ≡ [] }
+        ensures coming { self.new.coming ≡ self.old.coming }
+        ensures few { result ≤ 5 }
     {
+        self.scene.calls.clear();
         let page = match begun(alloc, bytes) {
             Ok(page) => page,
             Err(error) => return status_of(error),
@@ -80,10 +95,12 @@ impl Kept {
     }
 
     /// Does what is pressed by these bytes of a terminal.
-    #[tactic(auto, using(crate::proofs::Keeping::pressed))]
     pub fn press(&mut self, alloc: Global, bytes: &[u8]) -> u32
-        ensures { result ≡ 0 → IsPressed ⟦<RecordedDisk as Disk>⟧ bytes.now self.old self.new }
+        ensures answers { AnswersPress ⟦<RecordedDisk as Disk>⟧ bytes.now self.old self.new result }
+        ensures untold { result ≢ 0 → self.new.scene.calls.items ≡ [] }
+        ensures coming { self.new.coming ≡ self.old.coming }
     {
+        self.scene.calls.clear();
         let Some(page) = self.page.take() else {
             return GONE;
         };
@@ -93,43 +110,90 @@ impl Kept {
         }
     }
 
-    /// Makes the document of that name of a file of the host's.
-    #[tactic(auto, using(crate::proofs::Keeping::brought))]
+    /// Makes the document of that name of a file of the host's, together with those that are kept.
     pub fn bring(&mut self, alloc: Global, name: &[u8], file: &[u8]) -> u32
-        ensures { result ≡ 0
-            → IsBrought ⟦<RecordedDisk as Disk>⟧ name.now file.now self.old self.new }
+        ensures answers { AnswersBring ⟦<RecordedDisk as Disk>⟧ name.now file.now self.old self.new
+            result }
+        ensures untold { result ≢ 0 → self.new.scene.calls.items ≡ [] }
+        ensures coming { self.new.coming.items ≡ [] }
     {
-        self.scene.calls.clear();
-        let document = match document_of(alloc, name, file) {
-            Ok(document) => document,
+        self.scene.calls.clear(); // also where it is refused
+        let coming = replace(&mut self.coming, Vec::new(alloc));
+        let documents = match with_one_more(alloc, coming, name, file) {
+            Ok(documents) => documents,
             Err(status) => return status,
         };
         let Some(page) = self.page.take() else {
             return GONE;
         };
-        match brought(alloc, page, document) {
-            Ok((page, scene, reply)) => {
-                let done = self.keep(page, scene);
-                match reply {
-                    Reply::Done => done,
-                    Reply::No(_) => NO_ROOM,
-                }
-            }
+        match brought(alloc, page, documents.as_slice()) {
+            Ok((page, scene)) => self.keep_or_leave(page, scene),
             Err(error) => status_of(error),
+        }
+    }
+
+    /// Keeps the document of that name of a file of the host's, to be brought with the next one. Where it is refused none
+    /// is kept.
+    pub fn bring_more(&mut self, alloc: Global, name: &[u8], file: &[u8]) -> u32
+        ensures answers { AnswersBringMore name.now file.now self.old self.new result }
+        ensures untold { self.new.scene.calls.items ≡ [] }
+    {
+        self.scene.calls.clear();
+        let coming = replace(&mut self.coming, Vec::new(alloc));
+        match with_one_more(alloc, coming, name, file) {
+            Ok(documents) => {
+                self.coming = documents;
+                DONE
+            }
+            Err(status) => status,
         }
     }
 
     /// Asks for the text of the document of that name.
     pub fn give(&mut self, alloc: Global, name: &[u8]) -> u32
-        ensures { result ≡ 0 → IsGiven name.now self.old self.new }
+        ensures answers { AnswersGive ⟦<RecordedDisk as Disk>⟧ name.now self.old self.new result }
+        ensures untold { self.new.scene.calls.items ≡ [] }
+        ensures coming { self.new.coming ≡ self.old.coming }
     {
+        self.scene.calls.clear();
         let Some(name) = Name::new(name) else {
             return NO_NAME;
         };
         let Some(page) = &mut self.page else {
             return GONE;
         };
-        match give(alloc, page, &name) {
+        let found = give(alloc, page, &name);
+        self.tell(found)
+    }
+
+    /// Asks for what is selected.
+    pub fn copied(&mut self, alloc: Global) -> u32
+        ensures answers { AnswersAsk ⟦<RecordedDisk as Disk>⟧ selected_text self.old self.new
+            result }
+        ensures untold { self.new.scene.calls.items ≡ [] }
+        ensures coming { self.new.coming ≡ self.old.coming }
+    {
+        self.scene.calls.clear();
+        let Some(page) = &mut self.page else {
+            return GONE;
+        };
+        let found = selected(alloc, page);
+        self.tell(found)
+    }
+
+    /// Keeps a text that was found.
+    fn tell(&mut self, found: Result<Option<Vec<u8>>, Error>) -> u32
+        ensures given { IfOk found (λ text. IfSome text (λ bytes.
+            (self.new.text ≡ bytes) × (result ≡ 0))) }
+        ensures missing { found ≡ Ok None
+            → (self.new.text ≡ self.old.text) × (result ≡ not_there) }
+        ensures failed { IfErr found (λ error.
+            (self.new.text ≡ self.old.text) × (result ≡ status_of_error error)) }
+        ensures page { self.new.page ≡ self.old.page }
+        ensures scene { self.new.scene ≡ self.old.scene }
+        ensures coming { self.new.coming ≡ self.old.coming }
+    {
+        match found {
             Ok(Some(text)) => {
                 self.text = text;
                 DONE
@@ -144,10 +208,30 @@ impl Kept {
         ensures done { result ≡ 0 }
         ensures page { self.new.page ≡ Some page }
         ensures scene { self.new.scene ≡ scene }
+        ensures text { self.new.text ≡ self.old.text }
+        ensures coming { self.new.coming ≡ self.old.coming }
     {
         self.page = Some(page);
         self.scene = scene;
         DONE
+    }
+
+    /// Keeps a page after documents were brought, with what is handed of it, or were turned down.
+    fn keep_or_leave(&mut self, page: HostPage, scene: Option<Scene>) -> u32
+        ensures page { self.new.page ≡ Some page }
+        ensures handed { IfSome scene (λ s. (self.new.scene ≡ s) × (result ≡ 0)) }
+        ensures left { scene ≡ None → (self.new.scene ≡ self.old.scene) × (result ≡ no_room) }
+        ensures text { self.new.text ≡ self.old.text }
+        ensures coming { self.new.coming ≡ self.old.coming }
+    {
+        self.page = Some(page);
+        match scene {
+            Some(scene) => {
+                self.scene = scene;
+                DONE
+            }
+            None => NO_ROOM,
+        }
     }
 
     /// Whether the last presses rang.
@@ -221,7 +305,7 @@ fn copied(from: &[u8], to: &mut [u8]) -> usize
 fn document_of(alloc: Global, name: &[u8], file: &[u8]) -> Result<Document, u32>
     ensures name { IfOk result (λ document. document.0 ≡ name.now) }
     ensures text { IfOk result (λ document. imported file.now ≡ Ok document.1) }
-    ensures refused { IfErr result (λ status. 0 < status) }
+    ensures refused { IfErr result (IsNoFile name.now file.now) }
 {
     let Some(name) = Name::new(name) else {
         return Err(NO_NAME);
@@ -233,4 +317,23 @@ fn document_of(alloc: Global, name: &[u8], file: &[u8]) -> Result<Document, u32>
         },
         Err(unfit) => Err(status_of_unfit(unfit)),
     }
+}
+
+/// The document of that name and this file of the host's behind others, or a status that says why there is none.
+fn with_one_more(
+    alloc: Global,
+    coming: Vec<Document>,
+    name: &[u8],
+    file: &[u8],
+) -> Result<Vec<Document>, u32>
+    ensures all { IfOk result (λ documents. (document : List ℕ) × (imported file.now ≡ Ok document)
+        × (documents.items ≡ coming.items ++ (name.now, document) ∷ [])) }
+    ensures refused { IfErr result (IsNoFile name.now file.now) }
+{
+    let mut documents = coming;
+    let document = document_of(alloc, name, file)?;
+    if documents.push(document).is_err() {
+        return Err(NO_MEMORY);
+    }
+    Ok(documents)
 }

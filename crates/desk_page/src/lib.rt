@@ -24,7 +24,7 @@ mod scene;
 mod status;
 
 pub use disk::RecordedDisk;
-pub use documents::{bring, give};
+pub use documents::{bring, give, selected};
 pub use heard::{hear, hearing};
 pub use held::{Held, put, take};
 pub use kept::{Kept, Made};

@@ -1,8 +1,8 @@
 //! The disk whose bytes the host has.
 ghost use Rattle.std.specs.Prelude.{◌≡◌, ◌+◌, ◌*◌, ◌<◌, ◌≤◌, length, IfOk, OnOk};
 ghost use Rattle.sector_disk.specs.Trail.{now, written};
-ghost use Rattle.sector_disk.specs.Memory.{trail_of};
 ghost use Rattle.desk_page.specs.Loading.{HasLoaded, sector_of, whole_sectors};
+ghost use Rattle.desk_page.specs.Recording.{trail_since};
 
 use crate::disk::RecordedDisk;
 use sector_disk::{Disk, FILE_SECTORS, NoMemory, Sector};
@@ -39,11 +39,11 @@ fn sectors_in(bytes: &[u8]) -> u32
 
 /// Writes one sector of the bytes to the disk, which forgets the call. `NoMemory`: there was no memory for it.
 fn load(disk: &mut RecordedDisk, n: u32, bytes: &[u8]) -> Result<(), NoMemory>
-    requires room { n < disk.old.memory.size }
+    requires room { n < disk.old.size }
     requires there { 1024 * n + 1024 ≤ length bytes.now }
-    ensures size { disk.new.memory.size ≡ disk.old.memory.size }
-    ensures written { OnOk result (now (trail_of disk.new.memory.calls)
-        ≡ written (now (trail_of disk.old.memory.calls)) n (sector_of bytes.now n)) }
+    ensures size { disk.new.size ≡ disk.old.size }
+    ensures written { OnOk result (now (trail_since disk.new)
+        ≡ written (now (trail_since disk.old)) n (sector_of bytes.now n)) }
 {
     let at = 1024 * n as usize;
     let mut sector: Sector = [0; 1024];

@@ -1,25 +1,26 @@
 //! A page, from its beginning to its end, and what it shows.
-ghost use Rattle.std.specs.Prelude.{◌≡◌, ◌++◌, true, false, OnOk, IfOk, IfErr};
+ghost use Rattle.std.specs.Prelude.{◌≡◌, ◌⊎◌, ◌++◌, true, false, OnOk, IfOk, IfErr};
 ghost use Rattle.desktop_definitions.specs.Desktop.{empty_desktop};
 ghost use Rattle.desktop_definitions.specs.Shown.{shown_screen};
 ghost use Rattle.desktop_definitions.specs.Step.{steps};
 ghost use Rattle.desk_journal.specs.Device.{IsOnlyRead};
+ghost use Rattle.desk_journal.specs.Errors.{OfOpen};
 ghost use Rattle.desk_journal.specs.Opening.{IsNoStore, IsOpened};
 ghost use Rattle.desk_journal.specs.Session.{session_of};
 ghost use Rattle.desk_journal.specs.View.{IsDurable};
 ghost use Rattle.desk_page.specs.Lines.{page_line};
 ghost use Rattle.desk_sitting.specs.Sittings.{looked, new_sitting};
-ghost use Rattle.first_desk.specs.FirstDesk.{furnishing};
+ghost use Rattle.starter_desktop.specs.StarterDesktop.{furnishing};
 ghost use Rattle.screen_drawing.specs.Drawn.{drawing_of};
 ghost use Rattle.terminal_keyboard.specs.Presses.{at_rest};
 ghost use Rattle.viewer_tracks.specs.declared.display.TheConstants.{COLUMNS};
 
 use desk_journal::{Error, Store};
 use desk_sitting::{Saying, Sitting};
-use first_desk::furnish;
 use screen_cells::Screen;
 use screen_drawing::draw;
 use sector_disk::Disk;
+use starter_desktop::furnish;
 use std::alloc::Global;
 use store_layout::showing_law;
 use terminal_keyboard::Parser;
@@ -60,6 +61,7 @@ pub fn begin<D: Disk + Drop>(alloc: Global, disk: D) -> Result<Page<D>, Error>
     ensures usable { IfOk result (λ page. page.store.must_reopen ≡ false) }
     ensures disk { IfOk result (λ page. IsOnlyRead D.Disk disk page.store.disk) }
     ensures no_store { IfErr result (λ error. IsNoStore D.Disk disk error) }
+    ensures errors { IfErr result OfOpen }
 {
     match Store::open(alloc, disk) {
         Ok(store) => Ok(seated(store)),
@@ -109,11 +111,11 @@ pub fn show<D: Disk>(
         ≡ line.old.items ++ page_line (shown_screen page.old.store.desktop) page.new.sitting) }
     ensures sitting { OnOk result (D.honest page.old.store.disk
         → page.new.sitting ≡ looked (shown_screen page.old.store.desktop) page.old.sitting) }
-    ensures parser { page.new.parser ≡ page.old.parser }
+    ensures kept { (page.new.parser ≡ page.old.parser) × (page.new.store.must_reopen ≡ false) }
     ensures session { D.honest page.old.store.disk
         → session_of page.new.store ≡ session_of page.old.store }
     ensures disk { IsOnlyRead D.Disk page.old.store.disk page.new.store.disk }
-    ensures usable { page.new.store.must_reopen ≡ false }
+    ensures errors { IfErr result (λ error. (error ≡ Error.NoMemory) ⊎ (error ≡ Error.Fault)) }
 {
     let mut screen = Screen::new();
     page.store.screen(alloc, &mut screen)?;

@@ -1,22 +1,26 @@
 //! What a host is handed of a page, and what a call does to a page.
-ghost use Rattle.std.specs.Prelude.{◌≡◌, is_none, true, false, IfOk, IsOk, OnOk};
-ghost use Rattle.desk_journal.specs.Opening.{IsOpened};
+ghost use Rattle.std.specs.Prelude.{◌≡◌, ℕ, [], is_none, true, false, IfOk, IfErr, IfSome, IsErrOf, IsOk, OnOk};
+ghost use Rattle.desk_journal.specs.Device.{IsOnlyRead};
+ghost use Rattle.desk_journal.specs.Errors.{OfOpen};
+ghost use Rattle.desk_journal.specs.Opening.{IsNoStore, IsOpened};
 ghost use Rattle.desk_journal.specs.View.{IsDurable};
+ghost use Rattle.desk_sitting.specs.declared.serving.TheConstants.{MOST_TURNS};
 ghost use Rattle.desk_page.specs.Spelling.{spelling_of_calls};
-ghost use Rattle.desk_page.specs.Turns.{AreTravelled, Begins, Presses, Brings, IsOpenedAnew, IsHanded};
+ghost use Rattle.desk_page.specs.Turns.{AreTravelled, Begins, BringsOrTurnsDown, Presses, IsOpenedAnew, IsHanded, IsNotBegun};
+ghost use Rattle.desk_page.specs.Turns.{IsUnbrought, IsNotPressed, IsWithheld, OfTravels};
 
 use crate::disk::RecordedDisk;
 use crate::documents::bring;
 use crate::heard::{hear, hearing};
 use crate::loading::disk_of;
-use crate::page::{Page, begin, begin_new, show};
-use desk_bringing::Document;
+use crate::page::{Page, begin, begin_new, close, show};
 use desk_journal::{Error, Store};
 use desk_sitting::{MOST_TURNS, Sitting, travel};
 use desktop_definitions::Reply;
+use document_filing::Document;
 use sector_disk::{Disk, FILE_SECTORS};
 use std::alloc::Global;
-use store_layout::showing_law;
+use store_layout::{finding_law, showing_law};
 use terminal_keyboard::Parser;
 
 /// A page over the disk whose calls the host repeats.
@@ -37,20 +41,42 @@ pub(crate) type Turn = Result<(HostPage, Scene), Error>;
 
 /// A page before the store that these bytes are, a sector after another, or before a new one where there are none.
 ///
-/// Errors: those of `begin` and of `begin_new`.
+/// Errors: those of `begin`; `NoMemory`, where a new one can't be made.
 pub(crate) fn begun(alloc: Global, bytes: &[u8]) -> Result<HostPage, Error>
-    ensures { IfOk result (Begins ⟦<RecordedDisk as Disk>⟧ bytes.now) }
+    ensures begun { IfOk result (Begins ⟦<RecordedDisk as Disk>⟧ bytes.now) }
+    ensures refused { IfErr result (IsNotBegun ⟦<RecordedDisk as Disk>⟧ bytes.now) }
 {
     if bytes.is_empty() {
-        let Ok(disk) = RecordedDisk::new(alloc, FILE_SECTORS) else {
-            return Err(Error::NoMemory);
+        return match made(alloc, bytes) {
+            Some(page) => Ok(page),
+            None => Err(Error::NoMemory),
         };
-        begin_new(alloc, disk)
-    } else {
-        let Ok(disk) = disk_of(alloc, bytes) else {
-            return Err(Error::NoMemory);
-        };
-        begin(alloc, disk)
+    }
+    let Ok(disk) = disk_of(alloc, bytes) else {
+        return Err(Error::NoMemory);
+    };
+    begin(alloc, disk)
+}
+
+/// A page before a new store, for no bytes, over a disk that has all of its calls to tell. None: there was no memory for it.
+fn made(alloc: Global, bytes: &[u8]) -> Option<HostPage>
+    requires { bytes.now ≡ [] }
+    ensures { IfSome result (Begins ⟦<RecordedDisk as Disk>⟧ bytes.now) }
+{
+    showing_law();
+    let Ok(disk) = RecordedDisk::new(alloc, FILE_SECTORS) else {
+        return None;
+    };
+    let Ok(page) = begin_new(alloc, disk) else {
+        return None;
+    };
+    let disk = close(page);
+    if !disk.is_whole() {
+        return None;
+    }
+    match begin(alloc, disk) {
+        Ok(page) => Some(page),
+        Err(_) => None,
     }
 }
 
@@ -58,7 +84,9 @@ pub(crate) fn begun(alloc: Global, bytes: &[u8]) -> Result<HostPage, Error>
 ///
 /// Errors: those of `hear` and of `travel`; `MustReopen`.
 pub(crate) fn pressed(alloc: Global, page: HostPage, bytes: &[u8]) -> Turn
-    ensures { IfOk result (λ both. Presses ⟦<RecordedDisk as Disk>⟧ bytes.now page both.0 both.1) }
+    ensures done { IfOk result (λ both.
+        Presses ⟦<RecordedDisk as Disk>⟧ bytes.now page both.0 both.1) }
+    ensures failed { IfErr result (IsNotPressed ⟦<RecordedDisk as Disk>⟧ bytes.now page) }
 {
     let mut page = page;
     usable(&page.store)?;
@@ -81,9 +109,13 @@ fn travel_on(
 ) -> Result<(), Error>
     requires usable { store.old.must_reopen ≡ false }
     requires durable { IsDurable ⟦<RecordedDisk as Disk>⟧ store.old }
-    ensures travelled { OnOk result (AreTravelled ⟦<RecordedDisk as Disk>⟧
+    ensures travelled { OnOk result ((count : ℕ) × AreTravelled ⟦<RecordedDisk as Disk>⟧ count
         sitting.old sitting.new store.old store.new) }
+    ensures endless { IsErrOf result Error.MustReopen → (count : ℕ) × (count ≡ MOST_TURNS)
+        × AreTravelled ⟦<RecordedDisk as Disk>⟧ count sitting.old sitting.new store.old store.new }
+    ensures errors { IfErr result OfTravels }
     ensures rests { OnOk result (is_none sitting.new.travels ≡ true) }
+    ensures usable { OnOk result (store.new.must_reopen ≡ false) }
 {
     for _count in 0..MOST_TURNS {
         if sitting.travels.is_none() {
@@ -94,28 +126,36 @@ fn travel_on(
     Err(Error::MustReopen)
 }
 
-/// The page after a document was brought, or refused.
+/// The page after documents were brought, with what is handed of it, or the page as it was where there is no room for
+/// them.
 ///
 /// Errors: those of `bring`.
 pub(crate) fn brought(
     alloc: Global,
     page: HostPage,
-    document: Document,
-) -> Result<(HostPage, Scene, Reply), Error>
-    ensures { IfOk result (λ all. Brings ⟦<RecordedDisk as Disk>⟧ document all.2 page all.0 all.1) }
+    documents: &[Document],
+) -> Result<(HostPage, Option<Scene>), Error>
+    ensures done { IfOk result (λ both.
+        BringsOrTurnsDown ⟦<RecordedDisk as Disk>⟧ documents.now page both.0 both.1) }
+    ensures failed { IfErr result (IsUnbrought page) }
 {
     let mut page = page;
-    let reply = bring(alloc, &mut page, document)?;
-    let (page, scene) = settled(alloc, page)?;
-    Ok((page, scene, reply))
+    match bring(alloc, &mut page, documents)? {
+        Reply::No(_) => Ok((page, None)),
+        Reply::Done => {
+            let (page, scene) = settled(alloc, page)?;
+            Ok((page, Some(scene)))
+        }
+    }
 }
 
 /// Draws a page, and tells the calls of its disk.
 ///
 /// Errors: `NoMemory`; `Fault`; `MustReopen`.
-#[tactic(auto, using(crate::proofs::Turning::handed_over))]
 pub(crate) fn settled(alloc: Global, page: HostPage) -> Turn
-    ensures { IfOk result (λ both. IsHanded page both.0 both.1) }
+    ensures handed { IfOk result (λ both.
+        IsHanded ⟦<RecordedDisk as Disk>⟧ page both.0 both.1) }
+    ensures withheld { IfErr result (IsWithheld page) }
 {
     let rings = page.sitting.rings;
     let (page, calls) = told(alloc, page)?;
@@ -140,9 +180,11 @@ pub(crate) fn settled(alloc: Global, page: HostPage) -> Turn
 fn told(alloc: Global, page: HostPage) -> Result<(HostPage, Vec<u8>), Error>
     ensures page { IfOk result (λ both. IsOpenedAnew ⟦<RecordedDisk as Disk>⟧ page both.0) }
     ensures calls { IfOk result (λ both. both.1.items ≡ spelling_of_calls page.store.disk.since) }
+    ensures withheld { IfErr result (IsWithheld page) }
 {
     usable(&page.store)?;
     showing_law();
+    finding_law();
     let Page {
         store,
         sitting,
@@ -166,6 +208,10 @@ fn opened(
     parser: Parser,
 ) -> Result<HostPage, Error>
     ensures opened { IfOk result (λ page. IsOpened ⟦<RecordedDisk as Disk>⟧ disk page.store) }
+    ensures read { IfOk result (λ page.
+        IsOnlyRead ⟦<RecordedDisk as Disk>⟧ disk page.store.disk) }
+    ensures no_store { IfErr result (IsNoStore ⟦<RecordedDisk as Disk>⟧ disk) }
+    ensures errors { IfErr result OfOpen }
     ensures sitting { IfOk result (λ page. page.sitting ≡ sitting) }
     ensures parser { IfOk result (λ page. page.parser ≡ parser) }
 {
@@ -185,6 +231,8 @@ fn opened(
 fn usable(store: &Store<RecordedDisk>) -> Result<(), Error>
     ensures usable { IsOk result → store.now.must_reopen ≡ false }
     ensures durable { IsOk result → IsDurable ⟦<RecordedDisk as Disk>⟧ store.now }
+    ensures reopen { IfErr result (λ error. (error ≡ Error.MustReopen)
+        × (store.now.must_reopen ≡ true)) }
 {
     match store.info() {
         Ok(_) => Ok(()),

@@ -1,5 +1,6 @@
 //! What a call comes to, as the host is told.
-ghost use Rattle.std.specs.Prelude.{◌<◌};
+ghost use Rattle.std.specs.Prelude.{◌≡◌, ◌≤◌};
+ghost use Rattle.desk_page.specs.Statuses.{status_of_error, status_of_file};
 
 use desk_journal::Error;
 use store_documents::Unfit;
@@ -36,7 +37,8 @@ pub const NO_ROOM: u32 = 9;
 
 /// The status of an error.
 pub(crate) fn status_of(error: Error) -> u32
-    ensures { 0 < result }
+    ensures status { result ≡ status_of_error error }
+    ensures few { result ≤ 5 }
 {
     match error {
         Error::NotAStore | Error::TooSmall => NOT_A_STORE,
@@ -49,7 +51,7 @@ pub(crate) fn status_of(error: Error) -> u32
 
 /// The status where a file of the host's is no document.
 pub(crate) fn status_of_unfit(unfit: Unfit) -> u32
-    ensures { 0 < result }
+    ensures { result ≡ status_of_file unfit }
 {
     match unfit {
         Unfit::NoMemory => NO_MEMORY,

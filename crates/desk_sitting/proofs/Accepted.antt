@@ -13,10 +13,10 @@ use Rattle.terminal_presses.specs.declared.press.Press.{Press}
 use Rattle.terminal_presses.specs.declared.action.Action.{Action}
 use Rattle.terminal_presses.specs.declared.hand.Hand.{Hand}
 use Rattle.terminal_presses.specs.Hands.{handled}
-use Rattle.desk_tasks.specs.declared.task.Task.{Task}
+use Rattle.press_plans.specs.declared.task.Task.{Task}
 use Rattle.desk_sitting.specs.Sittings.{most_plans}
 use Rattle.desk_sitting.specs.Questions.{unasked}
-use Rattle.desk_tasks.specs.Plans.{Plan, Aims, Events, PutsAway, Refused as NotDone, Says, Shows, plan_of}
+use Rattle.press_plans.specs.Plans.{Plan, Aims, Events, PutsAway, Refused as NotDone, Says, Shows, plan_of}
 use Rattle.desk_sitting.specs.Sittings.{Seat, accepted_as, accepted_by, accepted_in, accepted_one, accepted_stage}
 use Rattle.desk_sitting.specs.Sittings.{acted}
 use Rattle.desk_sitting.specs.Sittings.{accepted_unasked, after_planned, after_post, after_posts, after_press}

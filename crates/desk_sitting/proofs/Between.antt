@@ -1,6 +1,7 @@
 -- A turn in which nothing is shown and heard.
-use Rattle.std.proofs.Common.{◌≡◌, Ok, Err, refl, sym, subst}
-use Rattle.std.specs.Prelude.{Result}
+use Rattle.std.proofs.Common.{◌≡◌, Bool, true, false, is_none, Option, Some, None, Ok, Err, refl, sym, subst}
+use Rattle.std.proofs.lemmas.Bool.{true≢false, false≢true}
+use Rattle.std.specs.Prelude.{Result, is_some, not}
 use Rattle.sector_disk.specs.declared.disk.Disk.{Ghosts}
 use Rattle.desk_journal.specs.Errors.{Error}
 use Rattle.desk_sitting.specs.Travels.{Travels}
@@ -9,6 +10,13 @@ use Rattle.desk_sitting.specs.Endings.{sitting_end_of}
 use Rattle.desk_sitting.specs.Serving.{TurnState}
 use Rattle.desk_sitting.specs.Travelling.{IsStill, TakesBetween}
 use Rattle.desk_sitting.proofs.Turning.{calm_presses, counts_presses, unusable}
+
+-- whether there is none is the opposite of whether there is one
+pub none_so : {A : Type 0} (o : Option A) (is : Bool) → is_some o ≡ not is → is_none o ≡ is
+none_so None true opposite = refl
+none_so None false opposite = absurd (false≢true opposite)
+none_so (Some x) true opposite = absurd (true≢false opposite)
+none_so (Some x) false opposite = refl
 
 module _ {D : Type 0} (d : Ghosts D) (old new : TurnState D) (still : IsStill d old new) where
   pub between : {T U : Type 0} (value : T) (x : U)
@@ -20,6 +28,7 @@ module _ {D : Type 0} (d : Ghosts D) (old new : TurnState D) (still : IsStill d 
       still = still;
     };
     stops = tt;
+    told = travels.told;
     usable = travels.usable;
     still_usable = tt;
     counts = calm_presses x (d.failures old.store.disk) (d.failures old.store.disk) (d.failures new.store.disk) refl
@@ -37,6 +46,7 @@ module _ {D : Type 0} (d : Ghosts D) (old new : TurnState D) (still : IsStill d 
       stuck = travels.stuck honest durable;
       still = still;
     };
+    told = tt;
     usable = tt;
     still_usable = unusable error new.store travels.faults.errors;
     counts = counts_presses error (d.failures old.store.disk) (d.failures old.store.disk) (d.failures new.store.disk)

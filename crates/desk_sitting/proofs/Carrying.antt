@@ -10,18 +10,18 @@ use Rattle.desk_journal.specs.Errors.{Error}
 use Rattle.desk_journal.specs.Looking.{OnlyLooks}
 use Rattle.desk_journal.specs.Session.{session_of}
 use Rattle.desk_journal.specs.View.{StoreView, IsDurable}
-use Rattle.desk_sayings.specs.declared.deed.Deed.{Deed}
+use Rattle.status_line.specs.declared.deed.Deed.{Deed}
 use Rattle.desk_sitting.specs.declared.sitting.Sitting.{Sitting}
-use Rattle.desk_tasks.specs.declared.task.Task.{Task}
-use Rattle.desk_tasks.specs.declared.task.TheConstants.{MOST_PLANS}
+use Rattle.press_plans.specs.declared.task.Task.{Task}
+use Rattle.press_plans.specs.declared.task.TheConstants.{MOST_PLANS}
 use Rattle.desk_sitting.specs.Sittings.{most_plans}
 use Rattle.desk_sitting.specs.Doing.{ComesToSeat, DoesPress, seat_of}
 use Rattle.desk_sitting.specs.Sittings.{Seat, accepted_by, accepted_in, accepted_stage, after_planned, after_post}
 use Rattle.desk_sitting.specs.Sittings.{after_posts}
 use Rattle.desk_sitting.specs.Sittings.{after_stage, after_task, does, kept_follows, left_by, task_left, planned}
 use Rattle.desk_sitting.specs.Sittings.{went_on}
-use Rattle.desk_tasks.specs.Tasks.{deed_of_task}
-use Rattle.desk_tasks.specs.Plans.{Plan, plan_of}
+use Rattle.press_plans.specs.Tasks.{deed_of_task}
+use Rattle.press_plans.specs.Plans.{Plan, plan_of}
 use Rattle.desk_sitting.proofs.Accepted.{alone_accepted, alone_posted, none_accepted}
 use Rattle.desk_sitting.proofs.Pressed.{alone_press, event_press, look_press, press_both, press_same, press_short}
 use Rattle.desk_sitting.proofs.Pressed.{unseen_press}
@@ -124,8 +124,8 @@ module _ {D : Type 0} (d : Ghosts D) where
   )) (event_press d event result s s' old new comes)
 
   -- a slice has the events
-  pub of_slice : {T : Type 0} {slice events : List Event} (same : slice ≡ events) {result : Result T Error} (s : Sitting) {s' : Sitting}
-      {old new : StoreView D}
+  pub of_slice : {T : Type 0} {slice events : List Event} (same : slice ≡ events) {result : Result T Error} (s : Sitting)
+      {s' : Sitting} {old new : StoreView D}
       → DoesPress d (accepted_by (session_of old) slice) (after_posts slice (seat_of s old)) result s' old new
       → DoesPress d (accepted_by (session_of old) events) (after_posts events (seat_of s old)) result s' old new
   of_slice same {result = result} s {s' = s'} {old = old} {new = new} press = subst
@@ -177,7 +177,8 @@ module _ {D : Type 0} (d : Ghosts D) where
   pub stage_unseen : {A T : Type 0} {old mid : StoreView D} → old.must_reopen ≡ false → (error : Error) (events : List Event)
       (next : Seat) (s : Sitting) {s' : Sitting} → OnlyLooks {T = A} d (Err error) old mid
       → DoesPress d {T = T} events next (Err error) s' old mid
-  stage_unseen {T = T} usable error events next s looks = press_broken {U = T} next (unseen_press d usable error events next s looks)
+  stage_unseen {T = T} usable error events next s looks =
+      press_broken {U = T} next (unseen_press d usable error events next s looks)
 
   module _ {A : Type 0} (value : A) (task : Task) (plan : Plan) (s : Sitting) {old mid : StoreView D}
       (usable : old.must_reopen ≡ false) (looks : OnlyLooks d (Ok value) old mid)

@@ -5,21 +5,19 @@ use Rattle.std.proofs.lemmas.Bool.{cond-true, cond-false}
 use Rattle.std.proofs.lemmas.Result.{IfOk-weaker}
 use Rattle.sector_disk.specs.declared.disk.Disk.{Ghosts}
 use Rattle.desktop_definitions.specs.Desktop.{Desktop}
-use Rattle.desktop_definitions.specs.Shown.{shown_screen}
 use Rattle.terminal_presses.specs.declared.action.Action.{Action}
 use Rattle.desk_journal.specs.Errors.{Error}
 use Rattle.desk_journal.specs.Looking.{OnlyLooks}
 use Rattle.desk_journal.specs.Session.{Session}
 use Rattle.desk_journal.specs.View.{StoreView, IsDurable}
-use Rattle.desk_sayings.specs.declared.question.Question.{Question}
+use Rattle.status_line.specs.declared.question.Question.{Question}
 use Rattle.desk_sitting.specs.declared.sitting.Sitting.{Sitting}
 use Rattle.desk_sitting.specs.Doing.{DoesAction, DoesPress, Finds, seat_of}
-use Rattle.desk_sayings.specs.declared.clicks.MiddleClick.{MiddleClick}
-use Rattle.desk_sayings.specs.Clicks.{click_made}
-use Rattle.desk_sitting.specs.Questions.{asked_at, is_leave, click_question}
-use Rattle.desk_sayings.specs.Question.{left_behind}
-use Rattle.desk_sayings.specs.Question.{comes_first}
-use Rattle.desk_sayings.specs.Sayings.{is_in_memory}
+use Rattle.status_line.specs.declared.clicks.MiddleClick.{MiddleClick}
+use Rattle.desk_sitting.specs.Questions.{asked_at, click_made, is_leave, click_question}
+use Rattle.status_line.specs.Question.{left_behind}
+use Rattle.status_line.specs.Question.{comes_first}
+use Rattle.status_line.specs.Sayings.{is_in_memory}
 use Rattle.desk_sitting.specs.Questions.{loss_of, question_of, questioned, unasked}
 use Rattle.desk_sitting.specs.Sittings.{Seat, accepted_as, accepted_unasked, acted, asks_first, done_by, question_at}
 use Rattle.desk_sitting.proofs.Pressed.{alone_press, look_press, press_both, press_same, press_short, unseen_press}
@@ -144,15 +142,15 @@ module _ (a : Action) (s : Sitting) (desktop : Desktop) where
   asks_leave found in_memory asks leaves memory is =
       is ∙ ap left_behind memory
       ∙ sym (cond-true s.questions (loss_of a (is_in_memory s.resting) desktop) None asks
-      ∙ cond-true (is_leave a) (left_behind (is_in_memory s.resting)) (click_question (click_made a (shown_screen desktop)) desktop)
+      ∙ cond-true (is_leave a) (left_behind (is_in_memory s.resting)) (click_question (click_made a desktop) desktop)
       leaves)
 
   pub asks_click : s.questions ≡ true → is_leave a ≡ false
-      → click_question (click_made a (shown_screen desktop)) desktop ≡ question_of a s desktop
+      → click_question (click_made a desktop) desktop ≡ question_of a s desktop
   asks_click asks stays =
       sym (cond-true s.questions (loss_of a (is_in_memory s.resting) desktop) None asks
       ∙ cond-false (is_leave a) (left_behind (is_in_memory s.resting))
-      (click_question (click_made a (shown_screen desktop)) desktop) stays)
+      (click_question (click_made a desktop) desktop) stays)
 
 -- what a click would lose, where one was found, or none
 module _ (made : Option MiddleClick) (desktop : Desktop) (found : Option MiddleClick) (is : found ≡ made) where

@@ -380,7 +380,8 @@ module _ {D : Type 0} (d : Ghosts D) where
       same honest durable = (before.done honest durable).seat
 
       -- up to this one
-      pub next_posted : {T : Type 0} (result : Result T Error) → ComesToSeat d (after_post event (seat_of s' mid)) result s'' mid new
+      pub next_posted : {T : Type 0} (result : Result T Error)
+          → ComesToSeat d (after_post event (seat_of s' mid)) result s'' mid new
           → DoesPress d (accepted_by (session_of old) (take (i + 1) events)) (after_posts (take (i + 1) events) start) result s''
           old new
       next_posted result takes = press_same result (λ honest durable. (
@@ -433,8 +434,8 @@ module _ {D : Type 0} (d : Ghosts D) where
             ap (λ es. after_posts es start) split
                 ∙ posted_both front (event ∷ []) start (all honest durable)
                 ∙ alone_posted event there
-                ∙ sym (cond-false (does there.session event) (after_posts behind (after_post event there)) (after_post event there)
-                stops)
+                ∙ sym (cond-false (does there.session event) (after_posts behind (after_post event there))
+                (after_post event there) stops)
                 ∙ sym (posted_both front (event ∷ behind) start (all honest durable))
                 ∙ ap (λ es. after_posts es start) whole,
           ))

@@ -7,11 +7,11 @@ use Rattle.event_bytes.specs.declared.event.Event.{Event}
 use Rattle.terminal_presses.specs.declared.action.Action.{Action}
 use Rattle.terminal_presses.specs.declared.hand.Hand.{Hand}
 use Rattle.terminal_presses.specs.Hands.{handled}
-use Rattle.desk_sayings.specs.declared.question.Question.{Question}
-use Rattle.desk_sayings.specs.declared.question.Question.TheVariants.{Leaving, Closing, Taking, Rivalled, Deleting, Misnamed}
+use Rattle.status_line.specs.declared.question.Question.{Question}
+use Rattle.status_line.specs.declared.question.Question.TheVariants.{Leaving, Closing, Taking, Rivalled, Deleting, Misnamed}
 use Rattle.desk_sitting.specs.declared.sitting.Sitting.{Sitting}
 use Rattle.desk_sitting.specs.Questions.{questioned, question_of}
-use Rattle.desk_sayings.specs.Question.{comes_first, is_same_question}
+use Rattle.status_line.specs.Question.{comes_first, is_same_question}
 use Rattle.desk_sitting.specs.Sittings.{Seat, QuestionsComeOnce, QuestionsPostNothing, acted, after_press}
 use Rattle.desk_sitting.specs.Sittings.{with_question}
 use Rattle.desk_sitting.specs.Sittings.{asks_first, question_at, with_hand}

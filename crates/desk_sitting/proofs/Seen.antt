@@ -16,7 +16,6 @@ use Rattle.screen_drawing.specs.declared.face.Face.{Face}
 use Rattle.screen_drawing.specs.declared.scene.Scene.{Scene}
 use Rattle.terminal_presses.specs.declared.action.Action.{Action}
 use Rattle.terminal_presses.specs.declared.action.Action.TheVariants as action
-use Rattle.terminal_presses.specs.declared.action.Click.{Click}
 use Rattle.terminal_presses.specs.declared.hand.Hand.{Hand}
 use Rattle.terminal_presses.specs.declared.press.Press.{Press}
 use Rattle.terminal_presses.specs.Hands.{handled}
@@ -25,34 +24,35 @@ use Rattle.terminal_presses.specs.Sights.{terminal_place}
 use Rattle.screen_reading.specs.Windows.{following_sight}
 use Rattle.desk_journal.specs.Session.{Session, is_worn}
 use Rattle.desk_journal.specs.View.{StoreView}
-use Rattle.desk_tasks.specs.declared.again.StorePlace.{StorePlace}
-use Rattle.desk_sayings.specs.declared.deed.Deed.{Deed}
-use Rattle.desk_tasks.specs.Past.{with_refused}
-use Rattle.desk_tasks.specs.Replacing.{noted}
-use Rattle.desk_sayings.specs.declared.question.Question.{Question}
-use Rattle.desk_sayings.specs.declared.saying.Saying.{Saying}
-use Rattle.desk_sayings.specs.declared.saying.Saying.TheVariants.{Asks, NothingAgain, NothingBack, Worn}
-use Rattle.desk_sayings.specs.Choosing.{refused_saying}
-use Rattle.desk_sayings.specs.Question.{asks_to_leave, comes_first}
-use Rattle.desk_sayings.specs.Sayings.{line_of, said_by_pointer}
+use Rattle.press_plans.specs.declared.again.StorePlace.{StorePlace}
+use Rattle.status_line.specs.declared.deed.Deed.{Deed}
+use Rattle.press_plans.specs.Past.{with_refused}
+use Rattle.press_plans.specs.Replacing.{noted}
+use Rattle.status_line.specs.declared.question.Question.{Question}
+use Rattle.status_line.specs.declared.saying.Saying.{Saying}
+use Rattle.status_line.specs.declared.saying.Saying.TheVariants.{Asks, NothingAgain, NothingBack, Worn}
+use Rattle.status_line.specs.Choosing.{refused_saying}
+use Rattle.status_line.specs.Question.{asks_to_leave, comes_first}
+use Rattle.status_line.specs.Sayings.{line_of, said_by_pointer}
 use Rattle.desk_sitting.specs.declared.sitting.Sitting.{Sitting}
-use Rattle.desk_tasks.specs.declared.task.Task.{Task}
+use Rattle.press_plans.specs.declared.task.Task.{Task}
 use Rattle.desk_sitting.specs.Doing.{DoesPresses, seat_of}
 use Rattle.desk_sitting.specs.Doing.{none as no_press, one_more as one_press}
-use Rattle.desk_sayings.specs.Clicks.{click_made}
+use Rattle.desk_sitting.specs.Questions.{click_made}
+use Rattle.press_plans.specs.Tasks.{calling_wish}
 use Rattle.desk_sitting.specs.Questions.{forgetful, is_nothing, is_of_terminal, questioned, unasked}
 use Rattle.desk_sitting.specs.Scenes.{◌>>=◌, IsSceneOf, IsSeen, known_by}
-use Rattle.desk_sitting.specs.Serving.{IsSeenUnlessDue, IsShownIfDue, TurnState, Turns, anew, sitting_shown, still}
-use Rattle.desk_sitting.specs.Serving.{store_screen}
+use Rattle.desk_sitting.specs.Serving.{Exchange, IsSeenUnlessDue, IsShownIfDue, TurnState, Turns, anew, sitting_shown}
+use Rattle.desk_sitting.specs.Serving.{still, store_screen}
 use Rattle.desk_sitting.specs.Sittings.{Seat, acted, acted_alone, after_fetch, after_planned, after_post, after_posts}
 use Rattle.desk_sitting.specs.Sittings.{after_press}
 use Rattle.desk_sitting.specs.Sittings.{after_stage, after_task, asks_first, does, done_by, done_so, fetched}
 use Rattle.desk_sitting.specs.Sittings.{followed_cell, is_scene_due}
-use Rattle.desk_sitting.specs.Sittings.{is_still, is_unseen, looked, most_plans, noted_at, noted_in, question_at}
+use Rattle.desk_sitting.specs.Sittings.{is_still, is_unseen, looked, most_plans, noted_at, question_at}
 use Rattle.desk_sitting.specs.Sittings.{refused, replied}
 use Rattle.desk_sitting.specs.Sittings.{task_in, task_left, turned_away, turned_by, unplaced, with_hand}
-use Rattle.desk_tasks.specs.Tasks.{task_of}
-use Rattle.desk_tasks.specs.Plans.{Plan, Aims, Events, PutsAway, Refused as NotDone, Says, Shows, plan_of}
+use Rattle.press_plans.specs.Tasks.{task_of}
+use Rattle.press_plans.specs.Plans.{Plan, Aims, Events, PutsAway, Refused as NotDone, Says, Shows, plan_of}
 use Rattle.desk_sitting.specs.Travelling.{IsBetween}
 use Rattle.desk_sitting.specs.Travels.{Travelled, did_again, goes_again, is_unmoved, settled, store_place, took_back}
 use Rattle.desk_sitting.specs.Travels.{none as not_asked, back, nothing, again}
@@ -106,8 +106,8 @@ looks_same screen s due =
 
 -- before anything is heard
 pub seen_so : {D : Type 0} {s : Sitting} {old mid : StoreView D} {known known' : List (List Face)}
-    {held held' : Option (List ℕ)} → IsShownIfDue s old mid known known' held held'
-    → (is_scene_due s ≡ false → IsSeen s (store_screen old) known held)
+    {held held' : Option (List ℕ)} {waiting waiting' : ℕ} → IsShownIfDue s old mid known known' held held' waiting waiting'
+    → (is_scene_due s ≡ false → IsSeen s (store_screen old) known held × (waiting ≡ 0))
     → IsSeen (looked (store_screen old) s) (store_screen old) known' held'
 seen_so {s = s} {known = known} {held = held} (anew due shown) seen = record {
   scene = shown.painted.scene;
@@ -121,10 +121,17 @@ seen_so {s = s} {known = known} {held = held} (anew due shown) seen = record {
   asks = s.asks;
   after = shown.after;
 }
-seen_so {s = s} {old = old} {known = known} {known' = known'} {held' = held'} (still due same_store same_known same_held) seen =
+seen_so {s = s} {old = old} {known = known} {known' = known'} {held' = held'}
+    (still due same_store same_known same_held same_waiting) seen =
     subst (λ t. IsSeen t (store_screen old) known' held') (sym (looks_same (store_screen old) s due))
     (subst (λ k. IsSeen s (store_screen old) k held') (sym same_known)
-    (subst (λ h. IsSeen s (store_screen old) known h) (sym same_held) (seen due)))
+    (subst (λ h. IsSeen s (store_screen old) known h) (sym same_held) (seen due).0))
+
+pub handed_so : {D : Type 0} {s : Sitting} {old mid : StoreView D} {known known' : List (List Face)}
+    {held held' : Option (List ℕ)} {waiting waiting' : ℕ} → IsShownIfDue s old mid known known' held held' waiting waiting'
+    → (is_scene_due s ≡ false → IsSeen s (store_screen old) known held × (waiting ≡ 0)) → waiting' ≡ 0
+handed_so (anew due shown) seen = shown.handed
+handed_so (still due same_store same_known same_held same_waiting) seen = same_waiting ∙ (seen due).1
 
 -- ---- what is done leaves it known that something changed
 
@@ -224,7 +231,7 @@ no_question true last = refl
 no_question false last = refl
 
 asks_nothing : (seat : Seat) → asks_first action.Nothing seat ≡ false
-unfolding click_made
+unfolding click_made calling_wish
 asks_nothing seat = no_question seat.sitting.questions seat.sitting.question
 
 does_nothing : (seat : Seat) → done_by action.Nothing seat ≡ seat
@@ -395,9 +402,11 @@ module _ {D : Type 0} (d : Ghosts D) {old new : TurnState D} where
       let start : Stands new.known new.held (sitting_shown old) turn.mid.desktop = λ due.
       subst (λ desktop. IsSeen (sitting_shown old) (shown_screen desktop) new.known new.held)
       (sym (ap (λ (s : Session). s.desktop) turn.scene.looked.session)) turn.scene.seen in
+      let after : Stands new.known new.held new.sitting new.store.desktop =
       subst (λ t. Stands new.known new.held t new.store.desktop) (sym turn.brings.brings)
       (fetch_stands new.known new.held turn.brings.will_be_heard turn.sitting new.store.desktop
-      (presses_stand new.known new.held d turn.does start))
+      (presses_stand new.known new.held d turn.does start)) in
+      λ due. (after due, turn.scene.handed)
 
 -- after what was taken back or done again a scene is due
 turned_due : (typed : Option ℕ) (why : Saying) (s : Sitting) → IsDue (turned_by typed why s)
@@ -446,10 +455,14 @@ pub between_seen : {D : Type 0} (d : Ghosts D) {old new : TurnState D} → IsBet
     → IsSeenUnlessDue new
 between_seen d {old = old} {new = new} between seen due =
     elim (travelled_due d between.travelled.what) [
-      | inl same ↦ subst (λ k. IsSeen new.sitting (store_screen new.store) k new.held) (sym between.still.known)
-          (subst (λ h. IsSeen new.sitting (store_screen new.store) old.known h) (sym between.still.held)
-          (subst (λ t. IsSeen new.sitting (store_screen t) old.known old.held) (sym same.1)
-          (subst (λ t. IsSeen t (store_screen old.store) old.known old.held) (sym same.0)
-          (seen (subst (λ t. is_scene_due t ≡ false) same.0 due)))))
+      | inl same ↦
+          let before = seen (subst (λ t. is_scene_due t ≡ false) same.0 due) in (
+            subst (λ k. IsSeen new.sitting (store_screen new.store) k new.held) (sym between.still.known)
+                (subst (λ h. IsSeen new.sitting (store_screen new.store) old.known h)
+                (sym (ap (λ (x : Exchange). x.held) between.still.out))
+                (subst (λ t. IsSeen new.sitting (store_screen t) old.known old.held) (sym same.1)
+                (subst (λ t. IsSeen t (store_screen old.store) old.known old.held) (sym same.0) before.0))),
+            ap (λ (x : Exchange). x.waiting) between.still.out ∙ before.1,
+          )
       | inr is ↦ absurd (true≢false (sym is.is ∙ due))
     ]

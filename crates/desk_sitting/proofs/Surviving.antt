@@ -1,7 +1,6 @@
 -- What a crash leaves of presses, of turns, and of a whole sitting.
-use Rattle.std.proofs.Common.{◌≡◌, ◌≤◌, ℕ, Bool, true, false, List, [], ◌∷◌, ◌++◌, length, inl, inr}
+use Rattle.std.proofs.Common.{◌≡◌, ◌≤◌, ℕ, List, [], ◌∷◌, ◌++◌, length}
 use Rattle.std.proofs.Common.{refl, sym, ◌∙◌, ap, subst, arith, append_assoc, append-nil}
-use Rattle.std.specs.Prelude.{if◌then◌else◌, Option, Some, None}
 use Rattle.sector_disk.specs.declared.disk.Disk.{Ghosts}
 use Rattle.event_bytes.specs.declared.event.Event.{Event}
 use Rattle.desk_journal.specs.Errors.{Error, NoMemory, Fault as DiskFault}
@@ -112,7 +111,7 @@ module _ {D : Type 0} (d : Ghosts D) where
     run_goes : {old : TurnState D} {count : ℕ} {events : List Event} {new : TurnState D} → IsTurnRun d old count events new
         → d.honest old.store.disk → IsDurable d old.store → GoesBy d events old.store new.store
     run_goes {old = old} no_turn honest durable = goes_nowhere d old.store honest durable
-    run_goes {old = old} {new = new} (one_more_turn {events = events} {more = more} {mid = mid} run turn stays) honest
+    run_goes {old = old} {new = new} (one_more_turn {events = events} {more = more} {mid = mid} run none_asked turn stays) honest
         durable =
         let first : GoesBy d events old.store mid.store = run_goes run honest durable in
         goes_on d events more old.store mid.store new.store first
@@ -174,9 +173,9 @@ module _ {D : Type 0} (d : Ghosts D) where
     stop_survives (left {events = events} {old = old} {new = new} turn leaves) honest durable =
         well_ended Left events old.store new.store (turn_goes events old new turn honest durable)
     stop_survives (closed {old = old} {new = new} deaf) honest durable =
-        well_ended Closed [] old.store new.store (goes_by_look d old.store new.store deaf.looked honest durable)
+        well_ended Closed [] old.store new.store (goes_by_look d old.store new.store deaf.scene.looked honest durable)
     stop_survives (unheard {old = old} {new = new} deaf) honest durable =
-        well_ended Input [] old.store new.store (goes_by_look d old.store new.store deaf.looked honest durable)
+        well_ended Input [] old.store new.store (goes_by_look d old.store new.store deaf.scene.looked honest durable)
     stop_survives (unseen {old = old} {new = new} cut) honest durable =
         well_ended Output [] old.store new.store (goes_by_look d old.store new.store cut.looked honest durable)
     stop_survives (faulty {old = old} {new = new} blind) honest durable =
@@ -202,7 +201,7 @@ module _ {D : Type 0} (d : Ghosts D) where
     end_survives : {end : SittingEnd} {turns : ℕ} {more begun : List Event} {mid new : TurnState D}
         → Ends d end turns more begun mid new → d.honest mid.store.disk → IsDurable d mid.store
         → SurvivesEnd d end more begun mid.store new.store
-    end_survives (stopped stops) honest durable = stop_survives stops honest durable
+    end_survives (stopped none_asked stops) honest durable = stop_survives stops honest durable
     end_survives (too_long {place = place}) honest durable =
         well_ended TooLong [] place.store place.store (goes_nowhere d place.store honest durable)
 

@@ -23,7 +23,7 @@ use Rattle.desk_journal.proofs.Passing.{at_start, shows_means}
 use Rattle.terminal_presses.specs.declared.action.Action.{Action}
 use Rattle.terminal_presses.specs.declared.press.Press.{Press}
 use Rattle.terminal_presses.specs.Hands.{handled}
-use Rattle.desk_sayings.specs.declared.saying.Saying.TheVariants as saying
+use Rattle.status_line.specs.declared.saying.Saying.TheVariants as saying
 use Rattle.desk_sitting.specs.declared.sitting.Sitting.{Sitting}
 use Rattle.desk_sitting.specs.Doing.{OfPresses, ComesToSeat, seat_of}
 use Rattle.desk_sitting.specs.Sittings.{Seat, acted, after_press, after_post, does, is_done, replied, turned_away}

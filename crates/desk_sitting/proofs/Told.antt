@@ -1,6 +1,6 @@
 -- Each click of the middle button that a press posts was told.
-use Rattle.std.proofs.Common.{ℕ, zero, suc, Bool, true, false, List, [], ◌∷◌, refl}
-use Rattle.std.specs.Prelude.{Option, Some, None, IfSome, All, if◌then◌else◌, option_map, nat_lt, ◌&&◌}
+use Rattle.std.proofs.Common.{ℕ, zero, suc, Bool, true, false, List, [], ◌∷◌, ◌++◌, length, refl, sym, subst}
+use Rattle.std.specs.Prelude.{◌-◌, Option, Some, None, IfSome, All, if◌then◌else◌, option_map, nat_lt, ◌&&◌, ◌≡◌, ◌==◌, ok_or, Result, Ok, Err, IfOk}
 use Rattle.std.proofs.lemmas.List.Elements.{All-append, All-cons, All-head, All-nil, All-tail}
 use Rattle.event_bytes.specs.declared.event.Event.{Event}
 use Rattle.event_bytes.specs.declared.event.Event.TheVariants as event
@@ -8,28 +8,43 @@ use Rattle.event_bytes.specs.declared.keys.Keys.TheVariants as keys
 use Rattle.event_bytes.specs.declared.keys.Key.TheVariants as key
 use Rattle.desktop_definitions.specs.Desktop.{Desktop}
 use Rattle.desktop_definitions.specs.Shown.{shown_screen}
-use Rattle.first_desk.specs.FirstDesk.{tool_event}
+use Rattle.starter_desktop.specs.StarterDesktop.{tool_event}
 use Rattle.terminal_presses.specs.declared.action.Action.TheVariants as action
-use Rattle.terminal_presses.specs.declared.action.Click.{Click as AClick}
+use Rattle.desktop_definitions.specs.declared.viewer.Caret.{Caret}
+use Rattle.desktop_definitions.specs.declared.viewer.Selection.{Selection}
+use Rattle.desktop_definitions.specs.Change.{bytes_of}
+use Rattle.desktop_definitions.specs.Viewers.{main_of, rows_of, viewer_of}
+use Rattle.caret_moves.specs.declared.wish.CaretCommand.{CaretCommand}
+use Rattle.caret_moves.specs.declared.wish.CaretCommand.TheVariants as caret
+use Rattle.caret_moves.specs.declared.wish.KeyWish.{KeyWish}
+use Rattle.caret_moves.specs.declared.wish.KeyWish.TheVariants.{Call, CallLine, CutSelected, Mark as MarkWish, Break, Place}
+use Rattle.caret_moves.specs.declared.wish.WhyNot.{WhyNot}
+use Rattle.caret_moves.specs.declared.wish.WhyNot.TheVariants.{NoCaret, NoRow, NoWord, NotInSight, NothingThere, PastEdge}
+use Rattle.caret_moves.specs.Calling.{call_by, call_led, line_word, mark_cell, middle_press, word_cell}
+use Rattle.caret_moves.specs.Stretches.{drag_by, selected_up_to}
+use Rattle.caret_moves.proofs.NearLaws.{near_click}
+use Rattle.caret_moves.specs.Leading.{near_events, org_in, click_for, text_click, has_column}
+use Rattle.caret_moves.specs.Leading.{line_end, and_line_end, ended_led, break_led, break_in, place_wished}
+use Rattle.caret_moves.specs.Leading.{character_cell, led, led_from, led_with, line_led, marker_cell, text_width, word_led}
+use Rattle.caret_moves.specs.Leading.{cell_from, cut_led, drawn, then_drawn}
 use Rattle.desk_journal.specs.Session.{Session, is_worn, taken}
 use Rattle.desk_journal.specs.Views.{DeskInfo, ShownViewer, desk_info, last_log_line}
-use Rattle.screen_reading.specs.Aims.{caret_cell}
-use Rattle.desk_sayings.specs.Deeds.{is_middle}
-use Rattle.screen_reading.specs.Filling.{filling}
+use Rattle.status_line.specs.Deeds.{deed_of, is_middle}
 use Rattle.screen_reading.specs.Frames.{text_start}
-use Rattle.screen_reading.specs.declared.filling.Filling.{Filling}
-use Rattle.screen_reading.specs.declared.filling.Filling.TheVariants.{Plain, Ended, Broken}
-use Rattle.screen_reading.specs.declared.menus.WordCall.{WordCall}
-use Rattle.desk_sayings.specs.declared.clicks.MiddleClick.{MiddleClick}
-use Rattle.desk_sayings.specs.Clicks.{calling_click, caret_event, click_at, click_made, middle_click}
-use Rattle.desk_tasks.specs.declared.task.Task.{Task}
-use Rattle.desk_tasks.specs.declared.task.Task.TheVariants as kind
-use Rattle.desk_tasks.specs.Listed.{event_meant, lacks_tool}
-use Rattle.desk_tasks.specs.Plans.{Plan, Aims, Events, PutsAway, Refused as NotDone, Says, Shows, answer_plan}
-use Rattle.desk_tasks.specs.Plans.{at_caret_plan, call_marked, call_plan}
-use Rattle.desk_tasks.specs.Plans.{click_of, enter_plan, is_call, opened_viewer, plan_of, plan_on}
-use Rattle.desk_tasks.specs.Tasks.{posting, task_of}
-use Rattle.desk_tasks.specs.Plans.{posted_plan, type_plan}
+use Rattle.status_line.specs.declared.clicks.MiddleClick.{MiddleClick}
+use Rattle.status_line.specs.Clicks.{click_in, middle_click}
+use Rattle.press_plans.specs.declared.task.Task.{Task}
+use Rattle.press_plans.specs.declared.task.Task.TheVariants as kind
+use Rattle.press_plans.specs.Listed.{event_meant, lacks_tool}
+use Rattle.press_plans.specs.Plans.{Plan, Aims, Events, PutsAway, Refused as NotDone, Says, Shows, answer_plan}
+use Rattle.press_plans.specs.Plans.{call_plan, erase_plan, erasing, lead_plan, over_plan}
+use Rattle.press_plans.specs.Plans.{click_of, enter_plan, is_call, opened_viewer, plan_of, plan_on}
+use Rattle.press_plans.specs.Tasks.{calling_wish, posted, posting, posting_over, task_of, typed_task}
+use Rattle.desk_sitting.specs.Questions.{click_led, click_made}
+use Rattle.press_plans.specs.Plans.{posted_plan, type_plan, unbroken_plan, broken_plan, placed_plan}
+use Rattle.press_plans.specs.Filling.{room_if, place_behind, is_place}
+use Rattle.press_plans.specs.Replacing.{TypingView, first_typed, first_byte_typed, rest_typed, typed_behind, nothing_typed}
+use Rattle.status_line.specs.declared.deed.Deed.{Deed}
 use Rattle.desk_sitting.specs.Sittings.{Seat, ClicksAreTold, IsClickTold, accepted_as, accepted_by, accepted_in}
 use Rattle.desk_sitting.specs.Sittings.{accepted_stage, after_stage}
 use Rattle.desk_sitting.specs.Sittings.{does, does_all, left_by, most_plans, noted_at, planned, task_left}
@@ -44,9 +59,10 @@ module _ (told : Option MiddleClick) where
     after : (before : DeskInfo) → Posts (kind.After before)
     enter : (cell : ℕ × ℕ) → Posts (kind.Enter cell)
     reveal : (cell : ℕ × ℕ) → Posts (kind.Reveal cell)
-    compose : (e : Event) → Told e → Posts (kind.Compose e)
-    break : (e : Event) (next : ℕ × ℕ) → Told e → Posts (kind.Break e next)
-    rejoin : (e : Event) (next : ℕ × ℕ) → Told e → Posts (kind.Rejoin e next)
+    types : (t : TypingView) (fills : Bool) (deed : Deed) → Posts (kind.TypeOn t fills deed)
+    goes_back : (place : ℕ) (t : TypingView) (fills : Bool) (deed : Deed) → Posts (kind.GoBack place t fills deed)
+    over : (e : Event) (fills : Bool) → Told e → Posts (kind.TypeOver e fills)
+    erase : Posts (kind.Erase false)
 
   abbrev next_of : Plan → Option Task
   next_of (NotDone why) = None
@@ -131,11 +147,142 @@ module _ (told : Option MiddleClick) where
   answering None before d = chosen (nat_lt before.log_length (desk_info d).log_length) (Says (last_log_line d)) (Events [] None)
       (record { events = nothing; next = tt }) empty_telling
 
-  typing : (e : Event) (f : Filling) → Told e → IsTelling (type_plan e f)
-  unfolding type_plan
-  typing e Plain t = record { events = one e t; next = tt }
-  typing e Ended t = record { events = one e t; next = post _ tt }
-  typing e (Broken at) t = record { events = one _ tt; next = break e (at.next_x, at.next_y) t }
+  -- what is typed, before which a line may be broken
+  byte_told : (bytes : List ℕ) → IfSome (first_byte_typed bytes) Told
+  byte_told [] = tt
+  byte_told (b ∷ bytes) = tt
+
+  first_event_told : (t : TypingView) → IfSome (first_typed t) Told
+  unfolding first_typed
+  first_event_told t = elim (nat_lt 0 t.backs) as (λ (b : Bool).
+      IfSome (if b then Some (event.Key key.Back) else first_byte_typed t.bytes) Told) [ true ↦ tt | false ↦ byte_told t.bytes ]
+
+  typing : (next : Option Event) (t : TypingView) (fills : Bool) (deed : Deed) → IfSome next Told
+      → IsTelling (unbroken_plan next t fills deed)
+  typing None t fills deed told = empty_telling
+  typing (Some e) t fills deed told = record { events = one e told; next = types (rest_typed t) fills deed }
+
+  -- events to a position in sight, and others behind them
+  only : (o : Option (List Event)) (e : Event) → Told e → IfSome o (λ events. events ≡ e ∷ [])
+      → IfSome o (λ events. All Told events)
+  only None e t is = tt
+  only (Some events) e t is = subst (λ (l : List Event). All Told l) (sym is) (one e t)
+
+  left_click : (d : Desktop) (v org p : ℕ) → Told (click_for d v org p)
+  unfolding click_for text_click
+  left_click d v org p = tt
+
+  click_told : (d : Desktop) (v p : ℕ) → IfSome (near_events d v p) (λ events. All Told events)
+  click_told d v p = only (near_events d v p) (click_for d v (org_in d v p) p) (left_click d v (org_in d v p) p)
+      (near_click d v p)
+
+  end_told : (o : Option (List Event)) → IfSome o (λ events. All Told events)
+      → IfOk (ok_or (and_line_end o) NotInSight) (λ events. All Told events)
+  end_told None all = tt
+  end_told (Some events) all = All-append Told events (line_end ∷ []) all (one line_end tt)
+
+  place_told : (o : Option (List Event)) → IfSome o (λ events. All Told events)
+      → IfOk (ok_or o NotInSight) (λ events. All Told events)
+  place_told None all = tt
+  place_told (Some events) all = all
+
+  ended_told : (d : Desktop) (v q : ℕ) → IfOk (ended_led d v q) (λ events. All Told events)
+  ended_told d v q = elim (has_column d v q) as (λ (b : Bool). IfOk (if b
+      then ok_or (and_line_end (near_events d v q)) NotInSight else Err PastEdge) (λ events. All Told events)) [
+        | true ↦ end_told (near_events d v q) (click_told d v q)
+        | false ↦ tt
+      ]
+
+  break_told : (d : Desktop) (v p : ℕ) (o : Option ℕ) → IfOk (break_led d v p o) (λ events. All Told events)
+  break_told d v p None = tt
+  break_told d v p (Some q) = elim (q == p) as (λ (b : Bool).
+      IfOk (if b then Ok (line_end ∷ []) else ended_led d v q) (λ events. All Told events)) [
+        | true ↦ one line_end tt
+        | false ↦ ended_told d v q
+      ]
+
+  led_told : (d : Desktop) (wish : KeyWish) → ((v p : ℕ) → IfOk (led_from d v p wish) (λ events. All Told events))
+      → (c : Option Caret) → IfOk (led_with d c wish) (λ events. All Told events)
+  led_told d wish each None = tt
+  led_told d wish each (Some c) = elim (rows_of d c.viewer == 0) as (λ (b : Bool).
+      IfOk (if b then Err NoRow else led_from d c.viewer c.position wish) (λ events. All Told events)) [
+        | true ↦ tt
+        | false ↦ each c.viewer c.position
+      ]
+
+  broken_told : (d : Desktop) (n : ℕ) → IfOk (led d (Break n)) (λ events. All Told events)
+  unfolding led led_from
+  broken_told d n = led_told d (Break n) (λ v p. break_told d v p (break_in d v n p)) d.caret
+
+  placed_told : (d : Desktop) (n : ℕ) → IfOk (led d (Place n)) (λ events. All Told events)
+  unfolding led led_from
+  placed_told d n = led_told d (Place n)
+      (λ v p. place_told (near_events d v (place_wished d v n)) (click_told d v (place_wished d v n))) d.caret
+
+  breaking : (result : Result (List Event) WhyNot) (place : ℕ) (next : Option Event) (t : TypingView) (fills : Bool) (deed : Deed)
+      → IfOk result (λ events. All Told events) → IfSome next Told → IsTelling (broken_plan result place next t fills deed)
+  breaking (Ok events) place next t fills deed all told = record { events = all; next = goes_back place t fills deed }
+  breaking (Err why) place next t fills deed all told = typing next t fills deed told
+
+  by_room : (room : Option ℕ) (next : Option Event) (t : TypingView) (fills : Bool) (deed : Deed) (d : Desktop)
+      → IfSome next Told → IsTelling (type_plan room next t fills deed d)
+  by_room None next t fills deed d told = typing next t fills deed told
+  by_room (Some n) next t fills deed d told =
+      breaking (led d (Break n)) (place_behind d) next t fills deed (broken_told d n) told
+
+  placing : (wish : KeyWish) (result : Result (List Event) WhyNot) (t : TypingView) (fills : Bool) (deed : Deed)
+      → IfOk result (λ events. All Told events) → IsTelling (placed_plan wish result (kind.TypeOn t fills deed))
+  placing wish (Ok events) t fills deed all = record { events = all; next = types t fills deed }
+  placing wish (Err why) t fills deed all = record { events = nothing; next = tt }
+
+  -- ---- what cuts what is selected up to the caret
+
+  drawn_told : (from to : Option (ℕ × ℕ))
+      → IfOk (then_drawn (Some []) (drag_by keys.RightLeft from to)) (λ events. All Told events)
+  drawn_told (Some from) (Some to) = one (event.Point keys.RightLeft from.0 from.1 to.0 to.1) tt
+  drawn_told (Some from) None = tt
+  drawn_told None to = tt
+
+  cut_told : (d : Desktop) (s : Selection) → IfOk (cut_led d s) (λ events. All Told events)
+  unfolding cut_led drawn
+  cut_told d s =
+      let org : ℕ = (viewer_of d s.viewer).org in
+      elim (nat_lt s.beg s.end) as (λ (b : Bool). IfOk (if b then then_drawn (Some [])
+      (drag_by keys.RightLeft (cell_from d s.viewer org s.beg) (cell_from d s.viewer org (s.end - 1)))
+      else Err NothingThere) (λ events. All Told events)) [
+        | true ↦ drawn_told (cell_from d s.viewer org s.beg) (cell_from d s.viewer org (s.end - 1))
+        | false ↦ tt
+      ]
+
+  cut_wish_told : (d : Desktop) → IfOk (led d CutSelected) (λ events. All Told events)
+  unfolding led led_from
+  cut_wish_told d = led_told d CutSelected (λ v p. cut_told d (selected_up_to d v p)) d.caret
+
+  typing_over : (next : Task) → Posts next → (r : Result (List Event) WhyNot) → IfOk r (λ events. All Told events)
+      → IsTelling (over_plan next r)
+  typing_over next g (Ok events) all = record { events = all; next = g }
+  typing_over next g (Err why) all = record { events = nothing; next = g }
+
+  erases : (r : Result (List Event) WhyNot) → IfOk r (λ events. All Told events) → IsTelling (erase_plan false r)
+  unfolding erasing
+  erases (Ok events) all = record { events = all; next = tt }
+  erases (Err why) all = record { events = nothing; next = post (event.Key key.Back) tt }
+
+  posts_by : (fills : Bool) (e : Event) → Told e → Posts (posting fills e)
+  posts_by fills (event.Typed bytes) t = by_count (fills && (length bytes == 1))
+    where
+      by_room_left : (t : Option TypingView) → Posts (typed_task t bytes)
+      by_room_left None = post (event.Typed bytes) tt
+      by_room_left (Some t) = types t true (deed_of (event.Typed bytes))
+
+      by_count : (b : Bool) → Posts (if b then typed_task (typed_behind bytes nothing_typed) bytes
+          else kind.Post (event.Typed bytes))
+      by_count true = by_room_left (typed_behind bytes nothing_typed)
+      by_count false = post (event.Typed bytes) tt
+  posts_by fills (event.Key key) t = post (event.Key key) t
+  posts_by fills (event.Mark x y) t = post (event.Mark x y) t
+  posts_by fills (event.Point keys x0 y0 x1 y1) t = post (event.Point keys x0 y0 x1 y1) t
+  posts_by fills (event.File name bytes) t = post (event.File name bytes) t
 
   telling : (task : Task) (d : Desktop) → Posts task → IsTelling (plan_of task d)
   unfolding plan_of plan_on posted_plan
@@ -148,9 +295,13 @@ module _ (told : Option MiddleClick) where
       (record { events = one (event.Key key.Escape) tt; next = post (click_of cell) tt })
       (record { events = one (click_of cell) tt; next = tt })
   telling _ d (reveal cell) = record { events = nothing; next = tt }
-  telling _ d (compose e t) = typing e (filling e (shown_screen d)) t
-  telling _ d (break e next t) = record { events = one _ tt; next = rejoin e next t }
-  telling _ d (rejoin e next t) = record { events = one (click_of next) tt; next = post e t }
+  telling _ d (types t fills deed) =
+      by_room (room_if fills (first_typed t)) (first_typed t) t fills deed d (first_event_told t)
+  telling _ d (goes_back place t fills deed) = chosen (is_place place (desk_info d).caret_position) _ _
+      (record { events = nothing; next = types t fills deed })
+      (placing (Place place) (led d (Place place)) t fills deed (placed_told d place))
+  telling _ d (over e fills t) = typing_over (posting fills e) (posts_by fills e t) (led d CutSelected) (cut_wish_told d)
+  telling _ d erase = erases (led d CutSelected) (cut_wish_told d)
 
   -- ---- all plans of a press
 
@@ -191,38 +342,116 @@ itself (event.Point keys.RightLeft x0 y0 x1 y1) = tt
 itself (event.Point keys.RightMiddle x0 y0 x1 y1) = tt
 itself (event.File name bytes) = tt
 
-hand_posts : (fills : Bool) (e : Event) → Posts (middle_click e) (posting fills e)
-hand_posts true (event.Typed bytes) = compose (event.Typed bytes) tt
-hand_posts false (event.Typed bytes) = post (event.Typed bytes) tt
-hand_posts fills (event.Key key) = post (event.Key key) tt
-hand_posts fills (event.Mark x y) = post (event.Mark x y) tt
-hand_posts fills (event.Point keys x0 y0 x1 y1) = post _ (itself (event.Point keys x0 y0 x1 y1))
-hand_posts fills (event.File name bytes) = post (event.File name bytes) tt
+over_posts : (fills : Bool) (e : Event) → Posts (middle_click e) (posting_over fills e)
+over_posts fills (event.Typed bytes) = over (event.Typed bytes) fills tt
+over_posts fills (event.Key key.Back) = erase
+over_posts fills (event.Key key.Copy) = post (event.Key key.Copy) tt
+over_posts fills (event.Key key.Paste) = post (event.Key key.Paste) tt
+over_posts fills (event.Key key.Cut) = post (event.Key key.Cut) tt
+over_posts fills (event.Key key.Escape) = post (event.Key key.Escape) tt
+over_posts fills (event.Mark x y) = post (event.Mark x y) tt
+over_posts fills (event.Point keys x0 y0 x1 y1) = post _ (itself (event.Point keys x0 y0 x1 y1))
+over_posts fills (event.File name bytes) = post (event.File name bytes) tt
 
-at_caret : (click : AClick) (place : Option (ℕ × ℕ)) → IsTelling (click_at click place) (at_caret_plan click place)
-unfolding at_caret_plan
-at_caret click None = record { events = nothing (click_at click None); next = tt }
-at_caret click (Some place) =
-    record { events = nothing (click_at click (Some place)); next = post _ (itself (caret_event click place)) }
+hand_posts : (over fills : Bool) (e : Event) → Posts (middle_click e) (posted over fills e)
+hand_posts true fills e = over_posts fills e
+hand_posts false fills e = posts_by (middle_click e) fills e (itself e)
 
-marked : (told : Option MiddleClick) (at : Option (ℕ × ℕ)) (click : Event) → IsClickTold told click
-    → IsTelling told (call_marked at click)
-marked told None click t = record { events = nothing told; next = post click t }
-marked told (Some at) click t = record { events = one told (event.Mark at.0 at.1) tt; next = post click t }
+-- ---- what is wished of the caret
 
-calling : (call : Option WordCall) → IsTelling (option_map calling_click call) (call_plan call)
-unfolding call_plan
-calling None = record { events = nothing None; next = tt }
-calling (Some call) = marked (Some (calling_click call)) call.marker
-    (event.Point keys.Middle call.x call.y call.x call.y) refl
+-- what tells the click by which its events call, before which the marker may be set; or there are none
+abbrev Tells : KeyWish → Result (List Event) WhyNot → Type 0
+Tells wish result = IsTelling (click_led result) (lead_plan wish result)
+
+refused : (wish : KeyWish) (why : WhyNot) → Tells wish (Err why)
+refused wish why = record { events = nothing None; next = tt }
+
+-- a click, and one after the marker is set
+pressed : (cell : ℕ × ℕ) → IsTelling (middle_click (middle_press cell)) (call_plan (middle_press cell ∷ []))
+pressed cell = record {
+  events = nothing (middle_click (middle_press cell));
+  next = post (middle_press cell) (itself (middle_press cell));
+}
+
+pressed_marked : (at cell : ℕ × ℕ) → IsTelling (click_in (event.Mark at.0 at.1 ∷ middle_press cell ∷ []))
+    (call_plan (event.Mark at.0 at.1 ∷ middle_press cell ∷ []))
+pressed_marked at cell = record {
+  events = one (click_in (event.Mark at.0 at.1 ∷ middle_press cell ∷ [])) (event.Mark at.0 at.1) tt;
+  next = post (middle_press cell) refl;
+}
+
+call_told : (d : Desktop) (command : CaretCommand) (v : ℕ) (menu text : Option (ℕ × ℕ))
+    → Tells (Call command) (call_by d v menu text)
+call_told d command v (Some cell) text = pressed cell
+call_told d command v None (Some cell) = pressed_marked (mark_cell d v) cell
+call_told d command v None None = refused (Call command) NoWord
+
+press_told : (cell : Option (ℕ × ℕ))
+    → Tells CallLine (ok_or (option_map (λ (c : ℕ × ℕ). middle_press c ∷ []) cell) NotInSight)
+press_told None = refused CallLine NotInSight
+press_told (Some cell) = pressed cell
+
+word_told : (d : Desktop) (v : ℕ) (word : Option ℕ) → Tells CallLine (word_led d v word)
+word_told d v None = refused CallLine NoWord
+word_told d v (Some q) = press_told (character_cell d v q)
+
+rows_told : (wish : KeyWish) (b : Bool) (result : Result (List Event) WhyNot) → Tells wish result
+    → Tells wish (if b then Err NoRow else result)
+rows_told wish true result all = refused wish NoRow
+rows_told wish false result all = all
+
+caret_told : (d : Desktop) (wish : KeyWish) → ((v p : ℕ) → Tells wish (led_from d v p wish)) → (c : Option Caret)
+    → Tells wish (led_with d c wish)
+caret_told d wish each None = refused wish NoCaret
+caret_told d wish each (Some c) =
+    rows_told wish (rows_of d c.viewer == 0) (led_from d c.viewer c.position wish) (each c.viewer c.position)
+
+from_told : (d : Desktop) (command : CaretCommand) (v p : ℕ) → Tells (Call command) (led_from d v p (Call command))
+unfolding led_from call_led
+from_told d command v p = call_told d command v (word_cell d command (Some v)) (word_cell d command None)
+
+line_told : (d : Desktop) (v p : ℕ) → Tells CallLine (led_from d v p CallLine)
+unfolding led_from line_led
+line_told d v p = word_told d v (line_word (bytes_of (main_of d v)) (text_width d v) p)
+
+command_told : (d : Desktop) (command : CaretCommand) → Tells (Call command) (led d (Call command))
+unfolding led
+command_told d command = caret_told d (Call command) (from_told d command) d.caret
+
+line_wish_told : (d : Desktop) → Tells CallLine (led d CallLine)
+unfolding led
+line_wish_told d = caret_told d CallLine (line_told d) d.caret
+
+-- the marker alone
+marks : (result : Result (List Event) WhyNot) → IfOk result (λ events. All (IsClickTold None) events)
+    → IsTelling None (lead_plan MarkWish result)
+marks (Err why) all = record { events = nothing None; next = tt }
+marks (Ok events) all = record { events = all; next = tt }
+
+mark_told : (d : Desktop) (c : Option Caret) → IfOk (led_with d c MarkWish) (λ events. All (IsClickTold None) events)
+unfolding led_from
+mark_told d None = tt
+mark_told d (Some c) = elim (rows_of d c.viewer == 0) as (λ (b : Bool).
+    IfOk (if b then Err NoRow else led_from d c.viewer c.position MarkWish) (λ events. All (IsClickTold None) events)) [
+      | true ↦ tt
+      | false ↦ let cell = marker_cell d c.viewer c.position in one None (event.Mark cell.0 cell.1) tt
+    ]
+
+mark_wish_told : (d : Desktop) → IsTelling None (lead_plan MarkWish (led d MarkWish))
+unfolding led
+mark_wish_told d = marks (led_with d d.caret MarkWish) (mark_told d d.caret)
 
 pub clicks_told : ClicksAreTold
-unfolding accepted_as task_of click_made plan_of plan_on
-clicks_told (action.Post e) seat is = all_told (middle_click e) most_plans _ (noted_at (action.Post e) seat) (hand_posts _ e)
-clicks_told (action.AtCaret click) seat is = first_told _ most_plans (kind.AtCaret click) (noted_at (action.AtCaret click) seat)
-    (at_caret click (caret_cell (shown_screen seat.session.desktop)))
-clicks_told action.Search seat is = first_told _ most_plans _ (noted_at action.Search seat) (calling _)
-clicks_told action.Store seat is = first_told _ most_plans _ (noted_at action.Store seat) (calling _)
+unfolding accepted_as task_of click_made calling_wish plan_of plan_on
+clicks_told (action.Post e) seat is = all_told (middle_click e) most_plans _ (noted_at (action.Post e) seat) (hand_posts _ _ e)
+clicks_told action.Search seat is = first_told _ most_plans _ (noted_at action.Search seat)
+    (command_told seat.session.desktop caret.Search)
+clicks_told action.Store seat is = first_told _ most_plans _ (noted_at action.Store seat)
+    (command_told seat.session.desktop caret.Store)
+clicks_told action.CallLine seat is = first_told _ most_plans _ (noted_at action.CallLine seat)
+    (line_wish_told seat.session.desktop)
+clicks_told action.Mark seat is = first_told _ most_plans _ (noted_at action.Mark seat)
+    (mark_wish_told seat.session.desktop)
 clicks_told action.Nothing seat is = absurd cc
 clicks_told action.Ring seat is = absurd cc
 clicks_told action.LookAnew seat is = absurd cc
@@ -238,5 +467,8 @@ clicks_told action.Fill seat is = absurd cc
 clicks_told (action.Seek at) seat is = absurd cc
 clicks_told (action.Step arrow) seat is = absurd cc
 clicks_told action.Delete seat is = absurd cc
+clicks_told (action.Select arrow) seat is = absurd cc
+clicks_told action.SelectAll seat is = absurd cc
+clicks_told action.CutLine seat is = absurd cc
 clicks_told (action.Fit rows columns) seat is = absurd cc
 clicks_told action.FileFailed seat is = absurd cc

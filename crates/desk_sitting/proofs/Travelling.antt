@@ -1,8 +1,7 @@
 -- What taking back and doing again come to.
 use Rattle.std.proofs.Common.{◌≡◌, ◌≢◌, inl, inr, ℕ, List, false, refl, sym, ap, ◌∙◌}
 use Rattle.std.proofs.Common.{Option, Some, None, subst}
-use Rattle.desk_tasks.specs.declared.again.NextEvent.{NextEvent}
-use Rattle.desk_tasks.specs.Past.{back_count}
+use Rattle.press_plans.specs.declared.again.NextEvent.{NextEvent}
 use Rattle.std.specs.Prelude.{Result, Ok, Err, OnOk, IfErr}
 use Rattle.std.proofs.lemmas.Bool.{false≢true}
 use Rattle.sector_disk.specs.declared.disk.Disk.{Ghosts}
@@ -14,24 +13,27 @@ use Rattle.store_layout.specs.Meaning.{MeansEither}
 use Rattle.desk_journal.specs.Device.{IsSameDevice}
 use Rattle.desk_journal.specs.Errors.{Error, NoMemory, Fault, MustReopen, OfLook}
 use Rattle.desk_journal.specs.Posting.{AnswersMustReopen}
-use Rattle.desk_journal.specs.Undoing.{IsTakenBack, LeavesUndone, OfUndo}
+use Rattle.desk_journal.specs.Undoing.{IsLeft, IsTakenBack, LeavesUndone, OfUndo}
 use Rattle.desk_journal.specs.View.{StoreView, IsDurable}
 use Rattle.desk_journal.proofs.Passing.{at_start, shows_means}
-use Rattle.desk_sayings.specs.declared.saying.Saying.TheVariants.{NothingAgain}
+use Rattle.status_line.specs.declared.saying.Saying.TheVariants.{NotBack, NothingAgain}
 use Rattle.desk_sitting.specs.declared.sitting.Sitting.{Sitting}
 use Rattle.desk_sitting.specs.declared.sitting.Travel.TheVariants.{Back, Again}
-use Rattle.desk_tasks.specs.Again.{next_event}
-use Rattle.desk_tasks.specs.declared.again.StorePlace.{StorePlace}
+use Rattle.press_plans.specs.Again.{next_event}
+use Rattle.press_plans.specs.declared.again.StorePlace.{StorePlace}
 use Rattle.desk_sitting.specs.Doing.{IsUndone, OfPresses, ComesToSeat, seat_of}
 use Rattle.desk_sitting.specs.Sittings.{after_post, refused}
-use Rattle.desk_sitting.specs.Travels.{Travelled, Travels, did_again, goes_again, store_place, settled, took_back}
-use Rattle.desk_sitting.specs.Travels.{back, nothing, again}
+use Rattle.desk_sitting.specs.Travels.{Travelled, Travels, did_again, goes_again, settled, step_count, store_place, took_back}
+use Rattle.desk_sitting.specs.Travels.{ComesBack, back, nothing, again, not_taken, taken as came_back}
 
 -- an error of an undo over an honest disk is one of these
 not_look : (error : Error) → OfLook error → error ≢ NoMemory → error ≢ Fault → error ≢ MustReopen → ⊥
 not_look error (inl memory) no_memory no_fault no_reopen = no_memory memory
 not_look error (inr (inl fault)) no_memory no_fault no_reopen = no_fault fault
 not_look error (inr (inr reopen)) no_memory no_fault no_reopen = no_reopen reopen
+
+again_not_back : {A : Type 0} → Some Again ≡ Some Back → A
+again_not_back is = absurd (cc is)
 
 module _ {D : Type 0} (d : Ghosts D) where
   -- a crash leaves the desktop before the events were taken back or the one after it
@@ -48,8 +50,9 @@ module _ {D : Type 0} (d : Ghosts D) where
 
   -- nothing was written
   pub stays_there : {T : Type 0} (value : T) {s s' : Sitting} (store : StoreView D) → store.must_reopen ≡ false
-      → Travelled d s s' store store → Travels d (Ok value) s s' store store
-  stays_there value store usable what = record {
+      → (s.travels ≡ Some Back → ComesBack d s s' store store) → Travelled d s s' store store
+      → Travels d (Ok value) s s' store store
+  stays_there value store usable told what = record {
     done = λ honest durable. record {
       what = what;
       any_moment = at_start (d.trail store.disk) _ (λ c image. inl
@@ -57,12 +60,13 @@ module _ {D : Type 0} (d : Ghosts D) where
       durable = durable;
     };
     stuck = tt;
+    told = told;
     usable = usable;
     faults = record { rose = λ wrong. absurd (cc wrong); calm = λ other. refl; errors = tt };
     device = record { as_large = refl; still = λ honest. honest; already = λ honest. honest };
   }
 
-  module _ {s s' : Sitting} {old new : StoreView D} (count : ℕ) (counts : count ≡ back_count s.past)
+  module _ {s s' : Sitting} {old new : StoreView D} (count : ℕ) (counts : count ≡ step_count s)
       (asked : s.travels ≡ Some Back) (usable : old.must_reopen ≡ false)
       (moments : LeavesUndone d count old new) (device : IsSameDevice d old.disk new.disk) where
     -- the events of the last press were taken back
@@ -73,13 +77,12 @@ module _ {D : Type 0} (d : Ghosts D) where
         → s' ≡ took_back events from to (settled s) → Travels d (Ok value) s s' old new
     goes_back value x events from to taken faults at come is = record {
       done = λ honest durable. record {
-        what = back events asked (subst (λ n. IsTakenBack d n events old new) counts taken)
-            (is ∙ ap (λ p. took_back events p to (settled s)) at
-            ∙ ap (λ p. took_back events (store_place old) p (settled s)) come);
+        what = back events asked taken_back so;
         any_moment = undone_either count events old new taken moments usable honest durable;
         durable = taken.durable;
       };
       stuck = tt;
+      told = λ _. came_back events taken_back so;
       usable = taken.usable;
       faults = record {
         rose = λ wrong. absurd (cc wrong);
@@ -88,20 +91,30 @@ module _ {D : Type 0} (d : Ghosts D) where
       };
       device = device;
     }
+      where
+        taken_back : IsTakenBack d (step_count s) events old new
+        taken_back = subst (λ n. IsTakenBack d n events old new) counts taken
+
+        so : s' ≡ took_back events (store_place old) (store_place new) (settled s)
+        so = is ∙ ap (λ p. took_back events p to (settled s)) at
+            ∙ ap (λ p. took_back events (store_place old) p (settled s)) come
 
     -- they weren't
     pub goes_not : {U : Type 0} (error : Error) (result : Result Unit Error)
         → (error ≢ Fault → error ≢ MustReopen → new.must_reopen ≡ false) → (d.honest old.disk → OfLook error)
         → AnswersMustReopen {T = U} (Err error) old new
         → FailsAs {T = U} Fault OfUndo (Err error) (d.failures old.disk) (d.failures new.disk)
+        → (old.must_reopen ≡ false → new.must_reopen ≡ false → IsLeft d old new)
         → OnOk result ((error ≢ NoMemory) × (error ≢ Fault))
+        → OnOk result (s' ≡ refused NotBack (settled s))
         → IfErr result (λ e. (e ≡ error) × OfPresses error) → Travels d result s s' old new
-    goes_not error (Ok value) in_use stops reopen faults stays passed =
+    goes_not error (Ok value) in_use stops reopen faults left stays said passed =
         let open_still : error ≢ MustReopen =
         λ is. false≢true (sym usable ∙ reopen.only (ap (λ e. Err e) is)) in
         record {
           done = λ honest durable. absurd (not_look error (stops honest) stays.0 stays.1 open_still);
           stuck = tt;
+          told = λ _. not_taken (left usable (in_use stays.1 open_still)) said;
           usable = in_use stays.1 open_still;
           faults = record {
             rose = λ wrong. absurd (cc wrong);
@@ -110,9 +123,10 @@ module _ {D : Type 0} (d : Ghosts D) where
           };
           device = device;
         }
-    goes_not error (Err e) in_use stops reopen faults stays passed = record {
+    goes_not error (Err e) in_use stops reopen faults left stays said passed = record {
       done = tt;
       stuck = λ honest durable. back asked (subst (λ n. LeavesUndone d n old new) counts moments);
+      told = tt;
       usable = tt;
       faults = record {
         rose = λ fault. faults.rose (cc (passed.0, fault));
@@ -128,7 +142,7 @@ module _ {D : Type 0} (d : Ghosts D) where
       → from ≡ store_place store → found ≡ next_event from s.again → found ≡ None → gone ≡ goes_again from s
       → s' ≡ refused NothingAgain gone → Travels d (Ok value) s s' store store
   nothing_again value {s = s} store from gone found asked usable at found_is none_left left is =
-      stays_there value store usable (nothing asked
+      stays_there value store usable (λ wrong. again_not_back (sym asked ∙ wrong)) (nothing asked
       (ap (λ p. next_event p s.again) (sym at) ∙ sym found_is ∙ none_left)
       (is ∙ ap (refused NothingAgain) (left ∙ ap (λ p. goes_again p s) at)) refl)
 
@@ -157,6 +171,7 @@ module _ {D : Type 0} (d : Ghosts D) where
             durable = done.durable;
           };
       stuck = tt;
+      told = λ wrong. again_not_back (sym asked ∙ wrong);
       usable = takes.usable;
       faults = record {
         rose = λ wrong. absurd (cc wrong);
@@ -175,6 +190,7 @@ module _ {D : Type 0} (d : Ghosts D) where
       stuck = λ honest durable. again event asked there
           (subst (λ t. IsUndone d error (after_post event.event (seat_of t old)) old new) same
           (takes.undone honest durable));
+      told = tt;
       usable = tt;
       faults = record {
         rose = λ fault. takes.faults.rose (cc fault);

@@ -1,7 +1,7 @@
 -- What a turn comes to, outcome by outcome.
 use Rattle.std.proofs.Common.{◌≡◌, ◌≢◌, ◌∙◌, ℕ, ◌<◌, List, [], ◌++◌, Option, Ok, Err, ap, sym, subst, inl, inr}
 use Rattle.std.proofs.Common.{append-nil, refl, true, false}
-use Rattle.std.specs.Prelude.{Result, OnErr, IfErr}
+use Rattle.std.specs.Prelude.{Result, OnErr, IfErr, length, ◌≤◌}
 use Rattle.byte_streams.specs.Counting.{CountsFault, RisesWhere}
 use Rattle.byte_streams.specs.Sent.{AppendsFront}
 use Rattle.sector_disk.specs.declared.disk.Disk.{Ghosts}
@@ -30,14 +30,14 @@ use Rattle.desk_sitting.specs.declared.ending.SittingEnd.{SittingEnd}
 use Rattle.desk_sitting.specs.declared.ending.SittingEnd.TheVariants.{Left, Closed, Input, TooLong, Output, Fault}
 use Rattle.desk_sitting.specs.declared.ending.SittingEnd.TheVariants.{Memory}
 use Rattle.desk_sitting.specs.Endings.{EndsBy, IsOfNoKeyboard, sitting_end_of, end_of_keyboard}
-use Rattle.desk_sitting.specs.Scenes.{IsScenePainted, IsSceneShown, IsUnshown, after_scene, behind_it, known_by}
+use Rattle.desk_sitting.specs.Scenes.{IsScenePainted, IsUnshown, after_scene, behind_it, known_by}
 use Rattle.desk_sitting.specs.Serving.{TurnState, IsFetched, IsLookedAt, HearsAfterScene, IsDeaf, Broke}
 use Rattle.desk_sitting.specs.Serving.{HasTurned, HasStopped, TakesTurn, CountsEnding, IsUsableAt, store_screen}
 use Rattle.desk_sitting.specs.Serving.{sitting_shown}
 use Rattle.desk_sitting.specs.Serving.{CountsOutput, left, closed}
 use Rattle.desk_sitting.specs.Serving.{unheard, unseen, faulty, starved, faulty_press, starved_press}
 use Rattle.desk_sitting.specs.Serving.{IsSeenUnlessDue, IsShownIfDue, StaysInUse}
-use Rattle.desk_sitting.proofs.Seen.{seen_so}
+use Rattle.desk_sitting.proofs.Seen.{handed_so, seen_so}
 
 -- ---- a scene
 
@@ -232,28 +232,28 @@ module _ {D : Type 0} (d : Ghosts D) where
 
   -- the scene isn't shown
   unshown_stops : (end : SittingEnd) (old new : TurnState D) → is_scene_due old.sitting ≡ true
-      → IsLookedAt d old.store new.store → new.heard ≡ old.heard
+      → IsLookedAt d old.store new.store → new.heard ≡ old.heard → new.asked ≡ old.asked
       → IsUnshown end old.sitting (store_screen old.store) old.known old.held new.held → HasStopped d end old new
-  unshown_stops Left old new due looks heard why = absurd why
-  unshown_stops Closed old new due looks heard why = absurd why
-  unshown_stops Input old new due looks heard why = absurd why
-  unshown_stops TooLong old new due looks heard why = absurd why
-  unshown_stops Output old new due looks heard why =
-      ([], [], unseen (record { due = due; looked = looks; cut = why; heard = heard }))
-  unshown_stops Fault old new due looks heard why =
-      ([], [], faulty (record { due = due; looked = looks; held = why; heard = heard }))
-  unshown_stops Memory old new due looks heard why =
-      ([], [], starved (record { due = due; looked = looks; held = why; heard = heard }))
+  unshown_stops Left old new due looks heard unasked why = absurd why
+  unshown_stops Closed old new due looks heard unasked why = absurd why
+  unshown_stops Input old new due looks heard unasked why = absurd why
+  unshown_stops TooLong old new due looks heard unasked why = absurd why
+  unshown_stops Output old new due looks heard unasked why =
+      ([], [], unseen (record { due = due; looked = looks; cut = why; heard = heard; unasked = unasked }))
+  unshown_stops Fault old new due looks heard unasked why =
+      ([], [], faulty (record { due = due; looked = looks; held = why; heard = heard; unasked = unasked }))
+  unshown_stops Memory old new due looks heard unasked why =
+      ([], [], starved (record { due = due; looked = looks; held = why; heard = heard; unasked = unasked }))
 
   pub unshown_ends : {T : Type 0} {old new : TurnState D} (result : Result T SittingEnd) (end : SittingEnd)
       → result ≡ Err end → (d.honest old.store.disk → IsDurable d old.store → IsLookedAt d old.store new.store)
       → (is_scene_due old.sitting ≡ true)
       × (d.honest old.store.disk → IsUnshown end old.sitting (store_screen old.store) old.known old.held new.held)
-      → new.heard ≡ old.heard → new.store.must_reopen ≡ false
+      → new.heard ≡ old.heard → new.asked ≡ old.asked → new.store.must_reopen ≡ false
       → CountsEnding end (d.failures old.store.disk) (d.failures new.store.disk)
       → IsSameDevice d old.store.disk new.store.disk → TakesTurn d result old new
-  unshown_ends {old = old} {new = new} result end is looks why heard usable = ended result end old new is
-      (λ honest durable seen. unshown_stops end old new why.0 (looks honest durable) heard (why.1 honest))
+  unshown_ends {old = old} {new = new} result end is looks why heard unasked usable = ended result end old new is
+      (λ honest durable seen. unshown_stops end old new why.0 (looks honest durable) heard unasked (why.1 honest))
       (λ _ _. usable)
 
   -- nothing is heard
@@ -266,17 +266,21 @@ module _ {D : Type 0} (d : Ghosts D) where
       → result ≡ Err (end_of_keyboard why)
       → (d.honest old.store.disk → IsDurable d old.store → IsLookedAt d old.store new.store)
       → (d.honest old.store.disk
-      → IsShownIfDue old.sitting old.store new.store old.known new.known old.held new.held)
-      → new.heard ≡ old.heard → new.store.must_reopen ≡ false
+      → IsShownIfDue old.sitting old.store new.store old.known new.known old.held new.held old.waiting new.waiting)
+      → new.heard ≡ old.heard → new.asked ≡ old.asked → new.store.must_reopen ≡ false
       → d.failures new.store.disk ≡ d.failures old.store.disk
       → IsSameDevice d old.store.disk new.store.disk → TakesTurn d result old new
-  deaf_ends {old = old} {new = new} result why is looks shown heard usable calm =
+  deaf_ends {old = old} {new = new} result why is looks shown heard unasked usable calm =
       ended result (end_of_keyboard why) old new is
       (λ honest durable seen. deaf_stops why old new (record {
-        looked = looks honest durable;
-        shown = shown honest;
-        seen = seen_so (shown honest) seen;
-        heard = heard ∙ sym (append-nil old.heard);
+        scene = record {
+          looked = looks honest durable;
+          shown = shown honest;
+          seen = seen_so (shown honest) seen;
+          handed = handed_so (shown honest) seen;
+          heard = heard ∙ sym (append-nil old.heard);
+        };
+        unasked = unasked;
       })) (λ _ _. usable) (calm_keyboard why (d.failures old.store.disk) (d.failures new.store.disk) calm)
 
   -- a scene is shown, after which the store and the sitting are these, and this is heard
@@ -284,24 +288,26 @@ module _ {D : Type 0} (d : Ghosts D) where
       (looks : d.honest old.store.disk → IsDurable d old.store → IsLookedAt d old.store mid)
       (sees : d.honest old.store.disk → s ≡ sitting_shown old)
       (shown : d.honest old.store.disk
-      → IsShownIfDue old.sitting old.store mid old.known new.known old.held new.held)
-      (heard : new.heard ≡ old.heard ++ hearing) where
+      → IsShownIfDue old.sitting old.store mid old.known new.known old.held new.held old.waiting new.waiting)
+      (heard : new.heard ≡ old.heard ++ hearing) (something : 1 ≤ length hearing) where
     scene : d.honest old.store.disk → IsDurable d old.store → IsSeenUnlessDue old → HearsAfterScene d hearing old mid new
     scene honest durable seen = record {
       looked = looks honest durable;
       shown = shown honest;
       seen = seen_so (shown honest) seen;
+      handed = handed_so (shown honest) seen;
       heard = heard;
     }
 
     pub turned : (s' : Sitting) → new.parser ≡ parser_after old.parser hearing
         → (d.honest mid.disk → IsDurable d mid → DoesPresses d (presses_heard old.parser hearing) s s' mid new.store)
-        → IsFetched s' new.sitting → d.honest old.store.disk → IsDurable d old.store → IsSeenUnlessDue old
+        → IsFetched s' new.sitting old.asked new.asked → d.honest old.store.disk → IsDurable d old.store → IsSeenUnlessDue old
         → HasTurned d old new
     turned s' parser does brings honest durable seen = (
       accepted_events (presses_heard old.parser hearing) (seat_of (sitting_shown old) mid),
       record {
         hearing = hearing;
+        something = something;
         mid = mid;
         scene = scene honest durable seen;
         parser = parser;
@@ -314,11 +320,11 @@ module _ {D : Type 0} (d : Ghosts D) where
     )
 
     -- a press fails
-    broken : (error : Error) → OfPresses error
+    broken : (error : Error) → OfPresses error → new.asked ≡ old.asked
         → (d.honest mid.disk → IsDurable d mid → Breaks d error (presses_heard old.parser hearing) s mid new.store)
         → d.honest old.store.disk → IsDurable d old.store → IsSeenUnlessDue old
         → HasStopped d (sitting_end_of error) old new
-    broken error why fails honest durable seen =
+    broken error why unasked fails honest durable seen =
         let breaks : Breaks d error (presses_heard old.parser hearing) (sitting_shown old) mid new.store =
         subst (λ t. Breaks d error (presses_heard old.parser hearing) t mid new.store) (sees honest)
         (fails ((looks honest durable).disk.device.still honest) (looks honest durable).durable) in
@@ -327,11 +333,13 @@ module _ {D : Type 0} (d : Ghosts D) where
         let begun : List Event = breaks.undone.begun in
         let broke : Broke d error events begun old new = record {
           hearing = hearing;
+          something = something;
           mid = mid;
           scene = scene honest durable seen;
           breaks = breaks;
           are = refl;
           fails = refl;
+          unasked = unasked;
         } in
         elim why [
           | inl is ↦ subst (λ e. HasStopped d (sitting_end_of e) old new) (sym is)
@@ -341,12 +349,13 @@ module _ {D : Type 0} (d : Ghosts D) where
         ]
 
     pub broken_ends : {T : Type 0} (result : Result T SittingEnd) (error : Error) → result ≡ Err (sitting_end_of error)
+        → new.asked ≡ old.asked
         → (d.honest mid.disk → IsDurable d mid → Breaks d error (presses_heard old.parser hearing) s mid new.store)
         → d.failures mid.disk ≡ d.failures old.store.disk
         → FailsAs {T = T} DiskFault OfPresses (Err error) (d.failures mid.disk) (d.failures new.store.disk)
         → IsSameDevice d old.store.disk new.store.disk → TakesTurn d result old new
-    broken_ends result error is fails calm faults = ended result (sitting_end_of error) old new is
-        (broken error faults.errors fails) (unusable error new.store faults.errors)
+    broken_ends result error is unasked fails calm faults = ended result (sitting_end_of error) old new is
+        (broken error faults.errors unasked fails) (unusable error new.store faults.errors)
         (counts_presses error (d.failures old.store.disk) (d.failures mid.disk) (d.failures new.store.disk) calm faults)
 
   -- the person leaves
@@ -357,3 +366,8 @@ module _ {D : Type 0} (d : Ghosts D) where
 pub heard_so : {after told slice : List Heard} (heard : List Heard) → after ≡ heard ++ told → slice ≡ told
     → after ≡ heard ++ slice
 heard_so heard grown same = grown ∙ ap (λ l. heard ++ l) (sym same)
+
+-- hearing asks for nothing
+pub asked_so : {old new : Sitting} {first mid last : List ℕ} → mid ≡ first → IsFetched old new mid last
+    → IsFetched old new first last
+asked_so {old = old} {new = new} {last = last} same fetched = subst (λ a. IsFetched old new a last) same fetched

@@ -1,5 +1,7 @@
 -- A sitting from its first turn to its end.
-use Rattle.std.proofs.Common.{◌≡◌, ◌∙◌, inl, inr, ◌+◌, ℕ, false, List, [], ◌++◌, Ok, Err, refl, subst, arith}
+use Rattle.std.proofs.Common.{◌≡◌, ◌∙◌, inl, inr, ◌+◌, ℕ, true, false, is_none, List, [], ◌++◌, Ok, Err, refl, subst}
+use Rattle.std.proofs.Common.{arith}
+use Rattle.store_layout.proofs.Bits.{true_or_false}
 use Rattle.sector_disk.specs.declared.disk.Disk.{Ghosts}
 use Rattle.event_bytes.specs.declared.event.Event.{Event}
 use Rattle.desk_journal.specs.Device.{IsSameDevice}
@@ -8,7 +10,7 @@ use Rattle.desk_sitting.specs.declared.ending.SittingEnd.{SittingEnd}
 use Rattle.desk_sitting.specs.declared.ending.SittingEnd.TheVariants.{TooLong}
 use Rattle.desk_sitting.specs.declared.serving.TheConstants.{MOST_TURNS}
 use Rattle.desk_sitting.specs.Serving.{TurnState, IsTurnRun, Ends, TakesTurn, HasStopped, none, one_more}
-use Rattle.desk_sitting.specs.Serving.{IsSeenUnlessDue, stopped, too_long}
+use Rattle.desk_sitting.specs.Serving.{IsSeenUnlessDue, exchange_at, stopped, too_long}
 use Rattle.desk_sitting.specs.Surviving.{TurnsSurvive, EndsSurvive}
 use Rattle.desk_sitting.specs.Sitting.{Comes, IsStretchOfTurns, Sits, TakesEitherTurn, here, again}
 use Rattle.desk_sitting.specs.Travelling.{TakesBetween}
@@ -67,9 +69,9 @@ module _ {D : Type 0} (d : Ghosts D) where
     }
 
     -- a turn more
-    turn_more : {T : Type 0} {new : TurnState D} (value : T) → TakesTurn d (Ok value) place new
-        → HasCome first (count + 1) new
-    turn_more {new = new} value turn = record {
+    turn_more : {T : Type 0} {new : TurnState D} (value : T) → is_none place.sitting.travels ≡ true
+        → TakesTurn d (Ok value) place new → HasCome first (count + 1) new
+    turn_more {new = new} value none_asked turn = record {
       run = λ honest.
           let run = come.run honest in
           let more = turn.goes_on (come.device.still honest) (stretch run).goes.durable run.seen in
@@ -82,7 +84,7 @@ module _ {D : Type 0} (d : Ghosts D) where
             still = run.still;
             started = run.started;
             events = run.events ++ more.0;
-            run = one_more run.run more.1 turn.stays;
+            run = one_more run.run none_asked more.1 turn.stays;
             seen = turn_seen d more.1;
           };
       usable = turn.usable;
@@ -91,16 +93,16 @@ module _ {D : Type 0} (d : Ghosts D) where
     }
 
     -- what was asked for beside the presses
-    between_more : {T : Type 0} {new : TurnState D} (value : T) → TakesBetween d (Ok value) place new
-        → HasCome first (count + 1) new
-    between_more {new = new} value turn = record {
+    between_more : {T : Type 0} {new : TurnState D} (value : T) → is_none place.sitting.travels ≡ false
+        → TakesBetween d (Ok value) place new → HasCome first (count + 1) new
+    between_more {new = new} value asked turn = record {
       run = λ honest.
           let run = come.run honest in
           let between = turn.goes_on (come.device.still honest) (stretch run).goes.durable in
           record {
             before = run.before + run.within + 1;
             start = new;
-            comes = again run.comes (stretch run) between;
+            comes = again run.comes (stretch run) asked between;
             within = 0;
             counts = omega (arith, run.counts);
             still = turn.device.still (come.device.still honest);
@@ -116,12 +118,14 @@ module _ {D : Type 0} (d : Ghosts D) where
 
     pub come_more : {T : Type 0} {new : TurnState D} (value : T) → TakesEitherTurn d (Ok value) place new
         → HasCome first (count + 1) new
-    come_more value (inl turn) = turn_more value turn
-    come_more value (inr turn) = between_more value turn
+    come_more value either = elim (true_or_false (is_none place.sitting.travels)) [
+      | inl none_asked ↦ turn_more value none_asked (either.shows none_asked)
+      | inr asked ↦ between_more value asked (either.goes asked)
+    ]
 
     sat_with : (end : SittingEnd) (more begun : List Event) (last : TurnState D) (run : HasRun first count place)
         → Ends d end (run.before + run.within) more begun place last
-        → Sits d end first last.store last.heard last.held
+        → Sits d end first last.store (exchange_at last)
     sat_with end more begun last run why = record {
       before = run.before;
       start = run.start;
@@ -137,8 +141,7 @@ module _ {D : Type 0} (d : Ghosts D) where
         last = last;
         ends = why;
         stands = refl;
-        was_heard = refl;
-        holds = refl;
+        exchanged = refl;
         events = run.events ++ more;
         are = refl;
         survives = ends end run.within (run.before + run.within) run.events more begun run.start place last run.run why
@@ -147,14 +150,18 @@ module _ {D : Type 0} (d : Ghosts D) where
     }
 
     -- a turn in which the sitting ends
-    pub sat_to_end : {T : Type 0} {last : TurnState D} (end : SittingEnd) → TakesEitherTurn d {T = T} (Err end) place last
-        → d.honest first.store.disk → Sits d end first last.store last.heard last.held
-    sat_to_end {last = last} end (inl turn) honest =
+    turn_to_end : {T : Type 0} {last : TurnState D} (end : SittingEnd) → is_none place.sitting.travels ≡ true
+        → TakesTurn d {T = T} (Err end) place last → d.honest first.store.disk
+        → Sits d end first last.store (exchange_at last)
+    turn_to_end {last = last} end none_asked turn honest =
         let run = come.run honest in
         let why : HasStopped d end place last =
         turn.stops (come.device.still honest) (stretch run).goes.durable run.seen in
-        sat_with end why.0 why.1 last run (stopped why.2)
-    sat_to_end {last = last} end (inr turn) honest =
+        sat_with end why.0 why.1 last run (stopped none_asked why.2)
+
+    lost_to_end : {T : Type 0} {last : TurnState D} (end : SittingEnd) → TakesBetween d {T = T} (Err end) place last
+        → d.honest first.store.disk → Sits d end first last.store (exchange_at last)
+    lost_to_end {last = last} end turn honest =
         let run = come.run honest in
         record {
           before = run.before;
@@ -167,14 +174,20 @@ module _ {D : Type 0} (d : Ghosts D) where
             last = last;
             broken = turn.stops (come.device.still honest) (stretch run).goes.durable;
             stands = refl;
-            was_heard = refl;
-            holds = refl;
+            exchanged = refl;
           });
         }
 
+    pub sat_to_end : {T : Type 0} {last : TurnState D} (end : SittingEnd) → TakesEitherTurn d {T = T} (Err end) place last
+        → d.honest first.store.disk → Sits d end first last.store (exchange_at last)
+    sat_to_end {last = last} end either honest = elim (true_or_false (is_none place.sitting.travels)) [
+      | inl none_asked ↦ turn_to_end end none_asked (either.shows none_asked) honest
+      | inr asked ↦ lost_to_end end (either.goes asked) honest
+    ]
+
     -- as many turns as there may be
     pub sat_too_long : count ≡ MOST_TURNS → d.honest first.store.disk
-        → Sits d TooLong first place.store place.heard place.held
+        → Sits d TooLong first place.store (exchange_at place)
     sat_too_long most honest =
         let run = come.run honest in
         sat_with TooLong [] [] place run

@@ -1,19 +1,22 @@
 -- Questions. A press that would lose something posts nothing and asks; the same press right after it does it.
-use Rattle.std.specs.Prelude.{Bool, true, false, not, ◌&&◌, if◌then◌else◌, Option, Some, None}
+use Rattle.std.specs.Prelude.{Bool, true, false, not, ◌&&◌, if◌then◌else◌, List, Option, Some, None, Result, Ok, Err}
+use Rattle.event_bytes.specs.declared.event.Event.{Event}
 use Rattle.desktop_definitions.specs.Desktop.{Desktop}
 use Rattle.desktop_definitions.specs.Shown.{shown_screen}
+use Rattle.desk_journal.specs.Leading.{KeyWish, WhyNot, led}
 use Rattle.desk_journal.specs.Losses.{Loss, Closed, Rivalled, Taken, loss_at}
 use Rattle.terminal_presses.specs.declared.action.Action.{Action}
 use Rattle.terminal_presses.specs.declared.action.Action.TheVariants as action
-use Rattle.desk_sayings.specs.declared.question.Question.{Question}
-use Rattle.desk_sayings.specs.declared.question.Question.TheVariants.{Closing, Taking}
-use Rattle.desk_sayings.specs.declared.question.Question.TheVariants as question
-use Rattle.desk_sayings.specs.declared.saying.Saying.TheVariants.{Asks}
-use Rattle.desk_sayings.specs.Question.{asks_to_leave, left_behind}
-use Rattle.desk_sayings.specs.Sayings.{is_in_memory}
-use Rattle.desk_sayings.specs.declared.clicks.MiddleClick.{MiddleClick}
-use Rattle.desk_sayings.specs.Clicks.{click_made}
-use Rattle.desk_sayings.specs.Named.{named_question}
+use Rattle.status_line.specs.declared.question.Question.{Question}
+use Rattle.status_line.specs.declared.question.Question.TheVariants.{Closing, Taking}
+use Rattle.status_line.specs.declared.question.Question.TheVariants as question
+use Rattle.status_line.specs.declared.saying.Saying.TheVariants.{Asks}
+use Rattle.status_line.specs.Question.{asks_to_leave, left_behind}
+use Rattle.status_line.specs.Sayings.{is_in_memory}
+use Rattle.status_line.specs.declared.clicks.MiddleClick.{MiddleClick}
+use Rattle.status_line.specs.Clicks.{click_in, click_posted}
+use Rattle.press_plans.specs.Tasks.{calling_wish}
+use Rattle.status_line.specs.Named.{named_question}
 use Rattle.desk_sitting.specs.declared.sitting.Sitting.{Sitting}
 
 -- what is asked about what a command would lose
@@ -33,6 +36,19 @@ abbrev pub asked_at : MiddleClick → Desktop → Option Question
 asked_at click d = or_asked (loss_question (loss_at d click.marker click.from click.to))
     (named_question (shown_screen d) click.to.0 click.to.1)
 
+-- the click among the events for what is wished of the caret
+abbrev pub click_led : Result (List Event) WhyNot → Option MiddleClick
+click_led (Ok events) = click_in events
+click_led (Err why) = None
+
+abbrev pub click_by : Option KeyWish → Action → Desktop → Option MiddleClick
+click_by None a d = click_posted a
+click_by (Some wish) a d = click_led (led d wish)
+
+-- the click of the middle button that a press makes
+unfoldable pub click_made : Action → Desktop → Option MiddleClick
+click_made a d = click_by (calling_wish a) a d
+
 -- and where a click is made
 abbrev pub click_question : Option MiddleClick → Desktop → Option Question
 click_question None d = None
@@ -45,7 +61,7 @@ is_leave _ = false
 -- what a press would lose
 abbrev pub loss_of : Action → Bool → Desktop → Option Question
 loss_of a in_memory d =
-    if is_leave a then left_behind in_memory else click_question (click_made a (shown_screen d)) d
+    if is_leave a then left_behind in_memory else click_question (click_made a d) d
 
 -- and what is asked about it, in a sitting that asks
 abbrev pub question_of : Action → Sitting → Desktop → Option Question

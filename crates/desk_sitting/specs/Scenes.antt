@@ -13,7 +13,7 @@ use Rattle.screen_drawing.specs.declared.operation.Operation.TheVariants.{Ring}
 use Rattle.screen_drawing.specs.Scene.{scene_rows, line_height, text_below}
 use Rattle.screen_drawing.specs.Painting.{Paints, PaintsFront}
 use Rattle.screen_drawing.specs.Spelling.{operation_bytes}
-use Rattle.desk_sayings.specs.Sayings.{line_of, said_by_pointer}
+use Rattle.status_line.specs.Sayings.{line_of, said_by_pointer}
 use Rattle.desk_sitting.specs.declared.sitting.Sitting.{Sitting}
 use Rattle.desk_sitting.specs.Sittings.{looked}
 use Rattle.desk_sitting.specs.declared.ending.SittingEnd.{SittingEnd}
@@ -75,13 +75,14 @@ pub record IsHalfPainted (s : Sitting) (screen : List (List Cell)) (known : List
   pub is : IsSceneOf s screen scene
   pub front : PaintsFront held held' known scene
 
--- A writer took the scene, and what is sent after it.
+-- A writer took the scene, and what is sent after it, and handed all of it on: no write waits for a flush.
 pub record IsSceneShown (s : Sitting) (screen : List (List Cell)) (known known' : List (List Face))
-    (held held' : Option (List ℕ)) : Type 0 where
+    (held held' : Option (List ℕ)) (waiting' : ℕ) : Type 0 where
   pub between : Option (List ℕ)
   pub painted : IsScenePainted (looked screen s) screen (known_by s.forgets known) known' held
       between
   pub after : Appends between held' (after_scene s.rings s.asks)
+  pub handed : waiting' ≡ 0
 
 -- What was sent last has the terminal show this scene. What is sent after a scene changes nothing of that.
 pub record IsSeen (s : Sitting) (screen : List (List Cell)) (known : List (List Face))

@@ -1,7 +1,7 @@
 -- A sitting over a store, turn by turn: the scene is shown where one is due, something is heard, and what is pressed is
 -- done. `d` is what is known of a disk.
 use Rattle.std.specs.Prelude.{◌≡◌, ◌≢◌, ◌<◌, ◌+◌, ◌-◌, ◌^◌, ℕ, Bool, true, false, List, [], ◌++◌, Option}
-use Rattle.std.specs.Prelude.{Result, MatchResult, OnOk, IfErr}
+use Rattle.std.specs.Prelude.{Result, MatchResult, OnOk, IfErr, Some, None, is_none, length, ◌≤◌}
 use Rattle.byte_streams.specs.Counting.{RisesWhere}
 use Rattle.sector_disk.specs.declared.disk.Disk.{Ghosts}
 use Rattle.event_bytes.specs.declared.event.Event.{Event}
@@ -14,8 +14,10 @@ use Rattle.desk_journal.specs.View.{StoreView, IsDurable}
 use Rattle.screen_drawing.specs.declared.face.Face.{Face}
 use Rattle.terminal_keyboard.specs.declared.parser.Parser.{Parser}
 use Rattle.terminal_presses.specs.declared.press.Heard.{Heard}
+use Rattle.terminal_keyboard.specs.Hearings.{asked_for}
 use Rattle.terminal_keyboard.specs.Presses.{at_rest, parser_after, presses_heard}
-use Rattle.desk_sayings.specs.declared.saying.Saying.{Saying}
+use Rattle.press_plans.specs.Past.{PastView}
+use Rattle.status_line.specs.declared.saying.Saying.{Saying}
 use Rattle.desk_sitting.specs.declared.sitting.Sitting.{Sitting}
 use Rattle.desk_sitting.specs.Doing.{Breaks, DoesPresses, seat_of}
 use Rattle.desk_sitting.specs.Sittings.{accepted_events, after_fetch, is_scene_due, looked, new_sitting}
@@ -24,15 +26,36 @@ use Rattle.desk_sitting.specs.declared.ending.SittingEnd.TheVariants.{Left, Clos
 use Rattle.desk_sitting.specs.declared.ending.SittingEnd.TheVariants.{Memory}
 use Rattle.desk_sitting.specs.Scenes.{IsSceneShown, IsSceneCutShort, IsSeen}
 
--- where a sitting stands between two turns: the parser, the sitting, the store, all that was heard so far, what is
--- known of the terminal, and what the writer holds
+-- where a sitting stands between two turns: the parser, the sitting, the store, all that was heard so far, what the
+-- keyboard was asked for, what is known of the terminal, what the writer holds, and how many of its writes wait for a
+-- flush
 pub record TurnState (D : Type 0) : Type 0 where
   pub parser : Parser
   pub sitting : Sitting
   pub store : StoreView D
   pub heard : List Heard
+  pub asked : List ℕ
   pub known : List (List Face)
   pub held : Option (List ℕ)
+  pub waiting : ℕ
+
+-- what a keyboard has told and was asked for, and what a writer holds, and holds back
+pub record Exchange : Type 0 where
+  pub heard : List Heard
+  pub asked : List ℕ
+  pub held : Option (List ℕ)
+  pub waiting : ℕ
+
+abbrev pub exchange : List Heard → List ℕ → Option (List ℕ) → ℕ → Exchange
+exchange heard asked held waiting = record {
+  heard = heard;
+  asked = asked;
+  held = held;
+  waiting = waiting;
+}
+
+abbrev pub exchange_at : {D : Type 0} → TurnState D → Exchange
+exchange_at p = exchange p.heard p.asked p.held p.waiting
 
 -- what a store shows
 abbrev pub store_screen : {D : Type 0} → StoreView D → List (List Cell)
@@ -42,43 +65,53 @@ store_screen store = shown_screen store.desktop
 abbrev pub sitting_shown : {D : Type 0} → TurnState D → Sitting
 sitting_shown p = looked (store_screen p.store) p.sitting
 
--- Unless a scene is due, what was sent last has the terminal show the scene of the desktop that stands.
+-- Unless a scene is due, what was sent last has the terminal show the scene of the desktop that stands, and all of it
+-- was handed on.
 abbrev pub IsSeenUnlessDue : {D : Type 0} → TurnState D → Type 0
-IsSeenUnlessDue p =
-    is_scene_due p.sitting ≡ false → IsSeen p.sitting (store_screen p.store) p.known p.held
+IsSeenUnlessDue p = is_scene_due p.sitting ≡ false
+    → IsSeen p.sitting (store_screen p.store) p.known p.held × (p.waiting ≡ 0)
 
 -- What is shown before anything is heard: the scene, where one is due. Else nothing is sent, and nobody looks at the
 -- store.
 pub data IsShownIfDue {D : Type 0} (s : Sitting) (old mid : StoreView D)
-    (known known' : List (List Face)) (held held' : Option (List ℕ)) : Type 0 where
-  anew : is_scene_due s ≡ true → IsSceneShown s (store_screen old) known known' held held'
-      → IsShownIfDue s old mid known known' held held'
-  still : is_scene_due s ≡ false → mid ≡ old → known' ≡ known → held' ≡ held
-      → IsShownIfDue s old mid known known' held held'
+    (known known' : List (List Face)) (held held' : Option (List ℕ)) (waiting waiting' : ℕ)
+    : Type 0 where
+  anew : is_scene_due s ≡ true → IsSceneShown s (store_screen old) known known' held held' waiting'
+      → IsShownIfDue s old mid known known' held held' waiting waiting'
+  still : is_scene_due s ≡ false → mid ≡ old → known' ≡ known → held' ≡ held → waiting' ≡ waiting
+      → IsShownIfDue s old mid known known' held held' waiting waiting'
 
-abbrev pub turn_state_of : {D : Type 0} → Parser → Sitting → StoreView D → List Heard
-    → List (List Face)
-    → Option (List ℕ) → TurnState D
-turn_state_of parser sitting store heard known held = record {
+abbrev pub turn_state_of : {D : Type 0} → Parser → Sitting → StoreView D → List (List Face)
+    → Exchange → TurnState D
+turn_state_of parser sitting store known out = record {
   parser = parser;
   sitting = sitting;
   store = store;
-  heard = heard;
+  heard = out.heard;
+  asked = out.asked;
   known = known;
-  held = held;
+  held = out.held;
+  waiting = out.waiting;
 }
 
 -- nothing was heard yet, and nothing is known of the terminal
-abbrev pub first_place : {D : Type 0} → ℕ → ℕ → Saying → Bool → Bool → StoreView D → List Heard
-    → Option (List ℕ) → TurnState D
-first_place height width greeting questions fills store heard held =
+abbrev pub first_place : {D : Type 0} → ℕ → ℕ → Saying → Bool → Bool → PastView → StoreView D
+    → Exchange → TurnState D
+first_place height width greeting questions fills past store out =
     turn_state_of at_rest
-    (record (new_sitting height width greeting questions) { fills = fills }) store heard [] held
+    (record (new_sitting height width greeting questions) { fills = fills; past = past }) store []
+    out
 
--- the keyboard was asked for the text of a host file, where one is wanted
-pub record IsFetched (old new : Sitting) : Type 0 where
+-- the host file that is asked for, where one is wanted, and the answer
+abbrev pub asking_for : Option (List ℕ) → Bool → List ℕ
+asking_for None will_be_heard = []
+asking_for (Some name) will_be_heard = asked_for name will_be_heard
+
+-- the keyboard was asked for the text of the host file that is wanted, and of no other
+pub record IsFetched (old new : Sitting) (asked asked' : List ℕ) : Type 0 where
   pub will_be_heard : Bool
   pub brings : new ≡ after_fetch will_be_heard old
+  pub asks : asked' ≡ asked ++ asking_for old.wanted will_be_heard
 
 -- where neither the disk nor the memory failed, the store needn't be opened again
 abbrev pub IsUsableAt : {D : Type 0} → SittingEnd → StoreView D → Type 0
@@ -118,18 +151,21 @@ module _ {D : Type 0} (d : Ghosts D) where
 
   -- ---- a turn
 
-  -- The terminal shows the desktop, be it anew or still, and then this is heard.
+  -- The terminal shows the desktop, be it anew or still: all that was sent was handed on. Then this is heard.
   pub record HearsAfterScene (hearing : List Heard) (old : TurnState D) (mid : StoreView D)
       (new : TurnState D) : Type 0 where
     pub looked : IsLookedAt old.store mid
     pub shown : IsShownIfDue old.sitting old.store mid old.known new.known old.held new.held
+        old.waiting new.waiting
+    pub handed : new.waiting ≡ 0
     pub seen : IsSeen (sitting_shown old) (store_screen old.store) new.known new.held
     pub heard : new.heard ≡ old.heard ++ hearing
 
   -- Then what is pressed by it is done, of which these events are accepted, and the keyboard is asked for the text of a
-  -- host file where one is wanted.
+  -- host file where one is wanted. Nothing is done before something is heard.
   pub record Turns (events : List Event) (old new : TurnState D) : Type 0 where
     pub hearing : List Heard
+    pub something : 1 ≤ length hearing
     pub mid : StoreView D
     pub scene : HearsAfterScene hearing old mid new
     pub parser : new.parser ≡ parser_after old.parser hearing
@@ -138,21 +174,23 @@ module _ {D : Type 0} (d : Ghosts D) where
         new.store
     pub are : events ≡ accepted_events (presses_heard old.parser hearing)
         (seat_of (sitting_shown old) mid)
-    pub brings : IsFetched sitting new.sitting
+    pub brings : IsFetched sitting new.sitting old.asked new.asked
 
-  -- so many turns, one after another, in which these events are accepted, and after none of which the person has left
+  -- so many turns, one after another, in which these events are accepted, and after none of which the person has left,
+  -- or before which something was to be taken back or done again
   pub data IsTurnRun (first : TurnState D) : ℕ → List Event → TurnState D → Type 0 where
     none : IsTurnRun first 0 [] first
     one_more : {count : ℕ} {events more : List Event} {mid new : TurnState D}
-        → IsTurnRun first count events mid
+        → IsTurnRun first count events mid → is_none mid.sitting.travels ≡ true
         → Turns more mid new → new.sitting.leaves ≡ false
         → IsTurnRun first (count + 1) (events ++ more) new
 
   -- ---- how it ends
 
   -- nothing is heard after the scene
-  abbrev pub IsDeaf : TurnState D → TurnState D → Type 0
-  IsDeaf old new = HearsAfterScene [] old new.store new
+  pub record IsDeaf (old new : TurnState D) : Type 0 where
+    pub scene : HearsAfterScene [] old new.store new
+    pub unasked : new.asked ≡ old.asked
 
   -- the output takes a front of what has the terminal show the scene
   pub record IsUnseen (old new : TurnState D) : Type 0 where
@@ -160,6 +198,7 @@ module _ {D : Type 0} (d : Ghosts D) where
     pub looked : IsLookedAt old.store new.store
     pub cut : IsSceneCutShort old.sitting (store_screen old.store) old.known old.held new.held
     pub heard : new.heard ≡ old.heard
+    pub unasked : new.asked ≡ old.asked
 
   -- the screen can't be worked out
   pub record IsBlind (old new : TurnState D) : Type 0 where
@@ -167,18 +206,21 @@ module _ {D : Type 0} (d : Ghosts D) where
     pub looked : IsLookedAt old.store new.store
     pub held : new.held ≡ old.held
     pub heard : new.heard ≡ old.heard
+    pub unasked : new.asked ≡ old.asked
 
   -- A press fails. These events are accepted of the presses before it and of it, and this one, if any, was to be its
-  -- next. What is pressed after it isn't done.
+  -- next. What is pressed after it isn't done, and the keyboard is asked for nothing.
   pub record Broke (error : Error) (events begun : List Event) (old new : TurnState D)
       : Type 0 where
     pub hearing : List Heard
+    pub something : 1 ≤ length hearing
     pub mid : StoreView D
     pub scene : HearsAfterScene hearing old mid new
     pub breaks : Breaks d error (presses_heard old.parser hearing) (sitting_shown old) mid new.store
     pub are : events ≡ accepted_events breaks.done (seat_of (sitting_shown old) mid)
         ++ breaks.undone.acknowledged
     pub fails : begun ≡ breaks.undone.begun
+    pub unasked : new.asked ≡ old.asked
 
   -- A sitting ends in a turn, in which these events are accepted. One more is begun where the disk fails in a press: it
   -- isn't acknowledged, and may be in an image or not. For want of memory it is in none.
@@ -211,7 +253,8 @@ module _ {D : Type 0} (d : Ghosts D) where
   pub data Ends : SittingEnd → ℕ → List Event → List Event → TurnState D → TurnState D
       → Type 0 where
     stopped : {end : SittingEnd} {count : ℕ} {events begun : List Event} {old new : TurnState D}
-        → SittingStops end events begun old new → Ends end count events begun old new
+        → is_none old.sitting.travels ≡ true → SittingStops end events begun old new
+        → Ends end count events begun old new
     too_long : {place : TurnState D} → Ends TooLong (2 ^ 64 - 1) [] [] place place
 
   -- All that a turn promises that returns this.

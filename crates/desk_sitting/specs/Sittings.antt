@@ -17,29 +17,29 @@ use Rattle.terminal_presses.specs.Hands.{dropping, handled, new_hand, pastes_tex
 use Rattle.viewer_tracks.specs.declared.display.TheConstants.{COLUMNS, ROWS}
 use Rattle.viewer_tracks.specs.declared.display.Track.TheVariants.{System}
 use Rattle.terminal_presses.specs.Sights.{Sight}
-use Rattle.desk_sayings.specs.declared.clicks.MiddleClick.{MiddleClick}
-use Rattle.desk_sayings.specs.Clicks.{click_made, is_by_screen, middle_click}
-use Rattle.desk_sayings.specs.declared.question.Question.{Question}
-use Rattle.desk_sayings.specs.declared.saying.Saying.{Saying}
-use Rattle.desk_sayings.specs.declared.saying.Saying.TheVariants.{NoKey, Worn, Unread, Unfinished, Logged, NoSearch}
-use Rattle.desk_sayings.specs.declared.saying.Saying.TheVariants.{NothingTyped}
+use Rattle.status_line.specs.declared.clicks.MiddleClick.{MiddleClick}
+use Rattle.status_line.specs.Clicks.{middle_click}
+use Rattle.status_line.specs.declared.question.Question.{Question}
+use Rattle.status_line.specs.declared.saying.Saying.{Saying}
+use Rattle.status_line.specs.declared.saying.Saying.TheVariants.{NoKey, Worn, Unread, Unfinished, Logged, NoSearch}
+use Rattle.status_line.specs.declared.saying.Saying.TheVariants.{NothingTyped}
 use Rattle.desk_sitting.specs.declared.sitting.Sitting.{Sitting}
 use Rattle.desk_sitting.specs.declared.sitting.Travel.TheVariants.{Back, Again}
-use Rattle.desk_tasks.specs.Again.{no_again}
-use Rattle.desk_sayings.specs.declared.deed.Deed.{Deed}
-use Rattle.desk_sayings.specs.Deeds.{typed_more}
-use Rattle.desk_tasks.specs.Replacing.{ReplacingView, is_untouched, left_place, no_replacing, noted, replacement}
-use Rattle.desk_tasks.specs.Past.{PastView, past_after, named, no_past, with_refused}
-use Rattle.desk_sitting.specs.Questions.{is_nothing, questioned, question_of, unasked}
-use Rattle.desk_sayings.specs.Question.{asks_to_leave, comes_first}
-use Rattle.desk_sayings.specs.Choosing.{came_to, done_saying, first_saying, fitted_saying, fill_saying, refused_saying}
-use Rattle.desk_sayings.specs.Sayings.{resting_of}
+use Rattle.press_plans.specs.Again.{no_again}
+use Rattle.status_line.specs.declared.deed.Deed.{Deed}
+use Rattle.status_line.specs.Deeds.{typed_more}
+use Rattle.press_plans.specs.Replacing.{ReplacingView, is_untouched, left_place, no_replacing, noted, replacement}
+use Rattle.press_plans.specs.Past.{PastView, past_after, named, no_past, selects, with_refused}
+use Rattle.desk_sitting.specs.Questions.{click_made, is_nothing, questioned, question_of, unasked}
+use Rattle.status_line.specs.Question.{asks_to_leave, comes_first}
+use Rattle.status_line.specs.Choosing.{came_to, done_saying, first_saying, fitted_saying, fill_saying, refused_saying}
+use Rattle.status_line.specs.Sayings.{resting_of}
 use Rattle.screen_reading.specs.Aims.{caret_cell, or_else}
-use Rattle.desk_tasks.specs.declared.task.Task.{Task}
-use Rattle.desk_tasks.specs.declared.task.TheConstants.{MOST_PLANS}
-use Rattle.desk_tasks.specs.Tasks.{deed_of_task, keeps_sight, task_of}
-use Rattle.desk_tasks.specs.Plans.{Plan, plan_of}
-use Rattle.desk_tasks.specs.Plans.{Aims, Events, PutsAway, Refused as NotDone, Says, Shows}
+use Rattle.press_plans.specs.declared.task.Task.{Task}
+use Rattle.press_plans.specs.declared.task.TheConstants.{MOST_PLANS}
+use Rattle.press_plans.specs.Tasks.{calling_wish, deed_of_task, keeps_sight, task_of}
+use Rattle.press_plans.specs.Plans.{Plan, plan_of}
+use Rattle.press_plans.specs.Plans.{Aims, Events, PutsAway, Refused as NotDone, Says, Shows}
 use Rattle.desk_journal.specs.Session.{Session, is_worn, taken}
 use Rattle.screen_reading.specs.Windows.{fitted, following_sight, height_told, is_low, is_narrow, moved_sight}
 use Rattle.screen_reading.specs.Windows.{width_told}
@@ -105,7 +105,7 @@ replied event Done s = record s {
   saying = done_saying event s.resting;
   follows = true;
   typed = option_map (typed_more event) s.typed;
-  past = past_after s.joins event s.past;
+  past = past_after s.joins (is_some s.typed) event s.past;
   joins = true;
 }
 replied event (No code) s =
@@ -290,7 +290,8 @@ is_filling s = s.fills && not (is_some s.typed)
 
 -- the task of a press in a sitting
 abbrev pub task_in : Sitting → Action → Option Task
-task_in s a = task_of (is_filling s) (replacement s.replacing) s.sight a
+task_in s a =
+    task_of (is_filling s) (selects s.past) (replacement s.replacing) s.sight a
 
 -- what is typed where the pattern was found is kept
 abbrev pub noted_in : Action → Sitting → Sitting
@@ -440,9 +441,10 @@ IsClickTold told event =
 -- nothing
 abbrev pub is_clicking : Action → Bool
 is_clicking (action.Post event) = true
-is_clicking a = is_by_screen a
+is_clicking action.Mark = true
+is_clicking a = is_some (calling_wish a)
 
 -- Each of them that is accepted of such a press is the one about which it is asked.
 abbrev pub ClicksAreTold : Type 0
 ClicksAreTold = (a : Action) (seat : Seat) → is_clicking a ≡ true
-    → All (IsClickTold (click_made a (shown_screen seat.session.desktop))) (accepted_as a seat)
+    → All (IsClickTold (click_made a seat.session.desktop)) (accepted_as a seat)

@@ -1,21 +1,21 @@
 -- A turn in which nothing is shown and heard: what was asked for beside the presses is done. `d` is what is known of a disk.
-use Rattle.std.specs.Prelude.{◌≡◌, Result, OnOk, IfErr, false}
+use Rattle.std.specs.Prelude.{◌≡◌, Result, OnOk, IfErr, Some, false}
 use Rattle.sector_disk.specs.declared.disk.Disk.{Ghosts}
 use Rattle.desk_journal.specs.Device.{IsSameDevice}
 use Rattle.desk_journal.specs.Errors.{Error}
 use Rattle.desk_journal.specs.View.{IsDurable}
-use Rattle.desk_sitting.specs.Travels.{IsStuck, IsTravelled}
+use Rattle.desk_sitting.specs.Travels.{ComesBack, IsStuck, IsTravelled}
 use Rattle.desk_sitting.specs.declared.ending.SittingEnd.{SittingEnd}
+use Rattle.desk_sitting.specs.declared.sitting.Travel.TheVariants.{Back}
 use Rattle.desk_sitting.specs.Endings.{sitting_end_of}
-use Rattle.desk_sitting.specs.Serving.{CountsTurn, IsUsableAt, TurnState}
+use Rattle.desk_sitting.specs.Serving.{CountsTurn, IsUsableAt, TurnState, exchange_at}
 
 module _ {D : Type 0} (d : Ghosts D) where
-  -- nothing is shown and heard
+  -- nothing is shown and heard, and the keyboard is asked for nothing
   pub record IsStill (old new : TurnState D) : Type 0 where
     pub parser : new.parser ≡ old.parser
-    pub heard : new.heard ≡ old.heard
+    pub out : exchange_at new ≡ exchange_at old
     pub known : new.known ≡ old.known
-    pub held : new.held ≡ old.held
 
   -- a press was taken back, or an event done again
   pub record IsBetween (old new : TurnState D) : Type 0 where
@@ -36,6 +36,8 @@ module _ {D : Type 0} (d : Ghosts D) where
     pub goes_on : OnOk result (d.honest old.store.disk → IsDurable d old.store → IsBetween old new)
     pub stops : IfErr result (λ end. d.honest old.store.disk → IsDurable d old.store
         → IsBrokenOff end old new)
+    pub told : OnOk result (old.sitting.travels ≡ Some Back
+        → ComesBack d old.sitting new.sitting old.store new.store)
     pub usable : OnOk result (new.store.must_reopen ≡ false)
     pub still_usable : IfErr result (λ end. IsUsableAt end new.store)
     pub counts : CountsTurn result (d.failures old.store.disk) (d.failures new.store.disk)

@@ -1,5 +1,5 @@
 -- Taking back and doing again, at the desk. `d` is what is known of a disk.
-use Rattle.std.specs.Prelude.{◌≡◌, true, false, Bool, length, Option, ◌==◌, ◌&&◌, if◌then◌else◌, List, Some, None}
+use Rattle.std.specs.Prelude.{◌≡◌, ℕ, true, false, Bool, length, Option, ◌==◌, ◌&&◌, if◌then◌else◌, List, Some, None}
 use Rattle.std.specs.Prelude.{Result, OnOk, IfErr}
 use Rattle.sector_disk.specs.declared.disk.Disk.{Ghosts}
 use Rattle.sector_disk.specs.Faults.{FailsAs}
@@ -8,17 +8,17 @@ use Rattle.event_bytes.specs.declared.event.Event.{Event}
 use Rattle.store_layout.specs.Meaning.{MeansEither}
 use Rattle.desk_journal.specs.Device.{IsSameDevice}
 use Rattle.desk_journal.specs.Errors.{Error, Fault}
-use Rattle.desk_journal.specs.Undoing.{IsTakenBack, LeavesUndone}
+use Rattle.desk_journal.specs.Undoing.{IsLeft, IsTakenBack, LeavesUndone}
 use Rattle.desk_journal.specs.View.{StoreView, IsDurable}
-use Rattle.desk_tasks.specs.declared.again.StorePlace.{StorePlace}
-use Rattle.desk_sayings.specs.declared.saying.Saying.TheVariants.{TookBack, DidAgain, NothingBack, NothingAgain}
+use Rattle.press_plans.specs.declared.again.StorePlace.{StorePlace}
+use Rattle.status_line.specs.declared.saying.Saying.TheVariants.{TookBack, DidAgain, NotBack, NothingBack, NothingAgain}
 use Rattle.desk_sitting.specs.declared.sitting.Sitting.{Sitting}
 use Rattle.desk_sitting.specs.declared.sitting.Travel.TheVariants.{Back, Again}
-use Rattle.desk_tasks.specs.declared.again.NextEvent.{NextEvent}
-use Rattle.desk_sayings.specs.declared.deed.Deed.{Deed}
+use Rattle.press_plans.specs.declared.again.NextEvent.{NextEvent}
+use Rattle.status_line.specs.declared.deed.Deed.{Deed}
 use Rattle.desk_sitting.specs.declared.sitting.Travel.{Travel}
-use Rattle.desk_tasks.specs.Again.{kept_at, next_event, rest_at, taken_press}
-use Rattle.desk_tasks.specs.Past.{back_count, back_deed, left_past, named}
+use Rattle.press_plans.specs.Again.{kept_at, next_event, rest_at, taken_press}
+use Rattle.press_plans.specs.Past.{back_count, back_deed, gathered, left_past, named}
 use Rattle.desk_sitting.specs.Doing.{IsUndone, OfPresses, seat_of}
 use Rattle.desk_sitting.specs.Sittings.{after_post, refused}
 
@@ -29,9 +29,13 @@ store_place store = record { epoch = store.epoch; events = store.events }
 abbrev pub is_unmoved : StorePlace → StorePlace → Bool
 is_unmoved from to = (from.epoch == to.epoch) && (from.events == to.events)
 
--- nothing is asked for any more
+-- nothing is asked for any more, and what only moved goes with the press before it
 abbrev pub settled : Sitting → Sitting
-settled s = record s { travels = None }
+settled s = record s { travels = None; past = gathered s.past }
+
+-- how many events are taken back
+abbrev pub step_count : Sitting → ℕ
+step_count s = back_count (settled s).past
 
 -- the sitting after these events were taken back, which led from one place to another
 abbrev pub took_back : List Event → StorePlace → StorePlace → Sitting → Sitting
@@ -66,13 +70,21 @@ did_again deed from to s =
     }
 
 module _ {D : Type 0} (d : Ghosts D) where
+  -- Over any disk: the events of the last press were taken back, or nothing was done, and that is said. Nothing more is
+  -- asked for.
+  pub data ComesBack (s s' : Sitting) (old new : StoreView D) : Type 0 where
+    taken : (events : List Event) → IsTakenBack d (step_count s) events old new
+        → s' ≡ took_back events (store_place old) (store_place new) (settled s)
+        → ComesBack s s' old new
+    not_taken : IsLeft d old new → s' ≡ refused NotBack (settled s) → ComesBack s s' old new
+
   -- what was asked for beside the presses is done
   pub data Travelled (s s' : Sitting) (old new : StoreView D) : Type 0 where
     -- nothing was asked for
     none : s.travels ≡ None → s' ≡ s → new ≡ old → Travelled s s' old new
     -- the events of the last press were taken back, as far as there were any
     back : (events : List Event) → s.travels ≡ Some Back
-        → IsTakenBack d (back_count s.past) events old new
+        → IsTakenBack d (step_count s) events old new
         → s' ≡ took_back events (store_place old) (store_place new) (settled s)
         → Travelled s s' old new
     -- there was nothing to do again
@@ -95,7 +107,7 @@ module _ {D : Type 0} (d : Ghosts D) where
 
   -- It fails. A crash leaves what was shown, or what was asked for.
   pub data IsStuck (error : Error) (s : Sitting) (old new : StoreView D) : Type 0 where
-    back : s.travels ≡ Some Back → LeavesUndone d (back_count s.past) old new
+    back : s.travels ≡ Some Back → LeavesUndone d (step_count s) old new
         → IsStuck error s old new
     again : (event : NextEvent) → s.travels ≡ Some Again
         → next_event (store_place old) s.again ≡ Some event
@@ -109,6 +121,7 @@ module _ {D : Type 0} (d : Ghosts D) where
     pub done : OnOk result (d.honest old.disk → IsDurable d old → IsTravelled s s' old new)
     pub stuck : IfErr result (λ error. d.honest old.disk → IsDurable d old
         → IsStuck error s old new)
+    pub told : OnOk result (s.travels ≡ Some Back → ComesBack s s' old new)
     pub usable : OnOk result (new.must_reopen ≡ false)
     pub faults : FailsAs Fault OfPresses result (d.failures old.disk) (d.failures new.disk)
     pub device : IsSameDevice d old.disk new.disk

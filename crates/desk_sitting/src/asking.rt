@@ -1,21 +1,25 @@
 //! What is asked about a press before it is done.
 ghost use Rattle.std.specs.Prelude.{◌≡◌, false};
+ghost use Rattle.std.specs.Result.{result_map_both};
 ghost use Rattle.desk_journal.specs.Losses.{loss_at};
 ghost use Rattle.desktop_definitions.specs.Shown.{shown_screen};
 ghost use Rattle.desk_sitting.specs.Doing.{Finds};
-ghost use Rattle.desk_sayings.specs.Clicks.{click_made};
-ghost use Rattle.desk_sayings.specs.Named.{named_question};
-ghost use Rattle.desk_sitting.specs.Questions.{asked_at, click_question, is_leave, loss_question, question_of};
+ghost use Rattle.desk_journal.specs.Leading.{led};
+ghost use Rattle.status_line.specs.Named.{named_question};
+ghost use Rattle.desk_sitting.specs.Questions.{asked_at, click_led, click_made, click_question, is_leave, loss_question};
+ghost use Rattle.desk_sitting.specs.Questions.{question_of};
 
 use crate::sitting::Sitting;
-use desk_journal::{Error, Loss, Store};
-use desk_sayings::{
-    MiddleClick, Question, click_on, click_posted, is_by_screen, is_in_memory, left_behind,
-    named_question,
-};
+use desk_journal::{Error, KeyWish, Loss, Store, WhyNot};
+use event_bytes::Event;
+use press_plans::calling_wish;
 use screen_cells::Screen;
 use sector_disk::Disk;
+use status_line::{
+    MiddleClick, Question, click_in, click_posted, is_in_memory, left_behind, named_question,
+};
 use std::alloc::Global;
+use std::vec::Vec;
 use terminal_presses::Action;
 
 /// What is asked about a press.
@@ -50,8 +54,7 @@ impl Sitting {
     fn lost_by<D: Disk>(&self, alloc: Global, action: &Action, store: &mut Store<D>) -> Asking
         requires { store.old.must_reopen ≡ false }
         ensures { Finds D.Disk result
-            (λ d. click_question (click_made action.now (shown_screen d)) d) self.now store.old
-            store.new }
+            (λ d. click_question (click_made action.now d) d) self.now store.old store.new }
     {
         let click = self.click_made(alloc, action, store)?;
         match click {
@@ -98,32 +101,28 @@ impl Sitting {
         store: &mut Store<D>,
     ) -> Result<Option<MiddleClick>, Error>
         requires { store.old.must_reopen ≡ false }
-        ensures { Finds D.Disk result (λ d. click_made action.now (shown_screen d)) self.now
-            store.old store.new }
+        ensures { Finds D.Disk result (click_made action.now) self.now store.old store.new }
     {
-        if is_by_screen(action) {
-            self.click_seen(alloc, action, store)
-        } else {
-            Ok(click_posted(action))
+        match calling_wish(action) {
+            None => Ok(click_posted(action)),
+            Some(wish) => self.click_led(alloc, wish, store),
         }
     }
 
-    /// The same by the screen. It only looks at the store.
+    /// The click of the middle button that does what is wished of the caret. It only looks at the store.
     ///
     /// Errors: `NoMemory`; `Fault`.
-    fn click_seen<D: Disk>(
+    fn click_led<D: Disk>(
         &self,
         alloc: Global,
-        action: &Action,
+        wish: KeyWish,
         store: &mut Store<D>,
     ) -> Result<Option<MiddleClick>, Error>
         requires { store.old.must_reopen ≡ false }
-        ensures { Finds D.Disk result (λ d. click_made action.now (shown_screen d)) self.now
-            store.old store.new }
+        ensures { Finds D.Disk result (λ d. click_led (led d wish)) self.now store.old store.new }
     {
-        let mut screen = Screen::new();
-        store.screen(alloc, &mut screen)?;
-        Ok(click_on(action, &screen))
+        let told = store.lead(alloc, wish)?;
+        Ok(click_led(told))
     }
 
     /// What the command would lose that is called by a click. It only looks at the store.
@@ -149,6 +148,16 @@ fn loss_question(loss: Option<Loss>) -> Option<Question>
         Some(Loss::Closed((x, y))) => Some(Question::Closing { x, y }),
         Some(Loss::Taken((x, y))) => Some(Question::Taking { x, y }),
         Some(Loss::Rivalled((x, y))) => Some(Question::Rivalled { x, y }),
+    }
+}
+
+/// The click among the events for a wish.
+fn click_led(told: Result<Vec<Event>, WhyNot>) -> Option<MiddleClick>
+    ensures { result ≡ click_led (result_map_both (λ events. events.items) (λ why. why) told) }
+{
+    match told {
+        Ok(events) => click_in(events.as_slice()),
+        Err(_) => None,
     }
 }
 

@@ -3,7 +3,7 @@
 //! What is heard becomes presses (the crate `terminal_presses`), and each press an event that is posted, or something
 //! that the sitting does alone (`specs/Sittings.antt`). `do_presses` does presses one after another over a store
 //! (`specs/Doing.antt`). Which cell an arrow means, and which rows are in sight, is known in `screen_reading`; the events
-//! of a press, what was done and what was taken back in `desk_tasks`; and what the line below says in `desk_sayings`.
+//! of a press, what was done and what was taken back in `press_plans`; and what the line below says in `status_line`.
 //!
 //! `serve` goes on turn by turn (`specs/Serving.antt`): a scene is shown (`specs/Scenes.antt`), something is heard, and
 //! what is pressed by it is done, each event acknowledged before the next scene. A whole sitting is `Sits` of
@@ -20,11 +20,12 @@ mod serving_laws;
 mod sitting;
 mod travels;
 
-pub use desk_sayings::{Question, Saying, SayingLine};
 pub use doing::do_presses;
 pub use ending::SittingEnd;
 pub use laws::{clicks_are_told, presses_are_steps, questions_post_nothing};
+pub use press_plans::Past;
 pub use serving::{MOST_TURNS, serve};
 pub use serving_laws::{sittings_survive, sittings_survive_in_files};
 pub use sitting::{Sitting, Travel};
+pub use status_line::{Question, Saying, SayingLine};
 pub use travels::travel;

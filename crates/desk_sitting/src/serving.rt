@@ -1,7 +1,6 @@
 //! A sitting over a store, turn by turn.
-ghost use Rattle.std.specs.Prelude.{◌≡◌, ◌≢◌, ℕ, Bool, true, false, OnOk, OnErr, IfErr, IfSome, List, Option};
+ghost use Rattle.std.specs.Prelude.{◌≡◌, ◌≢◌, ℕ, Bool, true, false, OnOk, OnErr, IfErr, IfSome, List};
 ghost use Rattle.terminal_keyboard.specs.declared.parser.Parser.{Parser as AParser};
-ghost use Rattle.terminal_presses.specs.declared.press.Heard.{Heard};
 ghost use Rattle.screen_drawing.specs.declared.face.Face.{Face};
 ghost use Rattle.byte_streams.specs.Counting.{CountsFault, RisesWhere};
 ghost use Rattle.byte_streams.specs.Sent.{Sends};
@@ -15,7 +14,7 @@ ghost use Rattle.desk_sitting.specs.Scenes.{IsSceneOf, IsHalfPainted, IsScenePai
 ghost use Rattle.desk_sitting.specs.Endings.{EndsBy, IsOfNoKeyboard};
 ghost use Rattle.desk_sitting.specs.Scenes.{pointer_of as pointer_at, after_scene, bell_bytes, known_by, request};
 ghost use Rattle.desk_sitting.specs.Scenes.{size_request};
-ghost use Rattle.desk_sitting.specs.Serving.{CountsEnding, CountsOutput, CountsTurn, IsFetched, IsLookedAt};
+ghost use Rattle.desk_sitting.specs.Serving.{CountsEnding, CountsOutput, CountsTurn, Exchange, IsFetched, IsLookedAt, exchange};
 ghost use Rattle.desk_sitting.specs.Serving.{IsShownIfDue, IsUsableAt};
 ghost use Rattle.desk_sitting.specs.Serving.{StaysInUse, TakesTurn, first_place, turn_state_of, store_screen};
 ghost use Rattle.desk_sitting.specs.Sitting.{Sits, TakesEitherTurn};
@@ -23,7 +22,7 @@ ghost use Rattle.desk_sitting.specs.Travelling.{TakesBetween};
 
 use crate::ending::SittingEnd;
 use crate::serving_laws::sittings_survive;
-use crate::{Saying, Sitting, do_presses, travel};
+use crate::{Past, Saying, Sitting, do_presses, travel};
 use byte_streams::{AnswerWriter, OutputFault};
 use desk_journal::Store;
 use screen_cells::Screen;
@@ -41,7 +40,8 @@ const SIZE_REQUEST: [u8; 5] = [27, 91, 49, 56, 116];
 
 /// Serves the person at the keyboard: shows the screen in a terminal of `height` rows and `width` columns, and does what is
 /// pressed, until they leave or something fails. The line below begins with the greeting. With questions it is asked
-/// before a press loses something. Lines are filled from the beginning on, or not.
+/// before a press loses something. Lines are filled from the beginning on, or not. Undos take back what was done in the
+/// past, as the store has it.
 ///
 /// Each event is acknowledged before the next scene is sent, so that no crash takes away what was shown. The store must
 /// be one that needn't be opened again. It can be used on after the sitting, but after `Fault` and `Memory` it must be
@@ -57,12 +57,16 @@ pub fn serve<K: Keyboard, W: AnswerWriter, D: Disk>(
     greeting: Saying,
     questions: bool,
     fills: bool,
+    past: Past,
 ) -> SittingEnd
     requires { store.old.must_reopen ≡ false }
     ensures sat { D.honest store.old.disk → Sits D.Disk result
-        (first_place height width greeting questions fills store.old (K.heard keyboard.old)
-        (W.contents writer.old))
-        store.new (K.heard keyboard.new) (W.contents writer.new) }
+        (first_place height width greeting questions fills past store.old
+        (exchange (K.heard keyboard.old) (K.asked keyboard.old) (W.contents writer.old)
+        (W.unflushed writer.old)))
+        store.new
+        (exchange (K.heard keyboard.new) (K.asked keyboard.new) (W.contents writer.new)
+        (W.unflushed writer.new)) }
     ensures device { IsSameDevice D.Disk store.old.disk store.new.disk }
     ensures usable { IsUsableAt result store.new }
     ensures faults { CountsEnding result (D.failures store.old.disk) (D.failures store.new.disk) }
@@ -75,6 +79,7 @@ pub fn serve<K: Keyboard, W: AnswerWriter, D: Disk>(
     store.shows_what_crashes_leave();
     let mut sitting = Sitting::new(height, width, greeting, questions);
     sitting.fills = fills;
+    sitting.past = past;
     let mut parser = Parser::new();
     let mut painter = Painter::new();
     for _count in 0..MOST_TURNS {
@@ -107,10 +112,12 @@ fn step<K: Keyboard, W: AnswerWriter, D: Disk>(
 ) -> Result<(), SittingEnd>
     requires { store.old.must_reopen ≡ false }
     ensures steps { TakesEitherTurn D.Disk result
-        (turn_state_of parser.old sitting.old store.old (K.heard keyboard.old) painter.old
-        (W.contents writer.old))
-        (turn_state_of parser.new sitting.new store.new (K.heard keyboard.new) painter.new
-        (W.contents writer.new)) }
+        (turn_state_of parser.old sitting.old store.old painter.old
+        (exchange (K.heard keyboard.old) (K.asked keyboard.old) (W.contents writer.old)
+        (W.unflushed writer.old)))
+        (turn_state_of parser.new sitting.new store.new painter.new
+        (exchange (K.heard keyboard.new) (K.asked keyboard.new) (W.contents writer.new)
+        (W.unflushed writer.new))) }
     ensures ended { IfErr result (EndsBy (K.ended keyboard.new)) }
     ensures output { CountsOutput result (W.failures writer.old) (W.failures writer.new) }
 {
@@ -126,10 +133,9 @@ fn step<K: Keyboard, W: AnswerWriter, D: Disk>(
 /// Errors: `Fault` and `Memory`.
 fn go<D: Disk>(alloc: Global, sitting: &mut Sitting, store: &mut Store<D>) -> Result<(), SittingEnd>
     requires { store.old.must_reopen ≡ false }
-    ensures between { (parser : AParser) (heard : List Heard) (known : List (List Face))
-        (held : Option (List ℕ))
-        → TakesBetween D.Disk result (turn_state_of parser sitting.old store.old heard known held)
-        (turn_state_of parser sitting.new store.new heard known held) }
+    ensures between { (parser : AParser) (known : List (List Face)) (out : Exchange)
+        → TakesBetween D.Disk result (turn_state_of parser sitting.old store.old known out)
+        (turn_state_of parser sitting.new store.new known out) }
     ensures cause { IfErr result IsOfNoKeyboard }
     ensures unsent { IfErr result (λ end. end ≢ TakesNoMore) }
 {
@@ -151,10 +157,12 @@ fn turn<K: Keyboard, W: AnswerWriter, D: Disk>(
 ) -> Result<(), SittingEnd>
     requires { store.old.must_reopen ≡ false }
     ensures turns { TakesTurn D.Disk result
-        (turn_state_of parser.old sitting.old store.old (K.heard keyboard.old) painter.old
-        (W.contents writer.old))
-        (turn_state_of parser.new sitting.new store.new (K.heard keyboard.new) painter.new
-        (W.contents writer.new)) }
+        (turn_state_of parser.old sitting.old store.old painter.old
+        (exchange (K.heard keyboard.old) (K.asked keyboard.old) (W.contents writer.old)
+        (W.unflushed writer.old)))
+        (turn_state_of parser.new sitting.new store.new painter.new
+        (exchange (K.heard keyboard.new) (K.asked keyboard.new) (W.contents writer.new)
+        (W.unflushed writer.new))) }
     ensures ended { IfErr result (EndsBy (K.ended keyboard.new)) }
     ensures output { CountsOutput result (W.failures writer.old) (W.failures writer.new) }
 {
@@ -171,7 +179,8 @@ fn turn<K: Keyboard, W: AnswerWriter, D: Disk>(
 
 /// Asks the keyboard for the text of a host file where one is wanted.
 fn bring<K: Keyboard>(sitting: &mut Sitting, keyboard: &mut K)
-    ensures brought { IsFetched sitting.old sitting.new }
+    ensures brought { IsFetched sitting.old sitting.new (K.asked keyboard.old)
+        (K.asked keyboard.new) }
     ensures asked { IfSome sitting.old.wanted (λ name. (will_be_heard : Bool)
         × K.answers keyboard.old keyboard.new name will_be_heard
         × (sitting.new ≡ after_fetch will_be_heard sitting.old)) }
@@ -201,7 +210,8 @@ fn show_if_due<W: AnswerWriter, D: Disk>(
     ensures shown { OnOk result (D.honest store.old.disk
         → (sitting.new ≡ looked (store_screen store.old) sitting.old)
         × IsShownIfDue sitting.old store.old store.new
-        painter.old painter.new (W.contents writer.old) (W.contents writer.new)) }
+        painter.old painter.new (W.contents writer.old) (W.contents writer.new)
+        (W.unflushed writer.old) (W.unflushed writer.new)) }
     ensures unshown { IfErr result (λ end. (is_scene_due sitting.old ≡ true)
         × (D.honest store.old.disk → IsUnshown end sitting.old (store_screen store.old)
         painter.old (W.contents writer.old) (W.contents writer.new))) }
@@ -233,7 +243,8 @@ fn show<W: AnswerWriter, D: Disk>(
     ensures shown { OnOk result (D.honest store.old.disk
         → (sitting.new ≡ looked (store_screen store.old) sitting.old)
         × IsSceneShown sitting.old (store_screen store.old)
-        painter.old painter.new (W.contents writer.old) (W.contents writer.new)) }
+        painter.old painter.new (W.contents writer.old) (W.contents writer.new)
+        (W.unflushed writer.new)) }
     ensures unshown { IfErr result (λ end. D.honest store.old.disk
         → IsUnshown end sitting.old (store_screen store.old)
         painter.old (W.contents writer.old) (W.contents writer.new)) }
@@ -266,6 +277,7 @@ fn paint<W: AnswerWriter>(
     ensures front { OnErr result (IsHalfPainted sitting.now screen.now
         (known_by forgets painter.old)
         (W.contents writer.old) (W.contents writer.new)) }
+    ensures handed { OnOk result (W.unflushed writer.new ≡ 0) }
     ensures end { IfErr result (λ end. end ≡ TakesNoMore) }
     ensures cause { CountsFault result (W.failures writer.old) (W.failures writer.new) }
 {
@@ -309,6 +321,7 @@ fn scene_of<'a>(sitting: &Sitting, screen: &'a Screen, line: &'a [u8]) -> Scene<
 fn follow<W: AnswerWriter>(writer: &mut W, rings: bool, asks: bool) -> Result<(), SittingEnd>
     ensures sent { Sends result (W.contents writer.old) (W.contents writer.new)
         (after_scene rings asks) }
+    ensures handed { OnOk result (W.unflushed writer.old ≡ 0 → W.unflushed writer.new ≡ 0) }
     ensures end { IfErr result (λ end. end ≡ TakesNoMore) }
     ensures cause { CountsFault result (W.failures writer.old) (W.failures writer.new) }
 {
@@ -319,6 +332,7 @@ fn follow<W: AnswerWriter>(writer: &mut W, rings: bool, asks: bool) -> Result<()
 /// Rings the bell where that is to be.
 fn ring_if<W: AnswerWriter>(writer: &mut W, rings: bool) -> Result<(), OutputFault>
     ensures sent { Sends result (W.contents writer.old) (W.contents writer.new) (bell_bytes rings) }
+    ensures handed { OnOk result (W.unflushed writer.old ≡ 0 → W.unflushed writer.new ≡ 0) }
     ensures cause { CountsFault result (W.failures writer.old) (W.failures writer.new) }
 {
     if rings { ring(writer) } else { Ok(()) }
@@ -327,6 +341,7 @@ fn ring_if<W: AnswerWriter>(writer: &mut W, rings: bool) -> Result<(), OutputFau
 /// Asks the terminal for its size where that is to be.
 fn ask_if<W: AnswerWriter>(writer: &mut W, asks: bool) -> Result<(), OutputFault>
     ensures sent { Sends result (W.contents writer.old) (W.contents writer.new) (request asks) }
+    ensures handed { OnOk result (W.unflushed writer.old ≡ 0 → W.unflushed writer.new ≡ 0) }
     ensures cause { CountsFault result (W.failures writer.old) (W.failures writer.new) }
 {
     if asks { ask(writer) } else { Ok(()) }
@@ -335,6 +350,7 @@ fn ask_if<W: AnswerWriter>(writer: &mut W, asks: bool) -> Result<(), OutputFault
 /// Asks the terminal for its size.
 fn ask<W: AnswerWriter>(writer: &mut W) -> Result<(), OutputFault>
     ensures sent { Sends result (W.contents writer.old) (W.contents writer.new) size_request }
+    ensures handed { OnOk result (W.unflushed writer.new ≡ 0) }
     ensures cause { CountsFault result (W.failures writer.old) (W.failures writer.new) }
 {
     send_bytes(writer, &SIZE_REQUEST)?;

@@ -18,22 +18,22 @@ ghost use Rattle.desk_sitting.specs.Sittings.{aimed_at, most_plans, noted_in, ta
 ghost use Rattle.desk_sitting.specs.Sittings.{with_log_line};
 ghost use Rattle.desk_sitting.specs.Sittings.{brought_in_sight, is_scene_due, is_unseen, planned, pointed_no_more};
 ghost use Rattle.desk_sitting.specs.Sittings.{with_hand};
-ghost use Rattle.desk_tasks.specs.Plans.{seen_plan};
+ghost use Rattle.press_plans.specs.Plans.{seen_plan};
 
 use desk_journal::{Error, Store};
-use desk_sayings::{
-    Deed, Question, Saying, SayingLine, asks_to_leave, came_to, comes_first, done_saying,
-    fill_saying, first_saying, fitted_saying, line_of, refused_saying, resting_of, said_by_pointer,
-    typed_more,
-};
-use desk_tasks::{Again, MOST_PLANS, Past, Plan, Replacing, Task};
 use desktop_definitions::Reply;
 use event_bytes::Event;
+use press_plans::{Again, MOST_PLANS, Past, Plan, Replacing, Task};
 use screen_cells::Screen;
 use screen_reading::{
     caret_of, fitted, followed, height_told, is_low, is_narrow, moved, width_told,
 };
 use sector_disk::Disk;
+use status_line::{
+    Deed, Question, Saying, SayingLine, asks_to_leave, came_to, comes_first, done_saying,
+    fill_saying, first_saying, fitted_saying, line_of, refused_saying, resting_of, said_by_pointer,
+    typed_more,
+};
 use std::alloc::Global;
 use terminal_presses::{Action, Hand, HostName, Press, Sight};
 use viewer_tracks::{ROWS, Track};
@@ -266,7 +266,7 @@ impl Sitting {
             Reply::Done => {
                 self.saying = done_saying(event, self.resting);
                 self.follows = true;
-                self.past.add(event, self.joins);
+                self.past.add(event, self.joins, self.typed.is_some());
                 self.joins = true;
                 if let Some(typed) = self.typed {
                     self.typed = Some(typed_more(event, typed));
@@ -404,9 +404,10 @@ impl Sitting {
     {
         let replacement = self.replacing.replacement();
         let fills = self.is_filling();
+        let over = self.past.selects();
         let sight = self.sight;
         self.note(&action);
-        match Task::of(action, fills, replacement, sight) {
+        match Task::of(action, fills, over, replacement, sight) {
             Ok(task) => self.carry_out(alloc, task, store),
             Err(alone) => {
                 self.act_alone(alone);
@@ -430,7 +431,11 @@ impl Sitting {
             | Action::Search
             | Action::Store
             | Action::Seek(_)
-            | Action::AtCaret(_) => {}
+            | Action::Select(_)
+            | Action::SelectAll
+            | Action::CutLine
+            | Action::CallLine
+            | Action::Mark => {}
             Action::Ring => {
                 let reason = self.ring_reason();
                 self.refuse(reason);

@@ -1,18 +1,18 @@
 //! Taking back and doing again.
-ghost use Rattle.std.specs.Prelude.{◌≡◌, ◌≢◌, false, Some, None, OnOk, IfErr, IfOk};
+ghost use Rattle.std.specs.Prelude.{◌≡◌, ◌≢◌, ◌==◌, length, false, Some, None, OnOk, IfErr, IfOk};
 ghost use Rattle.desk_sitting.specs.declared.sitting.Travel.TheVariants.{Back, Again as Forth};
-ghost use Rattle.desk_sayings.specs.declared.saying.Saying.TheVariants.{NotBack};
-ghost use Rattle.desk_tasks.specs.Again.{next_event};
+ghost use Rattle.status_line.specs.declared.saying.Saying.TheVariants.{NotBack};
+ghost use Rattle.press_plans.specs.Again.{next_event};
 ghost use Rattle.desk_sitting.specs.Doing.{OfPresses, ComesToSeat, seat_of};
 ghost use Rattle.desk_sitting.specs.Sittings.{after_post, refused};
-ghost use Rattle.desk_sitting.specs.Travels.{Travels, did_again, goes_again, on_to, store_place, settled, took_back};
+ghost use Rattle.desk_sitting.specs.Travels.{Travels, did_again, goes_again, on_to, settled, step_count, store_place, took_back};
 
 use crate::sitting::{Doing, Sitting, Travel};
 use desk_journal::{Error, Store};
-use desk_sayings::{Deed, Saying};
-use desk_tasks::{NextEvent, StorePlace, TakenPress};
 use event_bytes::Event;
+use press_plans::{NextEvent, StorePlace, TakenPress};
 use sector_disk::Disk;
+use status_line::{Deed, Saying};
 use std::alloc::Global;
 
 /// Takes the last press back, or does the next event again of what was taken back last, where that was asked for.
@@ -50,7 +50,7 @@ fn take_back<D: Disk>(alloc: Global, sitting: &mut Sitting, store: &mut Store<D>
     ensures { Travels D.Disk result sitting.old sitting.new store.old store.new }
 {
     let from = place(store);
-    let count = sitting.past.count();
+    let count = sitting.settle();
     match store.undo(alloc, count) {
         Ok(events) => {
             sitting.took_back(events, from, place(store));
@@ -91,15 +91,35 @@ impl Sitting {
         found
     }
 
-    /// These events were taken back.
-    fn took_back(&mut self, events: Vec<Event>, from: StorePlace, to: StorePlace)
-        ensures { self.new ≡ took_back events.items from to (settled self.old) }
+    /// How many events are to be taken back: those of the last press, with what only moved behind it. Nothing is asked for
+    /// any more.
+    fn settle(&mut self) -> u32
+        ensures count { result ≡ step_count self.old }
+        ensures sitting { self.new ≡ settled self.old }
     {
         self.travels = None;
+        self.past.gather();
+        self.past.count()
+    }
+
+    /// These events were taken back.
+    fn took_back(&mut self, events: Vec<Event>, from: StorePlace, to: StorePlace)
+        ensures { self.new ≡ took_back events.items from to self.old }
+    {
         if events.as_slice().is_empty() {
             self.refuse(Saying::NothingBack);
-            return;
+        } else {
+            self.took_some(events, from, to);
         }
+    }
+
+    /// The same of one event or more. It is compiled apart, so that its frame, which is large, is made before anything is
+    /// read: LLVM's code that makes a large frame spoils what was read into a register before it.
+    #[inline(never)]
+    fn took_some(&mut self, events: Vec<Event>, from: StorePlace, to: StorePlace)
+        requires { (length events.items == 0) ≡ false }
+        ensures { self.new ≡ took_back events.items from to self.old }
+    {
         let deed = self.past.take_back(events.as_slice());
         self.saying = Saying::TookBack(deed);
         self.follows = true;
@@ -109,12 +129,12 @@ impl Sitting {
     /// Nothing was taken back, for this reason. Out of memory and a failure of the disk are passed on.
     fn stay(&mut self, error: Error) -> Doing
         ensures stays { OnOk result ((error ≢ Error.NoMemory) × (error ≢ Error.Fault)) }
+        ensures said { OnOk result (self.new ≡ refused NotBack self.old) }
         ensures passed { IfErr result (λ e. (e ≡ error) × OfPresses error) }
     {
         match error {
             Error::NoMemory | Error::Fault => Err(error),
             _ => {
-                self.travels = None;
                 self.refuse(Saying::NotBack);
                 Ok(())
             }

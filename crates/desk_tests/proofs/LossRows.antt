@@ -165,7 +165,14 @@ told_of d = desk_info d
 
 abbrev pub info : Option ℕ → Option ℕ → Bool → ℕ → DeskInfo
 info closed caret marked long =
-    record { next_viewer = 0; closed_viewer = closed; caret_viewer = caret; is_marked = marked; log_length = long }
+    record {
+      next_viewer = 0;
+      closed_viewer = closed;
+      caret_viewer = caret;
+      caret_position = option_map (λ (v : ℕ). 0) caret;
+      is_marked = marked;
+      log_length = long;
+    }
 
 pub info_is_told : map told_of (hello ∷ record gone { marker = Some (0, 0) } ∷ record empty { texts = (0, chars "ab\r") ∷ [] } ∷
     record hello { caret = Some (record { viewer = 1; position = 0 }) } ∷ [])

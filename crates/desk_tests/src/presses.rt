@@ -8,8 +8,8 @@ use terminal_keyboard::{
     KeySource, Keyboard, KeyboardEnd, MOST_HEARD, Parser, ScriptedKeyboard, TerminalInput,
 };
 use terminal_presses::{
-    Action, Arrow, Button, Click, FunctionKey, Hand, Heard, MouseReport, Page, Press, Presses,
-    Scroll, Sight, Spot, WheelReport,
+    Action, Arrow, Button, FunctionKey, Hand, Heard, MouseReport, Page, Press, Presses, Scroll,
+    Sight, Spot, WheelReport,
 };
 use viewer_tracks::Track;
 
@@ -241,8 +241,11 @@ fn letter(action: &Action) -> Option<u8> {
         Action::Move(Page::Left) => Some(b'<'),
         Action::Move(Page::Right) => Some(b'>'),
         Action::Step(_) => Some(b'S'),
-        Action::AtCaret(Click::Keys(_)) => Some(b'e'),
-        Action::AtCaret(Click::Mark) => Some(b'm'),
+        Action::CallLine => Some(b'e'),
+        Action::Mark => Some(b'm'),
+        Action::Select(_) => Some(b'H'),
+        Action::SelectAll => Some(b'a'),
+        Action::CutLine => Some(b'K'),
         Action::Delete => Some(b'X'),
         Action::Search => Some(b's'),
         Action::Store => Some(b't'),
@@ -313,15 +316,19 @@ fn acted(alloc: Global, bytes: &[u8], sight: Sight) -> Result<Vec<u8>, AllocErro
 
 #[test]
 fn presses_make_events(rt: HostRuntime) -> Result<(), Fail> {
-    let table: [(&[u8], &[u8]); 40] = [
+    let table: [(&[u8], &[u8]); 42] = [
         (b"a", b"\x01\x00\x01a"),
         (b"\n", b"\x01\x00\x01\x0d"),
         (b"\x08\x03\x18\x16", b"\x02\x00\x02\x01\x02\x03\x02\x02"),
         (b"\x1b\xff\x1b[3~", b"\x02\x04X"),
         // Escape after F2 calls that off, and does no more.
         (b"\x1bOQ\x1b\xff\x1b\xff", b"\x02\x04"),
-        (b"\x0c\x11\x01", b"NLR"),
+        (b"\x0c\x11\x02", b"NLR"),
         (b"\x05\x14", b"em"),
+        // Shift with an arrow selects, where no pointer is shown.
+        (b"\x1b[1;2D\x1b[1;2F\x01\x0b", b"HHaK"),
+        // A letter puts the pointer away.
+        (b"\x1b[23~x\t", b"\x01\x00\x01x\x01\x00\x01\x09"),
         (b"\x06\x12\x13\x17", b"srtw"),
         // A tabulator is typed, and where the pointer is shown it seeks the next command from there on.
         (

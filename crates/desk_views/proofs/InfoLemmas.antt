@@ -57,25 +57,27 @@ pub log_there : (d : KeptDesktop) → IsKeptWhole d → IsSome (text_numbered d.
 unfolding seen
 log_there d whole = text_there [] d.texts 0 (whole.sound []).shaped.viewers.log
 
-pub info_told : (characters : List ℕ) (d : KeptDesktop) (next : ℕ) (last with_caret : Option ℕ) (marked : Bool)
+pub info_told : (characters : List ℕ) (d : KeptDesktop) (next : ℕ) (last with_caret place : Option ℕ) (marked : Bool)
     (text : List Piece) (long : ℕ) → next ≡ new_id d → last ≡ closed_id d
-    → with_caret ≡ option_map (λ c. c.viewer) d.caret → marked ≡ is_some d.marker → text ≡ text_in d.texts 0
+    → with_caret ≡ option_map (λ c. c.viewer) d.caret → place ≡ option_map (λ c. c.position) d.caret → marked ≡ is_some d.marker → text ≡ text_in d.texts 0
     → long ≡ length (flat text)
     → record {
       next_viewer = next;
       closed_viewer = last;
       caret_viewer = with_caret;
+      caret_position = place;
       is_marked = marked;
       log_length = long;
     } ≡ desk_info (seen characters d)
 unfolding desk_info seen
-info_told characters d next last with_caret marked text long next_is last_is caret_is marked_is text_is long_is =
+info_told characters d next last with_caret place marked text long next_is last_is caret_is place_is marked_is text_is long_is =
     let all : long ≡ length (text_of (seen characters d) 0) =
     long_is ∙ ap (λ (t : List Piece). length (flat t)) text_is ∙ sym (long_seen characters d.texts 0) in
     λ k. record {
       next_viewer = next_is k;
       closed_viewer = last_is k;
       caret_viewer = caret_is k;
+      caret_position = place_is k;
       is_marked = marked_is k;
       log_length = all k;
     }

@@ -39,13 +39,14 @@ module _ {T : Type 0} where
   place_at d cell = if is_on_display cell.0 cell.1
       then option_map (viewer_place d) (seen_at d.columns cell.0 cell.1) else None
 
--- the id of the next viewer that opens, that of the one that was closed last and that of the one with the caret, whether
--- the marker is set, and how many characters the log has
+-- the id of the next viewer that opens, that of the one that was closed last and that of the one with the caret, the
+-- caret's position, whether the marker is set, and how many characters the log has
 unfoldable pub desk_info : Desktop → DeskInfo
 desk_info d = record {
   next_viewer = new_id d;
   closed_viewer = closed_id d;
   caret_viewer = option_map (λ c. c.viewer) d.caret;
+  caret_position = option_map (λ c. c.position) d.caret;
   is_marked = is_some d.marker;
   log_length = length (text_of d 0);
 }

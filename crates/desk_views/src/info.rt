@@ -33,6 +33,8 @@ pub struct DeskInfo {
     pub closed_viewer: Option<u16>,
     /// The id of the viewer that has the caret.
     pub caret_viewer: Option<u16>,
+    /// The position at which the caret stands in the text of that viewer.
+    pub caret_position: Option<u32>,
     /// Whether the marker is set.
     pub is_marked: bool,
     /// How many characters the log has.
@@ -99,6 +101,16 @@ fn caret_id(caret: Option<Caret>) -> Option<u16>
     }
 }
 
+/// The position at which the caret stands.
+fn caret_position(caret: Option<Caret>) -> Option<u32>
+    ensures { result ≡ option_map (λ c. c.position) caret }
+{
+    match caret {
+        None => None,
+        Some(caret) => Some(caret.position),
+    }
+}
+
 /// What the desk says of itself.
 pub fn desk_info(desk: &Desk) -> DeskInfo
     requires { IsKeptWhole (kept_desktop desk.now) }
@@ -108,6 +120,7 @@ pub fn desk_info(desk: &Desk) -> DeskInfo
         next_viewer: unused_id(desk.viewers.as_slice()),
         closed_viewer: closed_id(desk.closed),
         caret_viewer: caret_id(desk.caret),
+        caret_position: caret_position(desk.caret),
         is_marked: desk.marker.is_some(),
         log_length: text_there(&desk.texts, 0).len(),
     }

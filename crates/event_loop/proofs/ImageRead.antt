@@ -4,16 +4,16 @@ use Rattle.std.proofs.Common.{List, [], ◌∷◌, refl, sym, ap, subst, Err}
 use Rattle.std.proofs.Common.{Option, Some, None, arith}
 use Rattle.std.proofs.lemmas.Bool.{eqb-true}
 use Rattle.desktop_definitions.specs.Desktop.{KeptDesktop}
-use Rattle.desk_image.specs.declared.fault.ImageFault.{ImageFault}
-use Rattle.desk_image.specs.declared.fault.ImageFault.TheVariants.{Damaged}
-use Rattle.desk_image.specs.Fitting.{FitsImage}
-use Rattle.desk_image.specs.Image.{Image, image_of, image_bytes, IsSpellable, Spells}
-use Rattle.desk_image.specs.Reading.{desktop_image_at, whole_image_at}
-use Rattle.desk_image.specs.Laws.{ReadingLaw, FittingLaw}
-use Rattle.desk_image.specs.Streams.{Gives}
+use Rattle.image_format.specs.declared.fault.ImageFault.{ImageFault}
+use Rattle.image_format.specs.declared.fault.ImageFault.TheVariants.{Damaged}
+use Rattle.image_format.specs.Fitting.{FitsImage}
+use Rattle.image_format.specs.Image.{Image, image_of, image_bytes, IsSpellable, Spells}
+use Rattle.image_format.specs.Reading.{desktop_image_at, whole_image_at}
+use Rattle.image_format.specs.Laws.{ReadingLaw, FittingLaw}
+use Rattle.image_format.specs.Streams.{Gives}
 use Rattle.event_bytes.specs.Parts.{◌>>=◌}
 use Rattle.event_bytes.proofs.PartLaws.{some_is}
-use Rattle.desk_imaging.specs.Images.{IsDesktopOf}
+use Rattle.desktop_image.specs.Images.{IsDesktopOf}
 
 empty_is : (l : List ℕ) → (length l == 0) ≡ true → l ≡ []
 empty_is [] is = refl

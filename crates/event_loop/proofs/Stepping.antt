@@ -8,11 +8,11 @@ use Rattle.desktop_definitions.specs.Desktop.{KeptDesktop}
 use Rattle.desktop_definitions.specs.Seen.{seen}
 use Rattle.desktop_definitions.specs.Step.{raw, step_in}
 use Rattle.desktop_definitions.specs.Unread.{StepsUnread}
-use Rattle.desk_bringing.specs.Bringing.{Documents, all_brought, all_bytes, brought_in}
+use Rattle.document_filing.specs.Bringing.{Documents, all_brought, all_bytes, brought_in}
 use Rattle.desk_core.specs.declared.stop.Stop.{Stop}
 use Rattle.desk_core.specs.Doing.{Settles, SettlesBringing}
 use Rattle.desktop_definitions.specs.Stepped.{IsStep}
-use Rattle.desk_bringing.specs.Bringing.{IsBringing}
+use Rattle.document_filing.specs.Bringing.{IsBringing}
 
 module _ {S : Type 0} (s : Ghosts S) where
   pub event_stepped : (version : ℕ) (event : Event) (result : Result Reply Stop) (d before after : KeptDesktop)

@@ -15,13 +15,13 @@ mod losses;
 mod regions;
 mod stale;
 
-pub use caret_moves::{KeyWish, Step, WhyNot};
+pub use caret_moves::{CaretCommand, KeyWish, Step, WhyNot};
 pub use command_table::{NEWEST, Version};
-pub use desk_bringing::Document;
 pub use desk_core::stop::{NoMemory, Stop};
-pub use desk_image::{ByteSink, ByteSource, ImageFault};
 pub use desk_input::{MOST_PRESSES, Wish};
 pub use desk_views::{DeskInfo, LogRow, Loss, ShownViewer};
 pub use desktop::Desktop;
 pub use desktop_definitions::{Entry, Reply, codes};
+pub use document_filing::Document;
+pub use image_format::{ByteSink, ByteSource, ImageFault};
 pub use viewer_tracks::Place;

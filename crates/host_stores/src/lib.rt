@@ -18,6 +18,7 @@ use host_files::{HostFault, LockedFile, empty};
 use screen_cells::Screen;
 use sector_disk::{FILE_SECTORS, HostFile};
 pub use sector_disk::{Disk, FileDisk, MemoryDisk};
+use twin_disk::{flag_at, has_name, leave_twin};
 
 /// The store on a disk. A disk that is refused is left as it is: it isn't formatted.
 ///
@@ -62,6 +63,27 @@ pub fn in_locked_file<F: HostFile + Drop>(
     ensures errors { IfErr result OfOpen }
 {
     opened(rt, FileDisk::new(file))
+}
+
+/// The store in a file that is locked, which is to be written without its twin, and whether the file was in a pair: then it
+/// says *alone* for good in the sector behind the store when this has returned. What opens as no store is left as it is.
+///
+/// Errors: those of `Store::open`.
+pub fn without_twin(
+    rt: &HostRuntime,
+    file: LockedFile,
+) -> Result<(Store<FileDisk<LockedFile>>, bool), Error>
+    ensures { IfOk result (λ found. found.0.must_reopen ≡ false) }
+{
+    let mut leg = FileDisk::with_sectors(file, FILE_SECTORS + 1);
+    let flag = flag_at(&mut leg, FILE_SECTORS)?;
+    if flag.alone || !has_name(&flag) {
+        return Ok((in_locked_file(rt, leg.into_file())?, false));
+    }
+    let store = in_locked_file(rt, leg.into_file())?;
+    leg = FileDisk::with_sectors(store.close().into_file(), FILE_SECTORS + 1);
+    let left = leave_twin(&mut leg, FILE_SECTORS)?;
+    Ok((in_locked_file(rt, leg.into_file())?, left))
 }
 
 /// A disk of zeros in a file that is locked, of which nothing is left. Nothing is synced.

@@ -8,7 +8,7 @@ use crate::arguments::{Order, Refusal, order_of, words};
 use host_files::{
     HostFault, LockedFile, hold_streams, lock_alone, lock_or_make, lock_shared, sync_folder,
 };
-use host_stores::{Disk, emptied, formatted, in_locked_file, new_in_memory, show};
+use host_stores::{Disk, emptied, formatted, in_locked_file, new_in_memory, show, without_twin};
 use oberon_main::{CountedReader, CountedWriter, Error, Store, check, play, refuse, status};
 use screen_cells::Screen;
 use script_lines::send;
@@ -96,7 +96,13 @@ fn store_error(fault: HostFault) -> Error
 /// Plays the script on standard input over the store in the file.
 fn play_file(rt: &HostRuntime, path: &str) -> Result<u8, Error> {
     let file = lock_alone(rt, path).map_err(store_error)?;
-    Ok(play_over(rt, in_locked_file(rt, file)?))
+    let (store, left_twin) = without_twin(rt, file)?;
+    if left_twin {
+        let _ = eprintln!(rt;
+            "oberon: {path:?} has a twin, which gets nothing of this: desk --twin makes them equal again"
+        );
+    }
+    Ok(play_over(rt, store))
 }
 
 /// Plays the script on standard input over a store.

@@ -1,9 +1,12 @@
 -- What a host relies on at an exported call, said of the place of what is kept. `d` is what is known of the disk.
-use Rattle.std.specs.Prelude.{ℕ, List, [], Option, Some, None, if◌then◌else◌}
+use Rattle.std.specs.Prelude.{◌≡◌, ℕ, List, [], Option, Some, None, if◌then◌else◌}
 use Rattle.sector_disk.specs.declared.disk.Disk.{Ghosts}
+use Rattle.desk_page.specs.Giving.{selected_text}
 use Rattle.desk_page.specs.Recording.{Recording}
 use Rattle.desk_page.specs.declared.kept.Kept.{Kept}
-use Rattle.desk_page.specs.Calls.{IsBegun, IsPressed, IsBrought, IsGiven, has_left, made_if, made_numbered, pointer_number}
+use Rattle.desk_page.specs.Calls.{AnswersAsk, AnswersBegin, AnswersBring, AnswersBringMore, AnswersGive, AnswersPress}
+use Rattle.desk_page.specs.Calls.{has_left, made_if, made_numbered, pointer_number}
+use Rattle.desk_page.specs.Turns.{Documents}
 
 -- what the last call made, by its number
 abbrev pub handed : ℕ → Option Kept → List ℕ
@@ -22,23 +25,42 @@ abbrev pub pointer_told : Option Kept → ℕ
 pointer_told None = 0
 pointer_told (Some kept) = pointer_number kept.page
 
--- each is said of what was kept and is kept, which is there
-abbrev pub Given : List ℕ → Option Kept → Option Kept → Type 0
-Given name (Some old) (Some new) = IsGiven name old new
-Given name None new = ⊥
-Given name (Some old) None = ⊥
+-- the documents that are kept for the next one
+abbrev pub coming_of : Option Kept → Documents
+coming_of None = []
+coming_of (Some kept) = kept.coming.items
+
+-- each call is said of what was kept and is kept, which is there
+abbrev pub HasBroughtMore : List ℕ → List ℕ → Option Kept → Option Kept → ℕ → Type 0
+HasBroughtMore name file (Some old) (Some new) status = AnswersBringMore name file old new status
+HasBroughtMore name file None new status = ⊥
+HasBroughtMore name file (Some old) None status = ⊥
 
 module _ (d : Ghosts Recording) where
-  abbrev pub Begun : List ℕ → Option Kept → Type 0
-  Begun bytes None = ⊥
-  Begun bytes (Some new) = IsBegun d bytes new
+  -- By its status: the place is filled, of what had neither a page nor a document, or it found no room for that and is as
+  -- it was.
+  pub data HasBegun (bytes : List ℕ) (old new : Option Kept) : ℕ → Type 0 where
+    filled : (fresh made : Kept) (status : ℕ) → fresh.page ≡ None → fresh.coming.items ≡ []
+        → new ≡ Some made → made.coming ≡ fresh.coming → AnswersBegin d bytes fresh made status
+        → HasBegun bytes old new status
+    no_room : new ≡ old → HasBegun bytes old new 1
 
-  abbrev pub Pressed : List ℕ → Option Kept → Option Kept → Type 0
-  Pressed bytes (Some old) (Some new) = IsPressed d bytes old new
-  Pressed bytes None new = ⊥
-  Pressed bytes (Some old) None = ⊥
+  abbrev pub HasPressed : List ℕ → Option Kept → Option Kept → ℕ → Type 0
+  HasPressed bytes (Some old) (Some new) status = AnswersPress d bytes old new status
+  HasPressed bytes None new status = ⊥
+  HasPressed bytes (Some old) None status = ⊥
 
-  abbrev pub Brought : List ℕ → List ℕ → Option Kept → Option Kept → Type 0
-  Brought name file (Some old) (Some new) = IsBrought d name file old new
-  Brought name file None new = ⊥
-  Brought name file (Some old) None = ⊥
+  abbrev pub HasBrought : List ℕ → List ℕ → Option Kept → Option Kept → ℕ → Type 0
+  HasBrought name file (Some old) (Some new) status = AnswersBring d name file old new status
+  HasBrought name file None new status = ⊥
+  HasBrought name file (Some old) None status = ⊥
+
+  abbrev pub HasGiven : List ℕ → Option Kept → Option Kept → ℕ → Type 0
+  HasGiven name (Some old) (Some new) status = AnswersGive d name old new status
+  HasGiven name None new status = ⊥
+  HasGiven name (Some old) None status = ⊥
+
+  abbrev pub HasCopied : Option Kept → Option Kept → ℕ → Type 0
+  HasCopied (Some old) (Some new) status = AnswersAsk d selected_text old new status
+  HasCopied None new status = ⊥
+  HasCopied (Some old) None status = ⊥

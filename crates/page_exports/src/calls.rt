@@ -1,17 +1,23 @@
-//! The functions that the host calls. It lends one place to one call at a time, and calls nothing after a trap.
-ghost use Rattle.std.specs.Prelude.{◌≡◌, ◌++◌, length, take, drop, min};
+//! The functions that the host calls. It lends one place to one call at a time, and calls nothing after a trap, nor after a
+//! status of 1 to 5. Each call forgets the calls of the disk that the one before has told, and tells none unless its status
+//! is 0.
+ghost use Rattle.std.specs.Prelude.{◌≡◌, ◌≢◌, ◌≤◌, ◌++◌, [], length, take, drop, min};
 ghost use Rattle.desk_page.specs.Owning.{IsThere};
-ghost use Rattle.page_exports.specs.Exports.{Begun, Pressed, Brought, Given, handed, rings_of, leaves_of, pointer_told};
+ghost use Rattle.page_exports.specs.Exports.{HasBegun, HasBrought, HasBroughtMore, HasCopied, HasGiven, HasPressed};
+ghost use Rattle.page_exports.specs.Exports.{coming_of, handed, rings_of, leaves_of, pointer_told};
 
 use desk_page::{Held, Kept, Made, NO_MEMORY, RecordedDisk, put, take};
 use sector_disk::Disk;
 use std::alloc::Global;
 
 /// Begins: opens the store that these bytes are, a sector after another, or makes a new one where there are none, and
-/// keeps its page. The place must be zeros. Where the status is `NO_MEMORY` there may be nothing at the place.
+/// keeps its page. The place must be zeros. The status is 0, or one of 1 to 5, after which no page is kept; only where it
+/// is `NO_MEMORY` there may be nothing at the place.
 #[unsafe(no_mangle)]
 pub extern "C" fn page_begin(alloc: Global, held: &mut Held, bytes: &[u8]) -> u32
-    ensures { result ≡ 0 → Begun ⟦<RecordedDisk as Disk>⟧ bytes.now held.new.kept }
+    ensures begun { HasBegun ⟦<RecordedDisk as Disk>⟧ bytes.now held.old.kept held.new.kept result }
+    ensures there { result ≢ 1 → IsThere held.new.kept }
+    ensures few { result ≤ 5 }
 {
     let mut kept = Kept::new(alloc);
     let status = kept.begin(alloc, bytes);
@@ -25,13 +31,15 @@ pub extern "C" fn page_begin(alloc: Global, held: &mut Held, bytes: &[u8]) -> u3
 }
 
 /// Does what is pressed by these bytes of a terminal, and a quiet while; then takes back or does again what they ask
-/// for. What is handed is the desktop after all this.
+/// for. What is handed is the desktop after all this. After another status than 0 no page is kept.
 #[unsafe(no_mangle)]
 pub extern "C" fn page_press(alloc: Global, held: &mut Held, bytes: &[u8]) -> u32
     requires { IsThere held.old.kept }
     ensures there { IsThere held.new.kept }
-    ensures pressed { result ≡ 0
-        → Pressed ⟦<RecordedDisk as Disk>⟧ bytes.now held.old.kept held.new.kept }
+    ensures pressed { HasPressed ⟦<RecordedDisk as Disk>⟧ bytes.now held.old.kept held.new.kept
+        result }
+    ensures untold { result ≢ 0 → handed 2 held.new.kept ≡ [] }
+    ensures coming { coming_of held.new.kept ≡ coming_of held.old.kept }
 {
     let mut kept = take(alloc, held);
     let status = kept.press(alloc, bytes);
@@ -39,13 +47,17 @@ pub extern "C" fn page_press(alloc: Global, held: &mut Held, bytes: &[u8]) -> u3
     status
 }
 
-/// Makes the document of that name of a file of the host's.
+/// Makes the document of that name of a file of the host's, together with those that `page_bring_more` kept: all of them, or
+/// none. A name or a file that is refused leaves the page, and so do documents for which there is no room. After a status
+/// of 1 to 5 no page is kept, but where memory runs out for the document.
 #[unsafe(no_mangle)]
 pub extern "C" fn page_bring(alloc: Global, held: &mut Held, name: &[u8], file: &[u8]) -> u32
     requires { IsThere held.old.kept }
     ensures there { IsThere held.new.kept }
-    ensures brought { result ≡ 0
-        → Brought ⟦<RecordedDisk as Disk>⟧ name.now file.now held.old.kept held.new.kept }
+    ensures brought { HasBrought ⟦<RecordedDisk as Disk>⟧ name.now file.now held.old.kept
+        held.new.kept result }
+    ensures untold { result ≢ 0 → handed 2 held.new.kept ≡ [] }
+    ensures coming { coming_of held.new.kept ≡ [] }
 {
     let mut kept = take(alloc, held);
     let status = kept.bring(alloc, name, file);
@@ -53,15 +65,48 @@ pub extern "C" fn page_bring(alloc: Global, held: &mut Held, name: &[u8], file: 
     status
 }
 
-/// Asks for the text of the document of that name, which is then there to be copied.
+/// Keeps the document of that name of a file of the host's, for the next `page_bring`, behind those that are kept. Where it
+/// is refused none is kept.
+#[unsafe(no_mangle)]
+pub extern "C" fn page_bring_more(alloc: Global, held: &mut Held, name: &[u8], file: &[u8]) -> u32
+    requires { IsThere held.old.kept }
+    ensures there { IsThere held.new.kept }
+    ensures more { HasBroughtMore name.now file.now held.old.kept held.new.kept result }
+    ensures untold { handed 2 held.new.kept ≡ [] }
+{
+    let mut kept = take(alloc, held);
+    let status = kept.bring_more(alloc, name, file);
+    put(held, kept);
+    status
+}
+
+/// Asks for the text of the document of that name, which is then there to be copied. The page goes on, whatever the
+/// status is.
 #[unsafe(no_mangle)]
 pub extern "C" fn page_give(alloc: Global, held: &mut Held, name: &[u8]) -> u32
     requires { IsThere held.old.kept }
     ensures there { IsThere held.new.kept }
-    ensures given { result ≡ 0 → Given name.now held.old.kept held.new.kept }
+    ensures given { HasGiven ⟦<RecordedDisk as Disk>⟧ name.now held.old.kept held.new.kept result }
+    ensures untold { handed 2 held.new.kept ≡ [] }
+    ensures coming { coming_of held.new.kept ≡ coming_of held.old.kept }
 {
     let mut kept = take(alloc, held);
     let status = kept.give(alloc, name);
+    put(held, kept);
+    status
+}
+
+/// Asks for what is selected, all of it, which is then there to be copied. The page goes on, whatever the status is.
+#[unsafe(no_mangle)]
+pub extern "C" fn page_copied(alloc: Global, held: &mut Held) -> u32
+    requires { IsThere held.old.kept }
+    ensures there { IsThere held.new.kept }
+    ensures copied { HasCopied ⟦<RecordedDisk as Disk>⟧ held.old.kept held.new.kept result }
+    ensures untold { handed 2 held.new.kept ≡ [] }
+    ensures coming { coming_of held.new.kept ≡ coming_of held.old.kept }
+{
+    let mut kept = take(alloc, held);
+    let status = kept.copied(alloc);
     put(held, kept);
     status
 }

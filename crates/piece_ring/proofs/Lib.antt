@@ -3,6 +3,7 @@ pub mod Behind
 pub mod Blocks
 pub mod Dividing
 pub mod Earlier
+pub mod Fingers
 pub mod Joins
 pub mod Keeping
 pub mod Looks

@@ -18,12 +18,13 @@ use Rattle.piece_ring.specs.Nodes.{places, pieces, with_piece}
 use Rattle.piece_ring.specs.Place.{pieces_of, IsSeam, IsFound}
 use Rattle.piece_ring.specs.PieceList.{IsPieceList}
 use Rattle.piece_ring.specs.Table.{top, past_top, seam_of, mark_of_seam, AreNear, IsBack, IsMeasured, IsWalkStart, IsParted}
-use Rattle.piece_ring.specs.Table.{AreSeamMarks, IsEdgeMoved, IsWindowFilled, IsAround, turned, turned_seam}
+use Rattle.piece_ring.specs.Table.{AreSeamMarks, IsEdgeMoved, IsAround, turned, turned_seam}
 use Rattle.piece_ring.proofs.Earlier.{seam-before, seam_order, take-with-node, drop-with-past}
 use Rattle.piece_ring.proofs.Joins.{pieces-append}
-use Rattle.piece_ring.proofs.Keeping.{get-append, index_within}
+use Rattle.piece_ring.proofs.Keeping.{get-append, index_within, started, seam-back}
 use Rattle.piece_ring.proofs.Looks.{drop-drop}
 use Rattle.piece_ring.proofs.Moving.{seam_inside, take-take}
+use Rattle.piece_ring.proofs.Places.{exists_at}
 use Rattle.piece_ring.proofs.Runs.{length-flat-cut}
 use Rattle.piece_ring.proofs.Seams.{seam_within, count_fits}
 
@@ -397,14 +398,21 @@ module _ (ns : List (Ptr × Piece)) (pos : ℕ) (f : Found) (h : IsFound ns pos 
             let few = few-between ns trailer count len v s f.before g h.before (omega (arith, e, z)) in
             omega (arith, e, z, low, near)
 
-    pub near-back : f.after.index + f.links ≡ s.index + 1 → pos < s.pos → s.pos - pos < 128 → f.links ≤ 128
-    near-back e high near = at f.links refl
+    -- from the finger back, which is on a piece that begins after the position
+    pub near-finger : (x : Piece) → slice_get (pieces ns) s.index ≡ Some x
+        → f.after.index + f.links ≡ s.index + 1 → pos < s.pos - x.len → s.pos - x.len - pos < 128 → f.links ≤ 128
+    near-finger x is e high near = at f.links refl
       where
         at : (n : ℕ) → f.links ≡ n → f.links ≤ 128
         at zero z = omega (arith, z)
-        at (suc n) z =
-            let upto = h.upto in
-            let few = few-between ns trailer count len v f.after s h.after g (omega (arith, e, z)) in
+        at (suc zero) z = omega (arith, z)
+        at (suc (suc n)) z =
+            let upto = h.upto in let some : 0 < s.pos = omega (arith, high) in
+            let low = started ns s x g some is in
+            let t = exists_at ns (s.index - 1) (let w = seam_inside ns s g in omega arith) in
+            let before : Seam = record { at = record { ptr = t.0 }; index = s.index - 1; pos = s.pos - x.len } in
+            let there = seam-back ns s x g some is before (λ _. t.1) refl refl in
+            let few = few-between ns trailer count len v f.after before h.after there (omega (arith, e, z)) in
             omega (arith, e, z, high, near)
 
   module _ (sides : Seam × Seam) (g : IsAround ns pos sides) where

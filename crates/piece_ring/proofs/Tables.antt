@@ -1,6 +1,6 @@
 -- Tables: marks that stand in a box, or none.
-use Rattle.std.proofs.Common.{◌≡◌, ℕ, ◌+◌, ◌*◌, ◌<◌, ◌≤◌, List, [], length, Option, Some, None, MatchOption}
-use Rattle.std.proofs.Common.{sym, ap, subst, arith}
+use Rattle.std.proofs.Common.{◌≡◌, ℕ, ◌+◌, ◌*◌, ◌<◌, ◌≤◌, List, length, Option, Some, None, MatchOption}
+use Rattle.std.proofs.Common.{subst, arith}
 use Rattle.std.specs.declared.alloc.Global.{Global}
 use Rattle.std.specs.declared.boxed.Box.{Box}
 use denote.RawPtr.{Ptr}
@@ -8,8 +8,8 @@ use Rattle.piece_ring.specs.declared.piece.Piece.{Piece}
 use Rattle.piece_ring.specs.declared.table.Mark.{Mark}
 use Rattle.piece_ring.specs.declared.table.Stacks.{Stacks}
 use Rattle.piece_ring.specs.declared.table.Table.{Table}
-use Rattle.piece_ring.specs.Table.{AreSeamMarks, CanHold, HasRoom, IsWindowFilled, IsMeasured, IsNoted, IsWindowOpened}
-use Rattle.piece_ring.specs.Table.{IsTable, IsTableParted, front_in, front_of, back_in, back_of, past_top, top}
+use Rattle.piece_ring.specs.Table.{AreSeamMarks, CanHold, HasRoom, IsWindowOpened}
+use Rattle.piece_ring.specs.Table.{IsTable, IsTableParted, front_of, back_of, past_top, top}
 use Rattle.piece_ring.proofs.Marks.{empty_parted, held, near_long}
 
 -- memory for more pieces is memory for fewer

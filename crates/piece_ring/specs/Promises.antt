@@ -1,8 +1,8 @@
 -- What the calls of a ring ask and promise, and those of what is made of a ring.
-use Rattle.std.specs.Prelude.{ℕ, ◌+◌, ◌^◌, ◌<◌, ◌≤◌, ◌≡◌, List, length, drop, Result, MatchResult}
+use Rattle.std.specs.Prelude.{ℕ, ◌+◌, ◌^◌, ◌<◌, ◌≤◌, ◌≡◌, List, length, take, drop, Result, MatchResult}
 use Rattle.piece_ring.specs.declared.piece.Piece.{Piece}
 use Rattle.piece_ring.specs.Flat.{flat, IsWhole}
-use Rattle.piece_ring.specs.FingeredPieces.{Walk}
+use Rattle.piece_ring.specs.FingeredPieces.{Walk, BackWalk}
 use Rattle.piece_ring.specs.Text.{Text}
 
 -- what a call changes to this value, which stays where memory is refused
@@ -26,3 +26,11 @@ pub record IsCursorAt (pos : ℕ) (pieces : List Piece) (cursor : Walk) : Type 0
   pub whole : pos ≡ 0 → cursor.left ≡ pieces
   -- it was reached along no more links than there are pieces
   pub few : cursor.walked ≤ length pieces
+  -- and no more than these
+  pub short : cursor.walked ≤ 128
+
+-- A cursor that goes backwards stands after the first characters.
+pub record IsBackCursorAt (pos : ℕ) (pieces : List Piece) (cursor : BackWalk) : Type 0 where
+  pub text : cursor.text ≡ take pos (flat pieces)
+  -- it was reached along no more links than these
+  pub short : cursor.walked ≤ 128

@@ -1,7 +1,7 @@
 //! A list of pieces in a chain of nodes: first the trailer, a node without characters, then a node for each piece. This
 //! layer has no raw pointer: it names nodes by their spots and indexes, and goes through the calls of `Chain`.
 ghost use Rattle.std.specs.Prelude.{ℕ, ◌≡◌, ◌+◌, ◌-◌, ◌<◌, ◌≤◌, ◌∷◌, [], ◌++◌, ◌^◌, length, Some, slice_get, IfOk};
-ghost use Rattle.std.specs.Prelude.{OnErr, OnOk, take, true, false};
+ghost use Rattle.std.specs.Prelude.{OnErr, OnOk, MatchOption, take, true, false};
 ghost use Rattle.std.proofs.Props.{props};
 ghost use Rattle.piece_ring.specs.BackCursor.{IsBackCursor, text_before};
 ghost use Rattle.piece_ring.specs.declared.place.Seam.{Seam as ASeam};
@@ -9,7 +9,7 @@ ghost use Rattle.piece_ring.specs.Flat.{flat, relooked_piece, IsWhole};
 ghost use Rattle.piece_ring.specs.Finger.{IsFingerAt, IsSettledAt, fingered};
 ghost use Rattle.piece_ring.specs.Merging.{AreUnited, Continues, IsMergedAt, UnitesAtMost};
 ghost use Rattle.piece_ring.specs.Nodes.{places, pieces, with_put_in, with_range};
-ghost use Rattle.piece_ring.specs.Place.{pieces_of, text_along, IsSeam, IsFound, IsPlace, IsOpenedAt};
+ghost use Rattle.piece_ring.specs.Place.{pieces_of, text_along, IsSeam, IsFound, IsPlace, IsOpenedAt, HasWithin};
 ghost use Rattle.piece_ring.specs.PieceList.{IsPieceList, IsStretch};
 ghost use Rattle.piece_ring.specs.Table.{CanHold, IsTable, KeepsRoom};
 ghost use Rattle.piece_ring.specs.Text.{inserted, deleted, stretch, looks_changed};
@@ -17,6 +17,7 @@ ghost use Rattle.piece_ring.specs.Text.{inserted, deleted, stretch, looks_change
 use crate::chain::{Chain, Spot};
 use crate::piece::{EMPTY, Look, Piece};
 use crate::place::{Found, RingPlace, Seam};
+use crate::ring::Followed;
 use crate::spare::Spare;
 use crate::stretch::Stretch;
 use crate::table::Table;
@@ -35,6 +36,8 @@ pub(crate) struct PieceList {
     pub(crate) finger: Seam,
     /// Its marks, from which walks start that would be long from the finger.
     pub(crate) table: Table,
+    /// The links that were followed where marks were laid.
+    pub(crate) laid: Followed,
     ghost sound: { IsPieceList chain.nodes trailer.ptr count len },
     ghost keeps: { IsSeam chain.nodes finger },
     ghost indexed: { IsTable chain.nodes table } by { Prim.hlevel props },
@@ -43,7 +46,7 @@ pub(crate) struct PieceList {
 
 impl PieceList {
     /// A list without pieces, whose trailer is the spare node.
-    pub(crate) fn new(spare: Spare) -> PieceList
+    pub(crate) fn new(spare: Spare, laid: Followed) -> PieceList
         ensures { pieces_of result.chain.nodes ≡ [] }
     {
         let (chain, trailer) = spare.into_node();
@@ -58,6 +61,7 @@ impl PieceList {
                 pos: 0,
             },
             table: Table::new(),
+            laid,
         }
     }
 
@@ -97,20 +101,21 @@ impl PieceList {
         ensures index { result.index ≡ length (pieces_of self.now.chain.nodes) }
     {
         Seam {
-            at: self.chain.prev(self.trailer, 0),
+            at: self.chain.last(self.trailer),
             index: self.count,
             pos: self.len,
         }
     }
 
     /// The seam after the piece that follows `seam`.
-    pub(crate) fn step(&self, seam: Seam) -> Seam
+    pub(crate) fn step(&self, seam: Seam, followed: &mut Followed) -> Seam
         requires seam { IsSeam self.now.chain.nodes seam }
         requires more { seam.pos < self.now.len }
         ensures after { IsSeam self.now.chain.nodes result }
         ensures next { result.index ≡ seam.index + 1 }
+        ensures followed { followed.new ≡ followed.old + 1 }
     {
-        let at = self.chain.next(seam.at, seam.index);
+        let at = self.chain.next(seam.at, seam.index, followed);
         let index = seam.index + 1;
         let piece = self.chain.piece(at, index);
         Seam {
@@ -121,46 +126,49 @@ impl PieceList {
     }
 
     /// The seam before the piece that stands before `seam`.
-    fn step_back(&self, seam: Seam) -> Seam
+    fn step_back(&self, seam: Seam, followed: &mut Followed) -> Seam
         requires seam { IsSeam self.now.chain.nodes seam }
         requires more { 0 < seam.pos }
         ensures before { IsSeam self.now.chain.nodes result }
         ensures next { seam.index ≡ result.index + 1 }
+        ensures followed { followed.new ≡ followed.old + 1 }
     {
         let piece = self.chain.piece(seam.at, seam.index);
         Seam {
-            at: self.chain.prev(seam.at, seam.index),
+            at: self.chain.prev(seam.at, seam.index, followed),
             index: seam.index - 1,
             pos: seam.pos - piece.len,
         }
     }
 
     /// The seam before the piece that stands before `seam`, and that piece.
-    pub(crate) fn piece_before(&self, seam: Seam) -> (Seam, Piece)
+    pub(crate) fn piece_before(&self, seam: Seam, followed: &mut Followed) -> (Seam, Piece)
         requires seam { IsSeam self.now.chain.nodes seam }
         requires more { 0 < seam.pos }
         ensures cursor { IsBackCursor self.now.chain.nodes result.0 result.1 }
         ensures some { 0 < result.1.len }
         ensures text { text_before self.now.chain.nodes result.0 result.1
             ≡ flat (take seam.index (pieces_of self.now.chain.nodes)) }
+        ensures followed { followed.new ≡ followed.old + 1 }
     {
         let piece = self.chain.piece(seam.at, seam.index);
-        (self.step_back(seam), piece)
+        (self.step_back(seam, followed), piece)
     }
 
     /// The piece that has the character at `pos`, which is after `from`, by a walk towards the end.
-    fn find_ahead(&self, from: Seam, pos: u32) -> Found
+    fn find_ahead(&self, from: Seam, pos: u32, followed: &mut Followed) -> Found
         requires from { IsSeam self.now.chain.nodes from }
         requires order { from.pos ≤ pos }
         requires within { pos < self.now.len }
         ensures found { IsFound self.now.chain.nodes pos result }
         ensures links { from.index + result.links ≡ result.after.index }
+        ensures followed { followed.new ≡ followed.old + result.links }
     {
         let mut before = from;
-        let mut after = self.step(before);
+        let mut after = self.step(before, followed);
         while after.pos <= pos {
             before = after;
-            after = self.step(before);
+            after = self.step(before, followed);
         }
         Found {
             before,
@@ -171,17 +179,18 @@ impl PieceList {
 
     /// The piece that has the character at `pos`, which is before `from`, by a walk towards the beginning. The piece
     /// before `from` is the first link of the walk.
-    fn find_back(&self, from: Seam, pos: u32) -> Found
+    fn find_back(&self, from: Seam, pos: u32, followed: &mut Followed) -> Found
         requires from { IsSeam self.now.chain.nodes from }
         requires order { pos < from.pos }
         ensures found { IsFound self.now.chain.nodes pos result }
         ensures links { result.after.index + result.links ≡ from.index + 1 }
+        ensures followed { followed.new ≡ followed.old + result.links }
     {
         let mut after = from;
-        let mut before = self.step_back(after);
+        let mut before = self.step_back(after, followed);
         while pos < before.pos {
             after = before;
-            before = self.step_back(after);
+            before = self.step_back(after, followed);
         }
         Found {
             before,
@@ -191,59 +200,86 @@ impl PieceList {
     }
 
     /// The piece that has the character at `pos`, by a walk from the nearer of the marks on its two sides.
-    fn find_far(&self, pos: u32) -> Found
+    fn find_far(&self, pos: u32, followed: &mut Followed) -> Found
         requires { pos < self.now.len }
         ensures found { IsFound self.now.chain.nodes pos result }
+        ensures followed { followed.new ≡ followed.old + result.links }
         ensures short { result.links ≤ 128 }
     {
         let (low, high) = self
             .table
             .around(&self.chain, self.start(), self.end(), pos);
         if pos - low.pos < high.pos - pos {
-            self.find_ahead(low, pos)
+            self.find_ahead(low, pos, followed)
         } else {
-            self.find_back(high, pos)
+            self.find_back(high, pos, followed)
         }
     }
 
+    /// How many characters of the piece that the finger is on stand before the one at `pos`. None where another piece
+    /// has that one.
+    pub(crate) fn within_finger(&self, pos: u32) -> Option<u32>
+        requires { pos < self.now.len }
+        ensures { MatchOption result
+            (IsFingerAt (fingered self.now.chain.nodes self.now.finger) pos → ⊥)
+            (HasWithin self.now.chain.nodes self.now.finger pos) }
+    {
+        let Seam {
+            at,
+            index,
+            pos: end,
+        } = self.finger;
+        if end <= pos {
+            return None;
+        }
+        let len = self.chain.piece(at, index).len;
+        let begin = end - len;
+        if pos < begin {
+            return None;
+        }
+        Some(pos - begin)
+    }
+
     /// The piece that has the character at `pos`, by a walk from the finger where it is near, and from a mark elsewhere.
-    pub(crate) fn find(&self, pos: u32) -> Found
+    pub(crate) fn find(&self, pos: u32, followed: &mut Followed) -> Found
         requires { pos < self.now.len }
         ensures found { IsFound self.now.chain.nodes pos result }
-        ensures near { IsFingerAt (fingered self.now.chain.nodes self.now.finger) pos
-            → result.links ≡ 0 }
+        ensures followed { followed.new ≡ followed.old + result.links }
         ensures short { result.links ≤ 128 }
     {
         let finger = self.finger;
         if finger.pos <= pos {
             if pos - finger.pos < NEAR {
-                return self.find_ahead(finger, pos);
+                return self.find_ahead(finger, pos, followed);
             }
-            return self.find_far(pos);
+            return self.find_far(pos, followed);
         }
-        let before = self.step_back(finger);
-        if before.pos <= pos {
+        let len = self.chain.piece(finger.at, finger.index).len;
+        let begin = finger.pos - len;
+        if begin <= pos {
+            let before = self.step_back(finger, followed);
             return Found {
                 before,
                 after: finger,
-                links: 0,
+                links: 1,
             };
         }
-        if before.pos - pos < NEAR {
-            return self.find_back(before, pos);
+        if begin - pos < NEAR {
+            return self.find_back(finger, pos, followed);
         }
-        self.find_far(pos)
+        self.find_far(pos, followed)
     }
 
     /// The seam at `pos`, or the piece that has it inside.
-    fn place(&self, pos: u32) -> RingPlace
+    fn place(&self, pos: u32, followed: &mut Followed) -> RingPlace
         requires { pos ≤ self.now.len }
-        ensures { IsPlace self.now.chain.nodes pos result }
+        ensures place { IsPlace self.now.chain.nodes pos result }
+        ensures short { followed.new ≤ followed.old + 128 }
     {
         if pos == self.len {
             return RingPlace::Between(self.end());
         }
-        let found = self.find(pos);
+        let found = self.find(pos, followed);
         if found.before.pos == pos {
             return RingPlace::Between(found.before);
         }
@@ -252,13 +288,14 @@ impl PieceList {
 
     /// The seam before the piece that has `pos` inside, and that piece without the characters from
     /// `pos` on. Where a seam stands at `pos`, that seam and no character.
-    pub(crate) fn front(&self, pos: u32) -> (Seam, Piece)
+    pub(crate) fn front(&self, pos: u32, followed: &mut Followed) -> (Seam, Piece)
         requires { pos ≤ self.now.len }
         ensures cursor { IsBackCursor self.now.chain.nodes result.0 result.1 }
         ensures text { text_before self.now.chain.nodes result.0 result.1
             ≡ take pos (text_along self.now.chain.nodes) }
+        ensures short { followed.new ≤ followed.old + 128 }
     {
-        match self.place(pos) {
+        match self.place(pos, followed) {
             RingPlace::Between(seam) => (seam, EMPTY),
             RingPlace::Inside(found) => {
                 let Seam { at, index, pos: _ } = found.after;
@@ -270,37 +307,40 @@ impl PieceList {
     }
 
     /// The place of the piece that follows `seam`, or of the trailer at the end.
-    fn place_after(&self, seam: Seam) -> Seam
+    fn place_after(&self, seam: Seam, followed: &mut Followed) -> Seam
         requires { IsSeam self.now.chain.nodes seam }
         ensures seam { IsSeam self.now.chain.nodes result }
         ensures finger { IsFingerAt (fingered self.now.chain.nodes result) seam.pos }
+        ensures short { followed.new ≤ followed.old + 1 }
     {
         if seam.index == self.count {
             return self.start();
         }
-        self.step(seam)
+        self.step(seam, followed)
     }
 
     /// The place of the piece that has the character at `pos`, or of the trailer at the end.
-    fn place_to_point_at(&self, pos: u32) -> Seam
+    fn place_to_point_at(&self, pos: u32, followed: &mut Followed) -> Seam
         requires { pos ≤ self.now.len }
         ensures seam { IsSeam self.now.chain.nodes result }
         ensures finger { IsFingerAt (fingered self.now.chain.nodes result) pos }
+        ensures short { followed.new ≤ followed.old + 128 }
     {
         if pos == self.len {
             return self.start();
         }
-        self.find(pos).after
+        self.find(pos, followed).after
     }
 
     /// Keeps the place of the piece that has the character at `pos`, or of the trailer at the end.
-    pub(crate) fn locate(&mut self, pos: u32)
+    pub(crate) fn locate(&mut self, pos: u32, followed: &mut Followed)
         requires { pos ≤ self.old.len }
         ensures same { self.new.chain.nodes ≡ self.old.chain.nodes }
         ensures long { self.new.len ≡ self.old.len }
         ensures finger { IsFingerAt (fingered self.new.chain.nodes self.new.finger) pos }
+        ensures short { followed.new ≤ followed.old + 128 }
     {
-        self.finger = self.place_to_point_at(pos);
+        self.finger = self.place_to_point_at(pos, followed);
     }
 
     /// Cuts a piece in two at `pos`, inside it. The spare node takes the second part.
@@ -343,25 +383,31 @@ impl PieceList {
             index: 0,
             pos: 0,
         };
-        self.table.fill(&self.chain, start, self.count, self.len);
+        self.table
+            .fill(&self.chain, start, self.count, self.len, &mut self.laid);
         self.finger = Seam { at, index, pos };
         self.finger
     }
 
     /// The seam at `pos`. Where it takes a node to cut a piece there, the node is taken before anything is changed.
-    pub(crate) fn seam_at(&mut self, alloc: Global, pos: u32) -> Result<Seam, NoMemory>
+    pub(crate) fn seam_at(
+        &mut self,
+        alloc: Global,
+        pos: u32,
+        followed: &mut Followed,
+    ) -> Result<Seam, NoMemory>
         requires { pos ≤ self.old.len }
         ensures same { text_along self.new.chain.nodes ≡ text_along self.old.chain.nodes }
         ensures long { self.new.len ≡ self.old.len }
-        ensures seam { IfOk result (IsSeam self.new.chain.nodes) }
-        ensures at { IfOk result (λ s. s.pos ≡ pos) }
+        ensures seam { IfOk result (λ s. IsSeam self.new.chain.nodes s × (s.pos ≡ pos)) }
         ensures kept { OnOk result ((s : ASeam) → s.pos ≤ pos → IsSeam self.old.chain.nodes s
             → IsSeam self.new.chain.nodes s) }
         ensures refused { OnErr result (self.new.chain.nodes ≡ self.old.chain.nodes) }
         ensures room { (self.new.count ≤ self.old.count + 1)
             × KeepsRoom self.old.table self.new.table }
+        ensures short { followed.new ≤ followed.old + 128 }
     {
-        match self.place(pos) {
+        match self.place(pos, followed) {
             RingPlace::Between(seam) => Ok(seam),
             RingPlace::Inside(found) => {
                 self.reserve(alloc, 1)?;
@@ -372,13 +418,14 @@ impl PieceList {
     }
 
     /// The seam at `pos`, with the spare node to cut a piece there.
-    fn seam_with(&mut self, pos: u32, spare: Spare) -> Seam
+    fn seam_with(&mut self, pos: u32, spare: Spare, followed: &mut Followed) -> Seam
         requires within { pos ≤ self.old.len }
         requires room { CanHold self.old.table (self.old.count + 1) }
         ensures long { self.new.len ≡ self.old.len }
         ensures opened { IsOpenedAt self.old.chain.nodes self.new.chain.nodes pos result }
+        ensures short { followed.new ≤ followed.old + 128 }
     {
-        match self.place(pos) {
+        match self.place(pos, followed) {
             RingPlace::Between(seam) => seam,
             RingPlace::Inside(found) => self.divide(pos, found, spare),
         }
@@ -390,6 +437,7 @@ impl PieceList {
         alloc: Global,
         beg: u32,
         end: u32,
+        followed: &mut Followed,
     ) -> Result<(Seam, Seam), NoMemory>
         requires order { beg ≤ end }
         requires within { end ≤ self.old.len }
@@ -398,11 +446,12 @@ impl PieceList {
         ensures from { IfOk result (λ s. IsSeam self.new.chain.nodes s.0 × (s.0.pos ≡ beg)) }
         ensures upto { IfOk result (λ s. IsSeam self.new.chain.nodes s.1 × (s.1.pos ≡ end)) }
         ensures refused { OnErr result (self.new.chain.nodes ≡ self.old.chain.nodes) }
+        ensures short { followed.new ≤ followed.old + 256 }
     {
-        match self.place(beg) {
+        match self.place(beg, followed) {
             RingPlace::Between(from) => {
                 self.finger = from;
-                let upto = self.seam_at(alloc, end)?;
+                let upto = self.seam_at(alloc, end, followed)?;
                 Ok((from, upto))
             }
             RingPlace::Inside(found) => {
@@ -410,7 +459,7 @@ impl PieceList {
                 let first = Spare::new(alloc)?;
                 let second = Spare::new(alloc)?;
                 let from = self.divide(beg, found, first);
-                let upto = self.seam_with(end, second);
+                let upto = self.seam_with(end, second, followed);
                 Ok((from, upto))
             }
         }
@@ -436,7 +485,7 @@ impl PieceList {
             count,
             len,
         } = other;
-        let last = chain.prev(first, 0);
+        let last = chain.last(first);
         let missing = self
             .table
             .open_for(&self.chain, seam.index, count, self.count, self.len);
@@ -448,8 +497,14 @@ impl PieceList {
             index: 0,
             pos: 0,
         };
-        self.table
-            .fill_where(missing, &self.chain, start, self.count, self.len);
+        self.table.fill_where(
+            missing,
+            &self.chain,
+            start,
+            self.count,
+            self.len,
+            &mut self.laid,
+        );
         self.finger = seam;
         Seam {
             at: last,
@@ -479,11 +534,12 @@ impl PieceList {
             index: 0,
             pos: 0,
         };
-        self.table.fill(&self.chain, start, self.count, self.len);
+        self.table
+            .fill(&self.chain, start, self.count, self.len, &mut self.laid);
     }
 
     /// Takes the pieces between two seams out.
-    pub(crate) fn take_out(&mut self, from: Seam, upto: Seam) -> Stretch
+    pub(crate) fn take_out(&mut self, from: Seam, upto: Seam, followed: &mut Followed) -> Stretch
         requires from { IsSeam self.old.chain.nodes from }
         requires upto { IsSeam self.old.chain.nodes upto }
         requires order { from.pos < upto.pos }
@@ -493,10 +549,11 @@ impl PieceList {
             ≡ deleted from.pos upto.pos (text_along self.old.chain.nodes) }
         ensures taken { flat (pieces result.chain.nodes)
             ≡ stretch from.pos upto.pos (text_along self.old.chain.nodes) }
+        ensures followed { followed.new ≡ followed.old + 1 }
     {
         self.table
             .open(&self.chain, from.index, upto.index, self.count, self.len);
-        let first = self.chain.next(from.at, from.index);
+        let first = self.chain.next(from.at, from.index, followed);
         let chain = self.chain.split(from.at, from.index, upto.at, upto.index);
         let count = upto.index - from.index;
         let len = upto.pos - from.pos;
@@ -507,7 +564,8 @@ impl PieceList {
             index: 0,
             pos: 0,
         };
-        self.table.fill(&self.chain, start, self.count, self.len);
+        self.table
+            .fill(&self.chain, start, self.count, self.len, &mut self.laid);
         self.finger = from;
         Stretch {
             chain,
@@ -518,7 +576,14 @@ impl PieceList {
     }
 
     /// Changes the looks between two seams, in the fields that the selector names.
-    pub(crate) fn relook(&mut self, from: Seam, upto: Seam, sel: u8, look: Look)
+    pub(crate) fn relook(
+        &mut self,
+        from: Seam,
+        upto: Seam,
+        sel: u8,
+        look: Look,
+        followed: &mut Followed,
+    )
         requires from { IsSeam self.old.chain.nodes from }
         requires upto { IsSeam self.old.chain.nodes upto }
         requires order { from.pos < upto.pos }
@@ -526,7 +591,15 @@ impl PieceList {
             ≡ looks_changed from.pos upto.pos sel look (text_along self.old.chain.nodes) }
         ensures kept { IsSeam self.new.chain.nodes upto }
     {
-        relook_nodes(&mut self.chain, from.at, from.index, upto.index, sel, look);
+        relook_nodes(
+            &mut self.chain,
+            from.at,
+            from.index,
+            upto.index,
+            sel,
+            look,
+            followed,
+        );
         self.finger = from;
     }
 
@@ -557,7 +630,8 @@ impl PieceList {
             index: 0,
             pos: 0,
         };
-        self.table.fill(&self.chain, start, self.count, self.len);
+        self.table
+            .fill(&self.chain, start, self.count, self.len, &mut self.laid);
         self.finger = Seam {
             at,
             index,
@@ -567,7 +641,7 @@ impl PieceList {
 
     /// Makes one piece of the two that meet at `seam`, if the second continues the first in the file and has its look.
     /// It takes no memory. Returns whether it did; the finger is on the one piece then.
-    pub(crate) fn merge(&mut self, alloc: &Global, seam: Seam) -> bool
+    pub(crate) fn merge(&mut self, alloc: &Global, seam: Seam, followed: &mut Followed) -> bool
         requires { IsSeam self.old.chain.nodes seam }
         ensures same { text_along self.new.chain.nodes ≡ text_along self.old.chain.nodes }
         ensures long { self.new.len ≡ self.old.len }
@@ -581,12 +655,13 @@ impl PieceList {
             (pieces_of self.new.chain.nodes) }
         ensures told { (result ≡ true
             → IsFingerAt (fingered self.new.chain.nodes self.new.finger) seam.pos)
-            × (result ≡ false → self.new.chain.nodes ≡ self.old.chain.nodes) }
+            × (result ≡ false → self.new.chain.nodes ≡ self.old.chain.nodes)
+            × (followed.new ≤ followed.old + 1) }
     {
         if seam.index == 0 || seam.index == self.count {
             return false;
         }
-        let next = self.chain.next(seam.at, seam.index);
+        let next = self.chain.next(seam.at, seam.index, followed);
         let first = self.chain.piece(seam.at, seam.index);
         let second = self.chain.piece(next, seam.index + 1);
         if !first.is_continued_by(second) {
@@ -597,7 +672,7 @@ impl PieceList {
     }
 
     /// Merges the neighbours that meet at `seam`, and keeps the place of the piece that has its position.
-    pub(crate) fn settle_at(&mut self, alloc: &Global, seam: Seam)
+    pub(crate) fn settle_at(&mut self, alloc: &Global, seam: Seam, followed: &mut Followed)
         requires { IsSeam self.old.chain.nodes seam }
         ensures same { text_along self.new.chain.nodes ≡ text_along self.old.chain.nodes }
         ensures settled { IsSettledAt (fingered self.new.chain.nodes self.new.finger) seam.pos }
@@ -606,24 +681,26 @@ impl PieceList {
             → IsMergedAt (pieces_of self.new.chain.nodes) at }
         ensures pieces { UnitesAtMost (pieces_of self.old.chain.nodes)
             (pieces_of self.new.chain.nodes) }
+        ensures short { followed.new ≤ followed.old + 2 }
     {
-        if self.merge(alloc, seam) {
+        if self.merge(alloc, seam, followed) {
             return;
         }
-        self.finger = self.place_after(seam);
+        self.finger = self.place_after(seam, followed);
     }
 
     /// Merges the neighbours that meet at `pos`, if pieces do, and keeps the place of the piece that has it.
-    pub(crate) fn settle(&mut self, alloc: &Global, pos: u32)
+    pub(crate) fn settle(&mut self, alloc: &Global, pos: u32, followed: &mut Followed)
         requires { pos ≤ self.old.len }
         ensures same { text_along self.new.chain.nodes ≡ text_along self.old.chain.nodes }
         ensures settled { IsSettledAt (fingered self.new.chain.nodes self.new.finger) pos }
         ensures elsewhere { (at : ℕ) → pos < at → IsMergedAt (pieces_of self.old.chain.nodes) at
             → IsMergedAt (pieces_of self.new.chain.nodes) at }
+        ensures short { followed.new ≤ followed.old + 256 }
     {
-        match self.place(pos) {
-            RingPlace::Between(seam) => self.settle_at(alloc, seam),
-            RingPlace::Inside(_) => self.locate(pos),
+        match self.place(pos, followed) {
+            RingPlace::Between(seam) => self.settle_at(alloc, seam, followed),
+            RingPlace::Inside(_) => self.locate(pos, followed),
         }
     }
 
@@ -640,9 +717,10 @@ impl PieceList {
             len,
             finger: _,
             table: _,
+            laid: _,
         } = self;
-        let first = chain.next(trailer, 0);
-        let last = chain.prev(trailer, 0);
+        let first = chain.second(trailer);
+        let last = chain.last(trailer);
         let pieces = chain.split(trailer, 0, last, count);
         chain.free(alloc, trailer);
         Stretch {
@@ -664,10 +742,11 @@ impl PieceList {
             len: _,
             finger: _,
             table: _,
+            laid: _,
         } = self;
         let mut freed = 0;
         for _ in 0..count {
-            let first = chain.next(trailer, 0);
+            let first = chain.second(trailer);
             chain.split(trailer, 0, first, 1).free(alloc, first);
             freed += 1;
         }
@@ -677,7 +756,15 @@ impl PieceList {
 }
 
 /// Changes the looks of the pieces after the node of index `i` up to that of index `j`.
-fn relook_nodes(chain: &mut Chain, at: Spot, i: usize, j: usize, sel: u8, look: Look)
+fn relook_nodes(
+    chain: &mut Chain,
+    at: Spot,
+    i: usize,
+    j: usize,
+    sel: u8,
+    look: Look,
+    followed: &mut Followed,
+)
     requires at { slice_get (places chain.old.nodes) i ≡ Some at.ptr }
     requires order { i ≤ j }
     requires within { j < length chain.old.nodes }
@@ -687,7 +774,7 @@ fn relook_nodes(chain: &mut Chain, at: Spot, i: usize, j: usize, sel: u8, look: 
 {
     let mut node = at;
     for index in i..j {
-        node = chain.next(node, index);
+        node = chain.next(node, index, followed);
         let piece = chain.piece(node, index + 1);
         let changed = Piece {
             look: piece.look.relooked(sel, look),

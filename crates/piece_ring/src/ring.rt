@@ -4,13 +4,15 @@
 //! character's offset and look alone. How a text is cut into pieces isn't promised, but for the cut
 //! that `split_at` makes, the pieces that `push` puts in, which `Cursor::next_piece` gives back, and
 //! how many `add` makes.
-ghost use Rattle.std.specs.Prelude.{◌≡◌, ◌+◌, ◌*◌, ◌/◌, ◌^◌, ◌<◌, ◌≤◌, ◌∷◌, ◌++◌, [], length, take, IfOk, IfErr, OnOk};
+ghost use Rattle.std.specs.Prelude.{◌≡◌, ◌+◌, ◌*◌, ◌/◌, ◌^◌, ◌<◌, ◌≤◌, ◌∷◌, ◌++◌, [], length, IfOk, IfErr, OnOk};
 ghost use Rattle.piece_ring.specs.Cut.{IsCutAt};
 ghost use Rattle.piece_ring.specs.Flat.{flat, characters_of};
 ghost use Rattle.piece_ring.specs.Finger.{IsFingerAt, IsSettledAt};
 ghost use Rattle.piece_ring.specs.Merging.{AddsAtMost, IsMergedAt};
-ghost use Rattle.piece_ring.specs.Promises.{ChangesTo, HasRoomFor, IsStretchOf, IsCursorAt};
+ghost use Rattle.piece_ring.specs.Promises.{ChangesTo, HasRoomFor, IsBackCursorAt, IsCursorAt, IsStretchOf};
 ghost use Rattle.piece_ring.specs.Text.{stretch, inserted, deleted, looks_changed};
+
+mod followed;
 
 use crate::back_cursor::BackCursor;
 use crate::cursor::Cursor;
@@ -18,6 +20,7 @@ use crate::list::PieceList;
 use crate::piece::{Look, Piece};
 use crate::spare::Spare;
 use crate::stretch::Stretch;
+pub(crate) use followed::Followed;
 use std::alloc::{AllocError as NoMemory, Global};
 use std::marker::Model;
 
@@ -25,15 +28,17 @@ use std::marker::Model;
 pub struct Ring {
     list: PieceList,
     alloc: Global,
+    /// The links that its edits have followed on their ways to places.
+    followed: Followed,
 }
 
 impl Model for Ring {
-    ghost use Rattle.piece_ring.specs.Finger.{fingered};
+    ghost use Rattle.piece_ring.specs.Finger.{ringed};
     ghost use Rattle.piece_ring.specs.FingeredPieces.{FingeredPieces};
 
     ghost Value = { FingeredPieces };
 
-    ghost view = { λ r. fingered r.list.chain.nodes r.list.finger };
+    ghost view = { λ r. ringed r.list.chain.nodes r.list.finger r.followed };
 }
 
 impl Ring {
@@ -41,8 +46,12 @@ impl Ring {
     pub fn new(alloc: Global) -> Result<Ring, NoMemory>
         ensures { IfOk result (λ r. r.pieces ≡ []) }
     {
-        let list = PieceList::new(Spare::new(alloc)?);
-        Ok(Ring { list, alloc })
+        let list = PieceList::new(Spare::new(alloc)?, Followed::none());
+        Ok(Ring {
+            list,
+            alloc,
+            followed: Followed::none(),
+        })
     }
 
     /// The number of characters.
@@ -73,8 +82,9 @@ impl Ring {
         requires { pos ≤ length (flat self.old.pieces) }
         ensures same { self.new.pieces ≡ self.old.pieces }
         ensures finger { IsFingerAt self.new pos }
+        ensures short { self.new.followed ≤ self.old.followed + 128 }
     {
-        self.list.locate(pos);
+        self.list.locate(pos, &mut self.followed);
     }
 
     /// Cuts the piece that has `pos` inside, so that a piece begins there. The text stays, also if memory was refused.
@@ -83,9 +93,10 @@ impl Ring {
         ensures same { flat self.new.pieces ≡ flat self.old.pieces }
         ensures finger { OnOk result (IsFingerAt self.new pos) }
         ensures cut { OnOk result (IsCutAt self.new.pieces pos) }
+        ensures short { self.new.followed ≤ self.old.followed + 256 }
     {
-        self.list.seam_at(alloc, pos)?;
-        self.list.locate(pos);
+        self.list.seam_at(alloc, pos, &mut self.followed)?;
+        self.list.locate(pos, &mut self.followed);
         Ok(())
     }
 
@@ -97,17 +108,18 @@ impl Ring {
         ensures text { ChangesTo (deleted beg end (flat self.old.pieces)) result
             (flat self.old.pieces) (flat self.new.pieces) }
         ensures settled { OnOk result (IsSettledAt self.new beg) }
+        ensures short { self.new.followed ≤ self.old.followed + 259 }
     {
         let mut taken = Ring::new(alloc)?;
         if beg == end {
-            self.list.settle(&alloc, beg);
+            self.list.settle(&alloc, beg, &mut self.followed);
             return Ok(taken);
         }
-        let (from, upto) = self.list.seams(alloc, beg, end)?;
+        let (from, upto) = self.list.seams(alloc, beg, end, &mut self.followed)?;
         taken.list.reserve(alloc, upto.index - from.index)?;
-        let pieces = self.list.take_out(from, upto);
+        let pieces = self.list.take_out(from, upto, &mut self.followed);
         taken.list.put_all(pieces);
-        self.list.settle_at(&alloc, from);
+        self.list.settle_at(&alloc, from, &mut self.followed);
         Ok(taken)
     }
 
@@ -122,23 +134,28 @@ impl Ring {
         ensures merged { OnOk result (IsMergedAt self.new.pieces (pos
             + length (flat other.pieces))) }
         ensures returned { IfErr result (λ e. flat e.1.pieces ≡ flat other.pieces) }
+        ensures short { self.new.followed ≤ self.old.followed + 256 }
     {
         if other.list.len == 0 {
-            self.list.settle(&alloc, pos);
+            self.list.settle(&alloc, pos, &mut self.followed);
             return Ok(());
         }
         if let Err(refused) = self.list.reserve(alloc, other.list.count + 1) {
             return Err((refused, other));
         }
-        let seam = match self.list.seam_at(alloc, pos) {
+        let seam = match self.list.seam_at(alloc, pos, &mut self.followed) {
             Ok(seam) => seam,
             Err(refused) => return Err((refused, other)),
         };
-        let Ring { list, alloc: own } = other;
+        let Ring {
+            list,
+            alloc: own,
+            followed: _,
+        } = other;
         let pieces = list.into_stretch(&own);
         let after = self.list.insert(seam, pieces);
-        self.list.merge(&alloc, after);
-        self.list.settle_at(&alloc, seam);
+        self.list.merge(&alloc, after, &mut self.followed);
+        self.list.settle_at(&alloc, seam, &mut self.followed);
         Ok(())
     }
 
@@ -166,12 +183,13 @@ impl Ring {
             (flat self.old.pieces) (flat self.new.pieces) }
         ensures settled { OnOk result (IsSettledAt self.new (length (flat self.old.pieces))) }
         ensures pieces { OnOk result (AddsAtMost self.old.pieces piece self.new.pieces) }
+        ensures short { self.new.followed ≤ self.old.followed + 2 }
     {
         self.list.reserve(alloc, 1)?;
         let one = Stretch::of_piece(&alloc, piece)?;
         let end = self.list.end();
         self.list.insert(end, one);
-        self.list.settle_at(&alloc, end);
+        self.list.settle_at(&alloc, end, &mut self.followed);
         Ok(())
     }
 
@@ -179,7 +197,9 @@ impl Ring {
     /// pieces stay.
     pub fn push(&mut self, alloc: Global, piece: Piece) -> Result<(), NoMemory>
         requires { HasRoomFor piece self.old.pieces }
-        ensures { ChangesTo (self.old.pieces ++ piece ∷ []) result self.old.pieces self.new.pieces }
+        ensures pieces { ChangesTo (self.old.pieces ++ piece ∷ []) result self.old.pieces
+            self.new.pieces }
+        ensures none_followed { self.new.followed ≡ self.old.followed }
     {
         self.list.reserve(alloc, 1)?;
         let alone = Stretch::of_piece(&alloc, piece)?;
@@ -190,12 +210,15 @@ impl Ring {
 
     /// Takes all characters out, and frees their nodes. It takes no memory.
     pub fn clear(&mut self)
-        ensures { flat self.new.pieces ≡ [] }
+        ensures text { flat self.new.pieces ≡ [] }
+        ensures short { self.new.followed ≤ self.old.followed + 1 }
     {
         if self.list.len > 0 {
             let start = self.list.start();
             let end = self.list.end();
-            self.list.take_out(start, end).destroy(&self.alloc);
+            self.list
+                .take_out(start, end, &mut self.followed)
+                .destroy(&self.alloc);
         }
     }
 
@@ -214,15 +237,17 @@ impl Ring {
             (flat self.old.pieces) (flat self.new.pieces) }
         ensures settled { OnOk result (IsSettledAt self.new beg) }
         ensures merged { OnOk result (IsMergedAt self.new.pieces end) }
+        ensures short { self.new.followed ≤ self.old.followed + 513 }
     {
         if beg == end {
-            self.list.settle(&alloc, beg);
+            self.list.settle(&alloc, beg, &mut self.followed);
             return Ok(());
         }
-        let (from, upto) = self.list.seams(alloc, beg, end)?;
-        self.list.relook(from, upto, sel, look);
-        self.list.merge(&alloc, upto);
-        self.list.settle(&alloc, beg);
+        let (from, upto) = self.list.seams(alloc, beg, end, &mut self.followed)?;
+        let mut passed = Followed::none();
+        self.list.relook(from, upto, sel, look, &mut passed);
+        self.list.merge(&alloc, upto, &mut self.followed);
+        self.list.settle(&alloc, beg, &mut self.followed);
         Ok(())
     }
 
@@ -232,7 +257,6 @@ impl Ring {
         requires { pos ≤ length (flat self.now.pieces) }
         ensures at { IsCursorAt pos self.now.pieces result }
         ensures near { IsFingerAt self.now pos → result.walked ≡ 0 }
-        ensures short { result.walked ≤ 128 }
     {
         if pos == self.list.len {
             return Cursor {
@@ -242,9 +266,24 @@ impl Ring {
                 within: 0,
                 links: 0,
                 walked: 0,
+                to: Followed::none(),
+                since: Followed::none(),
             };
         }
-        let found = self.list.find(pos);
+        if let Some(within) = self.list.within_finger(pos) {
+            return Cursor {
+                list: &self.list,
+                at: self.list.finger.at,
+                index: self.list.finger.index,
+                within,
+                links: 0,
+                walked: 0,
+                to: Followed::none(),
+                since: Followed::none(),
+            };
+        }
+        let mut to = Followed::none();
+        let found = self.list.find(pos, &mut to);
         Cursor {
             list: &self.list,
             at: found.after.at,
@@ -252,20 +291,24 @@ impl Ring {
             within: pos - found.before.pos,
             links: 0,
             walked: found.links as u32,
+            to,
+            since: Followed::none(),
         }
     }
 
-    /// A cursor that goes backwards, after the first `pos` characters. It follows as many links as one
-    /// that `cursor` gives.
+    /// A cursor that goes backwards, after the first `pos` characters. It follows at most 128 links.
     pub fn back_cursor(&self, pos: u32) -> BackCursor<'_>
         requires { pos ≤ length (flat self.now.pieces) }
-        ensures { result ≡ take pos (flat self.now.pieces) }
+        ensures { IsBackCursorAt pos self.now.pieces result }
     {
-        let (before, front) = self.list.front(pos);
+        let mut to = Followed::none();
+        let (before, front) = self.list.front(pos, &mut to);
         BackCursor {
             list: &self.list,
             before,
             front,
+            to,
+            since: Followed::none(),
         }
     }
 
@@ -273,7 +316,11 @@ impl Ring {
     pub fn destroy(self) -> usize
         ensures { result ≡ length self.pieces + 1 }
     {
-        let Ring { list, alloc } = self;
+        let Ring {
+            list,
+            alloc,
+            followed: _,
+        } = self;
         list.destroy(&alloc)
     }
 }

@@ -15,6 +15,7 @@ ghost use Rattle.piece_ring.specs.Table.{mark_of_seam, top as top_of, turned as 
 
 use crate::chain::{Chain, Spot};
 use crate::place::Seam;
+use crate::ring::Followed;
 use std::alloc::{AllocError as NoMemory, Global};
 
 /// The most pieces from one mark to the next.
@@ -199,7 +200,14 @@ impl Table {
     }
 
     /// Puts in what marks are missing in the window; all are made anew where they are too many. Mostly nothing is to do.
-    pub(crate) fn fill(&mut self, chain: &Chain, start: Seam, count: usize, len: u32)
+    pub(crate) fn fill(
+        &mut self,
+        chain: &Chain,
+        start: Seam,
+        count: usize,
+        len: u32,
+        laid: &mut Followed,
+    )
         requires list { IsMeasured chain.now.nodes count len }
         requires parted { IsTableParted chain.now.nodes self.old }
         requires room { CanHold self.old count }
@@ -208,7 +216,7 @@ impl Table {
         ensures room { KeepsRoom self.old self.new }
     {
         let missing = !is_filled(self.kept(), count);
-        self.fill_where(missing, chain, start, count, len);
+        self.fill_where(missing, chain, start, count, len, laid);
     }
 
     /// The same, where it is known whether any may be missing.
@@ -219,6 +227,7 @@ impl Table {
         start: Seam,
         count: usize,
         len: u32,
+        laid: &mut Followed,
     )
         requires list { IsMeasured chain.now.nodes count len }
         requires parted { IsTableParted chain.now.nodes self.old }
@@ -235,7 +244,7 @@ impl Table {
         let Some(stacks) = &mut self.stacks else {
             return;
         };
-        stacks.fill(chain, start, count, len);
+        stacks.fill(chain, start, count, len, laid);
     }
 
     /// The marks on both sides of the character at `pos`, or the start or the end of the text where there is none.
@@ -415,7 +424,7 @@ impl Stacks {
 
     /// Puts in what marks are missing in the window; all are made anew where they are too many.
     #[inline(never)]
-    fn fill(&mut self, chain: &Chain, start: Seam, count: usize, len: u32)
+    fn fill(&mut self, chain: &Chain, start: Seam, count: usize, len: u32, laid: &mut Followed)
         requires list { IsMeasured chain.now.nodes count len }
         requires parted { IsParted chain.now.nodes self.old.front.items self.old.back.items }
         requires kept { IsKept self.old.front.items self.old.back.items self.old.kept }
@@ -430,12 +439,12 @@ impl Stacks {
             self.front.clear();
             self.back.clear();
         }
-        self.fill_gap(chain, start, count, len);
+        self.fill_gap(chain, start, count, len, laid);
         self.note();
     }
 
     /// Puts in what marks are missing in the window, which are few enough.
-    fn fill_gap(&mut self, chain: &Chain, start: Seam, count: usize, len: u32)
+    fn fill_gap(&mut self, chain: &Chain, start: Seam, count: usize, len: u32, laid: &mut Followed)
         requires list { IsMeasured chain.now.nodes count len }
         requires parted { IsParted chain.now.nodes self.old.front.items self.old.back.items }
         requires room { HasRoom self.old count }
@@ -448,7 +457,7 @@ impl Stacks {
         let end = count - top(&self.back);
         let mut mark = nth(&self.front, self.front.len(), start);
         while end - mark.index > MOST {
-            mark = walk(chain, mark, STRIDE, len);
+            mark = walk(chain, mark, STRIDE, len, laid);
             self.front.push_reserved(marked(mark));
         }
     }
@@ -609,7 +618,7 @@ fn search(marks: &Vec<Mark>, pos: u32) -> usize
 }
 
 /// The seam so many pieces after another.
-fn walk(chain: &Chain, from: Seam, links: usize, len: u32) -> Seam
+fn walk(chain: &Chain, from: Seam, links: usize, len: u32, laid: &mut Followed) -> Seam
     requires seam { IsSeam chain.now.nodes from }
     requires within { from.index + links < length chain.now.nodes }
     requires text { length (text_along chain.now.nodes) ≡ len }
@@ -619,13 +628,13 @@ fn walk(chain: &Chain, from: Seam, links: usize, len: u32) -> Seam
 {
     let mut seam = from;
     for _ in 0..links {
-        seam = next_seam(chain, seam, len);
+        seam = next_seam(chain, seam, len, laid);
     }
     seam
 }
 
 /// The seam after the piece that follows `seam`.
-fn next_seam(chain: &Chain, seam: Seam, len: u32) -> Seam
+fn next_seam(chain: &Chain, seam: Seam, len: u32, laid: &mut Followed) -> Seam
     requires seam { IsSeam chain.now.nodes seam }
     requires more { seam.index + 1 < length chain.now.nodes }
     requires text { length (text_along chain.now.nodes) ≡ len }
@@ -634,7 +643,7 @@ fn next_seam(chain: &Chain, seam: Seam, len: u32) -> Seam
     ensures next { result.index ≡ seam.index + 1 }
 {
     let _ = len;
-    let at = chain.next(seam.at, seam.index);
+    let at = chain.next(seam.at, seam.index, laid);
     let index = seam.index + 1;
     let piece = chain.piece(at, index);
     Seam {

@@ -3,7 +3,7 @@ use Rattle.std.specs.Prelude.{ℕ, Bool, true, false, List, Option, Some, None, 
 use Rattle.std.specs.List.{list_any}
 use Rattle.screen_pictures.specs.declared.cell.Cell.{Cell}
 use Rattle.screen_pictures.specs.declared.cell.Mark.{Mark}
-use Rattle.screen_pictures.specs.declared.cell.Mark.TheVariants.{Caret, Menu}
+use Rattle.screen_pictures.specs.declared.cell.Mark.TheVariants.{Caret}
 use Rattle.screen_pictures.specs.Screen.{row_at}
 pub use Rattle.event_bytes.specs.Parts.{◌>>=◌}
 
@@ -24,7 +24,3 @@ caret_cell screen = do
 abbrev pub or_else : {A : Type 0} → Option A → Option A → Option A
 or_else None other = other
 or_else (Some a) other = Some a
-
-abbrev pub is_menu : Mark → Bool
-is_menu Menu = true
-is_menu _ = false

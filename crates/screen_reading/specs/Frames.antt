@@ -1,18 +1,15 @@
--- The viewer that is seen around a cell, by the marks of the screen.
-use Rattle.std.specs.Prelude.{ℕ, ◌+◌, ◌-◌, Bool, true, false, ◌||◌, not, nat_lt, if◌then◌else◌, List}
-use Rattle.std.specs.Prelude.{Option, Some, None, drop, max, min, option_map, position, slice_range, unwrap_or}
+-- Where the text of a viewer is seen, and how far down something stands in it.
+use Rattle.std.specs.Prelude.{ℕ, ◌+◌, ◌-◌, Bool, nat_lt, if◌then◌else◌, List}
+use Rattle.std.specs.Prelude.{Option, Some, None, drop, max, min, option_map, position, slice_range}
 use Rattle.std.specs.List.{list_any, range_with_len}
-use Rattle.viewer_tracks.specs.declared.display.TheConstants.{COLUMNS, ROWS, SYSTEM_LEFT}
+use Rattle.viewer_tracks.specs.declared.display.TheConstants.{COLUMNS, SYSTEM_LEFT}
 use Rattle.viewer_tracks.specs.Display.{left_of, track_at}
 use Rattle.viewer_tracks.specs.declared.tracks.Place.{Place}
 use Rattle.screen_pictures.specs.declared.cell.Cell.{Cell}
-use Rattle.screen_pictures.specs.declared.cell.Mark.{Mark}
-use Rattle.screen_pictures.specs.declared.cell.Mark.TheVariants.{Bar, Caret, Selected, Text}
 use Rattle.terminal_presses.specs.Sights.{Sight}
-use Rattle.screen_reading.specs.Aims.{is_menu}
 use Rattle.screen_reading.specs.Along.{is_of}
 use Rattle.screen_reading.specs.declared.along.Kind.TheVariants.{Letter}
-use Rattle.screen_pictures.specs.Screen.{column_at, row_at}
+use Rattle.screen_pictures.specs.Screen.{row_at}
 
 -- the first column of the track that has column x, and the one behind its last
 abbrev pub left_at : ℕ → ℕ
@@ -20,41 +17,6 @@ left_at x = left_of (track_at x)
 
 abbrev pub track_end : ℕ → ℕ
 track_end x = if nat_lt x SYSTEM_LEFT then SYSTEM_LEFT else COLUMNS
-
-abbrev pub is_in_frame : Mark → Bool
-is_in_frame Bar = true
-is_in_frame Text = true
-is_in_frame Selected = true
-is_in_frame Caret = true
-is_in_frame _ = false
-
--- Whether a row is the menu of a viewer in the track that begins in this column, or one of a viewer's text. The marker
--- hides what one cell is, so two are looked at.
-abbrev pub is_menu_row : ℕ → List Cell → Bool
-is_menu_row left row =
-    is_menu (column_at row left).mark || is_menu (column_at row (left + 1)).mark
-
-abbrev pub is_frame_row : ℕ → List Cell → Bool
-is_frame_row left row =
-    is_in_frame (column_at row left).mark || is_in_frame (column_at row (left + 1)).mark
-
--- how many rows are between row y and the first menu above it
-abbrev pub rows_to_menu : ℕ → ℕ → List (List Cell) → Option ℕ
-rows_to_menu left y screen =
-    position (λ k. is_menu_row left (row_at screen (y + 1 + k))) (range_with_len 0 (ROWS - 1 - y))
-
--- the row of the menu of the viewer whose text has a row in row y
-abbrev pub menu_row : ℕ → ℕ → List (List Cell) → Option ℕ
-menu_row left y screen = option_map (λ k. y + 1 + k) (rows_to_menu left y screen)
-
--- how many rows of its text are below that one, and the lowest of them
-abbrev pub rows_below : ℕ → ℕ → List (List Cell) → ℕ
-rows_below left y screen =
-    unwrap_or
-    (position (λ k. not (is_frame_row left (row_at screen (y - 1 - k)))) (range_with_len 0 y)) y
-
-abbrev pub lowest_row : ℕ → ℕ → List (List Cell) → ℕ
-lowest_row left y screen = y - rows_below left y screen
 
 -- the first cell of the text of a viewer that stands there, where it has a row of text: right of its bar, and below its
 -- menu

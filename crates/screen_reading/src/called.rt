@@ -2,18 +2,22 @@
 ghost use Rattle.std.specs.Prelude.{◌≡◌, ◌<◌, ◌≤◌, length};
 ghost use Rattle.viewer_tracks.specs.declared.display.TheConstants.{COLUMNS};
 ghost use Rattle.screen_reading.specs.Called.{bytes_seen, called_word, parameter_word, row_word, row_word_from};
-ghost use Rattle.screen_reading.specs.Called.{word_behind, word_from};
+ghost use Rattle.screen_reading.specs.Called.{begin_in_track, word_behind, end_in_track, word_from};
 
 use crate::along::{Kind, Row, begin_of, end_of, last_of};
 use arrayvec::ArrayVec;
 use screen_cells::Screen;
 use screen_pictures::Cell;
-use viewer_tracks::COLUMNS;
+use viewer_tracks::{COLUMNS, SYSTEM_LEFT};
 
 /// How many bytes of a word are kept at most: as many as a name has.
 pub const MOST_WORD: usize = 31;
 
-/// The word that is seen at the cell in that column and row, or ends right before it; no byte where there is none.
+/// The column at which the system track begins. No word goes on beyond it.
+const EDGE: usize = SYSTEM_LEFT as usize;
+
+/// The word that is seen at the cell in that column and row, or ends right before it, in the cell's track; no byte where
+/// there is none.
 #[tactic(auto, unfolding(crate::specs::Called::called_word))]
 pub fn called_word(screen: &Screen, x: u8, y: u8) -> ArrayVec<u8, MOST_WORD>
     ensures { result.items ≡ called_word screen.now x y }
@@ -24,13 +28,34 @@ pub fn called_word(screen: &Screen, x: u8, y: u8) -> ArrayVec<u8, MOST_WORD>
     }
 }
 
+/// The first column of the word around a column, or of the one that ends right before it, in the track of the column.
+fn begin_in_track(row: &Row, x: usize) -> usize
+    requires { x < COLUMNS }
+    ensures value { result ≡ begin_in_track row.now x }
+    ensures within { result ≤ x }
+{
+    let begin = begin_of(Kind::Name, row, x);
+    if x < EDGE { begin } else { begin.max(EDGE) }
+}
+
+/// The column behind the word that stands from a column on, in the track of the column.
+fn end_in_track(row: &Row, x: usize) -> usize
+    requires { x < COLUMNS }
+    ensures value { result ≡ end_in_track row.now x }
+    ensures behind { x ≤ result }
+    ensures within { result ≤ COLUMNS }
+{
+    let end = end_of(Kind::Name, row, x);
+    if x < EDGE { end.min(EDGE) } else { end }
+}
+
 /// The word around a column of a row, or the one that ends right before it.
 fn row_word(row: &Row, x: usize) -> ArrayVec<u8, MOST_WORD>
     requires { x < COLUMNS }
     ensures { result.items ≡ row_word row.now x }
 {
-    let begin = begin_of(Kind::Name, row, x);
-    let end = end_of(Kind::Name, row, x).min(begin + MOST_WORD);
+    let begin = begin_in_track(row, x);
+    let end = end_in_track(row, x).min(begin + MOST_WORD);
     bytes_seen(&row[begin..end])
 }
 
@@ -50,7 +75,7 @@ fn row_word_from(row: &Row, x: usize) -> ArrayVec<u8, MOST_WORD>
     requires { x < COLUMNS }
     ensures { result.items ≡ row_word_from row.now x }
 {
-    let end = end_of(Kind::Name, row, x).min(x + MOST_WORD);
+    let end = end_in_track(row, x).min(x + MOST_WORD);
     bytes_seen(&row[x..end])
 }
 
@@ -71,9 +96,9 @@ fn word_behind(row: &Row, x: usize) -> ArrayVec<u8, MOST_WORD>
     requires { x < COLUMNS }
     ensures { result.items ≡ word_behind row.now x }
 {
-    let begin = end_of(Kind::Blank, row, end_of(Kind::Name, row, x));
+    let begin = end_of(Kind::Blank, row, end_in_track(row, x));
     if begin <= last_of(row, x) {
-        let end = end_of(Kind::Name, row, begin).min(begin + MOST_WORD);
+        let end = end_in_track(row, begin).min(begin + MOST_WORD);
         bytes_seen(&row[begin..end])
     } else {
         ArrayVec::new()

@@ -1,18 +1,14 @@
-//! The viewer that is seen around a cell, by the marks of the screen.
-ghost use Rattle.std.specs.Prelude.{◌≡◌, ◌<◌, ◌≤◌, ◌+◌, ◌-◌, not, length, position, IfSome, unwrap_or};
-ghost use Rattle.std.specs.List.{range_with_len};
+//! Where the text of a viewer is seen, and how far down something stands in it.
+ghost use Rattle.std.specs.Prelude.{◌≡◌, ◌<◌, ◌≤◌, ◌+◌, IfSome};
 ghost use Rattle.screen_pictures.specs.Screen.{column_at, row_at};
-ghost use Rattle.screen_reading.specs.Aims.{is_menu};
-ghost use Rattle.screen_reading.specs.Frames.{left_at, track_end, is_in_frame, is_menu_row, is_frame_row};
-ghost use Rattle.screen_reading.specs.Frames.{is_written, rows_to_text, body_cells, text_end};
-ghost use Rattle.screen_reading.specs.Frames.{lowest_row, menu_row, rows_below, rows_to_menu, text_rows_in_sight};
-ghost use Rattle.screen_reading.specs.Frames.{text_start};
+ghost use Rattle.screen_reading.specs.Frames.{left_at, track_end, is_written, rows_to_text, body_cells, text_end};
+ghost use Rattle.screen_reading.specs.Frames.{text_rows_in_sight, text_start};
 
 use crate::along::{Kind, Row, is_of};
 use screen_cells::Screen;
-use screen_pictures::{Cell, Mark};
+use screen_pictures::Cell;
 use terminal_presses::Sight;
-use viewer_tracks::{COLUMNS, Place, ROWS, SYSTEM_LEFT};
+use viewer_tracks::{COLUMNS, Place, SYSTEM_LEFT};
 
 /// The cell of a row in a column, and that of an empty display where the row has none.
 pub(crate) fn cell_in(row: &Row, x: usize) -> Cell
@@ -123,108 +119,4 @@ pub fn text_end(place: Place, screen: &Screen) -> Option<(u8, u8)>
         None => None,
         Some(k) => Some((left + 1, place.bottom + k as u8)),
     }
-}
-
-/// Whether a cell is one of a menu.
-fn is_menu(mark: Mark) -> bool
-    ensures { result ≡ is_menu mark }
-{
-    matches!(mark, Mark::Menu)
-}
-
-/// Whether a cell is one of a viewer's text, or of the bar beside it.
-fn is_in_frame(mark: Mark) -> bool
-    ensures { result ≡ is_in_frame mark }
-{
-    matches!(mark, Mark::Bar | Mark::Text | Mark::Selected | Mark::Caret)
-}
-
-/// Whether a row is the menu of a viewer in the track that begins in that column.
-fn is_menu_row(left: u8, row: &Row) -> bool
-    ensures { result ≡ is_menu_row left row.now }
-{
-    let left = usize::from(left);
-    is_menu(cell_in(row, left).mark) || is_menu(cell_in(row, left + 1).mark)
-}
-
-/// Whether a row is one of a viewer's text in the track that begins in that column.
-fn is_frame_row(left: u8, row: &Row) -> bool
-    ensures { result ≡ is_frame_row left row.now }
-{
-    let left = usize::from(left);
-    is_in_frame(cell_in(row, left).mark) || is_in_frame(cell_in(row, left + 1).mark)
-}
-
-/// Whether the row that is so many rows above the one above row `y` is a menu.
-fn is_menu_above(left: u8, y: u8, screen: &Screen, k: u8) -> bool
-    ensures { result ≡ is_menu_row left (row_at screen.now (y + 1 + k)) }
-{
-    match screen.rows().get(usize::from(y) + 1 + usize::from(k)) {
-        None => false,
-        Some(row) => is_menu_row(left, row),
-    }
-}
-
-/// How many rows are between row `y` and the first menu above it.
-fn rows_to_menu(left: u8, y: u8, screen: &Screen) -> Option<usize>
-    requires { y < ROWS }
-    ensures value { result ≡ rows_to_menu left y screen.now }
-    ensures within { IfSome result (λ k. k < ROWS - 1 - y) }
-{
-    (0..ROWS - 1 - y).position(|k| is_menu_above(left, y, screen, k))
-}
-
-/// The row of the menu of the viewer whose text has a row in row `y`.
-pub(crate) fn menu_row(left: u8, y: u8, screen: &Screen) -> Option<u8>
-    requires { y < ROWS }
-    ensures value { result ≡ menu_row left y screen.now }
-    ensures within { IfSome result (λ m. m < ROWS) }
-    ensures above { IfSome result (λ m. y < m) }
-{
-    match rows_to_menu(left, y, screen) {
-        None => None,
-        Some(k) => Some(y + 1 + k as u8),
-    }
-}
-
-/// Whether the row that is so many rows below the one below row `y` is none of a viewer's text.
-fn ends_below(left: u8, y: u8, screen: &Screen, k: u8) -> bool
-    ensures { result ≡ not (is_frame_row left (row_at screen.now (y - 1 - k))) }
-{
-    match screen.rows().get(
-        usize::from(y)
-            .saturating_sub(1)
-            .saturating_sub(usize::from(k)),
-    ) {
-        None => true,
-        Some(row) => !is_frame_row(left, row),
-    }
-}
-
-/// How many rows of a viewer's text are right below row `y`.
-fn rows_below(left: u8, y: u8, screen: &Screen) -> u8
-    ensures value { result ≡ rows_below left y screen.now }
-    ensures within { result ≤ y }
-{
-    match first_end(left, y, screen) {
-        None => y,
-        Some(k) => k as u8,
-    }
-}
-
-/// How many rows are between row `y` and the first one below it that is none of a viewer's text.
-fn first_end(left: u8, y: u8, screen: &Screen) -> Option<usize>
-    ensures value { result ≡ position (λ k. not (is_frame_row left (row_at screen.now (y - 1 - k))))
-        (range_with_len 0 y) }
-    ensures within { IfSome result (λ k. k < y) }
-{
-    (0..y).position(|k| ends_below(left, y, screen, k))
-}
-
-/// The lowest row of the text of the viewer that has one in row `y`.
-pub(crate) fn lowest_row(left: u8, y: u8, screen: &Screen) -> u8
-    ensures value { result ≡ lowest_row left y screen.now }
-    ensures within { result ≤ y }
-{
-    y - rows_below(left, y, screen)
 }

@@ -5,9 +5,9 @@ use Rattle.sector_disk.specs.Trail.{Trail, now, IsCrashImage, Leaves, LeavesOnly
 use Rattle.sector_disk.proofs.Touching.{at_last, chained, weakened}
 use Rattle.desktop_definitions.specs.declared.reply.Reply.{Reply}
 use Rattle.desktop_definitions.specs.Desktop.{Desktop, KeptDesktop}
-use Rattle.desk_bringing.specs.Bringing.{Documents, brought_in, BringsUnread}
+use Rattle.document_filing.specs.Bringing.{Documents, brought_in, BringsUnread}
 use Rattle.store_layout.specs.Meaning.{MeansEither, Stands}
-use Rattle.desk_slots.proofs.Settling.{shows_means}
+use Rattle.store_slots.proofs.Settling.{shows_means}
 use Rattle.desk_journal.specs.Bringing.{LeavesAllOrNone, AreBrought}
 use Rattle.desk_journal.specs.Device.{IsOnlyRead}
 use Rattle.desk_journal.specs.View.{StoreView, IsDurable}

@@ -2,7 +2,7 @@
 use Rattle.std.proofs.Common.{◌≡◌, ◌<◌, ◌∙◌, ◌+◌, ℕ, inl, inr, arith, false, List, [], ◌∷◌, ◌++◌, map, ap, sym, Option, Ok}
 use Rattle.std.proofs.lemmas.Bool.{cases_lt}
 use Rattle.std.proofs.lemmas.List.{map-append}
-use Rattle.desk_bringing.specs.Bringing.{Documents}
+use Rattle.document_filing.specs.Bringing.{Documents}
 use Rattle.store_documents.specs.Handing.{document_of_file, AreTaken, IsHandedBehind, is_named_before}
 
 pub taken_more : (width : Option ℕ) (files : Documents) (file : List ℕ × List ℕ) (old new : Documents)

@@ -1,6 +1,7 @@
 -- What comes out of a store, for whom.
-use Rattle.std.specs.Prelude.{◌≡◌, ℕ, Bool, true, false, if◌then◌else◌, List, Option, Some, None}
+use Rattle.std.specs.Prelude.{◌≡◌, ℕ, Bool, true, false, if◌then◌else◌, List, Option, Some, None, ⊤}
 use Rattle.std.specs.Io.KnownBytes.{Appends, Keeps}
+use Rattle.desk_journal.specs.Errors.{OfLook}
 use Rattle.piece_ring.specs.Text.{Text}
 use Rattle.store_documents.specs.HostText.{exported, printable}
 use Rattle.store_documents.specs.Filling.{joined_text}
@@ -39,3 +40,14 @@ abbrev pub IsExportCutOff : Form → Option (Text ℕ) → ExportFault → Optio
 IsExportCutOff form file (Store error) old new = Keeps old new
 IsExportCutOff form None Output old new = ⊥
 IsExportCutOff form (Some text) Output old new = AppendsFront old new (text_in_form form text)
+
+-- a document that came out is handed on whole, so that nothing waits in the writer; where there is none, as much waits
+-- as before
+abbrev pub IsHandedOn : Bool → ℕ → ℕ → Type 0
+IsHandedOn true old new = new ≡ 0
+IsHandedOn false old new = new ≡ old
+
+-- which faults there are
+abbrev pub OfExport : ExportFault → Type 0
+OfExport (Store error) = OfLook error
+OfExport Output = ⊤

@@ -3,7 +3,7 @@ use Rattle.std.specs.Prelude.{◌≡◌, ℕ, Bool, false, List, [], ◌∷◌, 
 use Rattle.std.specs.Prelude.{slice_get}
 use Rattle.std.specs.List.{list_any}
 use Rattle.std.specs.Str.{bytes_eq}
-use Rattle.desk_bringing.specs.Bringing.{Documents}
+use Rattle.document_filing.specs.Bringing.{Documents}
 use Rattle.store_documents.specs.Filling.{document_laid_out}
 use Rattle.store_documents.specs.declared.file_bytes.Unfit.{Unfit}
 

@@ -4,7 +4,7 @@ use Rattle.sector_disk.specs.declared.disk.Disk.{Ghosts}
 use Rattle.desktop_definitions.specs.Desktop.{Desktop}
 use Rattle.desktop_definitions.specs.declared.reply.Reply.{Reply}
 use Rattle.desktop_definitions.specs.declared.reply.Reply.TheVariants.{Done}
-use Rattle.desk_bringing.specs.Bringing.{Documents}
+use Rattle.document_filing.specs.Bringing.{Documents}
 use Rattle.desk_journal.specs.Bringing.{AreBrought}
 use Rattle.desk_journal.specs.View.{StoreView}
 use Rattle.store_documents.specs.Standings.{standing_of, is_new, is_same, is_other, HasOnlyLooked}

@@ -1,20 +1,23 @@
 //! A document on its way out.
-ghost use Rattle.std.specs.Prelude.{◌≡◌, Some, IfOk, IfErr};
+ghost use Rattle.std.specs.Prelude.{◌≡◌, ◌↔◌, ◌⊎◌, true, Some, IfOk, IfErr, IsErrOf};
+ghost use Rattle.byte_streams.specs.Counting.{RisesWhere};
 ghost use Rattle.desktop_definitions.specs.Desktop.{file_of};
+ghost use Rattle.sector_disk.specs.Faults.{FailsAs};
 ghost use Rattle.store_documents.specs.HostText.{exported, printable};
-ghost use Rattle.store_documents.specs.Exporting.{IsExported, IsExportCutOff, text_in_form, with_lines};
+ghost use Rattle.store_documents.specs.Exporting.{IsExported, IsExportCutOff, IsHandedOn, OfExport, text_in_form};
+ghost use Rattle.store_documents.specs.Exporting.{with_lines};
 ghost use Rattle.store_documents.specs.Standings.{bytes_of};
 ghost use Rattle.store_documents.specs.Standings.{HasOnlyLooked};
 
 use crate::sorting::text_of;
 use crate::{host_bytes, html, joined, printable_bytes};
-use byte_streams::{flush, send};
+use byte_streams::AnswerWriter;
 use desk_journal::{Error, Store};
 use event_bytes::Name;
 use piece_ring::Look;
+use script_lines::send;
 use sector_disk::Disk;
 use std::alloc::{AllocError, Global};
-use std::io::Write;
 
 /// Who reads what comes out.
 #[derive(Clone, Copy, Debug, PartialEq, Eq)]
@@ -57,9 +60,11 @@ impl From<Error> for ExportFault {
     }
 }
 
-/// Writes the document of that name whole, with LF at the end of each line, and says whether there is one. Where there
-/// is none nothing is written.
-pub fn export<D: Disk, W: Write>(
+/// Writes the document of that name whole, with LF at the end of each line, has the writer hand it on, and says whether
+/// there is one. Where there is none nothing is written.
+///
+/// Errors: those of `Store::file`; `Output` where a call of the writer failed, and nowhere else.
+pub fn export<D: Disk, W: AnswerWriter>(
     alloc: Global,
     store: &mut Store<D>,
     name: &Name,
@@ -73,6 +78,14 @@ pub fn export<D: Disk, W: Write>(
         → IsExportCutOff form (file_of store.old.desktop name.now) fault (W.contents output.old)
         (W.contents output.new)) }
     ensures looked { HasOnlyLooked D.Disk store.old store.new }
+    ensures handed { IfOk result (λ found. IsHandedOn found (W.unflushed output.old)
+        (W.unflushed output.new)) }
+    ensures reopen { IsErrOf result (ExportFault.Store Error.MustReopen)
+        ↔ (store.old.must_reopen ≡ true) }
+    ensures faults { FailsAs (ExportFault.Store Error.Fault) OfExport result
+        (D.failures store.old.disk) (D.failures store.new.disk) }
+    ensures cause { RisesWhere (IsErrOf result ExportFault.Output) (W.failures output.old)
+        (W.failures output.new) }
 {
     match store.file(alloc, name)? {
         None => Ok(false),
@@ -80,8 +93,8 @@ pub fn export<D: Disk, W: Write>(
     }
 }
 
-/// Writes characters without their looks.
-fn write_text<W: Write>(
+/// Writes characters in a form, and has the writer hand them on.
+fn write_text<W: AnswerWriter>(
     alloc: Global,
     characters: &[(u8, Look)],
     form: Form,
@@ -91,14 +104,17 @@ fn write_text<W: Write>(
         (W.contents output.old) (W.contents output.new)) }
     ensures stopped { IfErr result (λ fault. IsExportCutOff form (Some characters.now) fault
         (W.contents output.old) (W.contents output.new)) }
+    ensures handed { IfOk result (λ found. IsHandedOn found (W.unflushed output.old)
+        (W.unflushed output.new)) }
+    ensures errors { IfErr result (λ fault. (fault ≡ ExportFault.Store Error.NoMemory)
+        ⊎ (fault ≡ ExportFault.Output)) }
+    ensures cause { RisesWhere (IsErrOf result ExportFault.Output) (W.failures output.old)
+        (W.failures output.new) }
 {
     let Ok(text) = text_for(alloc, characters, form) else {
         return Err(ExportFault::Store(Error::NoMemory));
     };
-    if send(output, text.as_slice()).is_err() {
-        return Err(ExportFault::Output);
-    }
-    match flush(output) {
+    match send(output, text.as_slice()) {
         Ok(()) => Ok(true),
         Err(_) => Err(ExportFault::Output),
     }

@@ -1,7 +1,10 @@
 //! Documents on their way in: all that is to come comes together, or none.
-ghost use Rattle.std.specs.Prelude.{◌≡◌, ◌⊎◌, ◌++◌, [], false, true, IsTrue, IfOk, IfErr};
+ghost use Rattle.std.specs.Prelude.{◌≡◌, ◌↔◌, ◌⊎◌, ◌++◌, [], false, true, IsTrue, IfOk, IfErr, IsErrOf};
 ghost use Rattle.desk_journal.specs.Bringing.{LeavesAllOrNone, AreBrought};
+ghost use Rattle.desk_journal.specs.Errors.{OfPost};
+ghost use Rattle.desk_journal.specs.Posting.{IsLast};
 ghost use Rattle.desk_journal.specs.View.{IsDurable};
+ghost use Rattle.sector_disk.specs.Faults.{FailsAs};
 ghost use Rattle.store_documents.specs.Importing.{coming_ones, IsImport, AreTogether};
 ghost use Rattle.store_documents.specs.Standings.{HasOnlyLooked};
 
@@ -34,7 +37,8 @@ pub enum Imported {
 /// Imports documents into a store: those that it hasn't, and, if that is asked for, those of whose name it has another
 /// one. They come by one call of `Store::bring`, all or none, and none is called where nothing is to come.
 ///
-/// Errors: those of `Store::file` and `Store::bring`. Where the store can still be used after one, nothing was done.
+/// Errors: those of `Store::file` and `Store::bring`: `MustReopen` where an earlier call failed, and only there; `Worn`
+/// in the last epoch alone. Where the store can still be used after one, nothing was done.
 pub fn import<D: Disk>(
     alloc: Global,
     store: &mut Store<D>,
@@ -47,6 +51,10 @@ pub fn import<D: Disk>(
         IsImport D.Disk replace documents.items import store.old store.new) }
     ensures failed { IfErr result (λ _. store.new.must_reopen ≡ false
         → HasOnlyLooked D.Disk store.old store.new) }
+    ensures faults { FailsAs Error.Fault OfPost result (D.failures store.old.disk)
+        (D.failures store.new.disk) }
+    ensures reopen { IsErrOf result Error.MustReopen ↔ (store.old.must_reopen ≡ true) }
+    ensures worn { IsErrOf result Error.Worn → IsLast store.old }
 {
     let _info = store.info()?;
     import_into(alloc, store, documents, replace)
@@ -66,6 +74,10 @@ fn import_into<D: Disk>(
         IsImport D.Disk replace documents.items import store.old store.new) }
     ensures failed { IfErr result (λ _. store.new.must_reopen ≡ false
         → HasOnlyLooked D.Disk store.old store.new) }
+    ensures faults { FailsAs Error.Fault OfPost result (D.failures store.old.disk)
+        (D.failures store.new.disk) }
+    ensures reopen { IsErrOf result Error.MustReopen → store.old.must_reopen ≡ true }
+    ensures worn { IsErrOf result Error.Worn → IsLast store.old }
 {
     let sorted = sort(alloc, store, documents)?;
     if is_in_the_way(&sorted, replace) {
@@ -124,6 +136,10 @@ fn bring_some<D: Disk>(
     ensures brought { ¬ (documents.now ≡ []) → IfOk result (λ reply.
         AreBrought D.Disk documents.now reply store.old store.new) }
     ensures failed { IfErr result (λ _. store.new.must_reopen ≡ false → store.new ≡ store.old) }
+    ensures faults { FailsAs Error.Fault OfPost result (D.failures store.old.disk)
+        (D.failures store.new.disk) }
+    ensures reopen { IsErrOf result Error.MustReopen → store.old.must_reopen ≡ true }
+    ensures worn { IsErrOf result Error.Worn → IsLast store.old }
 {
     if documents.is_empty() {
         return Ok(Reply::Done);

@@ -1,6 +1,6 @@
 //! Documents on their way into a store and out of it, and what a person may ask of a store: over any disk and any
 //! writer. A line of a document ends with CR, one of a text of the host's with LF (`file_bytes`, `file_text`). The files
-//! of the host's are the matter of the crate `desk_documents`.
+//! of the host's are the matter of the crate `cli_documents`.
 #![tactic(auto)]
 
 mod ascii;

@@ -1,6 +1,8 @@
 //! How documents stand to those of a store.
-ghost use Rattle.std.specs.Prelude.{◌≡◌, IfOk, OnOk};
+ghost use Rattle.std.specs.Prelude.{◌≡◌, true, IfOk, IsErrOf, OnOk};
+ghost use Rattle.desk_journal.specs.Errors.{OfLook};
 ghost use Rattle.desk_journal.specs.Looking.{OnlyLooks};
+ghost use Rattle.sector_disk.specs.Faults.{FailsAs};
 ghost use Rattle.store_documents.specs.Standings.{standing_of, standing_beside, bytes_of, AreSorted, IsPutBehind, HasOnlyLooked};
 
 use desk_journal::{Document, Error, Store};
@@ -79,6 +81,9 @@ pub fn sort<D: Disk>(
     ensures sorted { IfOk result (λ sorted. D.honest store.old.disk
         → AreSorted store.old.desktop documents.items sorted) }
     ensures looked { HasOnlyLooked D.Disk store.old store.new }
+    ensures faults { FailsAs Error.Fault OfLook result (D.failures store.old.disk)
+        (D.failures store.new.disk) }
+    ensures reopen { IsErrOf result Error.MustReopen → store.old.must_reopen ≡ true }
 {
     let mut sorted = Sorted {
         fresh: Vec::new(alloc),

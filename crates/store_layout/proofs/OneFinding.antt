@@ -2,7 +2,7 @@
 use Rattle.std.proofs.Common.{◌≡◌, inl, inr, ℕ, ◌<◌, sym, ◌∙◌, ap, subst, arith, true}
 use Rattle.std.proofs.lemmas.Bool.{cases_lt}
 use Rattle.sector_disk.specs.Trail.{Content}
-use Rattle.desk_image.specs.Laws.{UniqueLaw}
+use Rattle.image_format.specs.Laws.{UniqueLaw}
 use Rattle.store_layout.specs.declared.layout.TheConstants.{SLOTS}
 use Rattle.store_layout.proofs.Bits.{clash}
 use Rattle.store_layout.specs.Layout.{is_open, slot_gate, slot_head, body, image_at}

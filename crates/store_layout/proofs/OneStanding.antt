@@ -5,7 +5,7 @@ use Rattle.event_bytes.specs.declared.event.Event.{Event}
 use Rattle.event_bytes.specs.Spelling.{BeginsWithEvent}
 use Rattle.desktop_definitions.specs.Desktop.{Desktop}
 use Rattle.desktop_definitions.specs.Seen.{seen}
-use Rattle.desk_image.specs.Laws.{UniqueLaw}
+use Rattle.image_format.specs.Laws.{UniqueLaw}
 use Rattle.store_layout.specs.declared.head.Head.{Head}
 use Rattle.store_layout.proofs.Bits.{clash}
 use Rattle.store_layout.specs.Layout.{head}
@@ -40,6 +40,7 @@ module _ (begins : BeginLaw) (unique : UniqueLaw) (size : ℕ) (c : Content) whe
     slot = slots i;
     version = (sym one.version ∙ ap (λ n. (head c n).version) slots ∙ two.version) i;
     epoch = (sym one.epoch ∙ ap (λ n. (head c n).epoch) slots ∙ two.epoch) i;
+    past = (sym one.past ∙ ap (λ n. (head c n).past) slots ∙ two.past) i;
     start = one_start unique (head c s'.slot) (slot_image_bytes c s'.slot)
         (area_bytes c (head c s'.slot).area (full_sectors (head c s'.slot).written)) s.start s'.start
         (subst (λ n. HasImage c n s.start) slots one.image) two.image i;

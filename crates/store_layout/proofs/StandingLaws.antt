@@ -11,6 +11,7 @@ use Rattle.desktop_definitions.specs.Desktop.{Desktop}
 use Rattle.desktop_definitions.specs.Limits.{most_written}
 use Rattle.sector_disk.specs.declared.disk.TheConstants.{SECTOR_BYTES}
 use Rattle.store_layout.specs.declared.head.Head.{Head}
+use Rattle.store_layout.specs.declared.head.PastEnd.{PastEnd}
 use Rattle.store_layout.specs.declared.layout.TheConstants.{JOURNAL_EVENTS, LABEL, SLOTS}
 use Rattle.store_layout.proofs.Bits.{true_or_false, clash}
 use Rattle.store_layout.specs.Layout.{is_label, is_open, slot_gate, slot_head, gate, body, image_at, area_start}
@@ -158,6 +159,7 @@ pub carried_on : {size : ℕ} (c c' : Content) (s : Standing) (events : List Eve
       slot = s.slot;
       version = s.version;
       epoch = s.epoch;
+      past = s.past;
       start = s.start;
       events = events;
     })
@@ -169,6 +171,7 @@ carried_on c c' s events was label live same_head other image area journal = rec
   good = subst (λ b. IsGoodHead (head_of b)) (sym same_head) was.good;
   version = ap (λ b. (head_of b).version) same_head ∙ was.version;
   epoch = ap (λ b. (head_of b).epoch) same_head ∙ was.epoch;
+  past = ap (λ b. (head_of b).past) same_head ∙ was.past;
   other = other;
   image = image_stays c c' s.slot s.start same_head image area was.image;
   journal = journal;
@@ -308,11 +311,18 @@ behind_closed c c' s idle area from two was closed spares same = footprint c c' 
     ])))
 
 -- Once the gate of a new slot is open, that slot is in use.
-pub new_slot : {size : ℕ} (c c' : Content) (s : Standing) (idle version : ℕ) (desktop : Desktop) → s.slot + idle ≡ 1
-    → Stands size c s → IsNewSlot c idle version (s.epoch + 1) desktop
+pub new_slot : {size : ℕ} (c c' : Content) (s : Standing) (idle version : ℕ) (past : PastEnd) (desktop : Desktop)
+    → s.slot + idle ≡ 1 → Stands size c s → IsNewSlot c idle version (s.epoch + 1) past desktop
     → ((n : ℕ) → n ≢ slot_gate idle → c' n ≡ c n) → is_open (c' (slot_gate idle)) ≡ true
-    → Stands size c' (record { slot = idle; version = version; epoch = s.epoch + 1; start = desktop; events = [] })
-new_slot c c' s idle version desktop two was new same opened = record {
+    → Stands size c' (record {
+      slot = idle;
+      version = version;
+      epoch = s.epoch + 1;
+      past = past;
+      start = desktop;
+      events = [];
+    })
+new_slot c c' s idle version past desktop two was new same opened = record {
   large = was.large;
   label = ap is_label (same LABEL (omega arith)) ∙ was.label;
   two = omega arith;
@@ -320,6 +330,7 @@ new_slot c c' s idle version desktop two was new same opened = record {
   good = subst (λ b. IsGoodHead (head_of b)) (sym same_head) new.good;
   version = ap (λ b. (head_of b).version) same_head ∙ new.version_is;
   epoch = ap (λ b. (head_of b).epoch) same_head ∙ new.epoch;
+  past = ap (λ b. (head_of b).past) same_head ∙ new.past_is;
   other = λ i is opened_too.
       let here : i ≡ s.slot = omega arith in
       subst (IsOlder c' (s.epoch + 1)) (sym here)
@@ -335,13 +346,14 @@ new_slot c c' s idle version desktop two was new same opened = record {
 
 -- A new slot, of whatever version, with the desktop that the old one has come to: it is meant whether the gate is
 -- closed, torn or open.
-pub either_slot : {size : ℕ} (c c' : Content) (s : Standing) (idle version : ℕ) → s.slot + idle ≡ 1 → Stands size c s
-    → is_open (c (slot_gate idle)) ≡ false → IsNewSlot c idle version (s.epoch + 1) (desktop_of s)
+pub either_slot : {size : ℕ} (c c' : Content) (s : Standing) (idle version : ℕ) (past : PastEnd) → s.slot + idle ≡ 1
+    → Stands size c s → is_open (c (slot_gate idle)) ≡ false
+    → IsNewSlot c idle version (s.epoch + 1) past (desktop_of s)
     → ((n : ℕ) → n ≢ slot_gate idle → c' n ≡ c n) → Means size (desktop_of s) c'
-either_slot c c' s idle version two was closed new same = elim (true_or_false (is_open (c' (slot_gate idle)))) [
+either_slot c c' s idle version past two was closed new same = elim (true_or_false (is_open (c' (slot_gate idle)))) [
   | inl opened ↦ (
-    record { slot = idle; version = version; epoch = s.epoch + 1; start = desktop_of s; events = [] },
-    new_slot c c' s idle version (desktop_of s) two was new same opened,
+    record { slot = idle; version = version; epoch = s.epoch + 1; past = past; start = desktop_of s; events = [] },
+    new_slot c c' s idle version past (desktop_of s) two was new same opened,
     refl,
   )
   | inr shut ↦ (

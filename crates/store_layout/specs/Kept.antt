@@ -7,6 +7,7 @@ use Rattle.event_bytes.specs.Spelling.{BeginsWithEvent}
 use Rattle.desktop_definitions.specs.Desktop.{Desktop}
 use Rattle.sector_disk.specs.declared.disk.TheConstants.{SECTOR_BYTES}
 use Rattle.store_layout.specs.declared.head.Head.{Head}
+use Rattle.store_layout.specs.declared.head.PastEnd.{PastEnd}
 use Rattle.store_layout.specs.declared.layout.TheConstants.{JOURNAL_EVENTS, AREA_SECTORS, IMAGE_SECTORS}
 use Rattle.store_layout.specs.Layout.{is_open, slot_gate, slot_head, gate, body, image_at, area_at, head}
 use Rattle.store_layout.specs.Layout.{IsGoodHead}
@@ -80,10 +81,12 @@ InArea area from n = (area_at area from ≤ n) × (n < area_at area AREA_SECTORS
 abbrev pub InCheckpoint : ℕ → ℕ → ℕ → ℕ → Type 0
 InCheckpoint slot area from n = InSlot slot n ⊎ InArea area from n
 
--- a slot of this version and epoch has this desktop and an empty journal
-pub record IsNewSlot (c : Content) (slot version number : ℕ) (desktop : Desktop) : Type 0 where
+-- a slot of this version and epoch, whose head tells of this past, has this desktop and an empty journal
+pub record IsNewSlot (c : Content) (slot version number : ℕ) (past : PastEnd) (desktop : Desktop)
+    : Type 0 where
   pub good : IsGoodHead (head c slot)
   pub version_is : (head c slot).version ≡ version
   pub epoch : (head c slot).epoch ≡ number
+  pub past_is : (head c slot).past ≡ past
   pub image : HasImage c slot desktop
   pub journal : is_open (c (gate slot 0)) ≡ false

@@ -2,11 +2,12 @@
 -- stand in src/layout.rt. A store has two slots, 0 and 1, each with a gate, a head, a journal and an image.
 use Rattle.std.specs.Prelude.{ℕ, ◌+◌, ◌*◌, ◌≤◌, ◌<◌, ◌==◌, if◌then◌else◌, List, Bool, nat_eq, codes, take, drop}
 use Rattle.std.specs.List.{starts_with}
-use Rattle.std.specs.Int.{w32, from_be_bytes}
+use Rattle.std.specs.Int.{w32, w64, from_be_bytes}
 use Rattle.sector_disk.specs.Trail.{Content}
-use Rattle.desk_image.specs.declared.limits.TheConstants.{IMAGE_BYTES}
+use Rattle.image_format.specs.declared.limits.TheConstants.{IMAGE_BYTES}
 use Rattle.desktop_definitions.specs.Limits.{most_written}
 use Rattle.store_layout.specs.declared.head.Head.{Head}
+use Rattle.store_layout.specs.declared.head.PastEnd.{PastEnd}
 use Rattle.store_layout.specs.declared.layout.TheConstants.{SLOT_GATES, SLOT_HEADS, JOURNALS, JOURNAL_SECTORS}
 use Rattle.store_layout.specs.declared.layout.TheConstants.{IMAGES, IMAGE_SECTORS, AREA, AREA_SECTORS, AREAS}
 use Rattle.store_layout.specs.declared.layout.TheConstants.{FIRST_LAYOUT, LAYOUT}
@@ -45,8 +46,9 @@ area_start area = AREA + AREA_SECTORS * area
 abbrev pub area_at : ℕ → ℕ → ℕ
 area_at area k = area_start area + k
 
--- A head: numbers of four bytes, the highest byte first; the rest of the sector isn't read. One of the first version
--- has no fifth number, and names area 0.
+-- A head: numbers of four bytes, and the last one of eight, the highest byte first; the rest of the sector isn't read. One
+-- of the first version has no fifth number, and names area 0. The last two tell of the past, and give no content another
+-- meaning.
 unfoldable pub head_of : List ℕ → Head
 head_of bytes = record {
   version = from_be_bytes w32 (take 4 bytes);
@@ -55,7 +57,15 @@ head_of bytes = record {
   extent = from_be_bytes w32 (take 4 (drop 12 bytes));
   area = if from_be_bytes w32 (take 4 bytes) == FIRST_LAYOUT then 0 else from_be_bytes w32
       (take 4 (drop 16 bytes));
+  past = record {
+    next = from_be_bytes w32 (take 4 (drop 20 bytes));
+    before = from_be_bytes w64 (take 8 (drop 24 bytes));
+  };
 }
+
+-- a head that tells of no past
+abbrev pub untold : PastEnd
+untold = record { next = 0; before = 0 }
 
 -- the head of a slot
 abbrev pub head : Content → ℕ → Head

@@ -9,8 +9,9 @@ use Rattle.desktop_definitions.specs.Desktop.{Desktop, KeptDesktop}
 use Rattle.desktop_definitions.specs.Seen.{seen}
 use Rattle.desktop_definitions.specs.Step.{steps_in}
 use Rattle.sector_disk.specs.declared.disk.TheConstants.{SECTOR_BYTES}
-use Rattle.desk_image.specs.Image.{Spells}
+use Rattle.image_format.specs.Image.{Spells}
 use Rattle.store_layout.specs.declared.head.Head.{Head}
+use Rattle.store_layout.specs.declared.head.PastEnd.{PastEnd}
 use Rattle.store_layout.specs.declared.layout.TheConstants.{JOURNAL_EVENTS, LABEL, SLOTS, STORE_SECTORS}
 use Rattle.store_layout.specs.Layout.{is_label, is_open, slot_gate, gate, body, image_at, area_start, head}
 use Rattle.store_layout.specs.Layout.{IsGoodHead}
@@ -63,12 +64,13 @@ IsOlder c epoch idle = IsGoodHead (head c idle) × ((head c idle).epoch < epoch 
 
 -- ---- the whole
 
--- What a content shows: the live slot, its version and epoch, the desktop that it starts from, and the events since.
--- They are stepped by the version of the slot in whose journal they stand.
+-- What a content shows: the live slot, its version and epoch, what its head tells of the past, the desktop that it starts
+-- from, and the events since. They are stepped by the version of the slot in whose journal they stand.
 pub record Standing : Type 0 where
   pub slot : ℕ
   pub version : ℕ
   pub epoch : ℕ
+  pub past : PastEnd
   pub start : Desktop
   pub events : List Event
 
@@ -84,6 +86,7 @@ pub record Stands (size : ℕ) (c : Content) (s : Standing) : Type 0 where
   pub good : IsGoodHead (head c s.slot)
   pub version : (head c s.slot).version ≡ s.version
   pub epoch : (head c s.slot).epoch ≡ s.epoch
+  pub past : (head c s.slot).past ≡ s.past
   pub other : (idle : ℕ) → s.slot + idle ≡ 1 → is_open (c (slot_gate idle)) ≡ true
       → IsOlder c s.epoch idle
   pub image : HasImage c s.slot s.start
@@ -112,6 +115,7 @@ and_then s event = record {
   slot = s.slot;
   version = s.version;
   epoch = s.epoch;
+  past = s.past;
   start = s.start;
   events = s.events ++ event ∷ [];
 }
@@ -122,6 +126,7 @@ cut_to k s = record {
   slot = s.slot;
   version = s.version;
   epoch = s.epoch;
+  past = s.past;
   start = s.start;
   events = take k s.events;
 }
@@ -132,6 +137,7 @@ and_all s events = record {
   slot = s.slot;
   version = s.version;
   epoch = s.epoch;
+  past = s.past;
   start = s.start;
   events = s.events ++ events;
 }

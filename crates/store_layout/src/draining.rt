@@ -24,7 +24,7 @@ pub struct Draining {
 impl Draining {
     ghost use Rattle.sector_disk.specs.Trail.{Content, Nowhere, CountsFault, now};
     ghost use Rattle.sector_disk.specs.Confined.{IsConfined};
-    ghost use Rattle.desk_image.specs.Passing.{IsNext};
+    ghost use Rattle.image_format.specs.Passing.{IsNext};
     ghost use Rattle.sector_disk.specs.Stored.{stored};
     ghost use Rattle.store_layout.specs.Draining.{start_sector, extent_of, bytes_read, bytes_left};
     ghost use Rattle.store_layout.specs.Draining.{IsSectorLoaded, IsOnDisk};

@@ -2,8 +2,8 @@
 ghost use Rattle.store_layout.specs.Footprint.{FootprintLaw};
 ghost use Rattle.store_layout.specs.Finding.{FindingLaw, ShowingLaw, StandingLaw};
 
-use desk_image::one_desktop;
 use event_bytes::at_most_one_begins;
+use image_format::one_desktop;
 
 /// A meaning depends on its footprint alone: the label, the gates of the slots, the heads under open gates, and of the
 /// slot in use the image to its length, the sectors of characters that its head names, the journal's gates up to the

@@ -5,7 +5,7 @@
 ghost use Rattle.std.specs.Prelude.{◌≡◌, ◌<◌};
 ghost use Rattle.store_layout.specs.Layout.{slot_gate, slot_head, gate, body, image_at, area_start, area_at};
 
-use desk_image::IMAGE_BYTES;
+use image_format::IMAGE_BYTES;
 use sector_disk::{FILE_SECTORS, SECTOR_BYTES};
 
 /// How many sectors a store has. A larger disk holds one too.

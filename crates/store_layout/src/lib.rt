@@ -21,7 +21,7 @@ mod source;
 
 pub use draining::Draining;
 pub use filling::Filling;
-pub use head::Head;
+pub use head::{Head, PastEnd, UNTOLD};
 pub use laws::{finding_law, footprint_law, showing_law, standing_law};
 pub use layout::{
     AREA_SECTORS, AREAS, FIRST_LAYOUT, IMAGE_SECTORS, JOURNAL_EVENTS, LABEL, LAST_EPOCH, LAYOUT,

@@ -3,7 +3,7 @@ ghost use Rattle.std.specs.Prelude.{◌≡◌, ◌≤◌, ◌+◌};
 ghost use Rattle.store_layout.specs.Filling.{first_sector, most_sectors};
 
 use crate::filling::Filling;
-use desk_image::ByteSink;
+use image_format::ByteSink;
 use sector_disk::{Disk, Fault};
 
 /// Bytes on their way to sectors of a disk, for the time of a call. It borrows the disk and the filling, and leaves

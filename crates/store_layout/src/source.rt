@@ -3,7 +3,7 @@ ghost use Rattle.std.specs.Prelude.{◌≡◌};
 ghost use Rattle.store_layout.specs.Draining.{IsOnDisk};
 
 use crate::draining::Draining;
-use desk_image::ByteSource;
+use image_format::ByteSource;
 use sector_disk::{Disk, Fault};
 
 /// Bytes on their way out of sectors of a disk, for the time of a call. It borrows the disk and the draining, and

@@ -1,7 +1,7 @@
 //! Streams of bytes over the sectors of a disk, through the bounds.
 ghost use Rattle.std.specs.Prelude.{◌≡◌};
 
-use desk_image::{ByteSink, ByteSource};
+use image_format::{ByteSink, ByteSource};
 use sector_disk::{Disk, Fault, MemoryDisk};
 use std::alloc::Global;
 use std::test::Fail;

@@ -30,12 +30,14 @@ use Rattle.terminal_presses.specs.declared.pointer.TheConstants.{LEAP}
 use Rattle.terminal_presses.specs.declared.action.Action.{Action}
 use Rattle.terminal_presses.specs.declared.action.Action.TheVariants.{Nothing, Post, Ring, LookAnew, Leave, Undo, Redo}
 use Rattle.terminal_presses.specs.declared.action.Action.TheVariants.{Search, Store, Replace, Fill, Seek}
-use Rattle.terminal_presses.specs.declared.action.Action.TheVariants.{Move, Step, AtCaret, Fit, FileFailed}
+use Rattle.terminal_presses.specs.declared.action.Action.TheVariants.{Move, Step, CallLine, Fit, FileFailed}
+use Rattle.terminal_presses.specs.declared.action.Action.TheVariants.{Select, SelectAll, CutLine}
 use Rattle.terminal_presses.specs.declared.action.Action.TheVariants as action
 use Rattle.terminal_presses.specs.declared.gesture.Gesture.{Gesture}
 use Rattle.terminal_presses.specs.declared.paste.Paste.{Paste}
 use Rattle.terminal_presses.specs.declared.hand.Hand.{Hand}
 use Rattle.terminal_presses.specs.declared.hand.TheConstants.{CONTROL_C, CONTROL_E, CONTROL_F, CONTROL_G, CONTROL_L}
+use Rattle.terminal_presses.specs.declared.hand.TheConstants.{CONTROL_A, CONTROL_K}
 use Rattle.terminal_presses.specs.declared.hand.TheConstants.{CONTROL_O, CONTROL_Q}
 use Rattle.terminal_presses.specs.declared.hand.TheConstants.{CONTROL_R, CONTROL_S, CONTROL_T, CONTROL_V, CONTROL_W}
 use Rattle.terminal_presses.specs.declared.hand.TheConstants.{CONTROL_X, CONTROL_Y, CONTROL_Z}
@@ -71,23 +73,25 @@ asking name hand = record hand { paste = None; asked = Some name; asks_line = fa
 
 -- ---- keys
 
--- what Ctrl comes to with C, E, F, J, L, Q, R, S, T, V, W, X, Y and Z; another letter rings
+-- what Ctrl comes to with A, C, E, F, J, K, L, Q, R, S, T, V, W, X, Y and Z; another letter rings
 unfoldable pub control : ℕ → Action
 control b =
-    if b == CONTROL_C then Post (Key key.Copy) else
-    (if b == CONTROL_E then AtCaret (Keys keys.Middle) else
+    if b == CONTROL_A then SelectAll else
+    (if b == CONTROL_C then Post (Key key.Copy) else
+    (if b == CONTROL_E then CallLine else
     (if b == CONTROL_F then Search else
     (if b == line_feed then typing_action (return ∷ []) else
+    (if b == CONTROL_K then CutLine else
     (if b == CONTROL_L then LookAnew else
     (if b == CONTROL_Q then Leave else
     (if b == CONTROL_R then Replace else
     (if b == CONTROL_S then Store else
-    (if b == CONTROL_T then AtCaret Mark else
+    (if b == CONTROL_T then action.Mark else
     (if b == CONTROL_V then Post (Key key.Paste) else
     (if b == CONTROL_W then Fill else
     (if b == CONTROL_X then Post (Key key.Cut) else
     (if b == CONTROL_Y then Redo else
-    (if b == CONTROL_Z then Undo else Ring)))))))))))))
+    (if b == CONTROL_Z then Undo else Ring)))))))))))))))
 
 -- Where a function key has said what the next click is, the click is what it says by itself again, and no more. Else a
 -- pointer that is shown is put away, and no more.
@@ -117,18 +121,25 @@ clicked at hand = (
   released_at (Some (click_by_key hand.armed)) (begins_at hand.armed hand.pointer.start at) at,
 )
 
--- where the pointer is shown, Return is that click, and a tabulator seeks the next command from there on
+-- Where the pointer is shown, Return is that click, and a tabulator seeks the next command from there on. Another byte puts
+-- it away, and is typed.
 unfoldable pub hand_after_byte : ℕ → Option Spot → Hand → Hand × Action
 hand_after_byte b None hand = (hand, typing_action (b ∷ []))
 hand_after_byte b (Some at) hand =
     if b == return then clicked at hand else
-    (if b == tabulator then (hand, Seek at) else (hand, typing_action (b ∷ [])))
+    (if b == tabulator then (hand, Seek at)
+    else (record hand { pointer = laid_aside hand.pointer }, typing_action (b ∷ [])))
 
 -- an arrow moves the pointer where that is shown, and is else a click beside the caret
 unfoldable pub hand_after_arrow : ℕ → ArrowKey → Option Spot → Hand → Hand × Action
 hand_after_arrow n arrow None hand = (hand, Step arrow)
 hand_after_arrow n arrow (Some at) hand =
     (record hand { pointer = moved_to (spot_moved n arrow at) hand.pointer }, Nothing)
+
+-- with Shift it moves the pointer further, and else selects
+unfoldable pub hand_after_leap : ArrowKey → Option Spot → Hand → Hand × Action
+hand_after_leap arrow None hand = (hand, Select arrow)
+hand_after_leap arrow (Some at) hand = hand_after_arrow LEAP arrow (Some at) hand
 
 unfoldable pub is_same_click : Click → Click → Bool
 is_same_click Mark Mark = true
@@ -269,7 +280,7 @@ fresh sight Back hand = (hand, Post (Key key.Back))
 fresh sight Delete hand = (hand, action.Delete)
 fresh sight Escape hand = hand_after_escape hand
 fresh sight (Arrow arrow) hand = hand_after_arrow 1 arrow hand.pointer.shown hand
-fresh sight (Leap arrow) hand = hand_after_arrow LEAP arrow hand.pointer.shown hand
+fresh sight (Leap arrow) hand = hand_after_leap arrow hand.pointer.shown hand
 fresh sight (Scroll scroll) hand =
     (hand, action.Scroll (scroll_place scroll (pointed_cell hand.pointer)) scroll)
 fresh sight (Page page) hand = (hand, Move page)

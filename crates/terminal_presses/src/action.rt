@@ -49,12 +49,20 @@ pub enum Action {
     Fill,
     /// The pointer that keys move goes from that cell on to the next word of a command, as the screen has it.
     Seek(Spot),
-    /// A click beside the caret, as the screen has it.
+    /// The caret goes a step.
     Step(Arrow),
+    /// The caret goes a step, and what it passes is selected.
+    Select(Arrow),
+    /// All of the caret's text is selected.
+    SelectAll,
+    /// The caret's line is cut.
+    CutLine,
     /// The character after the caret is deleted.
     Delete,
-    /// That click at the cell of the caret, as the screen has it.
-    AtCaret(Click),
+    /// The command of the caret's line is called.
+    CallLine,
+    /// The marker goes to the caret.
+    Mark,
     /// The terminal has so many rows, and so many columns.
     Fit(u16, u16),
     /// The host file whose text was typed could be read no further.

@@ -12,6 +12,7 @@ ghost use Rattle.terminal_presses.specs.Hands.{gone_down, gone_up, begun};
 ghost use Rattle.terminal_presses.specs.Hands.{click_meant as click_meant, with_asked, asks};
 ghost use Rattle.terminal_presses.specs.Hands.{pointed_at, wheel_action, scroll_place as place_of_scroll};
 ghost use Rattle.terminal_presses.specs.Hands.{hand_after_byte, hand_after_arrow, clicked, armed_with, arming};
+ghost use Rattle.terminal_presses.specs.Hands.{hand_after_leap};
 ghost use Rattle.terminal_presses.specs.Hands.{is_armed_with, is_same_click as are_same};
 ghost use Rattle.terminal_presses.specs.Pointers.{pointer_cell};
 ghost use Rattle.terminal_presses.specs.Asking.{answered, entered, lengthened, name_after_byte, shortened_name};
@@ -31,6 +32,8 @@ use crate::spot::Spot;
 use event_bytes::{CARRIAGE_RETURN, Event, Key, Keys, TABULATOR, is_digit};
 use viewer_tracks::{COLUMNS, ROWS};
 
+/// The byte of Ctrl-A.
+pub(crate) const CONTROL_A: u8 = 1;
 /// The byte of Ctrl-C.
 pub(crate) const CONTROL_C: u8 = 3;
 /// The byte of Ctrl-E.
@@ -39,6 +42,8 @@ pub(crate) const CONTROL_E: u8 = 5;
 pub(crate) const CONTROL_F: u8 = 6;
 /// The byte of Ctrl-G.
 pub(crate) const CONTROL_G: u8 = 7;
+/// The byte of Ctrl-K.
+pub(crate) const CONTROL_K: u8 = 11;
 /// The byte of Ctrl-L.
 pub(crate) const CONTROL_L: u8 = 12;
 /// The byte of Ctrl-O.
@@ -379,7 +384,7 @@ impl Hand {
             Press::Delete => Action::Delete,
             Press::Escape => self.escaped(),
             Press::Arrow(arrow) => self.arrow(1, arrow),
-            Press::Leap(arrow) => self.arrow(LEAP, arrow),
+            Press::Leap(arrow) => self.leap(arrow),
             Press::Scroll(scroll) => Action::Scroll(
                 scroll_place(scroll, self.pointer.place()),
                 scroll,
@@ -398,7 +403,8 @@ impl Hand {
         }
     }
 
-    /// A byte that can be typed. Where the pointer is shown, Return is a click, and a tabulator seeks the next command.
+    /// A byte that can be typed. Where the pointer is shown, Return is a click, and a tabulator seeks the next command;
+    /// another byte puts it away.
     #[tactic(auto, unfolding(crate::specs::Hands::hand_after_byte))]
     fn character(&mut self, byte: u8) -> Action
         ensures { ComesTo (hand_after_byte byte self.old.pointer.shown self.old) self.new result }
@@ -406,7 +412,11 @@ impl Hand {
         match self.pointer.shown {
             Some(at) if byte == CARRIAGE_RETURN => self.click(at),
             Some(at) if byte == TABULATOR => Action::Seek(at),
-            _ => typed(&[byte]),
+            Some(_) => {
+                self.pointer = self.pointer.put_away();
+                typed(&[byte])
+            }
+            None => typed(&[byte]),
         }
     }
 
@@ -422,6 +432,17 @@ impl Hand {
                 self.pointer = self.pointer.moved_to(at.moved(cells, arrow));
                 Action::Nothing
             }
+        }
+    }
+
+    /// An arrow with Shift: it moves the pointer further where that is shown, and else selects.
+    #[tactic(auto, unfolding(crate::specs::Hands::hand_after_leap))]
+    fn leap(&mut self, arrow: Arrow) -> Action
+        ensures { ComesTo (hand_after_leap arrow self.old.pointer.shown self.old) self.new result }
+    {
+        match self.pointer.shown {
+            None => Action::Select(arrow),
+            Some(_) => self.arrow(LEAP, arrow),
         }
     }
 
@@ -702,15 +723,17 @@ fn control(byte: u8) -> Action
     ensures { result ≡ control_says byte }
 {
     match byte {
+        CONTROL_A => Action::SelectAll,
         CONTROL_C => Action::Post(Event::Key(Key::Copy)),
-        CONTROL_E => Action::AtCaret(Click::Keys(Keys::Middle)),
+        CONTROL_E => Action::CallLine,
         CONTROL_F => Action::Search,
         LINE_FEED => typed(&[CARRIAGE_RETURN]),
+        CONTROL_K => Action::CutLine,
         CONTROL_L => Action::LookAnew,
         CONTROL_Q => Action::Leave,
         CONTROL_R => Action::Replace,
         CONTROL_S => Action::Store,
-        CONTROL_T => Action::AtCaret(Click::Mark),
+        CONTROL_T => Action::Mark,
         CONTROL_V => Action::Post(Event::Key(Key::Paste)),
         CONTROL_W => Action::Fill,
         CONTROL_X => Action::Post(Event::Key(Key::Cut)),

@@ -1,6 +1,7 @@
 -- The moments of legs during a call, and which leg their flags choose.
 use Rattle.std.proofs.Common.{◌≡◌, ◌⊎◌, inl, inr, ℕ, suc, ◌≤◌, nat_lt, List, [], ◌∷◌, ◌++◌, length, Bool}
 use Rattle.std.proofs.Common.{true, false, if◌then◌else◌, refl, sym, ◌∙◌, ap, subst, arith}
+use Rattle.std.proofs.Common.{Result, Ok, Err, OnOk, OnErr}
 use Rattle.std.proofs.lemmas.Bool.{cases_lt}
 use Rattle.sector_disk.specs.declared.disk.Disk.{Ghosts}
 use Rattle.sector_disk.specs.Trail.{Content, now, IsCrashImage, Nowhere}
@@ -14,7 +15,7 @@ use Rattle.twin_disk.specs.declared.legs.Legs.{Legs}
 use Rattle.twin_disk.specs.declared.twin.TwinDisk.{TwinDisk}
 use Rattle.twin_disk.specs.Bounded.{bounded_content}
 use Rattle.twin_disk.specs.Flags.{ShowsFlag, says_alone}
-use Rattle.twin_disk.specs.Legs.{OrFlag}
+use Rattle.twin_disk.specs.Legs.{IsFewer, OrFlag}
 use Rattle.twin_disk.specs.Twin.{with_mark, moment_when, SinceStart}
 use Rattle.twin_disk.specs.Survival.{first_when, second_when}
 use Rattle.twin_disk.specs.Survival.{first_clock, second_clock, first_leg, second_leg, legs_left, is_lost, twin_size, twin_moments, HasHonestLegs}
@@ -60,7 +61,7 @@ image_says d flag alone old new keeps h shown u low high image is =
     ap says_alone (is flag (run.settled u low high flag (λ out. out refl) shown.settled)
     ∙ run.reads u low high flag (λ out. out refl)) ∙ shown.says
 
-bool_two : (b : Bool) → (b ≡ true) ⊎ (b ≡ false)
+pub bool_two : (b : Bool) → (b ≡ true) ⊎ (b ≡ false)
 bool_two true = inl refl
 bool_two false = inr refl
 
@@ -85,6 +86,16 @@ by_three : {P : Type 0} (l : Left) → (l ≡ Both → P) → (l ≡ First → P
 by_three Both both first second = both refl
 by_three First both first second = first refl
 by_three Second both first second = second refl
+
+fewer_same : (l : Left) → IsFewer l l
+fewer_same Both = tt
+fewer_same First = refl
+fewer_same Second = refl
+
+-- what holds where a call is done, if a leg is left
+pub where_left : {T E P : Type 0} (r : Result T E) (lost : Bool) → OnErr r (lost ≡ true) → lost ≡ false → OnOk r P → P
+where_left (Ok x) lost gone left it = it
+where_left (Err e) lost gone left it = absurd (cc)
 
 module _ {A B : Type 0} (a : Ghosts A) (b : Ghosts B) where
   module _ (old new : TwinDisk A B a b) (on : GoesOn old new) (h : HasHonestLegs old) (h' : HasHonestLegs new) where
@@ -214,13 +225,25 @@ module _ {A B : Type 0} (a : Ghosts A) (b : Ghosts B) where
       → IsConfined b.size b.honest b.trail (OrFlag (legs_left old) (twin_size old) area) (second_leg old) (second_leg new)
       → IsConfined a.size a.honest a.trail area (first_leg old) (first_leg new)
       ⊎ IsConfined b.size b.honest b.trail area (second_leg old) (second_leg new)
+      → IsFewer (legs_left old) (legs_left new)
+      → (legs_left new ≡ legs_left old → is_lost new ≡ false
+      → IsConfined a.size a.honest a.trail area (first_leg old) (first_leg new)
+      × IsConfined b.size b.honest b.trail area (second_leg old) (second_leg new))
       → GoesOn old new
-  goes_on old new area more out calls start size past left first second one = record {
+  goes_on old new area more out calls start size past left first second one fewer same = record {
     more = more;
     calls = calls;
     start = start;
     size = size;
     past = past;
+    fewer = fewer;
+    over = λ lost. absurd (cc);
+    first_still = first.still;
+    second_still = second.still;
+    same = λ is none. let kept = same is none in (
+      keeps_flag a (twin_size old) area (first_leg old) (first_leg new) out kept.0,
+      keeps_flag b (twin_size old) area (second_leg old) (second_leg new) out kept.1,
+    );
     first = has_past a (OrFlag (legs_left old) (twin_size old) area) (first_leg old) (first_leg new) first;
     second = has_past b (OrFlag (legs_left old) (twin_size old) area) (second_leg old) (second_leg new) second;
     one = elim one [
@@ -238,10 +261,11 @@ module _ {A B : Type 0} (a : Ghosts A) (b : Ghosts B) where
   }
 
   -- nothing was done
-  pub goes_nowhere : (old new : TwinDisk A B a b) → new.legs ≡ old.legs → new.calls.items ≡ old.calls.items
+  pub goes_nowhere : (old new : TwinDisk A B a b) → new.legs ≡ old.legs
+      → (is_lost old ≡ true → is_lost new ≡ true) → new.calls.items ≡ old.calls.items
       → new.start.items ≡ old.start.items → twin_size new ≡ twin_size old
       → (HasHonestLegs old → HasPast (twin_moments old) (twin_moments new)) → GoesOn old new
-  goes_nowhere old new same calls start size past =
+  goes_nowhere old new same over calls start size past =
       let first : IsConfined a.size a.honest a.trail Nowhere (first_leg old) (first_leg new) =
       subst (λ l. IsConfined a.size a.honest a.trail Nowhere (first_leg old) l.first) (sym same)
       (stays_put a.size a.honest a.trail Nowhere (first_leg old)) in
@@ -256,6 +280,11 @@ module _ {A B : Type 0} (a : Ghosts A) (b : Ghosts B) where
         start = start;
         size = size;
         past = past;
+        fewer = subst (λ l. IsFewer old.legs.left l.left) (sym same) (fewer_same old.legs.left);
+        over = over;
+        first_still = first.still;
+        second_still = second.still;
+        same = λ is left. (first_flag, second_flag);
         first = has_past a Nowhere (first_leg old) (first_leg new) first;
         second = has_past b Nowhere (second_leg old) (second_leg new) second;
         one = inl first_flag;
@@ -277,3 +306,7 @@ pub second_if : {A B : Type 0} (settled : Bool) (mid : Legs A B)
     → (if settled then with_mark None mid else mid).second ≡ mid.second
 second_if true mid = refl
 second_if false mid = refl
+
+pub left_if : {A B : Type 0} (settled : Bool) (mid : Legs A B) → (if settled then with_mark None mid else mid).left ≡ mid.left
+left_if true mid = refl
+left_if false mid = refl

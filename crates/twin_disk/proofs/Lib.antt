@@ -1,3 +1,4 @@
+pub mod Composing
 pub mod Moments
 pub mod Seen
 pub mod Steps
@@ -9,3 +10,4 @@ pub mod Chosen
 pub mod Joining
 pub mod Flagged
 pub mod Copies
+pub mod Compared

@@ -9,6 +9,7 @@ use Rattle.twin_disk.specs.declared.choosing.Choice.{Choice}
 use Rattle.twin_disk.specs.declared.choosing.Choice.TheVariants as choice
 use Rattle.twin_disk.specs.Bounded.{bounded_content}
 use Rattle.twin_disk.specs.Flags.{says_alone}
+use Rattle.twin_disk.specs.Legs.{IsFewer}
 use Rattle.twin_disk.specs.Survival.{first_leg, second_leg, legs_left, twin_size, is_lost, twin_moments, HasHonestLegs}
 
 -- which one is chosen where the flags say these: the one that is alone, and of two in pair the first
@@ -44,14 +45,18 @@ pub record HasPast (old new : Trail) : Type 0 where
   pub kept : (t : ℕ) → t ≤ old.clock → new.at t ≡ old.at t
 
 module _ {A B : Type 0} {a : Ghosts A} {b : Ghosts B} where
-  -- What a call does to a twin: what was noted of its calls is noted still, and perhaps one more; and the flag of one leg
-  -- at most is touched, and none where a leg had been dropped.
+  -- What a call does to a twin, and calls one after another: what was noted of its calls is noted still, and what they
+  -- noted; and the flag of one leg at most is touched, and none where a leg had been dropped, or none is dropped.
   pub record GoesOn (old new : TwinDisk A B a b) : Type 0 where
     pub more : List (Legs A B)
     pub calls : new.calls.items ≡ old.calls.items ++ more
     pub start : new.start.items ≡ old.start.items
     pub size : twin_size new ≡ twin_size old
     pub past : HasHonestLegs old → HasPast (twin_moments old) (twin_moments new)
+    pub fewer : IsFewer (legs_left old) (legs_left new)
+    pub over : is_lost old ≡ true → is_lost new ≡ true
+    pub first_still : a.honest (first_leg old) → a.honest (first_leg new)
+    pub second_still : b.honest (second_leg old) → b.honest (second_leg new)
     pub first : a.honest (first_leg old) → HasPast (a.trail (first_leg old)) (a.trail
         (first_leg new))
     pub second : b.honest (second_leg old) → HasPast (b.trail (second_leg old)) (b.trail
@@ -59,6 +64,9 @@ module _ {A B : Type 0} {a : Ghosts A} {b : Ghosts B} where
     pub one : KeepsFlag a (twin_size old) (first_leg old) (first_leg new)
         ⊎ KeepsFlag b (twin_size old) (second_leg old) (second_leg new)
     pub none : (legs_left old ≢ Both) ⊎ (is_lost old ≡ true) → KeepsFlag a (twin_size old)
+        (first_leg old) (first_leg new)
+        × KeepsFlag b (twin_size old) (second_leg old) (second_leg new)
+    pub same : legs_left new ≡ legs_left old → is_lost new ≡ false → KeepsFlag a (twin_size old)
         (first_leg old) (first_leg new)
         × KeepsFlag b (twin_size old) (second_leg old) (second_leg new)
 
@@ -94,6 +102,11 @@ module _ {A B : Type 0} {a : Ghosts A} {b : Ghosts B} where
     pub chosen : (u v : ℕ) → FirstSince old new u → SecondSince old new v
         → ChoosesOf (twin_size new) ((a.trail (first_leg new)).at u) ((b.trail
         (second_leg new)).at v) (IsSince old new)
+
+-- calls one after another are as one
+abbrev pub CallsCompose : {A B : Type 0} → Ghosts A → Ghosts B → Type 0
+CallsCompose {A = A} {B = B} a b = (old mid new : TwinDisk A B a b) → GoesOn old mid
+    → GoesOn mid new → GoesOn old new
 
 -- what holds of every call of a twin
 abbrev pub CallsFollow : {A B : Type 0} → Ghosts A → Ghosts B → Type 0

@@ -4,4 +4,5 @@ pub mod Legs
 pub mod Twin
 pub mod Survival
 pub mod Copying
+pub mod Files
 pub mod Choosing

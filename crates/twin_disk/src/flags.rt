@@ -15,6 +15,9 @@ pub const NAME_BYTES: usize = 16;
 /// What the disks of one pair are known by, and no others.
 pub type Name = [u8; NAME_BYTES];
 
+/// The name in a disk that was in no pair yet.
+const NAMELESS: Name = [0; NAME_BYTES];
+
 /// The flag of a leg, and the name of its pair. A disk that was in no pair yet has a name of zeros.
 #[derive(Clone, Copy, Debug, PartialEq, Eq)]
 pub struct Flag {
@@ -42,6 +45,11 @@ impl Flag {
         set_alone(&mut sector, self.alone);
         sector
     }
+}
+
+/// Whether the disk was in a pair.
+pub fn has_name(flag: &Flag) -> bool {
+    flag.name != NAMELESS
 }
 
 /// The name in a flag's sector.

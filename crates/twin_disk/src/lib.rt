@@ -6,7 +6,9 @@
 
 mod choosing;
 mod copying;
+mod files;
 mod flags;
+mod leaving;
 mod legs;
 mod notes;
 mod pairing;
@@ -15,9 +17,12 @@ mod twin_laws;
 
 pub use choosing::{Choice, Leg, choose};
 pub use copying::{copy_disk, differing, flag_at, mirror};
-pub use flags::{ALONE, Flag, NAME_BYTES, Name, put_flag};
+pub use files::{FileLegs, file_legs};
+pub use flags::{ALONE, Flag, NAME_BYTES, Name, has_name, put_flag};
+pub use leaving::leave_twin;
 pub use pairing::paired;
 pub use twin::TwinDisk;
 pub use twin_laws::{
-    calls_follow, dropped_leg_is_old, each_moment_survives, either_survives, flags_choose_newest,
+    calls_compose, calls_follow, dropped_leg_is_old, each_moment_survives, either_survives,
+    flags_choose_newest,
 };

@@ -1,13 +1,15 @@
 //! A twin of two disks.
-ghost use Rattle.std.specs.Prelude.{◌≡◌, ◌<◌, ◌↔◌, ℕ, IfOk};
+ghost use Rattle.std.specs.Prelude.{◌≡◌, ◌<◌, ◌↔◌, ℕ, IfOk, IsTrue};
 ghost use Rattle.sector_disk.specs.Trail.{now};
+ghost use Rattle.twin_disk.specs.Copying.{ReadSame};
 
 use crate::copying::mirror;
 use crate::flags::Name;
 use crate::twin::TwinDisk;
 use sector_disk::{Disk, Fault};
 
-/// The twin of two disks, after the second one was made to read as the first one does (`mirror`).
+/// The twin of two disks, after the second one was made to read as the first one does (`mirror`), unless they are known to
+/// read the `same`.
 ///
 /// `Fault`, after a call of either failed, as `mirror` says.
 pub fn paired<A: Disk + Drop, B: Disk + Drop>(
@@ -15,9 +17,11 @@ pub fn paired<A: Disk + Drop, B: Disk + Drop>(
     second: B,
     sectors: u32,
     name: Name,
+    same: bool,
 ) -> Result<TwinDisk<A, B>, Fault>
     requires first { sectors < A.size first }
     requires second { sectors < B.size second }
+    requires same { IsTrue same → ReadSame A.Disk B.Disk sectors first second }
     ensures size { IfOk result (λ d. ⟦<TwinDisk<A, B> as Disk>⟧.size d ≡ sectors) }
     ensures honest { IfOk result (λ d. ⟦<TwinDisk<A, B> as Disk>⟧.honest d
         ↔ (A.honest first × B.honest second)) }
@@ -27,6 +31,6 @@ pub fn paired<A: Disk + Drop, B: Disk + Drop>(
 {
     let mut first = first;
     let mut second = second;
-    mirror(&mut first, &mut second, sectors, &name)?;
+    mirror(&mut first, &mut second, sectors, &name, same)?;
     Ok(TwinDisk::new(first, second, sectors, name))
 }

@@ -16,6 +16,13 @@ desk earlier my.disk 2 earlier.disk
 cmp my.disk before.disk && echo 'the store itself stays'
 desk history earlier.disk
 desk list earlier.disk
+# The store is opened once, and so is locked until the copy is there: nobody posts an event between the question and the copy.
+cc -shared -fPIC -o meanwhile.so "$TESTS/c/meanwhile.c"
+OPENED=my.disk MEANWHILE="echo 'file New.Text x' | $PROGRAM play my.disk" LD_PRELOAD=./meanwhile.so \
+    "$DESK_PROGRAM" earlier my.disk 2 other.disk
+"$PROGRAM" screen other.disk | cmp - <("$PROGRAM" screen earlier.disk)
+"$PROGRAM" check other.disk
+rm meanwhile.so other.disk
 desk earlier my.disk 7 none.disk
 desk earlier my.disk 1 earlier.disk
 ls

@@ -67,6 +67,17 @@ cat said
 desk import --replace --collect worn.disk large
 "$DESK_PROGRAM" export worn.disk large | cmp - large && echo 'it came'
 desk list worn.disk | tail -n 1
+echo '--- a System.Collect that makes too little room: it was done, and no document came'
+for n in $(seq 20); do
+    echo "$n" >> large
+    "$DESK_PROGRAM" import --replace worn.disk large > said 2>&1 || break
+done
+head -c 100000 /dev/zero | tr '\0' y > other
+desk import --dry-run --replace --collect worn.disk large other
+desk list worn.disk | tail -n 2 | head -n 1 | cut -d ' ' -f 1-2 | tr 0-9 n
+desk import --replace --collect worn.disk large other
+desk list worn.disk | tail -n 3 | head -n 2 | cut -d ' ' -f 1-2
+desk export worn.disk other
 echo '--- and where no viewer shows the word'
 "$PROGRAM" format bare.disk
 for n in $(seq 21); do

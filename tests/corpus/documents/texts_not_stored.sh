@@ -32,6 +32,27 @@ point m 52 28 52 28
 END
 desk list my.disk
 
+echo '--- two open texts of one name: one comes, and of the other it is told that it stays behind'
+"$PROGRAM" format two.disk
+"$PROGRAM" play two.disk << 'END' > played
+file System.Tool Edit.Open A.Text%0d
+point m 60 31 60 31
+point m 52 30 52 30
+point l 2 30 2 30
+type one
+point m 52 30 52 30
+point l 2 14 2 14
+type another
+END
+cp two.disk before.disk
+desk list two.disk | tail -n 3
+desk export two.disk --all both --open
+grep . both/A.Text
+desk export two.disk --open A.Text
+echo
+desk export two.disk --open System.Tool
+cmp two.disk before.disk && echo 'the store itself stays'
+
 echo '--- all stored'
 "$PROGRAM" format my.disk
 "$PROGRAM" play my.disk << 'END' > played

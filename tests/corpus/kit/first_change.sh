@@ -28,7 +28,8 @@ print(f'{path}:', sum(old in line for line in lines), 'place')
 
 place, = re.findall(r'^note: src/hand\.rt:(\d+):', page, re.M)
 print('the place that the prover names:', lines[int(place) - 1])
-tried, refused = re.search(r'^(\d+) wrong bodies tried, (\d+) refused$', page, re.M).groups()
+last = r'^(\d+) wrong bodies tried, (\d+) refused, 0 of them for their shape, 0 by their answers alone$'
+tried, refused = re.search(last, page, re.M).groups()
 there = len([it for it in os.listdir(os.path.dirname(path)) if it.endswith('.edit')])
 print('wrong bodies:', 'as many as the page says' if int(tried) == int(refused) == there else f'{there}, and the page says {tried}')
 passed = int(re.search(r'test result: ok\. (\d+) passed', page)[1])

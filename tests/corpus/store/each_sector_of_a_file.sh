@@ -5,3 +5,7 @@ wc -c < every.disk
 "$FILE_CALLS" every.disk write sync reopen read
 wc -c < every.disk
 tail -c +1025 every.disk | cmp -n 15994880 - /dev/zero && echo 'zeros else'
+# Where the file is gone when it is opened again, that is a fault, and none is made.
+cc -shared -fPIC -o meanwhile.so "$TESTS/c/meanwhile.c"
+OPENED=gone.disk MEANWHILE='rm gone.disk' LD_PRELOAD=./meanwhile.so "$FILE_CALLS" gone.disk write sync reopen
+ls

@@ -1,6 +1,8 @@
 """Sittings at a pseudo terminal. `tests/random/sittings` says what is tried."""
 import filecmp
+import functools
 import itertools
+import multiprocessing
 import os
 import random
 import shutil
@@ -15,15 +17,21 @@ from presses import FILES, press, spelled
 from sitting import MODES, Ended, Sitting, TooSlow
 
 PRESSES = 300
+AT_A_TIME = 2
 WINDOWS = [(33, 80), (20, 60), (24, 80), (40, 100), (12, 45), (33, 80), (24, 79), (60, 200), (12, 81), (40, 50)]
 
 
+def beginning(tool):
+    """The events that lead to the tool text and a document in viewers."""
+    return ['file System.Tool ' + spelled(tool.replace('\n', '\r')), 'point m 60 31 60 31', 'point m 52 30 52 30',
+            'point l 1 30 1 30']
+
+
 def begin(oberon, path, tool):
-    """A store with the tool text and a document in viewers."""
+    """A store with these events."""
     subprocess.run([oberon, 'format', path], check=True, stdout=subprocess.DEVNULL)
-    lines = ['file System.Tool ' + spelled(tool.replace('\n', '\r')), 'point m 60 31 60 31', 'point m 52 30 52 30',
-             'point l 1 30 1 30']
-    subprocess.run([oberon, 'play', path], input='\n'.join(lines).encode(), check=True, stdout=subprocess.DEVNULL)
+    lines = '\n'.join(beginning(tool)).encode()
+    subprocess.run([oberon, 'play', path], input=lines, check=True, stdout=subprocess.DEVNULL)
 
 
 def sizes(chance):
@@ -110,8 +118,15 @@ def characters(cells, rows):
     return [''.join(character for character, _ in row[:80]).rstrip() for row in cells[:rows]]
 
 
-def sit(seed, desk, oberon, folder, tool):
-    """One sitting. Returns what is wrong, in words."""
+def has_store(path, other):
+    """Whether the first file has the sectors of the store in the second one, behind which a file with a twin has its flag."""
+    with open(path, 'rb') as file, open(other, 'rb') as wanted:
+        bytes_wanted = wanted.read()
+        return file.read(len(bytes_wanted)) == bytes_wanted
+
+
+def sit(seed, desk, oberon, folder, tool, twins):
+    """One sitting, over two files where so asked. Returns what is wrong, in words."""
     chance = random.Random(seed)
     rows, columns = WINDOWS[seed % len(WINDOWS)]
     theirs, ours = f'{folder}/theirs', f'{folder}/ours'
@@ -121,13 +136,17 @@ def sit(seed, desk, oberon, folder, tool):
         with open(f'{folder}/{name}', 'wb') as file:
             file.write(data)
     os.mkfifo(f'{folder}/pipe')
-    sitting, model = Sitting([desk, '--no-questions', theirs], rows, columns, folder), Model(oberon, ours, rows, columns)
+    twin = f'{folder}/twin'
+    words = [desk, '--no-questions', theirs] + ['--twin', twin] * twins
+    sitting, model = Sitting(words, rows, columns, folder), Model(oberon, ours, rows, columns)
     try:
         wrong = sat(sitting, model, rows > ROWS and columns >= COLUMNS, rows, chance)
     finally:
         sitting.stop()
-    if model.end() != 0 or not filecmp.cmp(theirs, ours, shallow=False):
+    if model.end() != 0 or not has_store(theirs, ours) or not twins and not filecmp.cmp(theirs, ours, shallow=False):
         wrong.append('another store')
+    if twins and not filecmp.cmp(theirs, twin, shallow=False):
+        wrong.append('the twin is another one')
     return wrong
 
 
@@ -178,12 +197,12 @@ def compared(terminal, model, wanted):
     return wrong
 
 
-def tried(seed, *others):
+def tried(seed, desk, oberon, tool, twins):
     """The same, once more where the machine had no time for it."""
     for turn in itertools.count():
         folder = tempfile.mkdtemp()
         try:
-            wrong = sit(seed, *others[:2], folder, others[2])
+            wrong = sit(seed, desk, oberon, folder, tool, twins)
         except TooSlow:
             if turn == 5:
                 return ['the machine is too slow for it']
@@ -196,20 +215,30 @@ def tried(seed, *others):
     return []
 
 
-def main():
-    desk, oberon, tool_path, runs, first = sys.argv[1:6]
+def random_sittings(desk, oberon, tool_path, runs, first, twins):
+    """As many sittings, some at a time, over two files where so asked. Returns how many differ."""
     with open(tool_path, encoding='ascii') as text:
         tool = text.read()
-    signal.signal(signal.SIGHUP, signal.SIG_IGN)
-    faults = 0
-    for seed in range(int(first), int(first) + int(runs)):
-        wrong = tried(seed, desk, oberon, tool)
-        if wrong:
-            faults += 1
-            print(f'sitting {seed}: ' + '; '.join(wrong))
+    faults, seeds = 0, range(first, first + runs)
+    with multiprocessing.get_context('fork').Pool(AT_A_TIME) as pool:
+        one = functools.partial(tried, desk=desk, oberon=oberon, tool=tool, twins=twins)
+        for seed, wrong in zip(seeds, pool.imap(one, seeds)):
+            if wrong:
+                faults += 1
+                print(f'sitting {seed}: ' + '; '.join(wrong), flush=True)
     print(f'{runs} sittings, {faults} differ')
-    failed = endings.run_all(desk, oberon, int(runs))
-    sys.exit(1 if faults or failed else 0)
+    return faults
+
+
+def main():
+    what, desk, oberon, tool_path, runs, first = sys.argv[1:7]
+    signal.signal(signal.SIGHUP, signal.SIG_IGN)
+    if what == 'ends':
+        sys.exit(endings.run_all(desk, oberon, int(runs)) != 0)
+    faults = random_sittings(desk, oberon, tool_path, int(runs), int(first), what == 'twins')
+    if what == 'twins':
+        faults += endings.kill_all(desk, oberon, int(runs), int(first))
+    sys.exit(faults != 0)
 
 
 if __name__ == '__main__':

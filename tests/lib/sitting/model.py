@@ -16,6 +16,8 @@ KEYS = 'F2 calls, F3 selects, F11 no mouse, Ctrl-S stores, Ctrl-Z undo, Ctrl-Q l
 NO_KEY = 'That key means nothing here.'
 NO_TEXT = 'There is no text on that side of the caret, or no caret in sight.'
 NOTHING_AFTER = 'There is no character after the caret, or no caret in sight.'
+NO_LINE = 'There is no line to cut, or no caret in sight.'
+PART_HIDDEN = 'An end of it is out of sight: make the viewer taller, or take less of the text.'
 NO_SCROLL = 'Nothing moves there: no viewer, no caret, or too few rows of a text.'
 NO_WORD = 'No caret, or no such word, is in sight: System.Tool shows the commands.'
 NO_COMMAND = "No command's whole word is in sight: System.Tool shows the commands."
@@ -30,8 +32,6 @@ COMMANDS = {*OPENING, 'System.Close', 'System.Clear', 'System.Directory', 'Syste
             'System.SetColor', 'System.SetOffset', 'Edit.ChangeFont', 'Edit.ChangeColor', 'Edit.ChangeOffset', 'Edit.Store',
             'Edit.Search', 'Edit.Recall'}
 MOST_KEPT = 64  # Backspaces, or bytes, of a replacement
-# What stands in a menu before a word that a key calls.
-FRONTS = {'Edit.Search': ' System.Copy ', 'Edit.Store': ' Edit.Search '}
 TOO_LOW = 'This window is too low: it has fewer than 12 rows.'
 TOO_NARROW = 'This window is too narrow: it has fewer than 45 columns.'
 ONE_SIDE = 'Alt-Left, Alt-Right: the other side. F11: no mouse. Ctrl-S stores, Ctrl-Q leaves'
@@ -51,6 +51,11 @@ REASONS = {
     11: 'Fonts are 0 to 4, colours 0 to 15, and offsets -64 to 63.',
     13: "A viewer of one row can't be parted.",
 }
+
+
+def is_draw(line):
+    """Whether an event selects something."""
+    return line.startswith('point r ') and int(line.split(' ')[2]) not in WIDTHS
 
 
 def is_in_word(character):
@@ -171,7 +176,7 @@ class Model:
     def __init__(self, oberon, store, window, columns=COLUMNS):
         self.oberon, self.store = oberon, store
         self.pointer, self.put_away, self.points, self.has_entered = None, None, False, False
-        self.replacing = Replacing()
+        self.replacing, self.drew = Replacing(), False
         self.play = subprocess.Popen([oberon, 'play', store], stdin=subprocess.PIPE, stdout=subprocess.PIPE)
         self.top, self.rows = ROWS - 1, ROWS
         self.side = 50
@@ -258,6 +263,7 @@ class Model:
         """Whether the event isn't refused."""
         reply = self.ask(line)
         if reply == 'ok':
+            self.drew = is_draw(line)
             self.follows = True
             self.saying = KEYS
             return True
@@ -286,6 +292,8 @@ class Model:
     def paste(self, texts, looks=False):
         """The pieces of a paste, or of a file, up to one that is refused. No store is so full here that one is refused
         after others."""
+        if self.cut_selected():
+            self.name_press('typed 0 characters')
         for text in texts:
             if looks:
                 self.look()
@@ -304,6 +312,8 @@ class Model:
         kind, *rest = meaning
         self.has_entered = self.has_entered and kind == 'pointer'
         if kind == 'type':
+            if self.cut_selected():
+                self.name_press('typed 0 characters')
             return self.type(rest[0])
         if kind == 'call':
             return self.call(rest[0])
@@ -311,6 +321,9 @@ class Model:
             return self.replace()
         if kind == 'paste':
             return self.paste(rest[0])
+        if kind == 'key' and rest[0] == 'back' and self.cut_selected():
+            self.name_press('a Backspace')
+            return True
         if kind == 'key':
             return self.post('key ' + rest[0])
         if kind == 'mark':
@@ -322,19 +335,17 @@ class Model:
             return self.scroll(self.viewer_at(*self.pointer), ('wheel', rest[0])) if self.pointer else None
         if kind == 'text page':
             return self.page(rest[0])
-        if kind == 'text end':
-            return self.go(rest[0])
         if kind == 'line':
             return self.go(('number', max(rest[0] - 1, 0)))
-        if kind in ('arrow', 'delete'):
-            (self.step if kind == 'arrow' else self.delete)(*rest)
+        if kind in ('arrow', 'text end', 'delete'):
+            (self.delete if kind == 'delete' else self.step)(*rest)
             return True
+        if kind in ('select', 'select all', 'cut line'):
+            return {'select': self.select, 'select all': self.select_all, 'cut line': self.cut_line}[kind](*rest)
         if kind == 'keyed':
             return self.keyed(rest[0])
         if kind == 'at caret':
-            place = self.screen().caret()
-            self.saying = self.saying if place else NO_TEXT
-            return self.click(rest[0], place, place) if place else False
+            return self.call_line() if rest[0] == 'm' else self.mark_caret()
         if kind == 'file':
             return self.bring(rest[0])
         self.look_otherwise(kind, rest)
@@ -473,13 +484,48 @@ class Model:
         return all(self.post(line) for line in lines)
 
     def type(self, character):
-        """A character is typed, and breaks its line where the caret is in the last column of its viewer."""
-        screen, letter = self.screen(), 'type ' + spelled(character)
-        lines = self.filled(screen, character, letter) if self.fills else [letter]
-        is_done = self.post_all(lines)
-        if is_done and len(lines) > 1:
-            self.name_press('typed 2 characters')
+        """A character is typed. Its line is broken before it where that has no room for it, and behind a blank."""
+        room = None if character == '\r' else 0 if character in ' \t' else 1
+        if self.fills and room is not None and self.break_line(room) is False:
+            return False
+        is_done = self.post('type ' + spelled(character)) and (not self.fills or self.break_line(0) is not False)
+        if is_done and self.fills:
+            self.name_press('typed 1 character')
         return is_done
+
+    def break_line(self, count):
+        """The line of the caret is broken that has no room for so many characters more of a word: behind the last blank before
+        it. None where it isn't, and whether the events of it are done."""
+        seen = self.screen().caret()
+        if seen and (count == 0 or seen[0] not in (COLUMNS - 1, WIDTHS[0] - 1)):
+            return None
+        viewer = self.viewer_of_caret()
+        if not viewer:
+            return None
+        left, bottom, top, _ = viewer
+        height, width = top - bottom - 1, WIDTHS[left] - 1
+        text, org = scrolling.text_shown(self.oberon, self.store, viewer)
+        position = leading.caret_position(self.oberon, self.store, viewer)
+        if leading.column(text, position) < width - count or leading.column(text, max(position - 1, 0)) >= width:
+            return None
+        place = leading.word_start(text, position)
+        if place <= scrolling.line_start(text, position):
+            return None
+        if place == position:
+            return self.post('type %0d')
+        if leading.org_for(text, height, org, place) != org or leading.column(text, place, org) >= width:
+            return None
+        if not self.click_at(viewer, text, org, place) or not self.post('type %0d'):
+            return False
+        text, org = scrolling.text_shown(self.oberon, self.store, viewer)
+        return self.click_at(viewer, text, org, position + 1)
+
+    def click_at(self, viewer, text, org, position):
+        """The left button is clicked at a position of a viewer's text, which is in sight."""
+        left, _, top, _ = viewer
+        x = left + 1 + min(leading.column(text, position, org), WIDTHS[left] - 2)
+        y = top - 2 - text.count(b'\r', org, position)
+        return self.post(f'point l {x} {y} {x} {y}')
 
     def replace(self):
         """What was found is replaced by what was typed the time before. None where nothing is typed."""
@@ -491,49 +537,76 @@ class Model:
         self.name_press('a replacement')
         return is_done
 
-    def filled(self, screen, character, letter):
-        x, y = screen.caret() or (0, 0)
-        if x not in (COLUMNS - 1, WIDTHS[0] - 1) or character == '\r':
-            return [letter]
-        if character in ' \t':
-            return [letter, 'type %0d']
-        left, bottom, top, _ = self.viewer_at(x, y)
-        blank = screen.rows[ROWS - 1 - y].ljust(COLUMNS).rfind(' ', left + 1, x)
-        if blank < 0:
-            return [letter]
-        row = top - 2 - (top - 1 - bottom) // 2 if y == bottom else y - 1
-        back = left + x - blank
-        return [f'point l {blank + 1} {y} {blank + 1} {y}', 'type %0d', f'point l {back} {row} {back} {row}', letter]
-
     def call(self, word):
         """A command is called on the viewer of the caret, by its word in the menu, or else in a text and by the marker."""
-        screen = self.screen()
-        place, self.saying = screen.caret(), NO_WORD
-        if not place:
+        viewer = self.viewer_with_rows(NO_WORD)
+        if not viewer:
             return False
-        left, bottom, top, _ = self.viewer_at(*place)
-        menu = screen.rows[ROWS - top].ljust(COLUMNS)[left:left + WIDTHS[left]]
-        column = menu.find(FRONTS[word]) + len(FRONTS[word])
-        if FRONTS[word] in menu and column < len(menu):
+        left, bottom, top, name = viewer
+        column = leading.first_word(name + MENU, [word])
+        if column is not None and column < WIDTHS[left]:
             return self.point('m', (left + column, top - 1), (left + column, top - 1))
-        at = self.word_in_texts(screen, word)
+        self.saying = NO_WORD
+        at = self.word_in_texts(word)
         is_done = bool(at) and self.post(f'mark {left} {(bottom + top - 1) // 2}') and self.point('m', at, at)
         self.name_press('a command')
         return is_done
 
-    def word_in_texts(self, screen, word):
-        """The lowest row in which a text shows the word whole, and the first column there."""
-        def shows(x, y):
-            return x < COLUMNS and (screen.mark(x, y) == 'c' or self.is_text(screen, x, y))
+    def viewer_with_rows(self, no_caret):
+        """The viewer of the caret. None where there is none, or it shows no row of its text; then it is said."""
+        viewer = self.viewer_of_caret()
+        if not viewer:
+            has_caret = scrolling.played(self.oberon, self.store, ['type x'])[0] == 'ok'
+            self.saying = NO_SCROLL if has_caret else no_caret
+        return viewer
 
+    def word_in_texts(self, word):
+        """The first cell at which a click in a text calls the command, the lowest row first."""
+        shown = {}
         for y in range(ROWS):
-            row = screen.rows[ROWS - 1 - y].ljust(COLUMNS + 1)
-            for x in range(1, COLUMNS - len(word)):
-                end = x + len(word)
-                if (row[x:end] == word and not is_in_word(row[x - 1]) and not is_in_word(row[end])
-                        and shows(x, y) and shows(end, y)):
-                    return x, y
+            for x in range(COLUMNS):
+                viewer = self.viewer_at(x, y) if (x in WIDTHS) else viewer
+                if viewer and viewer[0] < x and y + 1 < viewer[2]:
+                    if viewer not in shown:
+                        shown[viewer] = scrolling.text_shown(self.oberon, self.store, viewer)
+                    text, org = shown[viewer]
+                    if leading.word_at(text, leading.position_at(text, org, x - viewer[0] - 1, viewer[2] - 2 - y)) == word:
+                        return x, y
         return None
+
+    def call_line(self):
+        """The command is called whose word the caret stands in, or else the first of its line."""
+        viewer = self.viewer_with_rows(NO_WORD)
+        if not viewer:
+            return False
+        left, bottom, top, _ = viewer
+        text, org = scrolling.text_shown(self.oberon, self.store, viewer)
+        position = leading.caret_position(self.oberon, self.store, viewer)
+        start, end = scrolling.line_start(text, position), text.find(b'\r', position)
+        if leading.word_at(text, position) not in COMMANDS:
+            line = text[start:len(text) if end < 0 else end].decode()
+            column = leading.first_word(line, COMMANDS)
+            position = start + column if column is not None and column < WIDTHS[left] - 1 else None
+        self.saying = NO_WORD
+        row = -1 if position is None or position < org else text.count(b'\r', org, position)
+        if not 0 <= row < top - bottom - 1 or leading.column(text, position, org) >= WIDTHS[left] - 1:
+            return False
+        place = left + 1 + leading.column(text, position, org), top - 2 - row
+        return self.point('m', place, place)
+
+    def mark_caret(self):
+        """The marker goes to the caret, or to the middle of its viewer."""
+        viewer = self.viewer_with_rows(NO_TEXT)
+        if not viewer:
+            return False
+        left, bottom, top, _ = viewer
+        text, org = scrolling.text_shown(self.oberon, self.store, viewer)
+        position = leading.caret_position(self.oberon, self.store, viewer)
+        row = -1 if position < org else text.count(b'\r', org, position)
+        column = leading.column(text, position, org)
+        if 0 <= row < top - bottom - 1 and column < WIDTHS[left] - 1:
+            return self.post(f'mark {left + 1 + column} {top - 2 - row}')
+        return self.post(f'mark {left} {(bottom + top - 1) // 2}')
 
     def bring(self, name):
         """A file of the host's is typed, each event of it heard by itself."""
@@ -565,31 +638,22 @@ class Model:
         return self.scroll(viewer, ('rows', way, max(len(seen) - 1, 1)) if seen else ('page', way))
 
     def go(self, wish):
-        """The text of the caret goes to a line, and its first row comes into sight, or at its end the last one in which
-        something stands."""
+        """The text of the caret goes to a line, and the caret with it."""
         viewer = self.viewer_of_caret()
         is_done = self.scroll(viewer, wish)
-        row = is_done and (self.last_row(viewer) if wish == 'last' else viewer[2] - 2)
-        if is_done and row is not None:
-            self.follow(viewer[0] + 1, row)
-            self.follows = False
-        return is_done
-
-    def last_row(self, viewer):
-        """The lowest row of a viewer's text in which something stands; None where nothing does."""
-        left, bottom, top, _ = viewer
-        rows = self.screen().rows
-        return next((y for y in range(bottom, top - 1)
-                     if rows[ROWS - 1 - y].ljust(COLUMNS)[left + 1:left + WIDTHS[left]].strip(' ')), None)
+        if not is_done:
+            return False
+        x, y = viewer[0] + 1, viewer[2] - 2
+        return self.post(f'point l {x} {y} {x} {y}')
 
     def name_press(self, words):
         """What is said of the events of this press, if it has any, where they are taken back."""
 
-    def viewer_of_caret(self):
-        """The viewer in which the caret stands, in sight or not: it is, once a line is begun, or a letter more where the
-        marker stands on it. None where there is none, or where it shows no row of its text."""
+    def viewer_of_caret(self, *before):
+        """The viewer in which the caret stands, after these events, in sight or not: it is, once a line is begun, or a letter
+        more where the marker stands on it. None where there is none, or where it shows no row of its text."""
         for text in ('%0d', '%0dx'):
-            answers = scrolling.played(self.oberon, self.store, ['type ' + text, 'screen'])
+            answers = scrolling.played(self.oberon, self.store, [*before, 'type ' + text, 'screen'])[len(before):]
             place = answers[0] == 'ok' and Screen(answers[1:answers.index('end')]).caret()
             if place:
                 return self.viewer_at(*place)
@@ -600,37 +664,129 @@ class Model:
         if self.lead(lambda text, width, position: leading.stepped(text, width, position, word), NO_TEXT):
             self.name_press('the caret, or a viewer that was dragged')
 
+    # ---- stretches
+
+    def cut_selected(self):
+        """Whether what the press before this one selected was cut, where the caret stands at an end of it and both are in sight."""
+        viewer = self.viewer_of_caret() if self.selects() and self.has_selection() else None
+        if not viewer or self.viewer_of_caret('key cut') != viewer:
+            return False
+        text, org, position = self.seen_by(viewer)
+        ends = leading.selection(self.oberon, self.store, viewer, text)
+        line = position in ends and self.drag(viewer, text, org, 'rl', *ends)
+        return bool(line) and self.post(line)
+
+    def selects(self):
+        """Whether the press before this one selected something last."""
+        return self.drew
+
+    def has_selection(self):
+        return scrolling.played(self.oberon, self.store, ['key copy'])[0] == 'ok'
+
+    def seen_by(self, viewer):
+        """The text of a viewer, where it is shown from, and where the caret stands in it."""
+        text, org = scrolling.text_shown(self.oberon, self.store, viewer)
+        return text, org, leading.caret_position(self.oberon, self.store, viewer)
+
+    @staticmethod
+    def cell(viewer, text, org, position):
+        """Where a viewer that shows its text from org on has a character; None where it is out of sight."""
+        left, bottom, top, _ = viewer
+        row = -1 if position < org else text.count(b'\r', org, position)
+        column = leading.column(text, position, org)
+        seen = 0 <= row < top - bottom - 1 and column < WIDTHS[left] - 1
+        return (left + 1 + column, top - 2 - row) if seen else None
+
+    def drag(self, viewer, text, org, keys, start, end):
+        """The line that draws a stretch; None where not both of its ends are in sight."""
+        first, last = (self.cell(viewer, text, org, position) for position in (start, end - 1))
+        return 'point %s %d %d %d %d' % (keys, *first, *last) if first and last else None
+
+    def select(self, word):
+        """The caret goes a step, and what it passes is selected, with what the press before this one selected up to it."""
+        viewer = self.viewer_with_rows(NO_TEXT)
+        if not viewer:
+            return False
+        text, org, position = self.seen_by(viewer)
+        goal, ends = leading.stepped(text, WIDTHS[viewer[0]] - 1, position, word), None
+        if self.selects() and self.has_selection() and self.viewer_of_caret('key cut') == viewer:
+            ends = leading.selection(self.oberon, self.store, viewer, text)
+        anchor = ends[ends[0] == position] if ends and position in ends else position
+        return self.stretch(viewer, text, org, goal, *sorted((anchor, goal)))
+
+    def select_all(self):
+        viewer = self.viewer_with_rows(NO_TEXT)
+        if not viewer:
+            return False
+        text, org, _ = self.seen_by(viewer)
+        return self.stretch(viewer, text, org, len(text), 0, len(text))
+
+    def stretch(self, viewer, text, org, goal, start, end):
+        """The caret goes to a position where it can stand, and a stretch is drawn, if it has a character."""
+        first = leading.org_for(text, viewer[2] - viewer[1] - 1, org, goal)
+        self.saying = PART_HIDDEN
+        if start < end and leading.column(text, goal, first) >= WIDTHS[viewer[0]] - 1:
+            return False
+        lines = self.way_to(viewer, text, org, goal)
+        line = lines and start < end and self.drag(viewer, text, first, 'r', start, end)
+        if lines is None or start < end and not line:
+            return False
+        is_done = self.post_all([*lines, *([line] if line else [])])
+        if is_done:
+            self.name_press('a selection')
+        return is_done
+
+    def cut_line(self):
+        """The line of the caret is cut, with its end."""
+        viewer = self.viewer_with_rows(NO_LINE)
+        if not viewer:
+            return False
+        text, org, position = self.seen_by(viewer)
+        start, end = scrolling.line_start(text, position), text.find(b'\r', position) + 1 or len(text)
+        self.saying = NO_LINE if start == end else PART_HIDDEN
+        line = start < end and self.drag(viewer, text, org, 'rl', start, end)
+        return bool(line) and self.post(line)
+
     def delete(self):
-        """The character behind the caret is deleted: the caret goes behind it, where it can be seen, and a Backspace."""
+        """What is selected up to the caret is deleted, or else the character behind the caret: the caret goes behind it, where it
+        can be seen, and a Backspace."""
+        if self.cut_selected():
+            self.name_press('a Backspace')
+            return
+
         def behind(text, width, position):
             return position + 1 if position < len(text) and leading.column(text, position + 1) < width else None
 
         if self.lead(behind, NOTHING_AFTER) and self.post('key back'):
-            self.name_press('a character deleted')
+            self.name_press('a Backspace')
 
     def lead(self, wish, no_caret):
         """Whether the caret goes to the position that is wished, as near as it has a cell."""
-        viewer = self.viewer_of_caret()
+        viewer = self.viewer_with_rows(no_caret)
         if not viewer:
-            has_caret = scrolling.played(self.oberon, self.store, ['type x'])[0] == 'ok'
-            self.saying = NO_SCROLL if has_caret else no_caret
             return False
-        left, bottom, top, _ = viewer
-        height, width = top - bottom - 1, WIDTHS[left] - 1
-        text, org = scrolling.text_shown(self.oberon, self.store, viewer)
-        position = wish(text, width, leading.caret_position(self.oberon, self.store, viewer))
+        text, org, caret = self.seen_by(viewer)
+        position = wish(text, WIDTHS[viewer[0]] - 1, caret)
         if position is None:
             self.saying = no_caret
             return False
+        lines = self.way_to(viewer, text, org, position)
+        return lines is not None and self.post_all(lines)
+
+    def way_to(self, viewer, text, org, position):
+        """The lines after which the caret stands at a position, as near as it has a cell; None where it is too far, which is
+        said."""
+        left, bottom, top, _ = viewer
+        height, width = top - bottom - 1, WIDTHS[left] - 1
         first = leading.org_for(text, height, org, position)
         pressed = [] if first == org else scrolling.rows_pressed(text, height, org, first) if height > 1 else None
         if pressed is None:
             self.saying = NO_SCROLL
-            return False
+            return None
         x = left + 1 + min(leading.column(text, position), width - 1)
         cells = [(keys, left, top - 2 - row) for keys, row in pressed]
         cells.append(('l', x, top - 2 - text.count(b'\r', first, position)))
-        return self.post_all([f'point {keys} {x} {y} {x} {y}' for keys, x, y in cells])
+        return [f'point {keys} {x} {y} {x} {y}' for keys, x, y in cells]
 
     def is_text(self, screen, x, y):
         if screen.mark(x, y) != '.':

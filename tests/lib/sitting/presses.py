@@ -1,7 +1,7 @@
 """Random presses: the bytes that a terminal sends for them, and what they mean.
 
 A meaning is a tuple: ('type', text), ('call', word), ('replace',), ('fill',), ('paste', texts), ('key', word), ('mark', column, row), ('point', keys, column, row, column, row),
-('arrow', word), ('delete',), ('line', number), ('page', word), ('wheel', word, column, row), ('text page', word), ('text end', word), ('pointer', column, row),
+('arrow', word), ('select', word), ('select all',), ('cut line',), ('delete',), ('line', number), ('page', word), ('wheel', word, column, row), ('text page', word), ('text end', word), ('pointer', column, row),
 ('fit', rows, columns), ('file', name), ('keyed', steps), ('at caret', keys), ('ring',) or ('ring at a name',). Columns and rows are those of the terminal, from 1 at the
 upper left."""
 
@@ -12,6 +12,8 @@ NUMBERS = {'l': 0, 'm': 1, 'r': 2}
 ARROWS = {'up': [b'[A', b'OA'], 'down': [b'[B', b'OB'], 'right': [b'[C', b'OC'], 'left': [b'[D', b'OD'],
           'home': [b'[H', b'OH', b'[1~', b'[7~'], 'end': [b'[F', b'OF', b'[4~', b'[8~'],
           'word right': [b'[1;5C'], 'word left': [b'[1;5D']}
+SHIFTED = {word: b'\x1b[1;2' + letter for word, letter in (('up', b'A'), ('down', b'B'), ('right', b'C'), ('left', b'D'), ('home', b'H'),
+                                                          ('end', b'F'))}
 # What a byte below the space is, where it is a key.
 CONTROLS = {3: ('key', 'copy'), 6: ('call', 'Edit.Search'), 10: ('type', '\r'), 18: ('replace',), 19: ('call', 'Edit.Store'),
             22: ('key', 'paste'), 23: ('fill',), 24: ('key', 'cut')}
@@ -27,7 +29,7 @@ NOTHING = [b'\x1b[<64;3;4m', b'\x1b[<66;3;4M', b'\x1b[<35;3;4M', b'\x1b[1;5E', b
            b'\x1bx', b'\x1b.']
 # What rings: keys that mean nothing here, one of them after a function key that is called off, and letters of other
 # scripts.
-RINGING = [b'\x1bOQ\x1b\x00', b'\x1b1\x1b\x00', b'\x01', b'\x00', '\u00e4'.encode(), '\u2014'.encode(), b'\xff']
+RINGING = [b'\x1bOQ\x1b\x00', b'\x1b1\x1b\x00', b'\x02', b'\x00', '\u00e4'.encode(), '\u2014'.encode(), b'\xff']
 
 
 # The files of the host that are brought in, and names of what is none: that isn't there, a folder, a pipe.
@@ -112,7 +114,7 @@ def line_asked(random):
 def press(random, rows, is_whole):
     """One press, or a few that belong together, in a window of so many rows. Where the whole display is in sight a
     paste may be of several events, and elsewhere the window may get another size."""
-    kind = random.randrange(30)
+    kind = random.randrange(31)
     if kind < 6:
         character = random.choice(PRINTED + ['\r', '\t', 'e', 'a', ' '])
         return character.encode(), [('type', character)]
@@ -132,6 +134,8 @@ def press(random, rows, is_whole):
                               (b'\x1b[1;3D', [('page', 'left')]), (b'\x1b[1;3C', [('page', 'right')])])
     if kind == 29:
         return sought(random, rows)
+    if kind == 30:
+        return stretched(random)
     if kind == 26:
         return b'\x1b[3~', [('delete',)]
     if kind == 27:
@@ -153,7 +157,7 @@ def press(random, rows, is_whole):
     if kind in (17, 18):
         return scroll(random, rows)
     if kind == 28:
-        return random.choice([(b'\x05', [('at caret', 'm')]), (b'\x14', [('at caret', 'mark')])])
+        return random.choice([(b'\x05', [('at caret', 'm')]), (b'\x14', [('at caret', 'mark')]), (b'\x0b', [('cut line',)])])
     if kind == 20 and is_whole:
         return keyed(random)
     data, meanings = mouse(random, rows, is_whole)
@@ -178,6 +182,20 @@ def sought(random, rows):
         if random.random() < (0.3 if piece == b'\x1b[D' else 0.9) and len(data + piece) < 64:
             data, meanings = data + piece, meanings + found
     return data, meanings
+
+
+def stretched(random):
+    """Some of a text is selected by keys, or all of it, and mostly what is selected up to the caret goes then, or something comes in
+    its place."""
+    data, meanings = b'', []
+    if random.random() < 0.2:
+        data, meanings = b'\x01', [('select all',)]
+    word = random.choice([*SHIFTED])
+    for _ in range(random.randrange(0 if data else 1, 5)):
+        word = word if random.random() < 0.7 else random.choice([*SHIFTED])
+        data, meanings = data + SHIFTED[word], [*meanings, ('select', word)]
+    more, meaning = random.choice([(b'\x7f', ('key', 'back')), (b'\x1b[3~', ('delete',)), (b'q', ('type', 'q')), (b' ', ('type', ' ')), (b'', None)])
+    return data + more, meanings + [meaning] * bool(more)
 
 
 def keyed(random):

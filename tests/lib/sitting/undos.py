@@ -7,8 +7,8 @@ import subprocess
 import sys
 import tempfile
 
-from main import begin, characters
-from model import Model, called_word
+from main import begin, beginning, characters
+from model import Model, called_word, is_draw
 from presses import FILES, drag, press
 from sitting import MODES, Ended, Sitting, TooSlow
 
@@ -30,7 +30,9 @@ class Deed:
     def __init__(self, line):
         word, *rest = line.split(' ', 2)
         self.typed, self.cell = None, None
-        if word == 'type':
+        if word == 'file':
+            self.words = 'a file'
+        elif word == 'type':
             self.typed = self.length(line)
         elif word == 'key':
             self.words = KEYS[rest[0]]
@@ -46,6 +48,8 @@ class Deed:
         """What is said in these words."""
         deed = cls('mark')
         deed.words = words
+        if words.startswith('typed '):
+            deed.typed = int(words.split()[1])
         return deed
 
     @staticmethod
@@ -63,6 +67,37 @@ class Deed:
         if self.typed is not None:
             return f'typed {self.typed} character' + ('s' if self.typed != 1 else '')
         return screen and self.cell and called_word(screen, *self.cell) or self.words
+
+
+WORD, GAP, MOVES, SELECTS, ALONE = range(5)  # what a press was
+BARS = ('0', '50')  # the columns of scroll bars
+
+
+def kind_of(line, pastes=False):
+    """What an event was: a letter, a blank, what only moves something, or anything else."""
+    word, *rest = line.split(' ')
+    if word == 'type' and not pastes and Deed.length(line) == 1:
+        return GAP if line in ('type  ', 'type %20', 'type %09', 'type %0d') else WORD
+    if word == 'point' and not pastes:
+        keys, x0, y0, _, y1 = rest
+        if is_draw(line):
+            return SELECTS
+        if keys == 'r' or keys == 'l' and y0 == y1 or keys == 'm' and x0 in BARS:
+            return MOVES
+    return ALONE
+
+
+def goes_on(kind, following):
+    return (kind, following) in ((WORD, WORD), (WORD, GAP), (GAP, GAP))
+
+
+def kind_with(kind, following):
+    """What a press of that kind is that posts an event more."""
+    if kind in (MOVES, SELECTS):
+        return following
+    if goes_on(kind, following) or (kind, following) == (GAP, WORD):
+        return following
+    return GAP if kind == GAP and following in (MOVES, SELECTS) else ALONE
 
 
 class History:
@@ -96,15 +131,19 @@ class History:
 
 class Undoing(Model):
     """The desktop of the events that stand: where some are taken back, all the others are played to a new store. What the
-    presses did is known as far as they changed something: how many events each has, and its deed. An event that is
-    refused goes with the press before it."""
+    presses did is known as far as they changed something: how many events each has, its deed, and what it was. An event
+    that is refused goes with the press before it, and so does a press that only moves something. A letter goes on with the
+    word before it."""
 
-    def __init__(self, oberon, store, window, folder):
-        self.base, self.folder, self.count = store, folder, 0
-        self.history, self.undone, self.stands = History(['', '', '', '']), [], []
-        self.presses, self.refused, self.joins = [], 0, False
-        copy = self.copied()
-        super().__init__(oberon, copy, window)
+    def __init__(self, oberon, store, window, folder, lines):
+        self.base, self.folder, self.count = f'{folder}/nothing', folder, 0
+        subprocess.run([oberon, 'format', self.base], check=True, stdout=subprocess.DEVNULL)
+        self.history, self.undone, self.stands = History(lines), [], list(lines)
+        self.presses, self.refused, self.joins, self.pastes, self.goes_on = [], 0, False, False, False
+        for line in lines:
+            self.add(line)
+        self.at_first = len(self.presses)
+        super().__init__(oberon, store, window)
         self.oberon = oberon
 
     def copied(self):
@@ -115,7 +154,9 @@ class Undoing(Model):
 
     def take(self, meaning):
         self.begin_press()
+        self.pastes = meaning[0] in ('paste', 'file')
         super().take(meaning)
+        self.pastes = False
 
     def begin_press(self):
         self.joins = False
@@ -132,21 +173,43 @@ class Undoing(Model):
             self.refused += 1
         elif not done:
             self.presses[-1][0] += 1
-        elif self.joins:
-            self.presses[-1][0] += 1
-            self.presses[-1][1].add(line)
         else:
-            self.presses = [*self.presses, [1, Deed(line)]][-MOST_DONE:]
+            self.add(line)
             self.joins = True
         return done
 
+    def add(self, line):
+        """An event was done."""
+        kind = kind_of(line, self.pastes)
+        is_next = bool(self.presses) and goes_on(self.presses[-1][2], kind)
+        if not self.joins:
+            self.goes_on = is_next
+        if self.joins or is_next:
+            self.presses[-1][0] += 1
+            self.presses[-1][1].add(line)
+            self.presses[-1][2] = kind_with(self.presses[-1][2], kind)
+        else:
+            self.gather()
+            self.presses = [*self.presses, [1, Deed(line), kind]][-MOST_DONE:]
+
+    def selects(self):
+        return bool(self.presses) and self.presses[-1][2] == SELECTS
+
+    def gather(self):
+        """What only moved something goes with the press before it."""
+        if len(self.presses) > 1 and self.presses[-1][2] in (MOVES, SELECTS):
+            moves = self.presses.pop()
+            self.presses[-1][0] += moves[0]
+            self.presses[-1][2] = MOVES if self.presses[-1][2] in (MOVES, SELECTS) else ALONE
+
     def name_press(self, words):
-        if self.joins:
+        if self.joins and not self.goes_on:
             self.presses[-1][1] = Deed.named(words)
 
     def undo(self):
-        """The last press is taken back, of this sitting."""
+        """The last press is taken back, of this sitting, with what only moved behind it."""
         self.replacing.typed = None
+        self.gather()
         lines = self.history.take_back(self.presses[-1][0] if self.presses else self.refused + 1)
         if not lines:
             self.saying = 'There is nothing to take back.'
@@ -183,7 +246,7 @@ class Undoing(Model):
         self.joins = False
         for line in lines:
             self.posted(line)
-        if self.joins:
+        if self.joins and not self.goes_on:
             self.presses[-1][1] = deed or Deed.named(PART)
         self.saying = 'did again: ' + (deed.told() if deed else PART)
 
@@ -192,7 +255,7 @@ def presses_of(chance, model):
     """One press, or a run of Ctrl-Z or Ctrl-Y. Of these the bytes come alone."""
     kind = chance.randrange(12)
     if kind < 2:
-        for _ in range(min(chance.choice([1, 1, 2, 3, 5, 12, 40]), len(model.presses))):
+        for _ in range(min(chance.choice([1, 1, 2, 3, 5, 12, 40]), len(model.presses) - model.at_first)):
             yield b'\x1a', model.undo
     elif kind == 2:
         for _ in range(chance.choice([1, 1, 2, 3, 40])):
@@ -213,7 +276,7 @@ def sit(seed, desk, oberon, folder, tool):
     for name, data in FILES.items():
         with open(f'{folder}/{name}', 'wb') as file:
             file.write(data)
-    sitting, model = Sitting([desk, '--no-questions', theirs], ROWS, 80, folder), Undoing(oberon, ours, ROWS, folder)
+    sitting, model = Sitting([desk, '--no-questions', theirs], ROWS, 80, folder), Undoing(oberon, ours, ROWS, folder, beginning(tool))
     terminal = sitting.terminal
     try:
         if not sitting.wait(lambda: terminal.scenes > 0 and MODES <= terminal.modes):
@@ -253,16 +316,18 @@ def click(key, column, row):
     return drag(random.Random(0), key, (column, row), (column, row))
 
 
-# What a person does, and how many events that is: opens a document, types, pastes, deletes a paragraph (the right button is
-# drawn over it, and the left one pressed meanwhile), has the document stored (the marker, and then the command, once more
-# since another viewer has the name), closes the viewer and deletes the document (once more, since that is asked).
-DEEDS = [(click('m', 52, 2), 2), (click('l', 2, 2), 1), *((b'A letter\r'[k:k + 1], 1) for k in range(9)),
-         (b'\x1b[200~a paragraph to go\ranother one\r\x1b[201~', 1), (drag(random.Random(0), 'rl', (2, 3), (19, 3)), 1),
-         (b'\x1bOP' + click('l', 5, 5), 1), (click('m', 52, 27) * 2, 1), (b'\x03', 1), (click('m', 15, 1), 1), (click('m', 52, 8) * 2, 1)]
+# What a person does, and whether an undo begins with it: opens a document, goes to its text, types words, pastes, deletes a
+# paragraph (the right button is drawn over it, and the left one pressed meanwhile), has the document stored (the marker, and
+# then the command, once more since another viewer has the name), closes the viewer and deletes the document (once more, since
+# that is asked).
+DEEDS = [(click('m', 52, 2), True), (click('l', 2, 2), False), *((b'A letter\r'[k:k + 1], k in (0, 2)) for k in range(9)),
+         (b'\x1b[200~a paragraph to go\ranother one\r\x1b[201~', True), (drag(random.Random(0), 'rl', (2, 3), (19, 3)), True),
+         (b'\x1bOP' + click('l', 5, 5), True), (click('m', 52, 27) * 2, True), (b'\x03', True), (click('m', 15, 1), True),
+         (click('m', 52, 8) * 2, True)]
 
 
 def kills(seed, desk, oberon, folder, tool):
-    """The program is killed by signal 9 after these deeds; at a new start Ctrl-Z, for each event, shows what was seen before."""
+    """The program is killed by signal 9 after these deeds; at a new start each Ctrl-Z shows what was seen before its step."""
     store = f'{folder}/store'
     begin(oberon, store, tool)
     words = [desk, store]
@@ -285,12 +350,12 @@ def kills(seed, desk, oberon, folder, tool):
     try:
         if not sitting.wait(lambda: sitting.terminal.scenes > 0):
             return ['no scene came after the kill']
-        for at in range(len(seen) - 1, -1, -1):
+        for at in [len(DEEDS), *(at for at in range(len(DEEDS) - 1, -1, -1) if DEEDS[at][1])]:
+            if at < len(DEEDS):
+                sitting.press(b'\x1a')
+                sitting.hear_long(b'')
             if characters(sitting.terminal.cells, ROWS - 1) != seen[at]:
                 wrong.append(f'another screen than that after {at} deeds')
-            if at:
-                sitting.press(b'\x1a' * DEEDS[at - 1][1])
-                sitting.hear_long(b'')
         sitting.press(b'\x11')
         sitting.end()
     finally:

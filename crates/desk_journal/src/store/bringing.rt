@@ -1,16 +1,19 @@
 //! Documents that come into a store.
 ghost use Rattle.std.specs.Prelude.{◌≡◌, ◌≤◌, IfOk, IsErrOf};
-ghost use Rattle.desk_slots.specs.Errors.{OfPost};
+ghost use Rattle.desktop_definitions.specs.declared.reply.Reply.{Reply};
+ghost use Rattle.store_layout.specs.Layout.{untold};
+ghost use Rattle.store_slots.specs.Errors.{OfPost};
+ghost use Rattle.desk_journal.specs.Behind.{GoesToNext, LeavesNext, brought_from};
 ghost use Rattle.desk_journal.specs.Bringing.{LeavesAllOrNone, AreBrought, IsUnwritten};
 ghost use Rattle.desk_journal.specs.Posting.{Behaves, IsBroken, IsLast, TurnsAway};
 
 use super::Store;
 use command_table::NEWEST;
-use desk_slots::{Document, Error, SlotPlace, renew};
 use desktop_definitions::Reply;
 use sector_disk::Disk;
 use std::alloc::Global;
-use store_layout::LAST_EPOCH;
+use store_layout::{LAST_EPOCH, PastEnd, UNTOLD, standing_law};
+use store_slots::{Document, Error, SlotPlace, renew};
 
 impl<D: Disk> Store<D> {
     /// Each document becomes the file of its name, in their order, or none does: the desktop with all of them goes whole
@@ -30,7 +33,35 @@ impl<D: Disk> Store<D> {
         ensures fault { IsErrOf result Error.Fault → IsBroken self.new }
         ensures worn { TurnsAway (IsErrOf result Error.Worn) (IsLast self.old) self.old self.new }
         ensures behaves { Behaves D.Disk OfPost result self.old self.new }
+        ensures standings { LeavesNext D.Disk (brought_from untold documents.now) self.old
+            self.new }
+        ensures next { IfOk result (λ reply. reply ≡ Reply.Done
+            → GoesToNext D.Disk (brought_from untold documents.now) self.old self.new) }
     {
+        self.bring_with(alloc, documents, UNTOLD)
+    }
+
+    /// As `bring`, with a head that tells of this past, where `bring` tells of none.
+    ///
+    /// Errors: those of `bring`.
+    pub fn bring_with(
+        &mut self,
+        alloc: Global,
+        documents: &[Document],
+        past: PastEnd,
+    ) -> Result<Reply, Error>
+        ensures any_moment { LeavesAllOrNone D.Disk documents.now self.old self.new }
+        ensures ok { IfOk result (λ reply. AreBrought D.Disk documents.now reply self.old
+            self.new) }
+        ensures memory { IsErrOf result Error.NoMemory → IsUnwritten D.Disk self.old self.new }
+        ensures fault { IsErrOf result Error.Fault → IsBroken self.new }
+        ensures worn { TurnsAway (IsErrOf result Error.Worn) (IsLast self.old) self.old self.new }
+        ensures behaves { Behaves D.Disk OfPost result self.old self.new }
+        ensures standings { LeavesNext D.Disk (brought_from past documents.now) self.old self.new }
+        ensures next { IfOk result (λ reply. reply ≡ Reply.Done
+            → GoesToNext D.Disk (brought_from past documents.now) self.old self.new) }
+    {
+        standing_law();
         if self.must_reopen {
             return Err(Error::MustReopen);
         }
@@ -48,6 +79,7 @@ impl<D: Disk> Store<D> {
             epoch: self.epoch + 1,
             area: self.desktop.next_area(),
             saved: self.desktop.saved(),
+            past,
         };
         renew(&mut self.disk, &mut self.desktop, place)?;
         self.slot = place.slot;

@@ -4,10 +4,10 @@ ghost use Rattle.desktop_definitions.specs.Viewers.{newest, selected};
 ghost use Rattle.desk_journal.specs.Looking.{OnlyLooks};
 
 use super::Store;
-use desk_slots::Error;
 use piece_ring::Look;
 use sector_disk::Disk;
 use std::alloc::Global;
+use store_slots::Error;
 
 impl<D: Disk> Store<D> {
     /// The characters that were copied or cut last, each a byte and its look: all of them, in their order. Empty where

@@ -4,11 +4,11 @@ ghost use Rattle.desk_input.specs.Scrolling.{Scrolls};
 ghost use Rattle.desk_journal.specs.Looking.{OnlyLooks};
 
 use super::Store;
-use desk_slots::{Error, Wish};
 use event_bytes::Event;
 use sector_disk::Disk;
 use std::alloc::Global;
 use std::vec::Vec;
+use store_slots::{Error, Wish};
 
 impl<D: Disk> Store<D> {
     /// The presses in a scroll bar after which the viewer at a cell of the display (column and row), or the one with the

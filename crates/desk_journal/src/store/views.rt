@@ -5,8 +5,8 @@ ghost use Rattle.desk_views.specs.Info.{shown_viewer, place_at, desk_info, last_
 ghost use Rattle.desk_journal.specs.Looking.{OnlyLooks};
 
 use super::Store;
-use desk_slots::{DeskInfo, Error, LogRow, Loss, Place, ShownViewer};
 use sector_disk::Disk;
+use store_slots::{DeskInfo, Error, LogRow, Loss, Place, ShownViewer};
 
 impl<D: Disk> Store<D> {
     /// What the command would lose that is called by the middle button, which went down at the cell `from` and up at the

@@ -14,7 +14,7 @@ pub loop-event-preserved : goal.loop-event-preserved
 loop-event-preserved g c = record {
   behind = next_behind g.D.Disk c.args.events.now c.loop-event.event-index c.loop-event.invariant.behind
       c.post.ensures.behaves.device c.loop-event-test.true c.event-item.is c.requires.room c.in_ok-post.ensures.ok
-      c.in_ok-post.ensures.added;
+      c.in_ok-post.ensures.added.done;
 }
 
 pub returns-clause-behind : goal.returns-clause-behind

@@ -6,3 +6,6 @@ returns-clause-moments c = repeated.moments
 
 pub returns-clause-whole : goal.returns-clause-whole
 returns-clause-whole c = repeated.whole
+
+pub returns-clause-anew : goal.returns-clause-anew
+returns-clause-anew c = repeated.anew

@@ -1,6 +1,6 @@
 use Rattle.std.proofs.Common.{◌∙◌, ap, ℕ, List}
 use Rattle.sector_disk.specs.Trail.{now, written}
-use Rattle.sector_disk.specs.Memory.{trail_of}
+use Rattle.desk_page.specs.Recording.{trail_since}
 use Rattle.desk_page.proofs.Loaded.{is_written, sector_is}
 use Rattle.desk_page.proofs.loading.load.Goals as goal
 
@@ -8,5 +8,5 @@ pub returns-in-Ok-clause-written : goal.returns-in-Ok-clause-written
 returns-in-Ok-clause-written c =
     is_written c.args.n _ c.args.disk.now c.write-result.new.self c.forget.new.self c.in-Ok.ensures.recorded
     c.forget.ensures
-    ∙ ap (λ (s : List ℕ). written (now (trail_of c.args.disk.now.memory.calls)) c.args.n s)
+    ∙ ap (λ (s : List ℕ). written (now (trail_since c.args.disk.now)) c.args.n s)
     (sector_is c.args.bytes.now _ c.args.n c.copy_from_slice.ensures.after)

@@ -5,5 +5,5 @@ use Rattle.desk_page.specs.Turns.{AreTravelled}
 use Rattle.desk_page.proofs.scene.travel_on.Given as goal
 
 abbrev pub invariant-loop-count : goal.invariant-loop-count
-invariant-loop-count l = AreTravelled ghosts l.fn.sitting l.sitting l.fn.store l.store
+invariant-loop-count l = AreTravelled ghosts l._count l.fn.sitting l.sitting l.fn.store l.store
     × IsDurable ghosts l.store × (l.store.must_reopen ≡ false)

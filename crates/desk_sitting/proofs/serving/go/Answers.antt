@@ -6,18 +6,18 @@ use Rattle.desk_sitting.proofs.Turning.{store_no_keyboard, store_no_output}
 use Rattle.desk_sitting.proofs.serving.go.Goals as goal
 
 pub returns-clause-between : goal.returns-clause-between
-returns-clause-between g c = λ parser heard known held.
-    between g.D.Disk (turn_state_of parser c.args.sitting.now c.args.store.now heard known held)
-    (turn_state_of parser c.travel.new.sitting c.travel.new.store heard known held)
-    (record { parser = refl; heard = refl; known = refl; held = refl }) tt tt c.in_ok-travel.ensures
+returns-clause-between g c = λ parser known out.
+    between g.D.Disk (turn_state_of parser c.args.sitting.now c.args.store.now known out)
+    (turn_state_of parser c.travel.new.sitting c.travel.new.store known out)
+    (record { parser = refl; out = refl; known = refl }) tt tt c.in_ok-travel.ensures
 
 pub returns-in_err-travel-clause-between : goal.returns-in_err-travel-clause-between
 returns-in_err-travel-clause-between g c =
     let p = err_from_is_err_and c.from_residual.result c.from_residual.ensures.1 in
-    λ parser heard known held.
-    broken_off g.D.Disk (turn_state_of parser c.args.sitting.now c.args.store.now heard known held)
-    (turn_state_of parser c.travel.new.sitting c.travel.new.store heard known held)
-    (record { parser = refl; heard = refl; known = refl; held = refl }) c.from_residual.result
+    λ parser known out.
+    broken_off g.D.Disk (turn_state_of parser c.args.sitting.now c.args.store.now known out)
+    (turn_state_of parser c.travel.new.sitting c.travel.new.store known out)
+    (record { parser = refl; out = refl; known = refl }) c.from_residual.result
     c.in_err-travel.field-0.0 (p.1 ∙ ap (λ e. Err e) p.2) c.in_err-travel.ensures
 
 pub returns-in_err-travel-clause-cause : goal.returns-in_err-travel-clause-cause

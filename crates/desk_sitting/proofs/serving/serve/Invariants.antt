@@ -1,14 +1,16 @@
 use Rattle.std.proofs.Common.{◌≡◌}
-use Rattle.desk_sitting.specs.Serving.{first_place, turn_state_of}
+use Rattle.desk_sitting.specs.Serving.{exchange, first_place, turn_state_of}
 use Rattle.desk_sitting.proofs.Whole.{HasCome}
 use Rattle.desk_sitting.proofs.serving.serve.Given as goal
 
 abbrev pub invariant-loop-count : goal.invariant-loop-count
 invariant-loop-count g l = record {
   come : HasCome g.D.Disk
-      (first_place l.fn.height l.fn.width l.fn.greeting l.fn.questions l.fn.fills l.fn.store (g.K.Keyboard.heard l.fn.keyboard)
-      (g.W.AnswerWriter.contents l.fn.writer)) l._count
-      (turn_state_of l.parser l.sitting l.store (g.K.Keyboard.heard l.keyboard) l.painter
-      (g.W.AnswerWriter.contents l.writer));
+      (first_place l.fn.height l.fn.width l.fn.greeting l.fn.questions l.fn.fills l.fn.past l.fn.store
+      (exchange (g.K.Keyboard.heard l.fn.keyboard) (g.K.Keyboard.asked l.fn.keyboard)
+      (g.W.AnswerWriter.contents l.fn.writer) (g.W.AnswerWriter.unflushed l.fn.writer))) l._count
+      (turn_state_of l.parser l.sitting l.store l.painter
+      (exchange (g.K.Keyboard.heard l.keyboard) (g.K.Keyboard.asked l.keyboard)
+      (g.W.AnswerWriter.contents l.writer) (g.W.AnswerWriter.unflushed l.writer)));
   calm : g.W.AnswerWriter.failures l.writer ≡ g.W.AnswerWriter.failures l.fn.writer;
 }

@@ -19,7 +19,7 @@ returns-else-is_scene_due-clause-looks g c = λ honest durable. unlooked g.D.Dis
 pub returns-else-is_scene_due-clause-shown : goal.returns-else-is_scene_due-clause-shown
 returns-else-is_scene_due-clause-shown g c = λ honest.
     let none = sym c.is_scene_due.ensures ∙ c.if-is_scene_due.false in
-    (sym (looks_same _ c.args.sitting.now none), still none refl refl refl)
+    (sym (looks_same _ c.args.sitting.now none), still none refl refl refl refl)
 
 pub returns-else-is_scene_due-clause-store : goal.returns-else-is_scene_due-clause-store
 returns-else-is_scene_due-clause-store g c = unused g.D.Disk c.args.store.now c.requires

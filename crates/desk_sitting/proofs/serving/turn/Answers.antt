@@ -1,7 +1,7 @@
 use Rattle.std.proofs.Common.{◌∙◌, Err, ap, refl}
 use Rattle.std.proofs.lemmas.Result.{err_from_is_err_and}
 use Rattle.desk_sitting.proofs.Turning.{unshown_ends, deaf_ends, turned, broken_ends, left_stops, same_device}
-use Rattle.desk_sitting.proofs.Turning.{calm_presses, heard_so, not_of_keyboard, of_keyboard, store_no_keyboard}
+use Rattle.desk_sitting.proofs.Turning.{asked_so, calm_presses, heard_so, not_of_keyboard, of_keyboard, store_no_keyboard}
 use Rattle.desk_sitting.proofs.Turning.{keyboard_no_output, left_no_output, output_calm, store_no_output}
 use Rattle.desk_sitting.proofs.serving.turn.Goals as goal
 
@@ -10,14 +10,15 @@ returns-in_err-show_if_due-clause-turns g c =
     let p = err_from_is_err_and c.from_residual.result c.from_residual.ensures.1 in
     let scene = c.in_err-show_if_due.ensures in
     unshown_ends g.D.Disk c.from_residual.result c.in_err-show_if_due.field-0.0 (p.1 ∙ ap (λ e. Err e) p.2) scene.looks
-    scene.unshown refl scene.store.usable scene.counts scene.store.device
+    scene.unshown refl refl scene.store.usable scene.counts scene.store.device
 
 pub returns-in_err-hearing-clause-turns : goal.returns-in_err-hearing-clause-turns
 returns-in_err-hearing-clause-turns g c =
     let p = err_from_is_err_and c.from_residual-in_err-hearing.result c.from_residual-in_err-hearing.ensures.1 in
     let scene = c.in_ok-show_if_due.ensures in
     deaf_ends g.D.Disk c.from_residual-in_err-hearing.result c.in_err-hearing.field-0.0 (p.1 ∙ ap (λ e. Err e) p.2)
-    scene.looks (λ h. (scene.shown h).1) c.in_err-hearing.ensures.silent scene.store.usable scene.counts scene.store.device
+    scene.looks (λ h. (scene.shown h).1) c.in_err-hearing.ensures.silent c.in_err-hearing.ensures.unasked
+    scene.store.usable scene.counts scene.store.device
 
 pub returns-in_err-do_presses-clause-turns : goal.returns-in_err-do_presses-clause-turns
 returns-in_err-do_presses-clause-turns g c =
@@ -27,7 +28,9 @@ returns-in_err-do_presses-clause-turns g c =
     broken_ends g.D.Disk c.show_if_due.new.store c.show_if_due.new.sitting c.as_slice.result.now scene.looks
     (λ h. (scene.shown h).0) (λ h. (scene.shown h).1)
     (heard_so (g.K.Keyboard.heard c.args.keyboard.now) c.in_ok-hearing.ensures.told c.as_slice.ensures.heard)
-    c.from_residual-in_err-do_presses.result c.in_err-do_presses.field-0.0 (p.1 ∙ ap (λ e. Err e) p.2) fails.broke
+    c.as_slice.ensures.least
+    c.from_residual-in_err-do_presses.result c.in_err-do_presses.field-0.0 (p.1 ∙ ap (λ e. Err e) p.2)
+    c.in_ok-hearing.ensures.unasked fails.broke
     scene.counts fails.faults (same_device g.D.Disk _ _ _ scene.store.device c.do_presses.ensures.device)
 
 pub returns-then-sitting-clause-turns : goal.returns-then-sitting-clause-turns
@@ -41,7 +44,8 @@ returns-then-sitting-clause-turns g c =
           (turned g.D.Disk c.show_if_due.new.store c.show_if_due.new.sitting c.as_slice.result.now scene.looks
           (λ h. (scene.shown h).0) (λ h. (scene.shown h).1) (c.bring.ensures.silent
           ∙ heard_so (g.K.Keyboard.heard c.args.keyboard.now) c.in_ok-hearing.ensures.told c.as_slice.ensures.heard)
-          c.do_presses.new.sitting done.parser done.done c.bring.ensures.brought honest durable seen) c.if-sitting.true;
+          c.as_slice.ensures.least c.do_presses.new.sitting done.parser done.done
+          (asked_so c.in_ok-hearing.ensures.unasked c.bring.ensures.brought) honest durable seen) c.if-sitting.true;
       usable = tt;
       still_usable = λ _ _. done.usable;
       counts = calm_presses tt _ _ _ scene.counts done.faults;
@@ -56,7 +60,8 @@ returns-else-sitting-clause-turns g c =
       goes_on = turned g.D.Disk c.show_if_due.new.store c.show_if_due.new.sitting c.as_slice.result.now scene.looks
           (λ h. (scene.shown h).0) (λ h. (scene.shown h).1) (c.bring.ensures.silent
           ∙ heard_so (g.K.Keyboard.heard c.args.keyboard.now) c.in_ok-hearing.ensures.told c.as_slice.ensures.heard)
-          c.do_presses.new.sitting done.parser done.done c.bring.ensures.brought;
+          c.as_slice.ensures.least c.do_presses.new.sitting done.parser done.done
+          (asked_so c.in_ok-hearing.ensures.unasked c.bring.ensures.brought);
       stays = c.if-sitting.false;
       stops = tt;
       usable = done.usable;

@@ -17,6 +17,6 @@ pub text_there-requires : goal.text_there-requires
 text_there-requires c = log_there (kept_desktop c.args.desk.now) c.requires
 
 pub returns : goal.returns
-returns c = λ characters. info_told characters (kept_desktop c.args.desk.now) _ _ _ _ _ _
+returns c = λ characters. info_told characters (kept_desktop c.args.desk.now) _ _ _ _ _ _ _
     (c.unused_id.ensures ∙ ap (λ (l : List (ℕ × Viewer)). least_unused (keys_of l)) c.as_slice.ensures.value)
-    c.closed_id.ensures c.caret_id.ensures c.is_some.ensures c.text_there.ensures c.len.ensures
+    c.closed_id.ensures c.caret_id.ensures c.caret_position.ensures c.is_some.ensures c.text_there.ensures c.len.ensures

@@ -1,5 +1,5 @@
 use Rattle.std.proofs.Common.{◌∙◌, sym, subst, inl, inr}
-use Rattle.desk_bringing.specs.Bringing.{Documents}
+use Rattle.document_filing.specs.Bringing.{Documents}
 use Rattle.desk_journal.specs.Bringing.{AreBrought}
 use Rattle.store_documents.specs.Standings.{HasOnlyLooked}
 use Rattle.store_documents.specs.Importing.{coming_ones}

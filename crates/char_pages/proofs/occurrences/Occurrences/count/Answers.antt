@@ -1,4 +1,4 @@
-use Rattle.std.proofs.Common.{◌≡◌, ◌<◌, ◌+◌, ◌==◌, ◌∙◌, count_by, slice_range, sym, ap, subst, arith}
+use Rattle.std.proofs.Common.{◌+◌, ◌==◌, ◌∙◌, count_by, slice_range, sym, ap, arith}
 use Rattle.char_pages.proofs.Occurring.{counted_part}
 use Rattle.char_pages.proofs.occurrences.Occurrences.count.Goals as goal
 

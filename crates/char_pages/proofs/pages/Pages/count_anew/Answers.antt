@@ -1,4 +1,4 @@
-use Rattle.std.proofs.Common.{◌≡◌, ◌≤◌, ◌<◌, ◌+◌, ◌%◌, refl, sym, ◌∙◌, subst, arith}
+use Rattle.std.proofs.Common.{◌/◌, refl, sym, ◌∙◌, subst, arith}
 use Rattle.std.proofs.lemmas.Result.{err_from_is_err_and}
 use Rattle.sector_disk.specs.Trail.{CountsFault, now}
 use Rattle.sector_disk.specs.declared.disk.TheConstants.{SECTOR_BYTES}
@@ -30,14 +30,12 @@ pub invariant_of-self-2 : goal.invariant_of-self-2
 invariant_of-self-2 g c =
     let p = c.args.self.now in
     let within = c.requires.within in
-    let few = c.note.ensures.few in
-    let known = p.known in
     record {
       whole = p.whole;
       few = p.few;
       room = c.sector_of.ensures.capacity ∙ p.room;
       below = below_with c.sector_of.ensures.cached (omega arith) (omega (arith, within)) p.below;
-      known = omega (arith, few, within, known);
+      known = c.note.ensures.below (p.saved / SECTOR_BYTES) within p.known;
       anew = p.anew;
     }
 

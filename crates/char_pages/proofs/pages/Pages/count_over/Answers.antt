@@ -1,10 +1,8 @@
 use Rattle.std.proofs.Common.{◌≡◌, ◌≤◌, ◌<◌, ◌+◌, ◌-◌, ◌%◌, ◌==◌, count_by, slice_range}
-use Rattle.std.proofs.Common.{refl, sym, ◌∙◌, ap, subst, arith}
-use Rattle.std.proofs.lemmas.Result.{err_from_is_err_and}
-use Rattle.sector_disk.specs.Trail.{CountsFault, now}
+use Rattle.std.proofs.Common.{sym, ◌∙◌, ap, arith}
+use Rattle.sector_disk.specs.Trail.{now}
 use Rattle.sector_disk.specs.declared.disk.TheConstants.{SECTOR_BYTES}
-use Rattle.char_pages.proofs.Caching.{below_with}
-use Rattle.char_pages.proofs.Paging.{range_in_area, range_behind, looked_up}
+use Rattle.char_pages.proofs.Paging.{range_in_area, range_behind}
 use Rattle.char_pages.proofs.pages.Pages.count_over.Goals as goal
 
 pub returns-then-offset-self-clause-looked : goal.returns-then-offset-self-clause-looked

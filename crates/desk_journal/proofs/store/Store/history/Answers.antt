@@ -2,8 +2,8 @@ use Rattle.std.proofs.Common.{◌≡◌, IfErr, IfOk, subst}
 use Rattle.std.proofs.lemmas.Result.{IfErr-weaker, IfOk-weaker}
 use Rattle.sector_disk.specs.Trail.{now}
 use Rattle.store_layout.specs.Meaning.{Standing}
-use Rattle.desk_slots.specs.Beside.{IsHistory}
-use Rattle.desk_slots.specs.Errors.{OfLook}
+use Rattle.store_slots.specs.Beside.{IsHistory}
+use Rattle.store_slots.specs.Errors.{OfLook}
 use Rattle.desk_journal.specs.Undoing.{ShowsStanding}
 use Rattle.desk_journal.proofs.Undoing.{as_look, epoch_any, read_beside, stands_now, standing, up_to, up_to_any}
 use Rattle.desk_journal.proofs.store.Store.history.Goals as goal

@@ -3,8 +3,8 @@ use Rattle.command_table.specs.Versions.{version_number}
 use Rattle.desk_journal.proofs.Storing.{known}
 use Rattle.store_layout.specs.Kept.{ShowsSettled}
 use Rattle.sector_disk.specs.Trail.{now}
-use Rattle.desk_slots.specs.Live.{seen_live}
-use Rattle.desk_slots.proofs.Settling.{kept_shows}
+use Rattle.store_slots.specs.Live.{seen_live}
+use Rattle.store_slots.proofs.Settling.{kept_shows}
 use Rattle.desk_journal.proofs.store.Store.open.Goals as goal
 
 pub returns-in-Ok-clause-ok : goal.returns-in-Ok-clause-ok

@@ -1,6 +1,7 @@
 use Rattle.std.proofs.Common.{subst, inl}
-use Rattle.std.proofs.lemmas.Result.{err_from_is_err_and, IfOk-weaker}
+use Rattle.std.proofs.lemmas.Result.{err_from_is_err_and, on_ok_weaker}
 use Rattle.desk_journal.specs.Undoing.{IsAdded}
+use Rattle.desk_journal.specs.Behind.{LeavesPosted}
 use Rattle.desk_journal.proofs.Undoing.{added_behind}
 use Rattle.desk_journal.specs.Posting.{LeavesEither, IsPosted, IsStarved, HasJournalRoom, RecordsDone}
 use Rattle.desk_journal.proofs.Between.{checkpoints, done_first, no_need, put_posts, stopped_first}
@@ -55,15 +56,22 @@ returns-in_err-checkpoint-clause-first g c = λ usable due.
     first.behaves) (cc (p.1, p.2))
 
 pub returns-clause-added : goal.returns-clause-added
-returns-clause-added g c = IfOk-weaker c.put.result _ _ (λ reply added. elim c.if-needs.branch [
-  | then-needs+in_ok-checkpoint w ↦
-      let first = w.checkpoint.ensures in
-      added_behind g.D.Disk c.args.event.now c.args.self.now w.checkpoint.new.self c.put.new.self
-      w.in_ok-checkpoint.ensures.ok first.behaves.device (c.needs.ensures.due.0 w.if-needs.true)
-      (subst (λ mid. IsAdded g.D.Disk c.args.event.now mid c.put.new.self) w.self-is added)
-  | else-needs w ↦
-      subst (λ mid. IsAdded g.D.Disk c.args.event.now mid c.put.new.self) w.self-is added
-]) c.put.ensures.added
+returns-clause-added g c = record {
+  moments = elim c.if-needs.branch [
+    | then-needs+in_ok-checkpoint w ↦ λ room. absurd (no_need c.args.self.now room (c.needs.ensures.due.0 w.if-needs.true))
+    | else-needs w ↦
+        subst (λ mid. LeavesPosted g.D.Disk c.args.event.now mid c.put.new.self) w.self-is c.put.ensures.added.moments
+  ];
+  done = on_ok_weaker c.put.result (λ added. elim c.if-needs.branch [
+    | then-needs+in_ok-checkpoint w ↦
+        let first = w.checkpoint.ensures in
+        added_behind g.D.Disk c.args.event.now c.args.self.now w.checkpoint.new.self c.put.new.self
+        w.in_ok-checkpoint.ensures.ok first.behaves.device (c.needs.ensures.due.0 w.if-needs.true)
+        (subst (λ mid. IsAdded g.D.Disk c.args.event.now mid c.put.new.self) w.self-is added)
+    | else-needs w ↦
+        subst (λ mid. IsAdded g.D.Disk c.args.event.now mid c.put.new.self) w.self-is added
+  ]) c.put.ensures.added.done;
+}
 
 pub returns-clause-fault : goal.returns-clause-fault
 returns-clause-fault g c = λ is. (

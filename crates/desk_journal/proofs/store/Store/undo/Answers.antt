@@ -3,13 +3,13 @@ use Rattle.std.specs.Prelude.{IfErr}
 use Rattle.std.proofs.lemmas.Bool.{eqb-true, eqb-false}
 use Rattle.std.proofs.lemmas.List.{nil_from_length}
 use Rattle.std.proofs.lemmas.Result.{err_from_is_err_and, IfErr-at_err}
-use Rattle.desk_slots.specs.Beside.{IsCountedBack}
+use Rattle.store_slots.specs.Beside.{IsCountedBack}
 use Rattle.command_table.specs.Versions.{version_number}
 use Rattle.sector_disk.specs.Trail.{now}
 use Rattle.sector_disk.proofs.Confinement as confined
-use Rattle.desk_slots.specs.Errors.{OfLook}
-use Rattle.desk_slots.specs.Live.{seen_live}
-use Rattle.desk_slots.proofs.Settling.{kept_shows}
+use Rattle.store_slots.specs.Errors.{OfLook}
+use Rattle.store_slots.specs.Live.{seen_live}
+use Rattle.store_slots.proofs.Settling.{kept_shows}
 use Rattle.desk_journal.specs.Undoing.{IsTakenBack, OfUndo}
 use Rattle.desk_journal.specs.View.{StoreView}
 use Rattle.desk_journal.proofs.Undoing.{Leaving, as_look, earlier, epoch_any, nothing_back, read_beside, up_to, up_to_any}

@@ -1,4 +1,5 @@
 use Rattle.std.proofs.Common.{sym, ap, ◌∙◌}
+use Rattle.sector_disk.specs.Memory.{Recorded}
 use Rattle.desk_page.specs.Spelling.{spelling_of_calls}
 use Rattle.desk_page.proofs.Spellings.{none, ends_at}
 use Rattle.desk_page.proofs.disk.RecordedDisk.new.Goals as goal
@@ -7,4 +8,5 @@ pub invariant_of-result : goal.invariant_of-result
 invariant_of-result c = (
   ends_at c.in_ok-disk.disk.calls c.new-2.result.items c.new-2.ensures,
   c.new-3.ensures.items ∙ sym none ∙ sym (ap spelling_of_calls c.new-2.ensures),
+  λ _. ap (λ (m : Recorded). m.calls) c.in_ok-disk.ensures ∙ sym c.new-2.ensures,
 )

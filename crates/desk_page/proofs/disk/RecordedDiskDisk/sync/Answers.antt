@@ -1,5 +1,5 @@
 use Rattle.sector_disk.specs.declared.call.DiskCall.TheVariants.{Sync}
-use Rattle.desk_page.proofs.Spellings.{grown, ends_more}
+use Rattle.desk_page.proofs.Spellings.{grown, ends_more, whole_more}
 use Rattle.desk_page.proofs.disk.RecordedDiskDisk.sync.Goals as goal
 
 pub invariant_of-self-2 : goal.invariant_of-self-2
@@ -9,4 +9,6 @@ invariant_of-self-2 c = let call = Sync in (
   grown c.self.inside.spelled.items c.make_room.new.spelled.items c.spell.new.spelled.items
       c.self.inside.since.items c.add.new.self.items call c.make_room.ensures.same c.self.invariant.1 c.add.ensures
       c.spell.ensures,
+  whole_more c.self.inside.disk.calls c.sync.new.self.calls c.self.inside.since.items c.add.new.self.items call
+      c.self.invariant.2 c.in_ok-sync.ensures.recorded c.add.ensures,
 )

@@ -1,5 +1,5 @@
 use Rattle.std.proofs.lemmas.Result.{err_from_is_err_and}
-use Rattle.desk_tasks.specs.Plans.{seen_plan}
+use Rattle.press_plans.specs.Plans.{seen_plan}
 use Rattle.desk_sitting.proofs.Carrying.{stage_broken, stage_done, stage_left, stage_unseen, went_so}
 use Rattle.desk_sitting.proofs.sitting.Sitting.advance.Goals as goal
 

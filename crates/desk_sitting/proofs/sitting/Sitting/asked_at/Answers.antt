@@ -1,7 +1,7 @@
 use Rattle.std.proofs.Common.{◌∙◌, ap, sym, Some}
 use Rattle.std.proofs.lemmas.Result.{err_from_is_err_and}
 use Rattle.desktop_definitions.specs.Shown.{shown_screen}
-use Rattle.desk_sayings.specs.Named.{named_question}
+use Rattle.status_line.specs.Named.{named_question}
 use Rattle.desk_sitting.specs.Questions.{or_asked}
 use Rattle.desk_sitting.proofs.Found.{found_no_more, found_so, then_found}
 use Rattle.desk_sitting.proofs.sitting.Sitting.asked_at.Goals as goal

@@ -2,7 +2,7 @@ use Rattle.std.proofs.Common.{◌∙◌, ap}
 use Rattle.std.proofs.lemmas.Result.{err_from_is_err_and}
 use Rattle.screen_pictures.specs.declared.cell.Cell.{Cell}
 use Rattle.std.specs.Prelude.{List}
-use Rattle.desk_sayings.specs.Named.{named_question}
+use Rattle.status_line.specs.Named.{named_question}
 use Rattle.desk_sitting.proofs.Found.{found_look, found_unseen}
 use Rattle.desk_sitting.proofs.sitting.Sitting.named_at.Goals as goal
 

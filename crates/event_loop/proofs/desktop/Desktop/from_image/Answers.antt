@@ -2,9 +2,9 @@ use Rattle.std.proofs.Common.{◌≡◌, ap, Result, Err}
 use Rattle.std.proofs.lemmas.Result.{err_from_is_err_and}
 use Rattle.command_table.specs.Versions.{version_number}
 use Rattle.desk_core.specs.declared.desk.Desk.{Desk}
-use Rattle.desk_image.specs.declared.fault.ImageFault.{ImageFault}
-use Rattle.desk_image.specs.declared.fault.ImageFault.TheVariants.{Damaged}
-use Rattle.desk_image.specs.Pictures.{pictured}
+use Rattle.image_format.specs.declared.fault.ImageFault.{ImageFault}
+use Rattle.image_format.specs.declared.fault.ImageFault.TheVariants.{Damaged}
+use Rattle.image_format.specs.Pictures.{pictured}
 use Rattle.event_loop.proofs.ImageRead.{is_spelled, none_read, none_made}
 use Rattle.event_loop.proofs.desktop.Desktop.from_image.Goals as goal
 

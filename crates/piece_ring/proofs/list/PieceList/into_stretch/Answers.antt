@@ -1,4 +1,4 @@
-use Rattle.std.proofs.Common.{◌≡◌, ◌+◌, ◌-◌, length, drop, slice_get, ap, ◌∙◌, arith, refl, length-append}
+use Rattle.std.proofs.Common.{◌≡◌, ◌+◌, ◌-◌, length, drop, slice_get, ap, ◌∙◌, arith, length-append}
 use Rattle.std.proofs.Common.{length-drop}
 use Rattle.std.proofs.lemmas.List.{length-take-le}
 use Rattle.piece_ring.specs.Nodes.{places}
@@ -10,7 +10,7 @@ pub split-pieces-requires-clause-last : goal.split-pieces-requires-clause-last
 split-pieces-requires-clause-last c =
     let l = c.args.self in let counted = l.sound.counted in
     ap (slice_get (places l.chain.nodes)) (let e : l.count ≡ length l.chain.nodes - 1 = omega arith in e)
-    ∙ c.prev-last.ensures.last refl
+    ∙ c.last-last.ensures
 
 pub split-pieces-requires-clause-order : goal.split-pieces-requires-clause-order
 split-pieces-requires-clause-order c = some_pieces c.args.self.trailer c.args.self.sound c.requires
@@ -33,16 +33,16 @@ pub invariant_of-result : goal.invariant_of-result
 invariant_of-result c =
     let l = c.args.self in let counted = l.sound.counted in
     let last = ap (slice_get (places l.chain.nodes)) (let e : l.count ≡ length l.chain.nodes - 1 = omega arith in e)
-    ∙ c.prev-last.ensures.last refl in
-    let all = all_taken l.trailer l.sound c.prev-last.result last c.requires _ c.split-pieces.ensures.taken _
-    c.next-first.ensures.inner in
+    ∙ c.last-last.ensures in
+    let all = all_taken l.trailer l.sound c.last-last.result last c.requires _ c.split-pieces.ensures.taken _
+    c.second-first.ensures in
     record { sound = all.stretch }
 
 pub returns-clause-text : goal.returns-clause-text
 returns-clause-text c =
     let l = c.args.self in let counted = l.sound.counted in
     let last = ap (slice_get (places l.chain.nodes)) (let e : l.count ≡ length l.chain.nodes - 1 = omega arith in e)
-    ∙ c.prev-last.ensures.last refl in
-    let all = all_taken l.trailer l.sound c.prev-last.result last c.requires _ c.split-pieces.ensures.taken _
-    c.next-first.ensures.inner in
+    ∙ c.last-last.ensures in
+    let all = all_taken l.trailer l.sound c.last-last.result last c.requires _ c.split-pieces.ensures.taken _
+    c.second-first.ensures in
     all.text

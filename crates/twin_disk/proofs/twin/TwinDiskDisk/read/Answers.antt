@@ -5,7 +5,7 @@ use Rattle.twin_disk.proofs.Seen.{calls_seen, read_seen}
 use Rattle.twin_disk.proofs.Steps.{honest_on, honest_before, agrees_still}
 use Rattle.twin_disk.proofs.Flagged.{flagged_after}
 use Rattle.twin_disk.proofs.Followed.{read_followed}
-use Rattle.twin_disk.proofs.Chosen.{append_nil, goes_nowhere, goes_on}
+use Rattle.twin_disk.proofs.Chosen.{append_nil, goes_nowhere, goes_on, where_left}
 use Rattle.twin_disk.proofs.Calls.{gone, read_told, read_touches}
 use Rattle.twin_disk.proofs.twin.TwinDiskDisk.read.Goals as goal
 
@@ -58,7 +58,7 @@ invariant_of-self-2 g c =
     }
 
 pub returns-then-self-clause-goes_on : goal.returns-then-self-clause-goes_on
-returns-then-self-clause-goes_on g c = goes_nowhere g.A.Disk g.B.Disk c.args.self.now _ refl refl refl refl
+returns-then-self-clause-goes_on g c = goes_nowhere g.A.Disk g.B.Disk c.args.self.now _ refl (λ lost. lost) refl refl refl
     (λ h. record { later = omega arith; kept = λ t le. refl })
 
 pub returns-clause-goes_on : goal.returns-clause-goes_on
@@ -72,3 +72,5 @@ returns-clause-goes_on g c =
     (λ h. let run = read_touches (within at g.A.Disk) (within at g.B.Disk) was.start.items was.calls.items was.legs was.lost
     c.if-self.false was.agree c.args.n c.read-done.new.buffer c.read-done.result c.read-done.new.self reads h in
     record { later = run.later; kept = run.kept }) c.if-self.false calls.first calls.second calls.one
+    calls.fewer (λ is left. where_left c.read-done.result c.told.new.lost
+    (gone c.read-done.result _ _ _ _ c.told.ensures.counted) left calls.none is)

@@ -3,12 +3,12 @@ use Rattle.sector_disk.specs.Trail.{Nowhere}
 use Rattle.twin_disk.specs.Bounded.{within}
 use Rattle.std.specs.declared.option.Option.TheVariants.{None}
 use Rattle.sector_disk.specs.Confined.{IsConfined}
-use Rattle.twin_disk.specs.Legs.{OrFlag}
+use Rattle.twin_disk.specs.Legs.{IsFewer, OrFlag}
 use Rattle.twin_disk.specs.Twin.{IsFlagged, with_mark}
 use Rattle.twin_disk.proofs.Seen.{sync_seen}
 use Rattle.twin_disk.proofs.Flagged.{flagged_after, flagged_if}
 use Rattle.twin_disk.proofs.Followed.{sync_followed}
-use Rattle.twin_disk.proofs.Chosen.{first_if, goes_nowhere, goes_on, second_if, synced_calls}
+use Rattle.twin_disk.proofs.Chosen.{first_if, goes_nowhere, goes_on, left_if, second_if, synced_calls, where_left}
 use Rattle.twin_disk.proofs.Calls.{gone, mark_size, sync_agrees, sync_told, sync_failed, sync_touches, sync_honest, sync_was}
 use Rattle.twin_disk.proofs.twin.TwinDiskDisk.sync.Goals as goal
 
@@ -82,7 +82,7 @@ invariant_of-self-2 g c =
     }
 
 pub returns-then-self-clause-goes_on : goal.returns-then-self-clause-goes_on
-returns-then-self-clause-goes_on g c = goes_nowhere g.A.Disk g.B.Disk c.args.self.now _ refl refl refl refl
+returns-then-self-clause-goes_on g c = goes_nowhere g.A.Disk g.B.Disk c.args.self.now _ refl (λ lost. lost) refl refl refl
     (λ h. record { later = omega arith; kept = λ t le. refl })
 
 pub returns-clause-goes_on : goal.returns-clause-goes_on
@@ -96,6 +96,7 @@ returns-clause-goes_on g c =
     let syncs = sync_seen a b at c.sync-done.result was.legs mid c.sync-done.ensures in
     let first = sym (ap (λ l. l.first) c.end_sync.ensures.legs ∙ first_if c.is_ok.result mid) in
     let second = sym (ap (λ l. l.second) c.end_sync.ensures.legs ∙ second_if c.is_ok.result mid) in
+    let stays = sym (ap (λ l. l.left) c.end_sync.ensures.legs ∙ left_if c.is_ok.result mid) in
     goes_on a b was _ Nowhere (if c.is_ok.result then with_mark None mid ∷ [] else []) (λ none. none)
     (c.end_sync.ensures.calls ∙ synced_calls c.is_ok.result was.calls.items mid) refl refl
     (λ h. let run = sync_touches (within at a) (within at b) was.start.items was.calls.items was.legs was.lost
@@ -108,3 +109,9 @@ returns-clause-goes_on g c =
       | inl keeps ↦ inl (subst (IsConfined a.size a.honest a.trail Nowhere was.legs.first) first keeps)
       | inr keeps ↦ inr (subst (IsConfined b.size b.honest b.trail Nowhere was.legs.second) second keeps)
     ])
+    (subst (IsFewer was.legs.left) stays calls.fewer)
+    (λ is left. let kept = where_left c.sync-done.result c.told.new.lost
+    (gone c.sync-done.result _ _ _ _ c.told.ensures.counted) left calls.none (stays ∙ is) in (
+      subst (IsConfined a.size a.honest a.trail Nowhere was.legs.first) first kept.0,
+      subst (IsConfined b.size b.honest b.trail Nowhere was.legs.second) second kept.1,
+    ))

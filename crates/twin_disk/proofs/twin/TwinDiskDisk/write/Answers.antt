@@ -1,14 +1,14 @@
-use Rattle.std.proofs.Common.{◌<◌, ◌⊎◌, [], ◌∷◌, refl, ◌∙◌, ap, sym, subst, arith}
+use Rattle.std.proofs.Common.{◌≡◌, ◌<◌, ◌⊎◌, [], ◌∷◌, OnOk, refl, ◌∙◌, ap, sym, subst, arith}
 use Rattle.std.specs.declared.option.Option.TheVariants.{Some}
 use Rattle.sector_disk.specs.Trail.{Only}
 use Rattle.twin_disk.specs.Bounded.{within}
 use Rattle.sector_disk.specs.Confined.{IsConfined}
-use Rattle.twin_disk.specs.Legs.{OrFlag}
+use Rattle.twin_disk.specs.Legs.{IsFewer, OrFlag}
 use Rattle.twin_disk.specs.Twin.{IsFlagged, with_mark}
 use Rattle.twin_disk.proofs.Seen.{write_seen}
 use Rattle.twin_disk.proofs.Flagged.{flagged_after, flagged_marked}
 use Rattle.twin_disk.proofs.Followed.{write_followed}
-use Rattle.twin_disk.proofs.Chosen.{goes_nowhere, goes_on}
+use Rattle.twin_disk.proofs.Chosen.{goes_nowhere, goes_on, where_left}
 use Rattle.twin_disk.proofs.Calls.{write_told, write_touches, write_agrees, write_honest, write_was, gone}
 use Rattle.twin_disk.proofs.twin.TwinDiskDisk.write.Goals as goal
 
@@ -83,7 +83,7 @@ returns-clause-written g c =
     c.requires c.write-done.ensures) c.told.result c.told.ensures.same
 
 pub returns-then-self-clause-goes_on : goal.returns-then-self-clause-goes_on
-returns-then-self-clause-goes_on g c = goes_nowhere g.A.Disk g.B.Disk c.args.self.now _ refl refl refl refl
+returns-then-self-clause-goes_on g c = goes_nowhere g.A.Disk g.B.Disk c.args.self.now _ refl (λ lost. lost) refl refl refl
     (λ h. record { later = omega arith; kept = λ t le. refl })
 
 pub returns-clause-goes_on : goal.returns-clause-goes_on
@@ -109,3 +109,10 @@ returns-clause-goes_on g c =
     (subst (λ l. IsConfined g.A.Disk.size g.A.Disk.honest g.A.Disk.trail area l.first new.first
     ⊎ IsConfined g.B.Disk.size g.B.Disk.honest g.B.Disk.trail area l.second new.second)
     c.begin_write.ensures.legs calls.one)
+    (subst (λ l. IsFewer l.left new.left) c.begin_write.ensures.legs calls.fewer)
+    (λ is left. where_left c.write-done.result c.told.new.lost
+    (gone c.write-done.result _ _ _ _ c.told.ensures.counted) left
+    (subst (λ l. OnOk c.write-done.result (new.left ≡ l.left
+    → IsConfined g.A.Disk.size g.A.Disk.honest g.A.Disk.trail area l.first new.first
+    × IsConfined g.B.Disk.size g.B.Disk.honest g.B.Disk.trail area l.second new.second))
+    c.begin_write.ensures.legs calls.none) is)

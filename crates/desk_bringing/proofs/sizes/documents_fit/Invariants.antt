@@ -1,7 +1,0 @@
-use Rattle.std.proofs.Common.{◌≡◌, ◌+◌, take}
-use Rattle.desk_bringing.specs.Bringing.{many_bytes}
-use Rattle.desk_bringing.proofs.sizes.documents_fit.Given as goal
-
--- what is left of the room, and the bytes so far
-abbrev pub invariant-loop-document : goal.invariant-loop-document
-invariant-loop-document l = l.left + many_bytes (take l.document-index l.documents) ≡ l.fn.room

@@ -1,9 +1,0 @@
-use Rattle.std.proofs.Common.{◌≡◌, ℕ, List, take}
-use Rattle.desk_core.specs.Words.{seen, kept_desktop}
-use Rattle.desk_bringing.specs.Bringing.{all_filed, file_sizes}
-use Rattle.desk_bringing.proofs.sizes.sizes_after.Given as goal
-
--- those of the files once the documents so far are filed
-abbrev pub invariant-loop-document : goal.invariant-loop-document
-invariant-loop-document l = (characters : List ℕ)
-    → l.sizes.entries ≡ file_sizes (all_filed (seen characters (kept_desktop l.desk)) (take l.document-index l.documents)).files

@@ -1,6 +1,0 @@
-use Rattle.std.proofs.Common.{arith}
-use Rattle.desk_image.proofs.Counting.{long_entries}
-use Rattle.desk_image.proofs.lengths.entries_len.Goals as goal
-
-pub returns-clause-value : goal.returns-clause-value
-returns-clause-value c = λ entries same. let long = long_entries entries in omega (arith, long, same)

@@ -1,5 +1,0 @@
-use Rattle.std.proofs.Common.{sym}
-use Rattle.desk_imaging.proofs.image_size.text_pieces_len.Goals as goal
-
-pub returns-clause-value : goal.returns-clause-value
-returns-clause-value c = c.pieces_len.ensures.value c.args.text.now (sym c.pieces.ensures)

@@ -1,5 +1,0 @@
-use Rattle.std.proofs.Common.{refl}
-use Rattle.desk_imaging.proofs.imaging.all_in.Goals as goal
-
-pub returns : goal.returns
-returns c = c.cursor.ensures.whole refl

@@ -1,6 +1,0 @@
-use Rattle.desk_core.specs.Kept.{kept_desktop}
-use Rattle.desk_imaging.proofs.ImageLemmas.{are_ready}
-use Rattle.desk_imaging.proofs.imaging.put_image.Goals as goal
-
-pub put_parts-requires : goal.put_parts-requires
-put_parts-requires g c = are_ready (kept_desktop c.args.desk.now) c.requires

@@ -1,7 +1,0 @@
-use Rattle.std.proofs.Common.{◌≡◌, ◌+◌, drop}
-use Rattle.desk_image.specs.Image.{ranked_in}
-use Rattle.desk_imaging.proofs.imaging.ranked_in.Given as goal
-
--- no selection so far is of that viewer
-abbrev pub invariant-loop-place : goal.invariant-loop-place
-invariant-loop-place l = ranked_in 1 l.selections l.id ≡ ranked_in (l.place + 1) (drop l.place l.selections) l.id

@@ -1,0 +1,10 @@
+pub mod Moments
+pub mod Told
+pub mod Carrying
+pub mod Remembering
+pub mod Undoing
+pub mod OnePast
+pub mod StillReads
+pub mod PageReads
+pub mod Stepping
+pub mod Opened

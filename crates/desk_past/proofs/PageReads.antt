@@ -1,0 +1,152 @@
+-- What stands in the sectors of a page.
+use Rattle.std.proofs.Common.{◌≡◌, ◌+◌, ◌*◌, ◌^◌, ◌<◌, ◌≤◌, ℕ, zero, suc, List, [], ◌∷◌, ◌++◌, length, take, drop, refl}
+use Rattle.std.proofs.Common.{sym, ◌∙◌, ap, subst, arith, length-append}
+use Rattle.std.specs.declared.option.Option.{Option}
+use Rattle.std.specs.Prelude.{Some, None}
+use Rattle.std.specs.Int.{from_be_bytes, w32}
+use Rattle.std.proofs.lemmas.Nat.{from_be_bytes-to_be_bytes_4}
+use Rattle.sector_disk.specs.declared.disk.TheConstants.{SECTOR_BYTES}
+use Rattle.sector_disk.specs.Stored.{HoldsBytes, last_sector, stored}
+use Rattle.sector_disk.specs.Trail.{Content}
+use Rattle.sector_disk.proofs.StoredLaws.{stored_held, take-stored}
+use Rattle.event_bytes.specs.declared.event.Event.{Event}
+use Rattle.event_bytes.specs.Spelling.{BeginsWithEvent, spelling}
+use Rattle.store_layout.specs.declared.layout.TheConstants.{LAYOUT}
+use Rattle.store_slots.specs.Bodies.{spellings}
+use Rattle.desk_past.specs.declared.page.TheConstants.{EVENTS_PAGE}
+use Rattle.desk_past.specs.Page.{Page, number, page_bytes, page_sectors}
+use Rattle.desk_past.specs.Past.{AreEvents, IsGoodPage}
+use Rattle.desk_past.proofs.StillReads.{page_there}
+
+joined : (a b c : List ℕ) → (a ++ b) ++ c ≡ a ++ (b ++ c)
+joined [] b c = refl
+joined (x ∷ a) b c = ap (λ r. x ∷ r) (joined a b c)
+
+dropped : (a b : List ℕ) → drop (length a) (a ++ b) ≡ b
+dropped [] b = refl
+dropped (x ∷ a) b = dropped a b
+
+none_left : (m : ℕ) → drop {A = ℕ} m [] ≡ []
+none_left zero = refl
+none_left (suc m) = refl
+
+pub drop_both : (n m : ℕ) (l : List ℕ) → drop m (drop n l) ≡ drop (n + m) l
+drop_both zero m l = let e : m ≡ 0 + m = omega arith in ap (λ k. drop k l) e
+drop_both (suc n) m [] = none_left m ∙ sym (none_left (suc n + m))
+drop_both (suc n) m (x ∷ l) =
+    drop_both n m l ∙ (let e : suc n + m ≡ suc (n + m) = omega arith in sym (ap (λ k. drop k (x ∷ l)) e))
+
+four : (n : ℕ) → length (number n) ≡ 4
+four n = refl
+
+pub page_long : (p : Page) → length (page_bytes p) ≡ 16 + length (spellings p.events)
+page_long p =
+    let e = spellings p.events in
+    omega (
+      arith,
+      four EVENTS_PAGE,
+      four p.version,
+      four (length p.events),
+      four (length e),
+      length-append (number (length e)) e,
+      length-append (number (length p.events)) (number (length e) ++ e),
+      length-append (number p.version) (number (length p.events) ++ (number (length e) ++ e)),
+      length-append (number EVENTS_PAGE) (number p.version ++ (number (length p.events) ++ (number (length e) ++ e))),
+    )
+
+module _ (c : Content) (at : ℕ) (p : Page) (held : HoldsBytes c at (page_bytes p)) (good : IsGoodPage p) where
+  module _ (front first : List ℕ) (is : front ≡ take 16 first) (read : first ≡ stored c at (SECTOR_BYTES * 1)) where
+    front_is : front ≡ number EVENTS_PAGE ++ (number p.version
+        ++ (number (length p.events) ++ number (length (spellings p.events))))
+    front_is = is ∙ ap (take 16) read ∙ take-stored c at (SECTOR_BYTES * 1) 16 (omega arith)
+        ∙ sym (take-stored c at (length (page_bytes p)) 16 (omega (arith, page_long p)))
+        ∙ ap (take 16) (stored_held c at (page_bytes p) held)
+
+    pub kind_is : from_be_bytes w32 (take 4 front) ≡ EVENTS_PAGE
+    kind_is = ap (λ l. from_be_bytes w32 (take 4 l)) front_is ∙ from_be_bytes-to_be_bytes_4 EVENTS_PAGE (omega arith)
+
+    pub version_is : from_be_bytes w32 (take 4 (drop 4 front)) ≡ LAYOUT
+    version_is = ap (λ l. from_be_bytes w32 (take 4 (drop 4 l))) front_is
+        ∙ from_be_bytes-to_be_bytes_4 p.version (omega (arith, good.newest)) ∙ good.newest
+
+    pub count_is : (n : ℕ) → n ≡ from_be_bytes w32 (take 4 (drop 8 front)) → n ≡ length p.events
+    count_is n told = told ∙ ap (λ l. from_be_bytes w32 (take 4 (drop 8 l))) front_is
+        ∙ from_be_bytes-to_be_bytes_4 (length p.events) good.few
+
+    pub spelled_is : (n : ℕ) → n ≡ from_be_bytes w32 (take 4 (drop 12 front)) → n ≡ length (spellings p.events)
+    spelled_is n told = told ∙ ap (λ l. from_be_bytes w32 (take 4 (drop 12 l))) front_is
+        ∙ from_be_bytes-to_be_bytes_4 (length (spellings p.events)) good.short
+
+    -- in how many sectors it stands
+    pub sectors_are : (n sectors : ℕ) → n ≡ from_be_bytes w32 (take 4 (drop 12 front))
+        → sectors ≡ last_sector (n + 16) + 1 → sectors ≡ page_sectors p
+    sectors_are n sectors told count = count
+        ∙ ap (λ m. last_sector m + 1) (omega (arith, page_long p, spelled_is n told))
+
+  -- and what comes behind its front
+  pub spelled_there : (bytes left : List ℕ) (sectors : ℕ) → sectors ≡ page_sectors p
+      → bytes ≡ stored c at (SECTOR_BYTES * sectors) → left ≡ drop 16 bytes
+      → left ≡ spellings p.events ++ drop (length (page_bytes p)) (stored c at (SECTOR_BYTES * sectors))
+  spelled_there bytes left sectors are read is = is ∙ ap (drop 16) read
+      ∙ ap (drop 16) (page_there c at (SECTOR_BYTES * sectors) p held
+      (let wide : length (page_bytes p) ≤ SECTOR_BYTES * page_sectors p = omega arith in omega (arith, are, wide)))
+
+-- ---- events
+
+-- the event that comes next
+pub record IsNext (bytes : List ℕ) (k : ℕ) (events : List Event) (rest : List ℕ) : Type 0 where
+  pub event : Event
+  pub begins : BeginsWithEvent bytes event
+  pub taken : take (suc k) events ≡ take k events ++ event ∷ []
+  pub left : drop (length (spelling event)) bytes ≡ spellings (drop (suc k) events) ++ rest
+
+pub next_there : (bytes : List ℕ) (k : ℕ) (events : List Event) (rest : List ℕ) → AreEvents events → k < length events
+    → bytes ≡ spellings (drop k events) ++ rest → IsNext bytes k events rest
+next_there bytes zero [] rest valid low is = absurd (omega (arith, low))
+next_there bytes (suc k) [] rest valid low is = absurd (omega (arith, low))
+next_there bytes zero (e ∷ events) rest valid low is =
+    let parts : bytes ≡ spelling e ++ (spellings events ++ rest) = is ∙ joined (spelling e) (spellings events) rest in
+    record {
+      event = e;
+      begins = record { valid = valid.0; rest = spellings events ++ rest; parts = parts };
+      taken = refl;
+      left = ap (drop (length (spelling e))) parts ∙ dropped (spelling e) (spellings events ++ rest);
+    }
+next_there bytes (suc k) (e ∷ events) rest valid low is =
+    let next = next_there bytes k events rest valid.1 (omega (arith, low)) is in
+    record {
+      event = next.event;
+      begins = next.begins;
+      taken = ap (λ l. e ∷ l) next.taken;
+      left = next.left;
+    }
+
+first_of : Event → Option (Event × ℕ) → Event
+first_of e (Some x) = x.0
+first_of e None = e
+
+second_of : ℕ → Option (Event × ℕ) → ℕ
+second_of n (Some x) = x.1
+second_of n None = n
+
+pub same_found : {o : Option (Event × ℕ)} {e e' : Event} {n n' : ℕ} → o ≡ Some (e, n) → o ≡ Some (e', n')
+    → (e ≡ e') × (n ≡ n')
+unfolding first_of second_of
+same_found {e = e} {n = n} first second =
+    (ap (first_of e) (sym first ∙ second), ap (second_of n) (sym first ∙ second))
+
+-- one event more was read
+pub read_on : (bytes left : List ℕ) (place k : ℕ) (events : List Event) (rest : List ℕ) → AreEvents events
+    → k < length events → left ≡ drop place bytes → drop place bytes ≡ spellings (drop k events) ++ rest
+    → {o : Option (Event × ℕ)} → ((e : Event) → BeginsWithEvent left e → o ≡ Some (e, length (spelling e)))
+    → {e : Event} {n : ℕ} → o ≡ Some (e, n)
+    → (take k events ++ e ∷ [] ≡ take (k + 1) events)
+    × (drop (place + n) bytes ≡ spellings (drop (k + 1) events) ++ rest)
+read_on bytes left place k events rest valid low back at only {e = e} {n = n} found =
+    let next = next_there left k events rest valid low (back ∙ at) in
+    let same = same_found found (only next.event next.begins) in
+    let more : suc k ≡ k + 1 = omega arith in (
+      ap (λ x. take k events ++ x ∷ []) same.0 ∙ sym next.taken ∙ ap (λ m. take m events) more,
+      sym (drop_both place n bytes) ∙ ap (drop n) (sym back) ∙ ap (λ m. drop m left) same.1 ∙ next.left
+          ∙ ap (λ m. spellings (drop m events) ++ rest) more,
+    )

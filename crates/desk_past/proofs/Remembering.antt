@@ -1,0 +1,274 @@
+-- What each call leaves of a past. `d` is what is known of a disk.
+use Rattle.std.proofs.Common.{◌≡◌, ◌⊎◌, inl, inr, ◌+◌, ◌^◌, ◌<◌, ◌≤◌, ℕ, List, [], ◌∷◌, ◌++◌, length, refl, sym, ◌∙◌, ap}
+use Rattle.std.proofs.Common.{subst, arith, false, length-append}
+use Rattle.std.proofs.lemmas.List.{append-nil}
+use Rattle.sector_disk.specs.declared.disk.Disk.{Ghosts}
+use Rattle.sector_disk.specs.Confined.{IsConfined}
+use Rattle.sector_disk.specs.Stored.{HoldsBytes}
+use Rattle.sector_disk.specs.Trail.{Content, now, LeavesOnly}
+use Rattle.sector_disk.proofs.Touching.{at_last, chained, read_is_an_image, weakened}
+use Rattle.event_bytes.specs.declared.event.Event.{Event}
+use Rattle.desktop_definitions.specs.Desktop.{Desktop}
+use Rattle.desktop_definitions.specs.Step.{Outcome, step, step_in, steps}
+use Rattle.store_layout.specs.declared.head.PastEnd.{PastEnd}
+use Rattle.store_layout.specs.Filling.{InRange}
+use Rattle.store_layout.specs.Meaning.{Standing, Stands, and_then}
+use Rattle.store_slots.specs.Device.{IsOnlyRead, IsSameDevice, StaysWithin}
+use Rattle.store_slots.proofs.Recording.{in_newest, steps_in_on}
+use Rattle.desk_journal.specs.Behind.{IsWrittenBehind, KeepsStanding, LeavesPosted, LeavesNext, ShowsNext, renewed_from}
+use Rattle.desk_journal.specs.Posting.{HasJournalRoom}
+use Rattle.desk_journal.specs.Undoing.{ShowsStanding}
+use Rattle.desk_journal.specs.View.{StoreView}
+use Rattle.desk_past.specs.Page.{Page, page_bytes, page_sectors}
+use Rattle.desk_past.specs.Past.{HasNewPage, HoldsPast, IsHeadTold, HoldsPages, KeepsAll, LeavesAll, Remembers, Start, events_of}
+use Rattle.desk_past.specs.Past.{first_page, journal_of}
+use Rattle.desk_past.proofs.Carrying.{both_leave, end_on, good_journal, good_on, past_of, written_front, written_kept, written_on}
+use Rattle.desk_past.proofs.Moments.{events_on, joined, stepped_on}
+
+-- nothing is pending on the disk of a store
+abbrev pub IsQuiet : {D : Type 0} → Ghosts D → StoreView D → Type 0
+IsQuiet d store = (n : ℕ) → (now (d.trail store.disk)).pending n ≡ false
+
+moved_past : {size size' : ℕ} {start : Start} {s : Standing} {pages : List Page} {c c' : Content} → size' ≡ size → c' ≡ c
+    → HoldsPast size start s pages c → HoldsPast size' start s pages c'
+moved_past {start = start} {s = s} {pages = pages} large same past =
+    subst (λ (x : ℕ × Content). HoldsPast x.0 start s pages x.1) (λ i. (sym large i, sym same i)) past
+
+-- an epoch that has ended: its journal is the last page
+abbrev turned : {size size' : ℕ} {start : Start} {s : Standing} {pages : List Page} {c c' : Content}
+    → HoldsPast size start s pages c → (end : PastEnd)
+    → s.past.next + page_sectors (journal_of s) ≡ end.next
+    → s.past.before + length s.events ≡ end.before
+    → length (page_bytes (journal_of s)) < 2 ^ 32 → end.next ≤ size'
+    → Stands size' c' (renewed_from end s)
+    → HoldsPages c' start (pages ++ journal_of s ∷ [])
+    → HoldsPast size' start (renewed_from end s) (pages ++ journal_of s ∷ []) c'
+turned {start = start} {s = s} {pages = pages} {c = c} past end next before short room stands written = record {
+  stands = stands;
+  newest = refl;
+  written = written;
+  good = good_on pages (journal_of s) past.good (good_journal c s past.stands past.newest short);
+  up_to = end_on pages (first_page start) (journal_of s)
+      ∙ ap (λ n. n + page_sectors (journal_of s)) past.up_to ∙ next;
+  room = room;
+  counted = let all = ap length (events_on pages (journal_of s)) in
+      let long = length-append (events_of pages) s.events in omega (arith, all, long, past.counted, before);
+  leads = ap (steps start.desktop) (events_on pages (journal_of s))
+      ∙ stepped_on start.desktop pages s s.events past.newest past.leads;
+}
+
+abbrev remembers_turned : {size size' : ℕ} {start : Start} {events : List Event} {desktop : Desktop} {c c' : Content}
+    (r : Remembers size start events desktop c) (end : PastEnd)
+    → r.standing.past.next + page_sectors (journal_of r.standing) ≡ end.next
+    → r.standing.past.before + length r.standing.events ≡ end.before
+    → length (page_bytes (journal_of r.standing)) < 2 ^ 32 → end.next ≤ size'
+    → Stands size' c' (renewed_from end r.standing)
+    → HoldsPages c' start (r.pages ++ journal_of r.standing ∷ []) → Remembers size' start events desktop c'
+remembers_turned r end next before short room stands written = record {
+  standing = renewed_from end r.standing;
+  pages = r.pages ++ journal_of r.standing ∷ [];
+  past = turned r.past end next before short room stands written;
+  all = append-nil (events_of (r.pages ++ journal_of r.standing ∷ [])) ∙ events_on r.pages (journal_of r.standing) ∙ r.all;
+  is = r.is;
+}
+
+abbrev remembers_on : {size size' : ℕ} {start : Start} {events : List Event} {desktop : Desktop} {c c' : Content}
+    (r : Remembers size start events desktop c) → size' ≡ size → Stands size' c' r.standing → HoldsPages c' start r.pages
+    → Remembers size' start events desktop c'
+remembers_on r large stands written = record {
+  standing = r.standing;
+  pages = r.pages;
+  past = past_of r.standing r.past refl refl refl large stands written;
+  all = r.all;
+  is = r.is;
+}
+
+abbrev remembers_more : {size size' : ℕ} {start : Start} {events : List Event} {desktop : Desktop} {c c' : Content}
+    (r : Remembers size start events desktop c) (event : Event) → size' ≡ size
+    → Stands size' c' (and_then r.standing event) → HoldsPages c' start r.pages
+    → Remembers size' start (events ++ event ∷ []) (step desktop event).desktop c'
+remembers_more {desktop = desktop} r event large stands written = record {
+  standing = and_then r.standing event;
+  pages = r.pages;
+  past = past_of (and_then r.standing event) r.past refl refl refl large stands written;
+  all = sym (joined (events_of r.pages) r.standing.events (event ∷ [])) ∙ ap (λ l. l ++ event ∷ []) r.all;
+  is = steps_in_on r.standing.version r.standing.start r.standing.events event
+      ∙ (λ i. (step_in (r.past.newest i) (r.is i) event).desktop)
+      ∙ ap (λ (o : Outcome). o.desktop) (in_newest desktop event);
+}
+
+module _ {D : Type 0} (d : Ghosts D) {start : Start} {events : List Event} {desktop : Desktop}
+    {old : StoreView D} (was : KeepsAll d start events desktop old) (honest : d.honest old.disk)
+    (quiet : IsQuiet d old) where
+  -- ---- a call that only reads
+  pub read_moments : (new : StoreView D) → IsOnlyRead d old.disk new.disk → LeavesAll d start events desktop old new
+  read_moments new run = weakened (run.unwritten honest) (λ c image.
+      subst (Remembers (d.size old.disk) start events desktop) (sym (λ i n. image n (quiet n) i)) was.remembers)
+
+  pub read_keeps : {new : StoreView D} → IsOnlyRead d old.disk new.disk → new.must_reopen ≡ false
+      → KeepsAll d start events desktop new
+  read_keeps {new = new} run usable =
+      let image = at_last (run.unwritten honest) (now (d.trail new.disk)).reads (read_is_an_image (now (d.trail new.disk))) in
+      record {
+        usable = usable;
+        behind = was.behind;
+        remembers = record {
+          standing = was.remembers.standing;
+          pages = was.remembers.pages;
+          past = moved_past run.device.as_large (λ i n. image n (quiet n) i) was.remembers.past;
+          all = was.remembers.all;
+          is = was.remembers.is;
+        };
+      }
+
+  -- what the head told before a read it tells behind it
+  pub told_still : {X : Type 0} (new : StoreView D) (run : IsOnlyRead d old.disk new.disk)
+      (usable : new.must_reopen ≡ false) (told : PastEnd) → IsHeadTold d told was
+      → ((keeps : KeepsAll d start events desktop new) → IsHeadTold d told keeps → X) → X
+  unfolding read_keeps
+  told_still new run usable told is f = f (read_keeps {new = new} run usable) is
+
+  -- ---- a page is written
+  module _ (new : StoreView D) (from limit : ℕ) (at : from ≡ was.remembers.standing.past.next)
+      (only : IsConfined d.size d.honest d.trail (InRange from limit) old.disk new.disk) where
+    kept_there : LeavesOnly (d.trail old.disk) (d.trail new.disk) (λ c. HoldsPages c start was.remembers.pages)
+    kept_there = written_kept was.remembers.pages start was.behind (λ n far. quiet n) (only.moments honest)
+        (λ n low high within. omega (arith, high, within.0, at, was.remembers.past.up_to)) was.remembers.past.written
+
+    pub page_moments : KeepsStanding d old new → LeavesAll d start events desktop old new
+    page_moments keeps = weakened
+        (both_leave (keeps was.usable honest was.remembers.standing was.remembers.past.stands) kept_there)
+        (λ c x. remembers_on was.remembers refl x.0 x.1)
+
+    pub page_keeps : {bytes : List ℕ} (end : PastEnd) → IsWrittenBehind d from bytes old new
+        → bytes ≡ page_bytes (journal_of was.remembers.standing) → length bytes < 2 ^ 32
+        → from + page_sectors (journal_of was.remembers.standing) ≡ end.next → end.next ≤ d.size old.disk
+        → was.remembers.standing.past.before + length was.remembers.standing.events ≡ end.before
+        → HasNewPage d start events desktop end new
+    page_keeps end done same short up_to room counted = record {
+      keeps = record {
+        usable = done.usable;
+        behind = was.behind;
+        remembers = remembers_on was.remembers only.as_large
+            (done.shown honest was.remembers.standing was.remembers.past.stands)
+            (at_last kept_there (now (d.trail new.disk)).reads (read_is_an_image (now (d.trail new.disk))));
+      };
+      held = subst (λ n. HoldsBytes (now (d.trail new.disk)).reads n
+          (page_bytes (journal_of was.remembers.standing))) at
+          (subst (λ l. HoldsBytes (now (d.trail new.disk)).reads from l) same (done.held honest));
+      short = subst (λ l. length l < 2 ^ 32) same short;
+      up_to = ap (λ n. n + page_sectors (journal_of was.remembers.standing)) (sym at) ∙ up_to;
+      room = omega (arith, room, only.as_large);
+      counted = counted;
+    }
+
+  -- ---- an event is posted
+  module _ (new : StoreView D) (event : Event) (has : HasJournalRoom old)
+      (within : StaysWithin d old.disk new.disk) where
+    still_there : LeavesOnly (d.trail old.disk) (d.trail new.disk) (λ c. HoldsPages c start was.remembers.pages)
+    still_there = written_kept was.remembers.pages start was.behind (λ n far. quiet n) (within.moments honest)
+        (λ n low high store. omega (arith, low, was.behind, store)) was.remembers.past.written
+
+    pub post_moments : LeavesPosted d event old new
+        → LeavesOnly (d.trail old.disk) (d.trail new.disk) (λ c. Remembers (d.size old.disk) start events desktop c
+        ⊎ Remembers (d.size old.disk) start (events ++ event ∷ []) (step desktop event).desktop c)
+    post_moments posted = weakened
+        (both_leave (posted has was.usable honest was.remembers.standing was.remembers.past.stands) still_there)
+        (λ c x. elim x.0 [
+          | inl added ↦ inr (remembers_more was.remembers event refl added x.1)
+          | inr still ↦ inl (remembers_on was.remembers refl still x.1)
+        ])
+
+    pub post_keeps : new.must_reopen ≡ false → ShowsStanding d new (and_then was.remembers.standing event)
+        → KeepsAll d start (events ++ event ∷ []) (step desktop event).desktop new
+    post_keeps usable shows = record {
+      usable = usable;
+      behind = was.behind;
+      remembers = remembers_more was.remembers event within.as_large shows
+          (at_last still_there (now (d.trail new.disk)).reads (read_is_an_image (now (d.trail new.disk))));
+    }
+
+-- ---- a checkpoint ends the epoch, whose page is written
+module _ {D : Type 0} (d : Ghosts D) {start : Start} {events : List Event} {desktop : Desktop} {end : PastEnd}
+    {old : StoreView D} (was : HasNewPage d start events desktop end old) (honest : d.honest old.disk)
+    (quiet : IsQuiet d old) (new : StoreView D) (within : StaysWithin d old.disk new.disk) where
+  abbrev r : Remembers (d.size old.disk) start events desktop (now (d.trail old.disk)).reads
+  r = was.keeps.remembers
+
+  all_pages : HoldsPages (now (d.trail old.disk)).reads start (r.pages ++ journal_of r.standing ∷ [])
+  all_pages = written_on r.pages (now (d.trail old.disk)).reads start (journal_of r.standing) r.past.written
+      (subst (λ n. HoldsBytes (now (d.trail old.disk)).reads n (page_bytes (journal_of r.standing))) (sym r.past.up_to)
+      was.held)
+
+  pages_there : LeavesOnly (d.trail old.disk) (d.trail new.disk)
+      (λ c. HoldsPages c start (r.pages ++ journal_of r.standing ∷ []))
+  pages_there = written_kept (r.pages ++ journal_of r.standing ∷ []) start was.keeps.behind (λ n far. quiet n)
+      (within.moments honest) (λ n low high store. omega (arith, low, was.keeps.behind, store)) all_pages
+
+  pub turn_moments : LeavesNext d (renewed_from end) old new → LeavesAll d start events desktop old new
+  turn_moments renewed = weakened (both_leave (renewed was.keeps.usable honest r.standing r.past.stands) pages_there)
+      (λ c x. elim x.0 [
+        | inl anew ↦ remembers_turned r end was.up_to was.counted was.short was.room anew x.1
+        | inr still ↦ remembers_on r refl still (written_front r.pages c start (journal_of r.standing) x.1)
+      ])
+
+  pub turn_keeps : new.must_reopen ≡ false → ShowsNext d (renewed_from end) old new
+      → KeepsAll d start events desktop new
+  turn_keeps usable shows = record {
+    usable = usable;
+    behind = was.keeps.behind;
+    remembers = remembers_turned r end was.up_to was.counted was.short
+        (omega (arith, was.room, within.as_large)) (shows honest r.standing r.past.stands)
+        (at_last pages_there (now (d.trail new.disk)).reads (read_is_an_image (now (d.trail new.disk))));
+  }
+
+-- ---- calls one after another
+
+-- reads, and then a page is written
+module _ {D : Type 0} (d : Ghosts D) {start : Start} {events : List Event} {desktop : Desktop}
+    {old : StoreView D} (mid new : StoreView D) (was : KeepsAll d start events desktop old) (honest : d.honest old.disk)
+    (quiet : IsQuiet d old) (run : IsOnlyRead d old.disk mid.disk) (usable : mid.must_reopen ≡ false)
+    (still : IsQuiet d mid) (from limit : ℕ) (at : from ≡ was.remembers.standing.past.next)
+    (only : IsConfined d.size d.honest d.trail (InRange from limit) mid.disk new.disk) where
+  pub read_then_moments : KeepsStanding d mid new → LeavesAll d start events desktop old new
+  unfolding read_keeps
+  read_then_moments keeps = chained (read_moments d was honest quiet mid run)
+      (subst (λ n. LeavesOnly (d.trail mid.disk) (d.trail new.disk) (Remembers n start events desktop)) run.device.as_large
+      (page_moments d (read_keeps d was honest quiet {new = mid} run usable) (run.device.still honest) still new from limit at only keeps))
+
+  pub read_then_page : {bytes : List ℕ} (end : PastEnd) → IsWrittenBehind d from bytes mid new
+      → bytes ≡ page_bytes (journal_of was.remembers.standing) → length bytes < 2 ^ 32
+      → from + page_sectors (journal_of was.remembers.standing) ≡ end.next → end.next ≤ d.size mid.disk
+      → was.remembers.standing.past.before + length was.remembers.standing.events ≡ end.before
+      → HasNewPage d start events desktop end new
+  unfolding read_keeps
+  read_then_page end done same short up_to room counted =
+      page_keeps d (read_keeps d was honest quiet {new = mid} run usable) (run.device.still honest) still
+      new from limit at only end done same short up_to room counted
+
+-- a part of a call that leaves all, and another one behind it
+pub leaves_then : {D : Type 0} (d : Ghosts D) {start : Start} {events : List Event} {desktop : Desktop}
+    (old mid new : StoreView D) → IsSameDevice d old.disk mid.disk → LeavesAll d start events desktop old mid
+    → LeavesAll d start events desktop mid new → LeavesAll d start events desktop old new
+leaves_then d {start = start} {events = events} {desktop = desktop} old mid new device first second =
+    chained first (subst (λ n. LeavesOnly (d.trail mid.disk) (d.trail new.disk) (Remembers n start events desktop))
+    device.as_large second)
+
+abbrev pub LeavesMore : {D : Type 0} → Ghosts D → ℕ → Event → Start → List Event → Desktop → D → D → Type 0
+LeavesMore d size event start events desktop old new = LeavesOnly (d.trail old) (d.trail new)
+    (λ c. Remembers size start events desktop c
+    ⊎ Remembers size start (events ++ event ∷ []) (step desktop event).desktop c)
+
+pub leaves_more : {D : Type 0} (d : Ghosts D) {start : Start} {events : List Event} {desktop : Desktop}
+    (old mid : StoreView D) (event : Event) → LeavesAll d start events desktop old mid
+    → LeavesMore d (d.size old.disk) event start events desktop old.disk mid.disk
+leaves_more d old mid event first = weakened first (λ c r. inl r)
+
+pub leaves_more_then : {D : Type 0} (d : Ghosts D) {start : Start} {events : List Event} {desktop : Desktop}
+    (old mid new : StoreView D) (event : Event) → IsSameDevice d old.disk mid.disk
+    → LeavesAll d start events desktop old mid
+    → LeavesMore d (d.size mid.disk) event start events desktop mid.disk new.disk
+    → LeavesMore d (d.size old.disk) event start events desktop old.disk new.disk
+leaves_more_then d {start = start} {events = events} {desktop = desktop} old mid new event device first
+    second = chained (weakened first (λ c r. inl r))
+    (subst (λ n. LeavesMore d n event start events desktop mid.disk new.disk) device.as_large second)

@@ -1,0 +1,21 @@
+use Rattle.std.proofs.Common.{arith, subst}
+use Rattle.std.proofs.lemmas.List.{take_all}
+use Rattle.desk_journal.specs.Undoing.{IsLedOn}
+use Rattle.desk_journal.proofs.Behind.{none_led, next_led}
+use Rattle.desk_past.proofs.reading.post_all.Goals as goal
+
+pub loop-event-init : goal.loop-event-init
+loop-event-init g c = record { led = none_led g.E.Disk c.args.shown.now }
+
+pub loop-event-preserved : goal.loop-event-preserved
+loop-event-preserved g c = record {
+  led = next_led g.E.Disk c.args.events.now c.loop-event.event-index c.loop-event.invariant.led
+      c.post.ensures.behaves.device c.loop-event-test.true c.event-item.is c.in_ok-post.ensures.ok;
+}
+
+pub returns : goal.returns
+returns g c = record {
+  led = subst (λ l. IsLedOn g.E.Disk l c.args.shown.now c.loop-event.shown)
+      (take_all c.loop-event.event-index c.args.events.now (omega (arith, c.loop-event-test.false)))
+      c.loop-event.invariant.led;
+}

@@ -1,0 +1,15 @@
+use Rattle.std.proofs.Common.{◌≡◌, ◌*◌, length}
+use Rattle.sector_disk.specs.declared.disk.TheConstants.{SECTOR_BYTES}
+use Rattle.sector_disk.specs.Stored.{stored}
+use Rattle.sector_disk.specs.Trail.{now}
+use Rattle.desk_past.specs.Reading.{IsOnlyReadFrom}
+use Rattle.desk_past.proofs.sectors.bytes_at.Given as goal
+
+-- nothing is written, and the bytes of the sectors so far have been read
+abbrev pub invariant-loop-k : goal.invariant-loop-k
+invariant-loop-k g l = record {
+  still : IsOnlyReadFrom g.D.Disk l.fn.store l.store;
+  long : length l.bytes.items ≡ SECTOR_BYTES * l.k;
+  bytes : g.D.Disk.honest l.fn.store.disk
+      → l.bytes.items ≡ stored (now (g.D.Disk.trail l.fn.store.disk)).reads l.at (SECTOR_BYTES * l.k);
+}

@@ -1,0 +1,19 @@
+//! A past behind a store: the events of all epochs, in pages.
+//!
+//! The journal of an epoch becomes a page when the epoch ends: it is written and settled, and then a checkpoint begins the
+//! next one, whose head names the sector behind that page. So the gate that opens a slot also says which pages count, and
+//! nobody reads a page before the checkpoint is whole. `specs/Past.antt` says what a past is, and
+//! what a store keeps of it; `moment` lays any moment of it on another disk.
+#![tactic(auto)]
+
+mod keeping;
+mod laws;
+mod page;
+mod pages;
+mod reading;
+mod sectors;
+
+pub use keeping::{EPOCH_EVENTS, end_epoch, post, undo};
+pub use laws::{one_past_law, present_law};
+pub use page::{EVENTS_PAGE, PAGE_FRONT};
+pub use reading::moment;

@@ -1,0 +1,73 @@
+//! The bytes of a page.
+ghost use Rattle.std.specs.Prelude.{◌≡◌, ◌+◌, ◌*◌, ◌^◌, ◌<◌, ◌≤◌, ◌++◌, false, length, IfOk, IfNone, IfSome, OnOk};
+ghost use Rattle.sector_disk.specs.declared.disk.TheConstants.{SECTOR_BYTES};
+ghost use Rattle.sector_disk.specs.Stored.{last_sector};
+ghost use Rattle.store_layout.specs.Meaning.{Standing};
+ghost use Rattle.desk_journal.specs.Undoing.{IsLeft, ShowsStanding};
+ghost use Rattle.desk_past.specs.declared.page.TheConstants.{EVENTS_PAGE, MOST_SPELLED};
+ghost use Rattle.desk_past.specs.Page.{number, page_bytes};
+ghost use Rattle.desk_past.specs.Past.{journal_of};
+
+use desk_journal::{Error, Store};
+use sector_disk::{Disk, NoMemory, SECTOR_BYTES};
+use std::alloc::Global;
+use store_layout::standing_law;
+
+/// The number with which a page of events begins.
+pub const EVENTS_PAGE: u32 = 1;
+
+/// How many bytes stand before the first event of a page.
+pub const PAGE_FRONT: u32 = 16;
+
+/// In how many bytes the events of a page may be spelled.
+pub const MOST_SPELLED: usize = 0xFFFF_0000;
+
+/// The bytes of a page whose events are spelled so. `NoMemory` where these are more than a page may have, too.
+fn page_of(alloc: Global, version: u32, count: u32, events: &[u8]) -> Result<Vec<u8>, NoMemory>
+    ensures bytes { IfOk result (λ bytes. bytes.items
+        ≡ number EVENTS_PAGE ++ (number version ++ (number count
+        ++ (number (length events.now) ++ events.now)))) }
+    ensures few { OnOk result (length events.now ≤ MOST_SPELLED) }
+{
+    if events.len() > MOST_SPELLED {
+        return Err(NoMemory);
+    }
+    let mut bytes = Vec::new(alloc);
+    bytes.extend_from_slice(&EVENTS_PAGE.to_be_bytes())?;
+    bytes.extend_from_slice(&version.to_be_bytes())?;
+    bytes.extend_from_slice(&count.to_be_bytes())?;
+    bytes.extend_from_slice(&(events.len() as u32).to_be_bytes())?;
+    bytes.extend_from_slice(events)?;
+    Ok(bytes)
+}
+
+/// The page that the journal in use makes.
+///
+/// Errors: those of `Store::journal`.
+pub fn journal_page<D: Disk>(alloc: Global, store: &mut Store<D>) -> Result<Vec<u8>, Error>
+    ensures page { IfOk result (λ bytes. D.honest store.old.disk → (s : Standing)
+        → ShowsStanding D.Disk store.old s → bytes.items ≡ page_bytes (journal_of s)) }
+    ensures short { IfOk result (λ bytes. length bytes.items < 2 ^ 32) }
+    ensures looks { IsLeft D.Disk store.old store.new }
+    ensures usable { store.new.must_reopen ≡ store.old.must_reopen }
+    ensures in_use { OnOk result (store.old.must_reopen ≡ false) }
+{
+    standing_law();
+    let info = store.info()?;
+    let events = store.journal(alloc)?;
+    Ok(page_of(alloc, info.layout, info.events, events.as_slice())?)
+}
+
+/// In how many sectors so many bytes stand. None where there are too many to be counted.
+pub fn sectors_for(bytes: usize) -> Option<u32>
+    ensures count { IfSome result (λ n. n ≡ last_sector bytes + 1) }
+    ensures fits { IfSome result (λ n. bytes ≤ SECTOR_BYTES * n) }
+    ensures none { IfNone result (2 ^ 40 < bytes) }
+{
+    let last = bytes.saturating_sub(1) / SECTOR_BYTES as usize;
+    if last < 0xFFFF_FFFF {
+        Some(last as u32 + 1)
+    } else {
+        None
+    }
+}

@@ -1,0 +1,116 @@
+//! Pages that are read.
+ghost use Rattle.std.specs.Prelude.{◌≡◌, ◌+◌, ◌≤◌, ◌<◌, ◌++◌, ℕ, List, drop, false, length, take, IfNone, IfOk, IfSome, IsSomeAnd};
+ghost use Rattle.std.specs.Int.{from_be_bytes, w32};
+ghost use Rattle.sector_disk.specs.Trail.{now};
+ghost use Rattle.event_bytes.specs.declared.event.Event.{Event};
+ghost use Rattle.store_layout.specs.declared.layout.TheConstants.{LAYOUT};
+ghost use Rattle.store_slots.specs.Bodies.{spellings};
+ghost use Rattle.desk_past.specs.declared.page.TheConstants.{EVENTS_PAGE, PAGE_FRONT};
+ghost use Rattle.desk_past.specs.Page.{Page, page_sectors};
+ghost use Rattle.desk_past.specs.Past.{AreEvents};
+ghost use Rattle.desk_past.specs.Reading.{HasPage, IsOnlyReadFrom};
+
+use crate::page::{EVENTS_PAGE, PAGE_FRONT, sectors_for};
+use crate::sectors::bytes_at;
+use byteorder::{BigEndian, ByteOrder};
+use desk_journal::{Error, Store};
+use event_bytes::Event;
+use sector_disk::{Disk, NoMemory};
+use std::alloc::Global;
+use store_layout::LAYOUT;
+
+/// A page that was read: its events, and the sector behind it.
+#[derive(Drop)]
+pub(crate) struct PageRead {
+    pub(crate) events: Vec<Event>,
+    pub(crate) next: u32,
+}
+
+/// What stands before the events of a page: how many there are, and in how many bytes they are spelled.
+#[derive(Clone, Copy)]
+struct Front {
+    count: u32,
+    spelled: u32,
+}
+
+/// The front of a page of events of the newest version, which these bytes are. None where they are none.
+fn front_of(bytes: &[u8]) -> Option<Front>
+    requires { length bytes.now ≡ PAGE_FRONT }
+    ensures count { IfSome result (λ f. f.count ≡ from_be_bytes w32 (take 4 (drop 8 bytes.now))) }
+    ensures spelled { IfSome result (λ f.
+        f.spelled ≡ from_be_bytes w32 (take 4 (drop 12 bytes.now))) }
+    ensures none { IfNone result (from_be_bytes w32 (take 4 bytes.now) ≡ EVENTS_PAGE
+        → from_be_bytes w32 (take 4 (drop 4 bytes.now)) ≡ LAYOUT → ⊥) }
+{
+    let kind = BigEndian::read_u32(&bytes[..4]);
+    let version = BigEndian::read_u32(&bytes[4..8]);
+    let count = BigEndian::read_u32(&bytes[8..12]);
+    let spelled = BigEndian::read_u32(&bytes[12..16]);
+    if kind == EVENTS_PAGE && version == LAYOUT {
+        Some(Front { count, spelled })
+    } else {
+        None
+    }
+}
+
+/// The events that the bytes spell from their beginning on, so many. None where they spell fewer.
+fn events_in(alloc: Global, bytes: &[u8], count: u32) -> Result<Option<Vec<Event>>, NoMemory>
+    ensures { IfOk result (λ found. (events : List Event) (rest : List ℕ) → AreEvents events
+        → length events ≡ count → bytes.now ≡ spellings events ++ rest
+        → IsSomeAnd found (λ v. v.items ≡ events)) }
+{
+    let mut events = Vec::new(alloc);
+    let mut place = 0;
+    for k in 0..count {
+        let (_read, left) = bytes.split_at(place);
+        let Some((event, length)) = Event::decode(left) else {
+            return Ok(None);
+        };
+        events.push(event)?;
+        place += length;
+    }
+    Ok(Some(events))
+}
+
+/// The page in sector `at`. None where none stands there that ends before sector `end`.
+///
+/// Errors: those of `Store::read_behind`; `NoMemory`.
+pub(crate) fn page_at<D: Disk>(
+    alloc: Global,
+    store: &mut Store<D>,
+    at: u32,
+    end: u32,
+) -> Result<Option<PageRead>, Error>
+    requires usable { store.old.must_reopen ≡ false }
+    requires room { end ≤ D.size store.old.disk }
+    ensures found { IfOk result (λ found. D.honest store.old.disk → (p : Page)
+        → HasPage (now (D.trail store.old.disk)).reads at end p
+        → IsSomeAnd found (λ x. (x.events.items ≡ p.events) × (x.next ≡ at + page_sectors p))) }
+    ensures later { IfOk result (λ found. IfSome found (λ x. (at < x.next) × (x.next ≤ end))) }
+    ensures still { IsOnlyReadFrom D.Disk store.old store.new }
+{
+    store.shows_what_crashes_leave();
+    if at >= end {
+        return Ok(None);
+    }
+    let first = bytes_at(alloc, store, at, 1)?;
+    let (numbers, _events) = first.as_slice().split_at(PAGE_FRONT as usize);
+    let Some(front) = front_of(numbers) else {
+        return Ok(None);
+    };
+    let Some(sectors) = sectors_for(front.spelled as usize + PAGE_FRONT as usize) else {
+        return Ok(None);
+    };
+    if sectors > end - at {
+        return Ok(None);
+    }
+    let bytes = bytes_at(alloc, store, at, sectors)?;
+    let (_front, spelled) = bytes.as_slice().split_at(PAGE_FRONT as usize);
+    let Some(events) = events_in(alloc, spelled, front.count)? else {
+        return Ok(None);
+    };
+    Ok(Some(PageRead {
+        events,
+        next: at + sectors,
+    }))
+}

@@ -1,0 +1,212 @@
+//! Any moment of a past: its start is opened as a store on another disk, and the events of its pages are posted to that.
+ghost use Rattle.std.specs.Prelude.{◌≡◌, ◌+◌, ◌-◌, ◌*◌, ◌≤◌, ◌<◌, ◌++◌, ◌^◌, ℕ, List, length, take, drop, true, false, IfOk, IfSome, IsSomeAnd, MatchOption, OnOk, Some};
+ghost use Rattle.sector_disk.specs.Trail.{now};
+ghost use Rattle.event_bytes.specs.declared.event.Event.{Event};
+ghost use Rattle.desktop_definitions.specs.Desktop.{Desktop};
+ghost use Rattle.desktop_definitions.specs.Step.{steps, steps_in};
+ghost use Rattle.store_layout.specs.declared.layout.TheConstants.{LAYOUT, STORE_SECTORS};
+ghost use Rattle.store_layout.specs.declared.head.PastEnd.{PastEnd};
+ghost use Rattle.store_layout.specs.Meaning.{Standing};
+ghost use Rattle.desk_journal.specs.Undoing.{IsLedOn, ShowsStanding};
+ghost use Rattle.desk_past.specs.Page.{Page, HasPages, end_of_pages};
+ghost use Rattle.desk_past.specs.Past.{AreGood, IsHeadTold, HasMoment, KeepsAll, StandsFrom, Start, events_of, first_page, moment as moment_of};
+ghost use Rattle.desk_past.specs.Reading.{ShowsNow, IsOnlyReadFrom};
+
+use crate::pages::page_at;
+use crate::sectors::copy_to;
+use desk_journal::{Error, STORE_SECTORS, Store};
+use event_bytes::Event;
+use sector_disk::Disk;
+use std::alloc::Global;
+use store_layout::{PastEnd, standing_law};
+
+/// The store that stands from sector `base` on, copied to another disk and opened.
+///
+/// Errors: those of `Store::read_behind` and `Store::open`: `NotAStore` and `Damaged` where none stands there.
+fn opened_at<D: Disk, E: Disk + Drop>(
+    alloc: Global,
+    store: &mut Store<D>,
+    base: u32,
+    disk: E,
+) -> Result<Store<E>, Error>
+    requires usable { store.old.must_reopen ≡ false }
+    requires numbered { base + STORE_SECTORS < 2 ^ 32 }
+    requires there { base + STORE_SECTORS ≤ D.size store.old.disk }
+    requires room { STORE_SECTORS ≤ E.size disk }
+    ensures shown { IfOk result (λ shown. D.honest store.old.disk → E.honest disk → (t : Standing)
+        → StandsFrom (now (D.trail store.old.disk)).reads base t → ShowsNow E.Disk t shown) }
+    ensures still { IsOnlyReadFrom D.Disk store.old store.new }
+{
+    standing_law();
+    let mut disk = disk;
+    copy_to(store, base, &mut disk)?;
+    match Store::open(alloc, disk) {
+        Ok(shown) => Ok(shown),
+        Err((error, _disk)) => Err(error),
+    }
+}
+
+/// How many events came before what the store shows, as its head tells. None where they are too many to be counted.
+///
+/// Errors: those of `Store::past`.
+pub(crate) fn events_before<D: Disk>(store: &mut Store<D>) -> Result<Option<u64>, Error>
+    ensures sum { IfOk result (λ found. D.honest store.old.disk → (s : Standing)
+        → ShowsStanding D.Disk store.old s
+        → MatchOption found (2 ^ 64 ≤ s.past.before + length s.events)
+        (λ n. n ≡ s.past.before + length s.events)) }
+    ensures still { OnOk result (IsOnlyReadFrom D.Disk store.old store.new) }
+{
+    standing_law();
+    store.shows_what_crashes_leave();
+    let told = store.past()?;
+    let info = store.info()?;
+    Ok(told.before.checked_add(info.events as u64))
+}
+
+/// Posts the events, one after another.
+///
+/// Errors: those of `Store::post`.
+fn post_all<E: Disk>(alloc: Global, shown: &mut Store<E>, events: &[Event]) -> Result<(), Error>
+    ensures led { OnOk result (IsLedOn E.Disk events.now shown.old shown.new) }
+{
+    for event in events {
+        let _ = shown.post(alloc, event)?;
+    }
+    Ok(())
+}
+
+/// Posts the first `count` events of the pages from sector `at` up to sector `end`. False where these have fewer.
+///
+/// Errors: those of `Store::read_behind` and `Store::post`.
+fn step_pages<D: Disk, E: Disk>(
+    alloc: Global,
+    store: &mut Store<D>,
+    shown: &mut Store<E>,
+    at: u32,
+    end: u32,
+    count: u64,
+) -> Result<bool, Error>
+    requires usable { store.old.must_reopen ≡ false }
+    requires room { end ≤ D.size store.old.disk }
+    ensures led { IfOk result (λ done. D.honest store.old.disk → E.honest shown.old.disk
+        → (pages : List Page) → HasPages (now (D.trail store.old.disk)).reads at pages
+        → AreGood pages → end_of_pages at pages ≡ end → count ≤ length (events_of pages)
+        → (done ≡ true)
+        × (shown.new.desktop ≡ steps shown.old.desktop (take count (events_of pages)))) }
+    ensures still { OnOk result (IsOnlyReadFrom D.Disk store.old store.new) }
+{
+    store.shows_what_crashes_leave();
+    let mut at = at;
+    let mut left = count;
+    while left > 0 {
+        let Some(page) = page_at(alloc, store, at, end)? else {
+            return Ok(false);
+        };
+        let events = page.events.as_slice();
+        if left <= events.len() as u64 {
+            let (first, _rest) = events.split_at(left as usize);
+            post_all(alloc, shown, first)?;
+            return Ok(true);
+        }
+        post_all(alloc, shown, events)?;
+        left -= events.len() as u64;
+        at = page.next;
+    }
+    Ok(true)
+}
+
+/// The desktop of a moment of the journal in use, behind so many of its events. None where it has fewer.
+///
+/// Errors: those of `Store::read_behind`, `Store::open` and `Store::undo`.
+fn in_journal<D: Disk, E: Disk + Drop>(
+    alloc: Global,
+    store: &mut Store<D>,
+    count: u64,
+    disk: E,
+) -> Result<Option<Store<E>>, Error>
+    requires room { STORE_SECTORS ≤ E.size disk }
+    ensures is_one { IfOk result (λ found. D.honest store.old.disk → E.honest disk
+        → (s : Standing) → ShowsStanding D.Disk store.old s → count ≤ length s.events
+        → IsSomeAnd found (λ shown.
+        shown.desktop ≡ steps_in s.version s.start (take count s.events))) }
+    ensures still { OnOk result (IsOnlyReadFrom D.Disk store.old store.new) }
+{
+    standing_law();
+    store.shows_what_crashes_leave();
+    let info = store.info()?;
+    if count > info.events as u64 || store.sectors() < STORE_SECTORS {
+        return Ok(None);
+    }
+    let mut shown = opened_at(alloc, store, 0, disk)?;
+    shown.shows_what_crashes_leave();
+    let _ = shown.undo(alloc, info.events - count as u32)?;
+    Ok(Some(shown))
+}
+
+/// The desktop of moment `k` of the pages behind a start, which end where `told` says. None where they have no such moment.
+///
+/// Errors: those of `Store::read_behind`, `Store::open` and `Store::post`.
+fn in_pages<D: Disk, E: Disk + Drop>(
+    alloc: Global,
+    store: &mut Store<D>,
+    base: u32,
+    told: PastEnd,
+    k: u64,
+    disk: E,
+) -> Result<Option<Store<E>>, Error>
+    requires usable { store.old.must_reopen ≡ false }
+    requires room { STORE_SECTORS ≤ E.size disk }
+    ensures is_one { IfOk result (λ found. D.honest store.old.disk → E.honest disk
+        → (start : Start) (events : List Event) (desktop : Desktop)
+        → (keeps : KeepsAll D.Disk start events desktop store.old) → IsHeadTold D.Disk told keeps
+        → start.base ≡ base → start.before ≤ k → k < told.before
+        → IsSomeAnd found (λ shown. shown.desktop ≡ moment_of start events k)) }
+    ensures still { OnOk result (IsOnlyReadFrom D.Disk store.old store.new) }
+{
+    store.shows_what_crashes_leave();
+    if told.next > store.sectors()
+        || told.next < STORE_SECTORS
+        || base > told.next - STORE_SECTORS
+    {
+        return Ok(None);
+    }
+    let mut shown = opened_at(alloc, store, base, disk)?;
+    let Some(first) = events_before(&mut shown)? else {
+        return Ok(None);
+    };
+    if k < first {
+        return Ok(None);
+    }
+    let at = base + STORE_SECTORS;
+    if !step_pages(alloc, store, &mut shown, at, told.next, k - first)? {
+        return Ok(None);
+    }
+    Ok(Some(shown))
+}
+
+/// The desktop of moment `k` of the past that begins in sector `base`, as a store on another disk: what the first events
+/// give, so many as came before it. None where the past has no such moment.
+///
+/// Errors: those of `Store::read_behind`, of `Store::open` where no start stands there, and of `Store::post`.
+pub fn moment<D: Disk, E: Disk + Drop>(
+    alloc: Global,
+    store: &mut Store<D>,
+    base: u32,
+    k: u64,
+    disk: E,
+) -> Result<Option<Store<E>>, Error>
+    requires { STORE_SECTORS ≤ E.size disk }
+    ensures comes_back { IfOk result (λ found. D.honest store.old.disk → E.honest disk
+        → (start : Start) (events : List Event) (desktop : Desktop)
+        → KeepsAll D.Disk start events desktop store.old → start.base ≡ base
+        → HasMoment start events k
+        → IsSomeAnd found (λ shown. shown.desktop ≡ moment_of start events k)) }
+    ensures still { OnOk result (IsOnlyReadFrom D.Disk store.old store.new) }
+{
+    store.shows_what_crashes_leave();
+    let told = store.past()?;
+    if k >= told.before {
+        return in_journal(alloc, store, k - told.before, disk);
+    }
+    in_pages(alloc, store, base, told, k, disk)
+}

@@ -1,0 +1,84 @@
+//! Sectors behind a store: read, and copied to another disk.
+ghost use Rattle.std.specs.Prelude.{◌≡◌, ◌+◌, ◌*◌, ◌^◌, ◌<◌, ◌≤◌, ℕ, false, length, IfOk, OnOk};
+ghost use Rattle.sector_disk.specs.declared.disk.TheConstants.{SECTOR_BYTES};
+ghost use Rattle.sector_disk.specs.Stored.{stored};
+ghost use Rattle.sector_disk.specs.Trail.{now};
+ghost use Rattle.store_layout.specs.declared.layout.TheConstants.{STORE_SECTORS};
+ghost use Rattle.desk_journal.specs.Device.{IsSameDevice};
+ghost use Rattle.desk_journal.specs.Looking.{OnlyLooks};
+ghost use Rattle.desk_past.specs.Reading.{IsOnlyReadFrom};
+
+use desk_journal::{Error, STORE_SECTORS, Store};
+use sector_disk::{Disk, SECTOR_BYTES, Sector};
+use std::alloc::Global;
+
+/// A sector of zeros, to be filled. Its callers know no byte of it.
+fn blank_sector() -> Sector {
+    [0; SECTOR_BYTES as usize]
+}
+
+/// What sector `n` of the store's disk holds.
+///
+/// Errors: those of `Store::read_behind`.
+fn sector_at<D: Disk>(store: &mut Store<D>, n: u32) -> Result<Sector, Error>
+    requires { n < D.size store.old.disk }
+    ensures bytes { IfOk result (λ bytes. D.honest store.old.disk
+        → bytes ≡ (now (D.trail store.old.disk)).reads n) }
+    ensures looks { OnlyLooks D.Disk result store.old store.new }
+{
+    let mut sector = blank_sector();
+    store.read_behind(n, &mut sector)?;
+    Ok(sector)
+}
+
+/// The bytes of so many sectors, from `at` on.
+///
+/// Errors: those of `Store::read_behind`; `NoMemory`.
+pub(crate) fn bytes_at<D: Disk>(
+    alloc: Global,
+    store: &mut Store<D>,
+    at: u32,
+    count: u32,
+) -> Result<Vec<u8>, Error>
+    requires usable { store.old.must_reopen ≡ false }
+    requires numbered { at + count < 2 ^ 32 }
+    requires room { at + count ≤ D.size store.old.disk }
+    ensures bytes { IfOk result (λ bytes. D.honest store.old.disk
+        → bytes.items ≡ stored (now (D.trail store.old.disk)).reads at (SECTOR_BYTES * count)) }
+    ensures long { IfOk result (λ bytes. length bytes.items ≡ SECTOR_BYTES * count) }
+    ensures still { IsOnlyReadFrom D.Disk store.old store.new }
+{
+    store.shows_what_crashes_leave();
+    let mut bytes = Vec::new(alloc);
+    for k in 0..count {
+        let sector = sector_at(store, at + k)?;
+        bytes.extend_from_slice(&sector)?;
+    }
+    Ok(bytes)
+}
+
+/// Copies the sectors of a store, which begin in sector `base`, to another disk.
+///
+/// Errors: those of `Store::read_behind`; `Fault` of the other disk.
+pub(crate) fn copy_to<D: Disk, E: Disk>(
+    store: &mut Store<D>,
+    base: u32,
+    disk: &mut E,
+) -> Result<(), Error>
+    requires usable { store.old.must_reopen ≡ false }
+    requires numbered { base + STORE_SECTORS < 2 ^ 32 }
+    requires there { base + STORE_SECTORS ≤ D.size store.old.disk }
+    requires room { STORE_SECTORS ≤ E.size disk.old }
+    ensures same { OnOk result (D.honest store.old.disk → E.honest disk.old → (n : ℕ)
+        → n < STORE_SECTORS → (now (E.trail disk.new)).reads n
+        ≡ (now (D.trail store.old.disk)).reads (base + n)) }
+    ensures device { IsSameDevice E.Disk disk.old disk.new }
+    ensures still { IsOnlyReadFrom D.Disk store.old store.new }
+{
+    store.shows_what_crashes_leave();
+    for n in 0..STORE_SECTORS {
+        let sector = sector_at(store, base + n)?;
+        disk.write(n, &sector)?;
+    }
+    Ok(())
+}

@@ -1,6 +1,0 @@
-use Rattle.std.proofs.Common.{◌≡◌, map, take}
-use Rattle.desk_sayings.proofs.named.row_characters.Given as goal
-
--- those of the cells so far
-abbrev pub invariant-loop-cell : goal.invariant-loop-cell
-invariant-loop-cell l = l.bytes.items ≡ map (λ cell. cell.ch) (take l.cell-index l.cells)

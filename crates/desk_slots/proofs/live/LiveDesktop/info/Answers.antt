@@ -1,9 +1,0 @@
-use Rattle.desk_slots.specs.Live.{live_characters}
-use Rattle.desk_slots.proofs.Counting.{no_content}
-use Rattle.desk_slots.proofs.live.LiveDesktop.info.Goals as goal
-
-pub info-requires : goal.info-requires
-info-requires c = (c.requires.over no_content).whole
-
-pub returns : goal.returns
-returns c = λ content. c.info.ensures (live_characters content c.args.self.now)

@@ -1,5 +1,0 @@
-use Rattle.desk_slots.specs.Live.{live_characters}
-use Rattle.desk_slots.proofs.live.LiveDesktop.written.Goals as goal
-
-pub returns : goal.returns
-returns c = λ content. c.written.ensures (live_characters content c.args.self.now)

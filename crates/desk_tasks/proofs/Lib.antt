@@ -1,3 +1,0 @@
-mod Meant
-mod Planning
-mod Popped

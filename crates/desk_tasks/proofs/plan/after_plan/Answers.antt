@@ -1,8 +1,0 @@
-use Rattle.std.proofs.Common.{◌∙◌, sym}
-use Rattle.desk_tasks.proofs.Planning.{opened_answer, plans_at_once}
-use Rattle.desk_tasks.proofs.plan.after_plan.Goals as goal
-
-pub returns-in-Some : goal.returns-in-Some
-returns-in-Some g c = plans_at_once g.D.Disk _ c.args.store.now c.requires (λ honest. c.opened_plan.ensures
-    ∙ opened_answer c.args.before c.args.store.now.desktop c.in-Some.viewer
-    (sym c.opened_viewer.ensures ∙ c.in-Some.is))

@@ -1,7 +1,0 @@
-use Rattle.std.proofs.Common.{rules}
-use Rattle.desktop_definitions.specs.Step.{step}
-use Rattle.first_desk.proofs.furnish.Goals as goal
-
-pub returns-clause-desktop : goal.returns-clause-desktop
-unfolding step
-returns-clause-desktop g c = search rules

@@ -1,0 +1,4 @@
+mod Meant
+mod Planning
+mod Popped
+mod Steps

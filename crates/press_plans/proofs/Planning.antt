@@ -1,0 +1,210 @@
+-- The plan of a task is made by one look at the store.
+use Rattle.std.proofs.Common.{◌≡◌, ◌≢◌, Bool, true, false, refl, sym, ◌∙◌, ap, Ok, Err, List, []}
+use Rattle.std.specs.Prelude.{Result}
+use Rattle.std.specs.Prelude.{ℕ, nat_lt, Option, Some, None}
+use Rattle.std.proofs.lemmas.Bool.{cond-true, cond-false, false≢true}
+use Rattle.sector_disk.specs.declared.disk.Disk.{Ghosts}
+use Rattle.event_bytes.specs.declared.event.Event.{Event}
+use Rattle.desktop_definitions.specs.Desktop.{Desktop}
+use Rattle.desktop_definitions.specs.Shown.{shown_screen}
+use Rattle.desk_journal.specs.Errors.{Error}
+use Rattle.desk_journal.specs.Looking.{OnlyLooks}
+use Rattle.caret_moves.specs.declared.wish.KeyWish.{KeyWish}
+use Rattle.caret_moves.specs.declared.wish.WhyNot.{WhyNot}
+use Rattle.desk_journal.specs.Leading.{DoesWish, led}
+use Rattle.desk_journal.specs.Scrolling.{Scrolls, Wish, presses_to}
+use Rattle.desk_journal.specs.View.{StoreView}
+use Rattle.desk_journal.specs.Views.{DeskInfo, ShownViewer, desk_info, last_log_line}
+use Rattle.terminal_presses.specs.Sights.{Sight}
+use Rattle.desk_journal.proofs.Passing.{at_start}
+use Rattle.press_plans.specs.declared.task.Task.{Task}
+use Rattle.press_plans.specs.declared.task.Task.TheVariants as kind
+use Rattle.press_plans.specs.declared.plan.Plan.{Plan as MadePlan}
+use Rattle.press_plans.specs.Plans.{Plans}
+use Rattle.press_plans.specs.Plans.{Plan, Events, Says, answer_plan, lead_plan, opened_plan, opened_viewer, plan_of, plan_on}
+use Rattle.press_plans.specs.Plans.{seen_plan, unbroken_plan, broken_plan, type_plan, placed_plan, return_plan}
+use Rattle.press_plans.specs.Filling.{room_if, one_behind, place_behind, is_place}
+use Rattle.press_plans.specs.Replacing.{TypingView, first_typed}
+use Rattle.status_line.specs.declared.deed.Deed.{Deed}
+use Rattle.caret_moves.specs.declared.wish.KeyWish.TheVariants.{Break, Place}
+
+-- what is neither an event of the hand, nor a scroll, nor typed, nor what follows one or a call is planned by the screen
+pub by_screen : (task : Task) (d : Desktop) → ((event : Event) → task ≢ kind.Post event)
+    → ((at : Option (ℕ × ℕ)) (wish : Wish) → task ≢ kind.Scroll at wish)
+    → ((wish : KeyWish) → task ≢ kind.Lead wish)
+    → ((before : DeskInfo) → task ≢ kind.After before)
+    → ((cell : ℕ × ℕ) → task ≢ kind.Enter cell)
+    → ((at : Option (ℕ × ℕ)) (is_up : Bool) (sight : Sight) → task ≢ kind.Page at is_up sight)
+    → ((at_end : Bool) → task ≢ kind.Show at_end)
+    → ((t : TypingView) (fills : Bool) (deed : Deed) → task ≢ kind.TypeOn t fills deed)
+    → ((place : ℕ) (t : TypingView) (fills : Bool) (deed : Deed) → task ≢ kind.GoBack place t fills deed)
+    → ((event : Event) (fills : Bool) → task ≢ kind.TypeOver event fills)
+    → ((behind : Bool) → task ≢ kind.Erase behind)
+    → plan_of task d ≡ plan_on task (shown_screen d)
+unfolding plan_of
+by_screen (kind.Post event) d post scroll lead after enter page show types back over erase = absurd (post event refl)
+by_screen (kind.Scroll at wish) d post scroll lead after enter page show types back over erase = absurd (scroll at wish refl)
+by_screen (kind.Lead wish) d post scroll lead after enter page show types back over erase = absurd (lead wish refl)
+by_screen (kind.Seek at) d post scroll lead after enter page show types back over erase = refl
+by_screen (kind.After before) d post scroll lead after enter page show types back over erase = absurd (after before refl)
+by_screen (kind.Enter cell) d post scroll lead after enter page show types back over erase = absurd (enter cell refl)
+by_screen (kind.Page at is_up sight) d post scroll lead after enter page show types back over erase = absurd (page at is_up sight refl)
+by_screen (kind.Show at_end) d post scroll lead after enter page show types back over erase = absurd (show at_end refl)
+by_screen (kind.TypeOn t fills deed) d post scroll lead after enter page show types back over erase = absurd (types t fills deed refl)
+by_screen (kind.GoBack place t fills deed) d post scroll lead after enter page show types back over erase =
+    absurd (back place t fills deed refl)
+by_screen (kind.Last place) d post scroll lead after enter page show types back over erase = refl
+by_screen (kind.Reveal cell) d post scroll lead after enter page show types back over erase = refl
+by_screen (kind.TypeOver event fills) d post scroll lead after enter page show types back over erase = absurd (over event fills refl)
+by_screen (kind.Erase behind) d post scroll lead after enter page show types back over erase = absurd (erase behind refl)
+
+-- what is left of what is typed, and before it a line that is broken
+module _ (t : TypingView) (fills : Bool) (deed : Deed) (d : Desktop) where
+  pub unbroken : None ≡ room_if fills (first_typed t)
+      → unbroken_plan (first_typed t) t fills deed ≡ plan_of (kind.TypeOn t fills deed) d
+  unfolding plan_of
+  unbroken none = ap (λ (o : Option ℕ). type_plan o (first_typed t) t fills deed d) none
+
+  pub broken : (n place : ℕ) (info : DeskInfo) (told : Result (List Event) WhyNot) → Some n ≡ room_if fills (first_typed t)
+      → place ≡ one_behind info.caret_position → info ≡ desk_info d → told ≡ led d (Break n)
+      → broken_plan told place (first_typed t) t fills deed ≡ plan_of (kind.TypeOn t fills deed) d
+  unfolding plan_of
+  broken n place info told some place_is info_is told_is =
+      let at : place ≡ place_behind d = place_is ∙ ap (λ (i : DeskInfo). one_behind i.caret_position) info_is in
+      (λ k. broken_plan (told_is k) (at k) (first_typed t) t fills deed)
+      ∙ ap (λ (o : Option ℕ). type_plan o (first_typed t) t fills deed d) some
+
+  module _ (place : ℕ) (info : DeskInfo) (info_is : info ≡ desk_info d) where
+    stands_is : (b : Bool) → is_place place info.caret_position ≡ b
+        → return_plan b place (kind.TypeOn t fills deed) d ≡ plan_of (kind.GoBack place t fills deed) d
+    unfolding plan_of
+    stands_is b is = ap (λ (b : Bool). return_plan b place (kind.TypeOn t fills deed) d)
+        (sym is ∙ ap (λ (i : DeskInfo). is_place place i.caret_position) info_is)
+
+    pub stands : is_place place info.caret_position ≡ true
+        → Events [] (Some (kind.TypeOn t fills deed)) ≡ plan_of (kind.GoBack place t fills deed) d
+    stands is = stands_is true is
+
+    pub goes_back : (told : Result (List Event) WhyNot) → is_place place info.caret_position ≡ false
+        → told ≡ led d (Place place)
+        → placed_plan (Place place) told (kind.TypeOn t fills deed) ≡ plan_of (kind.GoBack place t fills deed) d
+    goes_back told is told_is =
+        ap (λ (r : Result (List Event) WhyNot). placed_plan (Place place) r (kind.TypeOn t fills deed)) told_is
+        ∙ stands_is false is
+
+-- what is left to do once a word was called
+module _ (before : DeskInfo) (d : Desktop) where
+  pub opened_answer : (viewer : ShownViewer) → opened_viewer before d ≡ Some viewer
+      → opened_plan viewer ≡ plan_of (kind.After before) d
+  unfolding plan_of
+  opened_answer viewer some = sym (ap (λ p. answer_plan p before d) some)
+
+  module _ (none : opened_viewer before d ≡ None) (info : DeskInfo) (is : info ≡ desk_info d) where
+    abbrev longer : Bool
+    longer = nat_lt before.log_length (desk_info d).log_length
+
+    told : nat_lt before.log_length info.log_length ≡ longer
+    told = ap (λ (i : DeskInfo). nat_lt before.log_length i.log_length) is
+
+    pub no_answer : nat_lt before.log_length info.log_length ≡ false → Events [] None ≡ plan_of (kind.After before) d
+    unfolding plan_of
+    no_answer short = sym (ap (λ p. answer_plan p before d) none
+        ∙ cond-false longer (Says (last_log_line d)) (Events [] None) (sym told ∙ short))
+
+    pub log_answer : (line : List ℕ) → nat_lt before.log_length info.log_length ≡ true → line ≡ last_log_line d
+        → Says line ≡ plan_of (kind.After before) d
+    unfolding plan_of
+    log_answer line long said = ap Says said ∙ sym (ap (λ p. answer_plan p before d) none
+        ∙ cond-true longer (Says (last_log_line d)) (Events [] None) (sym told ∙ long))
+
+module _ {D : Type 0} (d : Ghosts D) where
+  -- something is made of what was seen
+  pub plans_seen : {A : Type 0} (value : A) {task : Task} (plan : MadePlan) {old new : StoreView D}
+      → OnlyLooks d (Ok value) old new
+      → (d.honest old.disk → seen_plan plan ≡ plan_of task old.desktop) → Plans d task (Ok plan) old new
+  plans_seen value plan looks is = record {
+    exact = is;
+    looks = record {
+      desktop = looks.desktop;
+      kept = looks.kept;
+      layout = looks.layout;
+      epoch = looks.epoch;
+      events = looks.events;
+      usable = looks.usable;
+      disk = looks.disk;
+      reopen = (λ wrong. absurd (cc wrong), λ is. absurd (cc (looks.reopen.1 is)));
+      faults = record {
+        rose = λ wrong. absurd (cc wrong);
+        calm = λ other. looks.faults.calm (λ wrong. absurd (cc wrong));
+        errors = tt;
+      };
+    };
+  }
+
+  -- the look fails
+  pub plans_unseen : {A : Type 0} {task : Task} {error : Error} {old new : StoreView D}
+      → OnlyLooks {T = A} d (Err error) old new → Plans d task (Err error) old new
+  plans_unseen {error = error} looks = record {
+    exact = tt;
+    looks = record {
+      desktop = looks.desktop;
+      kept = looks.kept;
+      layout = looks.layout;
+      epoch = looks.epoch;
+      events = looks.events;
+      usable = looks.usable;
+      disk = looks.disk;
+      reopen = (λ is. looks.reopen.0 (cc is), λ is. cc (looks.reopen.1 is));
+      faults = record {
+        rose = λ fault. looks.faults.rose (cc fault);
+        calm = λ fine. looks.faults.calm (λ fault. fine (cc fault));
+        errors = looks.faults.errors;
+      };
+    };
+  }
+
+  -- no look is needed
+  pub plans_at_once : {task : Task} (plan : MadePlan) (store : StoreView D) → store.must_reopen ≡ false
+      → (d.honest store.disk → seen_plan plan ≡ plan_of task store.desktop) → Plans d task (Ok plan) store store
+  plans_at_once plan store usable is = record {
+    exact = is;
+    looks = record {
+      desktop = λ honest. refl;
+      kept = refl;
+      layout = refl;
+      epoch = refl;
+      events = refl;
+      usable = refl;
+      disk = record {
+        device = record { as_large = refl; still = λ honest. honest; already = λ honest. honest };
+        unwritten = λ honest. at_start (d.trail store.disk) _ (λ c image. image);
+      };
+      reopen = (λ wrong. absurd (cc wrong), λ is. absurd (false≢true (sym usable ∙ is)));
+      faults = record { rose = λ wrong. absurd (cc wrong); calm = λ other. refl; errors = tt };
+    };
+  }
+
+  -- of presses that the store told
+  pub plans_by_presses : (task : Task) (plan : MadePlan) (of : Option (List Event) → Plan) {found : Option (List Event)}
+      {at : Option (ℕ × ℕ)} {wish : Wish} (store : StoreView D)
+      → ((desktop : Desktop) → plan_of task desktop ≡ of (presses_to desktop at wish))
+      → seen_plan plan ≡ of found → (d.honest store.disk → Scrolls store.desktop at wish found)
+      → d.honest store.disk → seen_plan plan ≡ plan_of task store.desktop
+  plans_by_presses task plan of store means is scrolls honest =
+      is ∙ ap of (scrolls honest).exact ∙ sym (means store.desktop)
+
+  -- of what the store told about a wish, by what is made of it
+  pub plans_by_told : (task : Task) (wish : KeyWish) (of : Result (List Event) WhyNot → Plan) (plan : MadePlan)
+      {told : Result (List Event) WhyNot} (store : StoreView D)
+      → ((desktop : Desktop) → plan_of task desktop ≡ of (led desktop wish))
+      → seen_plan plan ≡ of told → (d.honest store.disk → DoesWish store.desktop wish told)
+      → d.honest store.disk → seen_plan plan ≡ plan_of task store.desktop
+  plans_by_told task wish of plan store means is leads honest =
+      is ∙ ap of (leads honest).exact ∙ sym (means store.desktop)
+
+  -- of what the store told about a wish
+  pub plans_by_lead : (wish : KeyWish) (plan : MadePlan) {told : Result (List Event) WhyNot} (store : StoreView D)
+      → seen_plan plan ≡ lead_plan wish told → (d.honest store.disk → DoesWish store.desktop wish told)
+      → d.honest store.disk → seen_plan plan ≡ plan_of (kind.Lead wish) store.desktop
+  unfolding plan_of
+  plans_by_lead wish plan store is leads honest = is ∙ ap (lead_plan wish) (leads honest).exact

@@ -1,0 +1,7 @@
+use Rattle.std.proofs.Common.{◌≡◌, take}
+use Rattle.press_plans.specs.Past.{no_past, past_of}
+use Rattle.press_plans.proofs.past.Past.of.Given as goal
+
+-- the events so far were done
+abbrev pub invariant-loop-event : goal.invariant-loop-event
+invariant-loop-event l = l.past ≡ past_of (take l.event-index l.events) no_past

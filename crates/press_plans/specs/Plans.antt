@@ -1,0 +1,289 @@
+-- What a task becomes over a desktop.
+use Rattle.std.specs.Prelude.{ℕ, ◌+◌, ◌-◌, Bool, true, false, ◌==◌, nat_lt, if◌then◌else◌, max, List, [], ◌∷◌, length, take, slice_get}
+use Rattle.std.specs.Prelude.{◌≡◌, Option, Some, None, option_map, Result, Ok, Err, IfOk}
+use Rattle.std.specs.List.{list_any}
+use Rattle.sector_disk.specs.declared.disk.Disk.{Ghosts}
+use Rattle.event_bytes.specs.declared.event.Event.{Event}
+use Rattle.event_bytes.specs.declared.event.Event.TheVariants as event
+use Rattle.event_bytes.specs.declared.keys.Keys.TheVariants as keys
+use Rattle.event_bytes.specs.declared.keys.Key.TheVariants as key
+use Rattle.screen_pictures.specs.declared.cell.Cell.{Cell}
+use Rattle.desktop_definitions.specs.Desktop.{Desktop}
+use Rattle.desktop_definitions.specs.declared.entry.Entry.{Entry}
+use Rattle.desktop_definitions.specs.Shown.{shown_screen}
+use Rattle.desk_journal.specs.Errors.{Error}
+use Rattle.desk_journal.specs.Looking.{OnlyLooks}
+use Rattle.caret_moves.specs.declared.wish.KeyWish.{KeyWish}
+use Rattle.caret_moves.specs.declared.wish.KeyWish.TheVariants.{DeleteNext, Call, CallLine, Break, Place}
+use Rattle.caret_moves.specs.declared.wish.KeyWish.TheVariants.{Select, SelectOn, SelectAll, CutSelected, CutLine}
+use Rattle.caret_moves.specs.declared.wish.WhyNot.{WhyNot}
+use Rattle.caret_moves.specs.declared.wish.WhyNot.TheVariants as why
+use Rattle.desk_journal.specs.Leading.{led}
+use Rattle.desk_journal.specs.Scrolling.{Wish, presses_to}
+use Rattle.desk_journal.specs.Scrolling as wish
+use Rattle.desk_journal.specs.View.{StoreView}
+use Rattle.desk_journal.specs.Views.{DeskInfo, Place as ViewerPlace, ShownViewer, desk_info, last_log_line, place_at, shown_viewer}
+use Rattle.starter_desktop.specs.StarterDesktop.{tool_event}
+use Rattle.terminal_presses.specs.Sights.{Sight}
+use Rattle.screen_reading.specs.CommandWords.{next_command}
+use Rattle.status_line.specs.Deeds.{is_middle}
+use Rattle.press_plans.specs.Replacing.{TypingView, first_typed, rest_typed}
+use Rattle.screen_reading.specs.Aims.{or_else}
+use Rattle.screen_reading.specs.Frames.{text_end, text_rows_in_sight, text_start}
+pub use Rattle.event_bytes.specs.Parts.{◌>>=◌}
+use Rattle.status_line.specs.declared.saying.Saying.{Saying}
+use Rattle.status_line.specs.declared.saying.Saying.TheVariants.{NoText, NoScroll, NothingAfter, NoWord, NoCommand}
+use Rattle.status_line.specs.declared.saying.Saying.TheVariants.{NoLine, PartHidden}
+use Rattle.press_plans.specs.declared.task.Task.{Task}
+use Rattle.press_plans.specs.declared.task.Task.TheVariants.{Post, Scroll, Lead}
+use Rattle.press_plans.specs.declared.task.Task.TheVariants.{TypeOn, GoBack, After, Seek}
+use Rattle.press_plans.specs.declared.task.Task.TheVariants.{TypeOver, Erase}
+use Rattle.press_plans.specs.declared.task.Task.TheVariants.{Page, Show, Last, Reveal, Enter}
+use Rattle.press_plans.specs.declared.plan.Plan.{Plan as MadePlan}
+use Rattle.press_plans.specs.declared.plan.Plan.TheVariants as made
+use Rattle.status_line.specs.declared.deed.Deed.{Deed}
+use Rattle.press_plans.specs.Filling.{room_if, place_behind, is_place}
+use Rattle.press_plans.specs.Listed.{event_meant, is_tool}
+use Rattle.press_plans.specs.Tasks.{posting}
+
+-- What a task becomes over a desktop: it can't be done, for a reason; or it has these events, and then this is left to
+-- do, if anything; or it has none. Then a line of the log is said, the pointer that keys move or the rows in sight go to a
+-- cell, or nothing is pointed at any more, and this is left to do.
+pub data Plan : Type 0 where
+  Refused : Saying → Plan
+  Events : List Event → Option Task → Plan
+  Says : List ℕ → Plan
+  Aims : ℕ × ℕ → Plan
+  Shows : ℕ × ℕ → Plan
+  PutsAway : Task → Plan
+
+-- a plan as it is kept
+abbrev pub seen_plan : MadePlan → Plan
+seen_plan (made.Refused why) = Refused why
+seen_plan (made.Next next) = Events [] next
+seen_plan (made.Event event next) = Events (event ∷ []) next
+seen_plan (made.Events events next) = Events events.items next
+seen_plan (made.Says line) = Says line.items
+seen_plan (made.Aims cell) = Aims cell
+seen_plan (made.Shows cell) = Shows cell
+seen_plan (made.PutsAway next) = PutsAway next
+
+abbrev pub click_of : ℕ × ℕ → Event
+click_of place = event.Point keys.Left place.0 place.1 place.0 place.1
+
+-- what is said where there is nothing to which the caret could go, nothing to delete or to cut, or no word to call
+unfoldable pub nothing_there : KeyWish → Saying
+nothing_there DeleteNext = NothingAfter
+nothing_there (Call command) = NoWord
+nothing_there CallLine = NoWord
+nothing_there CutLine = NoLine
+nothing_there _ = NoText
+
+-- what is said where an end of what is meant isn't in sight
+unfoldable pub part_hidden : KeyWish → Saying
+part_hidden (Select step) = PartHidden
+part_hidden (SelectOn step) = PartHidden
+part_hidden SelectAll = PartHidden
+part_hidden CutSelected = PartHidden
+part_hidden CutLine = PartHidden
+part_hidden wish = nothing_there wish
+
+-- what is said where no events do what is wished of the caret
+unfoldable pub why_not : KeyWish → WhyNot → Saying
+why_not wish why.NoRow = NoScroll
+why_not wish why.TooFar = NoScroll
+why_not wish why.NoCaret = nothing_there wish
+why_not wish why.NothingBehind = nothing_there wish
+why_not wish why.PastEdge = part_hidden wish
+why_not wish why.NotInSight = part_hidden wish
+why_not wish why.NothingThere = nothing_there wish
+why_not wish why.NoBreak = nothing_there wish
+why_not wish why.NoWord = NoWord
+
+-- whether a command is called
+abbrev pub is_calling : KeyWish → Bool
+is_calling (Call command) = true
+is_calling CallLine = true
+is_calling _ = false
+
+-- a click is made as the hand makes it, after these events
+abbrev pub clicked_after : List Event → Option Event → Plan
+clicked_after events None = Events [] None
+clicked_after events (Some click) = Events events (Some (Post click))
+
+-- so is the last event of those that call a command
+abbrev pub call_plan : List Event → Plan
+call_plan events =
+    clicked_after (take (length events - 1) events) (slice_get events (length events - 1))
+
+-- the events for what is wished of the caret
+abbrev pub lead_plan : KeyWish → Result (List Event) WhyNot → Plan
+lead_plan wish (Ok events) = if is_calling wish then call_plan events else Events events None
+lead_plan wish (Err reason) = Refused (why_not wish reason)
+
+-- these events cut what is selected up to the caret, where anything is, and then this is left to do
+abbrev pub over_plan : Task → Result (List Event) WhyNot → Plan
+over_plan next (Ok events) = Events events (Some next)
+over_plan next (Err why) = Events [] (Some next)
+
+-- Where nothing is, the character behind the caret is deleted, or the one before it.
+unfoldable pub erasing : Bool → Task
+erasing true = Lead DeleteNext
+erasing false = Post (event.Key key.Back)
+
+abbrev pub erase_plan : Bool → Result (List Event) WhyNot → Plan
+erase_plan behind (Ok events) = Events events None
+erase_plan behind (Err why) = Events [] (Some (erasing behind))
+
+-- where a viewer was to show a line by its number, the caret goes there, and its last one comes into sight
+abbrev pub shown_then : Wish → Option Task
+shown_then (wish.Line n) = Some (Show false)
+shown_then wish.End = Some (Show true)
+shown_then _ = None
+
+-- the presses that scroll, where there is a way
+abbrev pub scroll_plan : Wish → Option (List Event) → Plan
+scroll_plan wish None = Refused NoScroll
+scroll_plan wish (Some events) = Events events (shown_then wish)
+
+-- where the viewer stands that has the caret, and the one that is meant: at a cell, or that one
+unfoldable pub caret_place : Desktop → Option ViewerPlace
+caret_place d =
+    option_map (λ viewer. viewer.place) ((desk_info d).caret_viewer >>= shown_viewer d)
+
+abbrev pub place_meant : Option (ℕ × ℕ) → Desktop → Option ViewerPlace
+place_meant None d = caret_place d
+place_meant (Some cell) d = place_at d cell
+
+-- A page is as many lines as rows are in sight, less one, and at least one. Where none is it's that of the whole viewer.
+unfoldable pub page_wish : Bool → ℕ → Wish
+page_wish true n = if n == 0 then wish.PageUp else wish.Up (max (n - 1) 1)
+page_wish false n = if n == 0 then wish.PageDown else wish.Down (max (n - 1) 1)
+
+unfoldable pub page_plan : Option (ℕ × ℕ) → Bool → Sight → Desktop → Plan
+page_plan at is_up sight d = let rows = text_rows_in_sight sight (place_meant at d) in
+    Events [] (Some (Scroll at (page_wish is_up rows)))
+
+-- a cell comes into sight, where there is one
+abbrev pub show_plan : Option (ℕ × ℕ) → Plan
+show_plan None = Events [] None
+show_plan (Some cell) = Shows cell
+
+-- the caret goes to a cell, where there is one
+abbrev pub go_plan : Option (ℕ × ℕ) → Plan
+go_plan None = Events [] None
+go_plan (Some cell) = Events (click_of cell ∷ []) None
+
+-- The caret goes to the first cell of the text of a viewer that stands there, or the last row in which something stands comes
+-- into sight.
+abbrev pub shown_plan : Bool → Option ViewerPlace → Plan
+shown_plan at_end None = Events [] None
+shown_plan at_end (Some place) =
+    if at_end then Events [] (Some (Last place)) else go_plan (text_start place)
+
+-- What is left of what a press types: this event comes first, if any is left.
+abbrev pub unbroken_plan : Option Event → TypingView → Bool → Deed → Plan
+unbroken_plan None t fills deed = Events [] None
+unbroken_plan (Some event) t fills deed =
+    Events (event ∷ []) (Some (TypeOn (rest_typed t) fills deed))
+
+-- before it the line is broken that has no room, and the caret goes back behind the same character
+abbrev pub broken_plan : Result (List Event) WhyNot → ℕ → Option Event → TypingView → Bool → Deed
+    → Plan
+broken_plan (Ok events) place next t fills deed =
+    Events events (Some (GoBack place t fills deed))
+broken_plan (Err reason) place next t fills deed = unbroken_plan next t fills deed
+
+abbrev pub type_plan : Option ℕ → Option Event → TypingView → Bool → Deed → Desktop → Plan
+type_plan None next t fills deed d = unbroken_plan next t fills deed
+type_plan (Some n) next t fills deed d =
+    broken_plan (led d (Break n)) (place_behind d) next t fills deed
+
+-- the caret goes to a position, where it doesn't stand there
+abbrev pub placed_plan : KeyWish → Result (List Event) WhyNot → Task → Plan
+placed_plan wish (Ok events) next = Events events (Some next)
+placed_plan wish (Err reason) next = Refused (why_not wish reason)
+
+abbrev pub return_plan : Bool → ℕ → Task → Desktop → Plan
+return_plan stands place next d = if stands then Events [] (Some next)
+    else placed_plan (Place place) (led d (Place place)) next
+
+-- the pointer that keys move goes to a cell, where there is one to go to
+abbrev pub seek_plan : Option (ℕ × ℕ) → Plan
+seek_plan None = Refused NoCommand
+seek_plan (Some cell) = Aims cell
+
+-- ---- what is left to do once a word was called
+
+-- whether an event is a click of the middle button
+abbrev pub is_call : Event → Bool
+is_call (event.Point keys x0 y0 x1 y1) = is_middle keys
+is_call _ = false
+
+-- an event, of a desktop that said this of itself before it
+unfoldable pub posted_plan : Event → DeskInfo → Plan
+posted_plan e before = Events (e ∷ []) (if is_call e then Some (After before) else None)
+
+-- a click of that button on the empty display, by the list
+abbrev pub empty_plan : Event → DeskInfo → List Entry → Plan
+empty_plan e before entries = if list_any is_tool entries
+    then Events (e ∷ []) (Some (After before)) else Events (tool_event ∷ []) None
+
+-- the viewer that was opened since then: a new one, or the one that was closed last
+unfoldable pub opened_viewer : DeskInfo → Desktop → Option ShownViewer
+opened_viewer before d =
+    or_else (shown_viewer d before.next_viewer) (before.closed_viewer >>= shown_viewer d)
+
+-- The caret goes to a cell, and before it the marker goes away, if it is set.
+abbrev pub entry_plan : Bool → ℕ × ℕ → Plan
+entry_plan marked cell = if marked
+    then Events (event.Key key.Escape ∷ []) (Some (Post (click_of cell)))
+    else Events (click_of cell ∷ []) None
+
+-- it goes to the first cell of a text, where there is one, but into that of the log it doesn't: that comes into sight
+abbrev pub enter_plan : Bool → Option (ℕ × ℕ) → Plan
+enter_plan is_log None = Events [] None
+enter_plan is_log (Some cell) = PutsAway (if is_log then Reveal cell else Enter cell)
+
+-- and nothing is pointed at any more then
+abbrev pub opened_plan : ShownViewer → Plan
+opened_plan viewer = enter_plan viewer.is_log (text_start viewer.place)
+
+-- The caret goes into the viewer that was opened. Where none was, the line below says what was added to the log, if
+-- anything was.
+abbrev pub answer_plan : Option ShownViewer → DeskInfo → Desktop → Plan
+answer_plan (Some viewer) before d = opened_plan viewer
+answer_plan None before d = if nat_lt before.log_length (desk_info d).log_length
+    then Says (last_log_line d) else Events [] None
+
+-- ---- by the screen, and by the desktop
+
+-- what a task becomes by what the screen shows
+unfoldable pub plan_on : Task → List (List Cell) → Plan
+plan_on (Seek at) screen = seek_plan (next_command at screen)
+plan_on (Last place) screen = show_plan (text_end place screen)
+plan_on (Reveal cell) screen = Shows cell
+plan_on _ screen = Events [] None
+
+unfoldable pub plan_of : Task → Desktop → Plan
+plan_of (Post event) d = posted_plan (event_meant d event) (desk_info d)
+plan_of (After before) d = answer_plan (opened_viewer before d) before d
+plan_of (Enter cell) d = entry_plan (desk_info d).is_marked cell
+plan_of (Scroll at wish) d = scroll_plan wish (presses_to d at wish)
+plan_of (Page at is_up sight) d = page_plan at is_up sight d
+plan_of (Show at_end) d = shown_plan at_end (caret_place d)
+plan_of (Lead wish) d = lead_plan wish (led d wish)
+plan_of (TypeOver event fills) d = over_plan (posting fills event) (led d CutSelected)
+plan_of (Erase behind) d = erase_plan behind (led d CutSelected)
+plan_of (TypeOn t fills deed) d =
+    type_plan (room_if fills (first_typed t)) (first_typed t) t fills deed d
+plan_of (GoBack place t fills deed) d =
+    return_plan (is_place place (desk_info d).caret_position) place (TypeOn t fills deed) d
+plan_of task d = plan_on task (shown_screen d)
+
+module _ {D : Type 0} (d : Ghosts D) where
+  -- All that a call promises that is to make the plan of a task: it only looks at the store.
+  pub record Plans (task : Task) (result : Result MadePlan Error) (old new : StoreView D)
+      : Type 0 where
+    pub exact : IfOk result (λ plan. d.honest old.disk → seen_plan plan ≡ plan_of task old.desktop)
+    pub looks : OnlyLooks d result old new

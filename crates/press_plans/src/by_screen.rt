@@ -1,0 +1,77 @@
+//! What a task becomes by what the screen shows.
+ghost use Rattle.std.specs.Prelude.{◌≡◌};
+ghost use Rattle.press_plans.specs.Plans.{click_of, go_plan, plan_on, seek_plan, seen_plan, show_plan};
+
+use crate::plan::Plan;
+use crate::task::{CellPlace, Task};
+use event_bytes::{Event, Keys};
+use screen_cells::Screen;
+use screen_reading::{next_command, text_end};
+use status_line::Saying;
+
+/// What a task becomes where this is the screen.
+#[tactic(auto, unfolding(crate::specs::Plans::plan_on))]
+pub(crate) fn plan_on(task: Task, screen: &Screen) -> Plan
+    ensures { seen_plan result ≡ plan_on task screen.now }
+{
+    match task {
+        Task::Seek(at) => seek_plan(next_command(at, screen)),
+        Task::Last(place) => show_plan(text_end(place, screen)),
+        Task::Reveal(cell) => Plan::Shows(cell),
+        Task::Post(_)
+        | Task::After(_)
+        | Task::Enter(_)
+        | Task::Scroll(_, _)
+        | Task::Page { .. }
+        | Task::Show { .. }
+        | Task::TypeOn(_, _, _)
+        | Task::GoBack(_, _, _, _)
+        | Task::TypeOver(_, _)
+        | Task::Erase { .. }
+        | Task::Lead(_) => Plan::Next(None),
+    }
+}
+
+/// The pointer that keys move goes to a cell, where there is one to go to.
+fn seek_plan(cell: Option<CellPlace>) -> Plan
+    ensures { seen_plan result ≡ seek_plan cell }
+{
+    match cell {
+        None => Plan::Refused(Saying::NoCommand),
+        Some(cell) => Plan::Aims(cell),
+    }
+}
+
+/// A left click at a cell.
+pub(crate) fn click(place: CellPlace) -> Event
+    ensures { result ≡ click_of place }
+{
+    let (x, y) = place;
+    Event::Point {
+        keys: Keys::Left,
+        x0: x,
+        y0: y,
+        x1: x,
+        y1: y,
+    }
+}
+
+/// The caret goes to a cell, where there is one.
+pub(crate) fn go_plan(cell: Option<CellPlace>) -> Plan
+    ensures { seen_plan result ≡ go_plan cell }
+{
+    match cell {
+        None => Plan::Next(None),
+        Some(cell) => Plan::Event(click(cell), None),
+    }
+}
+
+/// A cell comes into sight, where there is one.
+fn show_plan(cell: Option<CellPlace>) -> Plan
+    ensures { seen_plan result ≡ show_plan cell }
+{
+    match cell {
+        None => Plan::Next(None),
+        Some(cell) => Plan::Shows(cell),
+    }
+}

@@ -1,0 +1,292 @@
+//! What is left to do of a press that posts events.
+//!
+//! A press that posts events is a task (`Task`). Over the desktop that stands there it becomes a plan (`plan`): the reason
+//! why it can't be done, or events, and what is left to do once they are done. So another kind of press is a row of
+//! `plan_of` in `specs/Plans.antt`, and what does it here; each plan is made by one look at the store.
+ghost use Rattle.std.specs.Prelude.{◌≡◌, Some, None, IfOk, IfErr};
+ghost use Rattle.press_plans.specs.Tasks.{calling_wish, cell_meant as cell_of_spot, deed_of_task, keeps_sight, lead_deed};
+ghost use Rattle.press_plans.specs.Tasks.{deleting, posted, posting, posting_over, scroll_task, selecting, typed_task};
+ghost use Rattle.press_plans.specs.Replacing.{nothing_typed, typed_behind};
+ghost use Rattle.event_bytes.specs.declared.event.Event.TheVariants as Event;
+ghost use Rattle.press_plans.specs.Tasks.{step_meant as step_of_arrow, task_of};
+
+use crate::replacing::Typing;
+use desk_journal::{CaretCommand, DeskInfo, KeyWish, Step, Wish};
+use event_bytes::{Event, Key, Keys, TypedBytes};
+use status_line::Deed;
+use terminal_presses::{Action, Arrow, Scroll, Sight, Spot};
+
+/// A cell of the display: its column and its row.
+pub(crate) type CellPlace = (u8, u8);
+
+/// How many plans a press has at most: a replacement one for each Backspace and three for each byte, and three where it ends.
+pub const MOST_PLANS: u16 = 321;
+
+/// What is left to do of a press that posts events.
+#[derive(Drop)]
+pub enum Task {
+    /// An event of the hand happens, as it is meant at the desk.
+    Post(Event),
+    /// A word was called, over a desktop that said this of itself: the caret goes into the viewer that it opened, or the
+    /// line below says what it added to the log.
+    After(DeskInfo),
+    /// The caret goes to a cell of a viewer that opened, and the marker goes away before it, if it is set.
+    Enter(CellPlace),
+    /// What is left of what the press types, and its lines are filled or not: this is what it did.
+    TypeOn(Typing, bool, Deed),
+    /// The caret goes to a position of its text. Then what is left is typed.
+    GoBack(u32, Typing, bool, Deed),
+    /// The pointer that keys move goes from a cell on to the next word of a command.
+    Seek(CellPlace),
+    /// The text of the viewer at a cell moves. None: of the viewer of the caret.
+    Scroll(Option<CellPlace>, Wish),
+    /// The same by a page, which is as long as what is in sight of the text.
+    Page {
+        at: Option<CellPlace>,
+        is_up: bool,
+        sight: Sight,
+    },
+    /// The caret goes to the first cell of its viewer's text, or the last row of that comes into sight.
+    Show {
+        at_end: bool,
+    },
+    /// The last row of the text of a viewer that stands there comes into sight.
+    Last(viewer_tracks::Place),
+    /// A cell comes into sight.
+    Reveal(CellPlace),
+    /// What is wished of the caret by a key.
+    Lead(KeyWish),
+    /// An event is typed, in the place of what is selected up to the caret, and may break lines or not.
+    TypeOver(Event, bool),
+    /// What is selected up to the caret is deleted, or where nothing is the character behind the caret, or the one before
+    /// it.
+    Erase {
+        behind: bool,
+    },
+}
+
+impl Task {
+    /// The task of a press, where what is typed may break lines or not, the press before it selected something or didn't, a
+    /// replacement is to be typed or none is, and this part of the display is in sight. An action that posts nothing is none, but for that which moves the pointer to the
+    /// next command.
+    #[tactic(auto, unfolding(crate::specs::Tasks::task_of))]
+    pub fn of(
+        action: Action,
+        fills: bool,
+        over: bool,
+        replacement: Option<Typing>,
+        sight: Sight,
+    ) -> Result<Task, Action>
+        ensures task { IfOk result (λ task. task_of fills over replacement sight action
+            ≡ Some task) }
+        ensures none { IfErr result (λ alone. (alone ≡ action)
+            × (task_of fills over replacement sight action ≡ None)) }
+    {
+        match action {
+            Action::Post(event) => Ok(posted(over, fills, event)),
+            Action::Scroll(at, scroll) => Ok(scroll_task(cell_meant(at), scroll, sight)),
+            Action::GoTo(line) => Ok(Task::Scroll(None, Wish::Line(line.saturating_sub(1)))),
+            Action::Step(arrow) => Ok(Task::Lead(KeyWish::Step(step_meant(arrow)))),
+            Action::Select(arrow) => Ok(Task::Lead(selecting(over, step_meant(arrow)))),
+            Action::SelectAll => Ok(Task::Lead(KeyWish::SelectAll)),
+            Action::CutLine => Ok(Task::Lead(KeyWish::CutLine)),
+            Action::Delete => Ok(deleting(over)),
+            Action::Search => Ok(Task::Lead(KeyWish::Call(CaretCommand::Search))),
+            Action::Store => Ok(Task::Lead(KeyWish::Call(CaretCommand::Store))),
+            Action::CallLine => Ok(Task::Lead(KeyWish::CallLine)),
+            Action::Mark => Ok(Task::Lead(KeyWish::Mark)),
+            Action::Seek(at) => Ok(Task::Seek((at.x, at.y))),
+            Action::Replace => match replacement {
+                Some(typing) => Ok(Task::TypeOn(typing, fills, Deed::Replacement)),
+                None => Err(Action::Replace),
+            },
+            alone => Err(alone),
+        }
+    }
+
+    /// What the press did by it. None: what its first event did.
+    pub fn deed(&self) -> Option<Deed>
+        ensures { result ≡ deed_of_task self.now }
+    {
+        match self {
+            Task::Post(_)
+            | Task::After(_)
+            | Task::Enter(_)
+            | Task::Seek(_)
+            | Task::Show { .. }
+            | Task::Last(_)
+            | Task::Reveal(_) => None,
+            Task::TypeOn(_, _, deed) | Task::GoBack(_, _, _, deed) => Some(*deed),
+            Task::Scroll(_, _) | Task::Page { .. } => Some(Deed::Scroll),
+            Task::TypeOver(_, _) => Some(Deed::Typed(0)),
+            Task::Erase { .. } => Some(Deed::Key(Key::Back)),
+            Task::Lead(wish) => lead_deed(*wish),
+        }
+    }
+
+    /// Whether the rows in sight don't follow the caret for it.
+    pub fn keeps_sight(&self) -> bool
+        ensures { result ≡ keeps_sight self.now }
+    {
+        matches!(self, Task::Scroll(_, _) | Task::Page { .. })
+    }
+}
+
+/// What is wished of the caret by a press that calls a command.
+#[tactic(auto, unfolding(crate::specs::Tasks::calling_wish))]
+pub fn calling_wish(action: &Action) -> Option<KeyWish>
+    ensures { result ≡ calling_wish action.now }
+{
+    match action {
+        Action::Search => Some(KeyWish::Call(CaretCommand::Search)),
+        Action::Store => Some(KeyWish::Call(CaretCommand::Store)),
+        Action::CallLine => Some(KeyWish::CallLine),
+        _ => None,
+    }
+}
+
+/// An event of the hand. A character that is typed may break a line, where lines are filled.
+pub(crate) fn posting(fills: bool, event: Event) -> Task
+    ensures { result ≡ posting fills event }
+{
+    match event {
+        Event::Typed(bytes) => typed_posting(fills, bytes),
+        event => Task::Post(event),
+    }
+}
+
+/// What is typed by the hand.
+fn typed_posting(fills: bool, bytes: TypedBytes) -> Task
+    ensures { result ≡ posting fills (Event.Typed bytes) }
+{
+    if fills && bytes.as_bytes().len() == 1 {
+        typed_task(bytes)
+    } else {
+        Task::Post(Event::Typed(bytes))
+    }
+}
+
+/// What is typed by the hand where lines are filled.
+fn typed_task(bytes: TypedBytes) -> Task
+    ensures { result ≡ typed_task (typed_behind bytes nothing_typed) bytes }
+{
+    match Typing::of(&bytes) {
+        None => Task::Post(Event::Typed(bytes)),
+        Some(typing) => Task::TypeOn(typing, true, Deed::of(&Event::Typed(bytes))),
+    }
+}
+
+/// An event of the hand, which takes the place of what the press before it selected, or doesn't.
+fn posted(over: bool, fills: bool, event: Event) -> Task
+    ensures { result ≡ posted over fills event }
+{
+    if over {
+        posting_over(fills, event)
+    } else {
+        posting(fills, event)
+    }
+}
+
+/// What the press before it selected is deleted, or the character behind the caret.
+fn deleting(over: bool) -> Task
+    ensures { result ≡ deleting over }
+{
+    if over {
+        Task::Erase { behind: true }
+    } else {
+        Task::Lead(KeyWish::DeleteNext)
+    }
+}
+
+/// What a step passes is selected, with what the press before it selected, or alone.
+fn selecting(over: bool, step: Step) -> KeyWish
+    ensures { result ≡ selecting over step }
+{
+    if over {
+        KeyWish::SelectOn(step)
+    } else {
+        KeyWish::Select(step)
+    }
+}
+
+/// What is typed, and Backspace, act on what is selected up to the caret.
+fn posting_over(fills: bool, event: Event) -> Task
+    ensures { result ≡ posting_over fills event }
+{
+    match event {
+        Event::Typed(bytes) => Task::TypeOver(Event::Typed(bytes), fills),
+        Event::Key(Key::Back) => Task::Erase { behind: false },
+        event => Task::Post(event),
+    }
+}
+
+/// What a press did by what is wished of the caret. None: what its first event did.
+#[tactic(auto, unfolding(crate::specs::Tasks::lead_deed))]
+fn lead_deed(wish: KeyWish) -> Option<Deed>
+    ensures { result ≡ lead_deed wish }
+{
+    match wish {
+        KeyWish::Step(_) => Some(Deed::Click(Keys::Left)),
+        KeyWish::DeleteNext => Some(Deed::Key(Key::Back)),
+        KeyWish::Call(_) => Some(Deed::Click(Keys::Middle)),
+        KeyWish::CallLine => None,
+        KeyWish::Mark => None,
+        KeyWish::Select(_) => Some(Deed::Click(Keys::Right)),
+        KeyWish::SelectOn(_) => Some(Deed::Click(Keys::Right)),
+        KeyWish::SelectAll => Some(Deed::Click(Keys::Right)),
+        KeyWish::CutSelected => Some(Deed::Click(Keys::RightLeft)),
+        KeyWish::CutLine => Some(Deed::Click(Keys::RightLeft)),
+        KeyWish::Break(_) => None,
+        KeyWish::Place(_) => None,
+    }
+}
+
+/// What a scroll does to the viewer at a cell, or to that of the caret, where this part of the display is in sight. The
+/// wheel moves the text by three lines. To an end of the text goes the caret.
+fn scroll_task(at: Option<CellPlace>, scroll: Scroll, sight: Sight) -> Task
+    ensures { result ≡ scroll_task at scroll sight }
+{
+    match scroll {
+        Scroll::WheelUp => Task::Scroll(at, Wish::Up(3)),
+        Scroll::WheelDown => Task::Scroll(at, Wish::Down(3)),
+        Scroll::PageUp => Task::Page {
+            at,
+            is_up: true,
+            sight,
+        },
+        Scroll::PageDown => Task::Page {
+            at,
+            is_up: false,
+            sight,
+        },
+        Scroll::First => Task::Lead(KeyWish::Step(Step::TextStart)),
+        Scroll::Last => Task::Lead(KeyWish::Step(Step::TextEnd)),
+    }
+}
+
+/// The step of an arrow.
+#[tactic(auto, unfolding(crate::specs::Tasks::step_meant))]
+fn step_meant(arrow: Arrow) -> Step
+    ensures { result ≡ step_of_arrow arrow }
+{
+    match arrow {
+        Arrow::Up => Step::Up,
+        Arrow::Down => Step::Down,
+        Arrow::Right => Step::Right,
+        Arrow::Left => Step::Left,
+        Arrow::Home => Step::LineStart,
+        Arrow::End => Step::LineEnd,
+        Arrow::WordRight => Step::WordRight,
+        Arrow::WordLeft => Step::WordLeft,
+    }
+}
+
+/// The cell that is meant, as column and row.
+fn cell_meant(at: Option<Spot>) -> Option<CellPlace>
+    ensures { result ≡ cell_of_spot at }
+{
+    match at {
+        None => None,
+        Some(spot) => Some((spot.x, spot.y)),
+    }
+}

@@ -1,0 +1,59 @@
+-- Which saying is due, by what came about. `rest` is what is said where there is nothing else to be said.
+use Rattle.std.specs.Prelude.{ℕ, Bool, true, false, ◌==◌, nat_lt, if◌then◌else◌}
+use Rattle.event_bytes.specs.declared.event.Event.{Event}
+use Rattle.event_bytes.specs.declared.event.Event.TheVariants.{File, Point}
+use Rattle.event_bytes.specs.declared.keys.Keys.TheVariants.{Middle}
+use Rattle.desktop_definitions.specs.Limits.{no_file}
+use Rattle.viewer_tracks.specs.declared.display.TheConstants.{COLUMNS}
+use Rattle.status_line.specs.declared.saying.Saying.{Saying}
+use Rattle.status_line.specs.declared.saying.Saying.TheVariants.{CutShort, Fills, FillsNot, NoDocument, OneSide}
+use Rattle.status_line.specs.declared.saying.Saying.TheVariants.{Refused}
+use Rattle.status_line.specs.declared.saying.Saying.TheVariants.{ToolFiled, TooLow, TooNarrow}
+use Rattle.status_line.specs.declared.saying.Saying.TheVariants.{FirstFailed, TwinFailed, WithoutTwin}
+
+-- of a store's two files one isn't written
+abbrev pub is_of_twins : Saying → Bool
+is_of_twins FirstFailed = true
+is_of_twins TwinFailed = true
+is_of_twins WithoutTwin = true
+is_of_twins _ = false
+
+-- in the beginning: where a terminal has fewer columns than the display, how the other side comes into sight, unless a
+-- file isn't written
+abbrev pub first_saying : ℕ → Saying → Saying
+first_saying width greeting =
+    if is_of_twins greeting then greeting else (if nat_lt width COLUMNS then OneSide else greeting)
+
+-- once an event is done: of the text of all commands, that it is there again
+abbrev pub done_saying : Event → Saying → Saying
+done_saying (File name bytes) rest = ToolFiled
+done_saying event rest = rest
+
+-- of a refusal: where there is no document of a name, the word that was called has it
+abbrev pub refused_saying : Event → ℕ → Saying
+refused_saying (Point Middle x y _ _) code =
+    if code == no_file then NoDocument x y else Refused code
+refused_saying event code = Refused code
+
+-- why a paste is cut short of which so many characters are typed, and how far it came
+abbrev pub with_count : ℕ → Saying → Saying
+with_count n (Refused code) = CutShort n code
+with_count n saying = saying
+
+abbrev pub came_to : ℕ → Saying → Saying
+came_to n saying = if n == 0 then saying else with_count n saying
+
+-- once the terminal has told its size: where that is too small, that
+abbrev pub is_too_small : Saying → Bool
+is_too_small TooNarrow = true
+is_too_small TooLow = true
+is_too_small _ = false
+
+abbrev pub fitted_saying : Bool → Bool → Saying → Saying → Saying
+fitted_saying narrow low rest saying =
+    if narrow then TooNarrow else (if low then TooLow else
+    (if is_too_small saying then rest else saying))
+
+-- of lines that are filled from now on, or no longer
+abbrev pub fill_saying : Bool → Saying
+fill_saying fills = if fills then Fills else FillsNot

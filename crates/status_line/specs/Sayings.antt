@@ -1,0 +1,227 @@
+-- What the line below the screen says.
+use Rattle.std.specs.Prelude.{ℕ, ◌-◌, ◌==◌, if◌then◌else◌, List, [], ◌∷◌, ◌++◌, Option, Some, None, codes, drop}
+use Rattle.std.specs.Prelude.{length, slice_get}
+use Rattle.desktop_definitions.specs.Limits.{no_file}
+use Rattle.std.specs.Prelude.{Bool, true, false, unwrap_or}
+use Rattle.std.specs.Fmt.{decimal}
+use Rattle.event_bytes.specs.declared.keys.Keys.{Keys as MouseKeys}
+use Rattle.event_bytes.specs.declared.keys.Keys.TheVariants.{Left, LeftMiddle, LeftRight, Middle, MiddleLeft}
+use Rattle.event_bytes.specs.declared.keys.Keys.TheVariants.{MiddleRight, Right, RightLeft, RightMiddle}
+use Rattle.terminal_presses.specs.declared.action.Click.{Click}
+use Rattle.terminal_presses.specs.declared.action.Click.TheVariants.{Mark, Keys}
+use Rattle.status_line.specs.declared.saying.Saying.{Saying}
+use Rattle.status_line.specs.declared.saying.Saying.TheVariants.{Greeting, Unproved, InMemory, Keys as ForKeys}
+use Rattle.status_line.specs.declared.saying.Saying.TheVariants.{Pointing, Asks, NoKey, NoText, NoScroll}
+use Rattle.status_line.specs.declared.saying.Saying.TheVariants.{NothingAfter, NoWord, NoCommand, NoSearch}
+use Rattle.status_line.specs.declared.saying.Saying.TheVariants.{NoLine, PartHidden}
+use Rattle.status_line.specs.declared.saying.Saying.TheVariants.{NothingTyped, Fills, FillsNot, ToolFiled, Refused}
+use Rattle.status_line.specs.declared.saying.Saying.TheVariants.{CutShort, OneSide, NoDocument}
+use Rattle.status_line.specs.declared.saying.Saying.TheVariants.{Worn, Unread, Unfinished, TooNarrow, TooLow}
+use Rattle.status_line.specs.declared.saying.Saying.TheVariants.{TookBack, DidAgain}
+use Rattle.status_line.specs.declared.saying.Saying.TheVariants.{NothingBack, NothingAgain, NotBack, Logged}
+use Rattle.status_line.specs.declared.saying.Saying.TheVariants.{FirstFailed, TwinFailed, WithoutTwin}
+use Rattle.status_line.specs.declared.question.Question.{Question}
+use Rattle.status_line.specs.declared.question.Question.TheVariants.{Leaving, Closing, Taking, Rivalled, Deleting, Misnamed}
+use Rattle.status_line.specs.declared.deed.Deed.{Deed}
+use Rattle.status_line.specs.declared.deed.Deed.TheVariants as deed
+use Rattle.screen_pictures.specs.declared.cell.Cell.{Cell}
+use Rattle.screen_reading.specs.Called.{called_word, parameter_word, word_from}
+use Rattle.status_line.specs.Deeds.{deed_words}
+use Rattle.status_line.specs.Named.{behind_call, deleting_words, misnamed_words}
+
+-- why an event is refused, by the code of the refusal from 0 on
+abbrev pub reasons : List (List ℕ)
+reasons =
+    codes "refused" ∷
+    codes "No caret is set: click into a text first." ∷
+    codes "Nothing is selected: drag over a text with the right button, or with F3." ∷
+    codes "Behind that word a name or a number is missing." ∷
+    codes "That word isn't a command: System.Tool shows all of them." ∷
+    codes "There is no document of that name, or it is named twice." ∷
+    codes "There is no room: close or delete something, or call System.Collect." ∷
+    codes "No viewer has the marker (F1 and a click set it), or none was closed." ∷
+    codes "There are 256 documents already: System.DeleteFiles makes room." ∷
+    codes "That lies outside the desktop." ∷
+    codes "Not found from the caret on: click at the beginning, and search again." ∷
+    codes "Fonts are 0 to 4, colours 0 to 15, and offsets -64 to 63." ∷
+    codes "Eight viewers lie over one another there: close one first." ∷
+    codes "A viewer of one row can't be parted." ∷ []
+
+abbrev pub reason : ℕ → List ℕ
+reason code = unwrap_or (slice_get reasons code) (codes "refused")
+
+-- There is no document of a name, or it is named twice: the name, or the first of several, is that behind the word that
+-- was called, as far as it is seen.
+unfoldable pub no_document : List ℕ → List ℕ
+no_document [] = reason no_file
+no_document (b ∷ name) =
+    codes "From " ++ b ∷ name ++ codes " on: no such document, or named twice"
+
+-- the same in short
+abbrev pub short_reason : ℕ → List ℕ
+short_reason code =
+    if code == 1 then codes "no caret" else
+    (if code == 6 then codes "no room" else codes "it was refused")
+
+-- how far a paste or a host file came that was cut short, and why
+abbrev pub cut_short : ℕ → ℕ → List ℕ
+cut_short typed code =
+    decimal typed ++ codes " characters typed, the rest dropped: " ++ short_reason code
+
+-- with which keys the next click is
+abbrev pub keys_words : MouseKeys → List ℕ
+keys_words Left = codes "the next click sets the caret; Escape calls it off"
+keys_words LeftMiddle = codes "the next click copies the selection there; Escape calls it off"
+keys_words LeftRight =
+    codes "the next click gives the selection the look there; Escape calls it off"
+keys_words Middle = codes "the next click calls the word there; Escape calls it off"
+keys_words MiddleLeft = codes "the next click: middle and left; Escape calls it off"
+keys_words MiddleRight = codes "the next click: middle and right; Escape calls it off"
+keys_words Right = codes "drag over what is to be selected; Escape calls it off"
+keys_words RightLeft = codes "drag over what is to be deleted; Escape calls it off"
+keys_words RightMiddle = codes "drag over what is to be copied to the caret; Escape calls it off"
+
+-- what the next click is, where a function key has said so
+abbrev pub click_words : Click → List ℕ
+click_words Mark = codes "the next click sets the marker in the viewer there; Escape calls it off"
+click_words (Keys keys) = keys_words keys
+
+-- of what was typed it is said how many characters these were
+abbrev pub typed_count : Deed → List ℕ
+typed_count (deed.Typed count) = codes "typed " ++ decimal count
+typed_count _ = []
+
+-- what was taken back, or done again
+unfoldable pub told : List ℕ → Deed → List ℕ
+told before what = before ++ typed_count what ++ deed_words what
+
+-- of a command its word, where that is seen
+unfoldable pub called : List ℕ → Deed → List ℕ
+called [] what = told (codes "undid: ") what
+called (b ∷ word) what = codes "undid: " ++ b ∷ word
+
+-- what was taken back: the screen is as it was before, and so shows the word that was called
+unfoldable pub told_back : List (List Cell) → Deed → List ℕ
+told_back screen (deed.Call x y) = called (called_word screen x y) (deed.Call x y)
+told_back screen what = told (codes "undid: ") what
+
+-- that a text isn't stored, by the name in its menu, where one is seen
+unfoldable pub closing_words : List ℕ → List ℕ
+closing_words [] = codes "This text isn't stored: press again to close it"
+closing_words (b ∷ name) = b ∷ name ++ codes " isn't stored: press again to close it"
+
+-- that a viewer goes, by the name in its menu
+unfoldable pub taking_words : List ℕ → List ℕ
+taking_words [] = codes "This closes another viewer: press again"
+taking_words (b ∷ name) =
+    codes "This closes the viewer of " ++ b ∷ name ++ codes ": press again"
+
+-- that another viewer shows another text as the document of a name, to which this text is to go
+unfoldable pub rivalled_words : List ℕ → List ℕ
+rivalled_words [] = codes "This name is in two viewers: press again to store this"
+rivalled_words (b ∷ name) = b ∷ name ++ codes " is in two viewers: press again to store this"
+
+-- what is asked, where this is the screen
+abbrev pub question_words : List (List Cell) → Question → List ℕ
+question_words screen Leaving =
+    codes "This desktop is in memory: press Ctrl-Q again, and it is gone."
+question_words screen (Closing x y) = closing_words (word_from screen x y)
+question_words screen (Taking x y) = taking_words (word_from screen x y)
+question_words screen (Rivalled x y) = rivalled_words (word_from screen x y)
+question_words screen (Deleting x y) = deleting_words (behind_call screen x y)
+question_words screen (Misnamed x y) = misnamed_words (behind_call screen x y)
+
+-- where this is the screen, and this the line of the log that is said
+unfoldable pub words : List (List Cell) → List ℕ → Saying → List ℕ
+words screen log Greeting =
+    codes "Help: F2, then click Edit.Open Help. F11: no mouse. Ctrl-S stores, Ctrl-Q leaves"
+words screen log Unproved =
+    codes "Not proved yet. Help: F2, click Edit.Open Help. F11: no mouse. Ctrl-S stores."
+words screen log OneSide =
+    codes "Alt-Left, Alt-Right: the other side. F11: no mouse. Ctrl-S stores, Ctrl-Q leaves"
+words screen log InMemory = codes "This desktop is in memory: when you leave (Ctrl-Q) it is gone."
+words screen log ForKeys =
+    codes "F2 calls, F3 selects, F11 no mouse, Ctrl-S stores, Ctrl-Z undo, Ctrl-Q leaves"
+words screen log Pointing =
+    codes "Arrows move the pointer, Return clicks, F2 calls, F3 selects, Escape ends it"
+words screen log (Asks question) = question_words screen question
+words screen log NoKey = codes "That key means nothing here."
+words screen log NoText = codes "There is no text on that side of the caret, or no caret in sight."
+words screen log NothingAfter = codes "There is no character after the caret, or no caret in sight."
+words screen log NoLine =
+    codes "There is no line to cut, or no caret in sight."
+words screen log PartHidden =
+    codes "An end of it is out of sight: make the viewer taller, or take less of the text."
+words screen log NoScroll =
+    codes "Nothing moves there: no viewer, no caret, or too few rows of a text."
+words screen log NoWord =
+    codes "No caret, or no such word, is in sight: System.Tool shows the commands."
+words screen log NoCommand =
+    codes "No command's whole word is in sight: System.Tool shows the commands."
+words screen log NoSearch =
+    codes "Ctrl-R puts what you typed after the last Ctrl-F: press Ctrl-F first"
+words screen log NothingTyped = codes "Nothing was typed after the last Ctrl-F"
+words screen log Fills = codes "A line is broken at its last blank where it would pass the edge."
+words screen log FillsNot = codes "Lines aren't broken while you type, and may pass the edge."
+words screen log ToolFiled =
+    codes "System.Tool was gone, and is a document again: the same click opens it."
+words screen log (Refused code) = reason code
+words screen log (NoDocument x y) = no_document (parameter_word screen x y)
+words screen log (CutShort typed code) = cut_short typed code
+words screen log Worn = codes "This store is used up: take its documents out by desk export."
+words screen log Unread = codes "The host's file can't be read, and nothing was typed."
+words screen log Unfinished =
+    codes "The host's file can't be read to its end; what came of it is typed."
+words screen log TooNarrow = codes "This window is too narrow: it has fewer than 45 columns."
+words screen log TooLow = codes "This window is too low: it has fewer than 12 rows."
+words screen log (TookBack what) = told_back screen what
+words screen log (DidAgain what) = told (codes "did again: ") what
+words screen log NothingBack = codes "There is nothing to take back."
+words screen log NothingAgain = codes "There is nothing to do again."
+words screen log Logged = log
+words screen log NotBack = codes "What was before can't be read, and nothing was taken back."
+words screen log FirstFailed =
+    codes "The first file failed, the twin has all: mend it, then start again with both."
+words screen log TwinFailed =
+    codes "The twin failed, the first file has all: mend it, then start again with both."
+words screen log WithoutTwin =
+    codes "This store has a twin, which gets nothing now: start with --twin to pair them."
+
+-- the name of a host file or the number of a line, as far as it is typed, of which the end is seen
+abbrev pub asked_words : Bool → List ℕ
+asked_words line = if line then codes "Line? " else codes "Type which file? "
+
+abbrev pub question : Bool → List ℕ → List ℕ
+question line name = asked_words line ++ drop (length name - 63) name
+
+-- what is said while a pointer is shown that keys move: how to use it, where nothing else is to be said
+unfoldable pub said_by_pointer : Bool → Saying → Saying
+said_by_pointer false saying = saying
+said_by_pointer true Greeting = Pointing
+said_by_pointer true Unproved = Pointing
+said_by_pointer true OneSide = Pointing
+said_by_pointer true InMemory = Pointing
+said_by_pointer true ForKeys = Pointing
+said_by_pointer true saying = saying
+
+-- the line between two presses: a name that is asked for, or else what the next click does, or what is said
+abbrev pub line_by_hand : List (List Cell) → List ℕ → Option (List ℕ) → Bool → Option Click
+    → Saying → List ℕ
+line_by_hand screen log (Some name) line armed saying = question line name
+line_by_hand screen log None line (Some click) saying = click_words click
+line_by_hand screen log None line None saying = words screen log saying
+
+-- the line below a screen: a question goes before all else
+unfoldable pub line_of : List (List Cell) → List ℕ → Option (List ℕ) → Bool → Option Click
+    → Saying → List ℕ
+line_of screen log asked line armed (Asks question) = question_words screen question
+line_of screen log asked line armed saying = line_by_hand screen log asked line armed saying
+
+abbrev pub is_in_memory : Saying → Bool
+is_in_memory InMemory = true
+is_in_memory _ = false
+
+-- what the line below says where nothing else is to be said: of a desktop in memory, that it is in memory, and else the
+-- keys
+abbrev pub resting_of : Saying → Saying
+resting_of greeting = if is_in_memory greeting then InMemory else ForKeys

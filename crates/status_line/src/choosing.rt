@@ -1,0 +1,91 @@
+//! Which saying is due, by what came about.
+ghost use Rattle.std.specs.Prelude.{◌≡◌};
+ghost use Rattle.status_line.specs.Choosing.{came_to, done_saying, fill_saying, first_saying, fitted_saying};
+ghost use Rattle.status_line.specs.Choosing.{is_of_twins, refused_saying};
+
+use crate::Saying;
+use desktop_definitions::codes::NO_FILE;
+use event_bytes::{Event, Keys};
+use viewer_tracks::COLUMNS;
+
+/// What the line below says first: where one side of the display is in sight, how the other one comes into sight, unless
+/// one of a store's two files isn't written.
+pub fn first_saying(width: u16, greeting: Saying) -> Saying
+    ensures { result ≡ first_saying width greeting }
+{
+    if is_of_twins(greeting) {
+        greeting
+    } else if width < u16::from(COLUMNS) {
+        Saying::OneSide
+    } else {
+        greeting
+    }
+}
+
+/// Whether it says that of a store's two files one isn't written.
+fn is_of_twins(saying: Saying) -> bool
+    ensures { result ≡ is_of_twins saying }
+{
+    matches!(
+        saying,
+        Saying::FirstFailed | Saying::TwinFailed | Saying::WithoutTwin
+    )
+}
+
+/// What the line below says once an event is done.
+pub fn done_saying(event: &Event, resting: Saying) -> Saying
+    ensures { result ≡ done_saying event.now resting }
+{
+    match event {
+        Event::File { .. } => Saying::ToolFiled,
+        _ => resting,
+    }
+}
+
+/// What the line below says of a refusal. Where there is no document of a name, the word that was called has it.
+pub fn refused_saying(event: &Event, code: u8) -> Saying
+    ensures { result ≡ refused_saying event.now code }
+{
+    match event {
+        Event::Point {
+            keys: Keys::Middle,
+            x0,
+            y0,
+            ..
+        } if code == NO_FILE => Saying::NoDocument { x: *x0, y: *y0 },
+        _ => Saying::Refused(code),
+    }
+}
+
+/// Why a paste is cut short, and how far it came where any of it is typed.
+pub fn came_to(typed: u32, why: Saying) -> Saying
+    ensures { result ≡ came_to typed why }
+{
+    match why {
+        Saying::Refused(code) if typed != 0 => Saying::CutShort { typed, code },
+        other => other,
+    }
+}
+
+/// What the line below says once the terminal has told its size.
+pub fn fitted_saying(narrow: bool, low: bool, resting: Saying, saying: Saying) -> Saying
+    ensures { result ≡ fitted_saying narrow low resting saying }
+{
+    match saying {
+        _ if narrow => Saying::TooNarrow,
+        _ if low => Saying::TooLow,
+        Saying::TooNarrow | Saying::TooLow => resting,
+        other => other,
+    }
+}
+
+/// What the line below says of lines that are filled from now on, or no longer.
+pub fn fill_saying(fills: bool) -> Saying
+    ensures { result ≡ fill_saying fills }
+{
+    if fills {
+        Saying::Fills
+    } else {
+        Saying::FillsNot
+    }
+}

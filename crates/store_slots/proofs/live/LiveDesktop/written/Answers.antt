@@ -1,0 +1,5 @@
+use Rattle.store_slots.specs.Live.{live_characters}
+use Rattle.store_slots.proofs.live.LiveDesktop.written.Goals as goal
+
+pub returns : goal.returns
+returns c = λ content. c.written.ensures (live_characters content c.args.self.now)

@@ -1,0 +1,33 @@
+-- Two legs as one disk: which of them is right.
+use Rattle.std.specs.Prelude.{◌≡◌, ◌<◌, ℕ, Bool, true, false}
+use Rattle.sector_disk.specs.declared.disk.Disk.{Ghosts}
+use Rattle.sector_disk.specs.Trail.{now}
+use Rattle.twin_disk.specs.Choosing.{OfChosen, choice_of}
+use Rattle.twin_disk.specs.Flags.{says_alone}
+use Rattle.twin_disk.specs.Survival.{twin_moments, twin_size}
+use Rattle.twin_files.specs.declared.pairing.Pair.{Pair}
+use Rattle.twin_files.specs.declared.pairing.Unpaired.{Unpaired}
+use Rattle.twin_files.specs.declared.pairing.Unpaired.TheVariants.{BothAlone}
+
+module _ {D : Type 0} (d : Ghosts D) (sectors : ℕ) where
+  -- what a leg says
+  abbrev pub leg_flag : D → Bool
+  leg_flag leg = says_alone ((now (d.trail leg)).reads sectors)
+
+  -- a disk of so many sectors, each of which reads as that of this leg
+  pub record IsPairFrom (swapped : Bool) (right other : D) (pair : Pair D d) : Type 0 where
+    pub size : twin_size pair.disk ≡ sectors
+    pub order : pair.swapped ≡ swapped
+    pub reads : d.honest right → d.honest other → (n : ℕ) → n < sectors
+        → (now (twin_moments pair.disk)).reads n ≡ (now (d.trail right)).reads n
+
+  -- that of the leg which the flags choose
+  abbrev pub IsPairOf : D → D → Pair D d → Type 0
+  IsPairOf first second pair = d.honest first → d.honest second
+      → OfChosen (choice_of (leg_flag first) (leg_flag second))
+      (IsPairFrom false first second pair) (IsPairFrom true second first pair)
+
+  -- `BothAlone` is true
+  abbrev pub AreBothAlone : D → D → Unpaired → Type 0
+  AreBothAlone first second why = why ≡ BothAlone → d.honest first → d.honest second
+      → (leg_flag first ≡ true) × (leg_flag second ≡ true)
