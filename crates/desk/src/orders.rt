@@ -42,6 +42,7 @@ pub enum Order<'a> {
 }
 
 /// A person at a terminal.
+#[derive(Drop)]
 pub struct Sit<'a> {
     /// The size of the terminal.
     pub window: Window,
