@@ -24,9 +24,9 @@ use Rattle.terminal_presses.specs.Sights.{terminal_place}
 use Rattle.screen_reading.specs.Windows.{following_sight}
 use Rattle.desk_journal.specs.Session.{Session, is_worn}
 use Rattle.desk_journal.specs.View.{StoreView}
-use Rattle.press_plans.specs.declared.again.StorePlace.{StorePlace}
+use Rattle.done_presses.specs.declared.again.StorePlace.{StorePlace}
 use Rattle.status_line.specs.declared.deed.Deed.{Deed}
-use Rattle.press_plans.specs.Past.{with_refused}
+use Rattle.done_presses.specs.Past.{with_refused}
 use Rattle.press_plans.specs.Replacing.{noted}
 use Rattle.status_line.specs.declared.question.Question.{Question}
 use Rattle.status_line.specs.declared.saying.Saying.{Saying}

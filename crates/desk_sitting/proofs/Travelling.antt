@@ -1,7 +1,7 @@
 -- What taking back and doing again come to.
 use Rattle.std.proofs.Common.{◌≡◌, ◌≢◌, inl, inr, ℕ, List, false, refl, sym, ap, ◌∙◌}
 use Rattle.std.proofs.Common.{Option, Some, None, subst}
-use Rattle.press_plans.specs.declared.again.NextEvent.{NextEvent}
+use Rattle.done_presses.specs.declared.again.NextEvent.{NextEvent}
 use Rattle.std.specs.Prelude.{Result, Ok, Err, OnOk, IfErr}
 use Rattle.std.proofs.lemmas.Bool.{false≢true}
 use Rattle.sector_disk.specs.declared.disk.Disk.{Ghosts}
@@ -19,8 +19,8 @@ use Rattle.desk_journal.proofs.Passing.{at_start, shows_means}
 use Rattle.status_line.specs.declared.saying.Saying.TheVariants.{NotBack, NothingAgain}
 use Rattle.desk_sitting.specs.declared.sitting.Sitting.{Sitting}
 use Rattle.desk_sitting.specs.declared.sitting.Travel.TheVariants.{Back, Again}
-use Rattle.press_plans.specs.Again.{next_event}
-use Rattle.press_plans.specs.declared.again.StorePlace.{StorePlace}
+use Rattle.done_presses.specs.Again.{next_event}
+use Rattle.done_presses.specs.declared.again.StorePlace.{StorePlace}
 use Rattle.desk_sitting.specs.Doing.{IsUndone, OfPresses, ComesToSeat, seat_of}
 use Rattle.desk_sitting.specs.Sittings.{after_post, refused}
 use Rattle.desk_sitting.specs.Travels.{Travelled, Travels, did_again, goes_again, settled, step_count, store_place, took_back}

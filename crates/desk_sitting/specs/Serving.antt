@@ -16,7 +16,7 @@ use Rattle.terminal_keyboard.specs.declared.parser.Parser.{Parser}
 use Rattle.terminal_presses.specs.declared.press.Heard.{Heard}
 use Rattle.terminal_keyboard.specs.Hearings.{asked_for}
 use Rattle.terminal_keyboard.specs.Presses.{at_rest, parser_after, presses_heard}
-use Rattle.press_plans.specs.Past.{PastView}
+use Rattle.done_presses.specs.Past.{PastView}
 use Rattle.status_line.specs.declared.saying.Saying.{Saying}
 use Rattle.desk_sitting.specs.declared.sitting.Sitting.{Sitting}
 use Rattle.desk_sitting.specs.Doing.{Breaks, DoesPresses, seat_of}

@@ -25,11 +25,11 @@ use Rattle.status_line.specs.declared.saying.Saying.TheVariants.{NoKey, Worn, Un
 use Rattle.status_line.specs.declared.saying.Saying.TheVariants.{NothingTyped}
 use Rattle.desk_sitting.specs.declared.sitting.Sitting.{Sitting}
 use Rattle.desk_sitting.specs.declared.sitting.Travel.TheVariants.{Back, Again}
-use Rattle.press_plans.specs.Again.{no_again}
+use Rattle.done_presses.specs.Again.{no_again}
 use Rattle.status_line.specs.declared.deed.Deed.{Deed}
 use Rattle.status_line.specs.Deeds.{typed_more}
 use Rattle.press_plans.specs.Replacing.{ReplacingView, is_untouched, left_place, no_replacing, noted, replacement}
-use Rattle.press_plans.specs.Past.{PastView, past_after, named, no_past, selects, with_refused}
+use Rattle.done_presses.specs.Past.{PastView, past_after, named, no_past, selects, with_refused}
 use Rattle.desk_sitting.specs.Questions.{click_made, is_nothing, questioned, question_of, unasked}
 use Rattle.status_line.specs.Question.{asks_to_leave, comes_first}
 use Rattle.status_line.specs.Choosing.{came_to, done_saying, first_saying, fitted_saying, fill_saying, refused_saying}

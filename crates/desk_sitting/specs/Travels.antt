@@ -10,15 +10,15 @@ use Rattle.desk_journal.specs.Device.{IsSameDevice}
 use Rattle.desk_journal.specs.Errors.{Error, Fault}
 use Rattle.desk_journal.specs.Undoing.{IsLeft, IsTakenBack, LeavesUndone}
 use Rattle.desk_journal.specs.View.{StoreView, IsDurable}
-use Rattle.press_plans.specs.declared.again.StorePlace.{StorePlace}
+use Rattle.done_presses.specs.declared.again.StorePlace.{StorePlace}
 use Rattle.status_line.specs.declared.saying.Saying.TheVariants.{TookBack, DidAgain, NotBack, NothingBack, NothingAgain}
 use Rattle.desk_sitting.specs.declared.sitting.Sitting.{Sitting}
 use Rattle.desk_sitting.specs.declared.sitting.Travel.TheVariants.{Back, Again}
-use Rattle.press_plans.specs.declared.again.NextEvent.{NextEvent}
+use Rattle.done_presses.specs.declared.again.NextEvent.{NextEvent}
 use Rattle.status_line.specs.declared.deed.Deed.{Deed}
 use Rattle.desk_sitting.specs.declared.sitting.Travel.{Travel}
-use Rattle.press_plans.specs.Again.{kept_at, next_event, rest_at, taken_press}
-use Rattle.press_plans.specs.Past.{back_count, back_deed, gathered, left_past, named}
+use Rattle.done_presses.specs.Again.{kept_at, next_event, rest_at, taken_press}
+use Rattle.done_presses.specs.Past.{back_count, back_deed, gathered, left_past, named}
 use Rattle.desk_sitting.specs.Doing.{IsUndone, OfPresses, seat_of}
 use Rattle.desk_sitting.specs.Sittings.{after_post, refused}
 

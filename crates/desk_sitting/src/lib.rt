@@ -21,9 +21,9 @@ mod sitting;
 mod travels;
 
 pub use doing::do_presses;
+pub use done_presses::Past;
 pub use ending::SittingEnd;
 pub use laws::{clicks_are_told, presses_are_steps, questions_post_nothing};
-pub use press_plans::Past;
 pub use serving::{MOST_TURNS, serve};
 pub use serving_laws::{sittings_survive, sittings_survive_in_files};
 pub use sitting::{Sitting, Travel};

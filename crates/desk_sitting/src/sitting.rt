@@ -22,8 +22,9 @@ ghost use Rattle.press_plans.specs.Plans.{seen_plan};
 
 use desk_journal::{Error, Store};
 use desktop_definitions::Reply;
+use done_presses::{Again, Past};
 use event_bytes::Event;
-use press_plans::{Again, MOST_PLANS, Past, Plan, Replacing, Task};
+use press_plans::{MOST_PLANS, Plan, Replacing, Task};
 use screen_cells::Screen;
 use screen_reading::{
     caret_of, fitted, followed, height_told, is_low, is_narrow, moved, width_told,

@@ -2,15 +2,15 @@
 ghost use Rattle.std.specs.Prelude.{◌≡◌, ◌≢◌, ◌==◌, length, false, Some, None, OnOk, IfErr, IfOk};
 ghost use Rattle.desk_sitting.specs.declared.sitting.Travel.TheVariants.{Back, Again as Forth};
 ghost use Rattle.status_line.specs.declared.saying.Saying.TheVariants.{NotBack};
-ghost use Rattle.press_plans.specs.Again.{next_event};
+ghost use Rattle.done_presses.specs.Again.{next_event};
 ghost use Rattle.desk_sitting.specs.Doing.{OfPresses, ComesToSeat, seat_of};
 ghost use Rattle.desk_sitting.specs.Sittings.{after_post, refused};
 ghost use Rattle.desk_sitting.specs.Travels.{Travels, did_again, goes_again, on_to, settled, step_count, store_place, took_back};
 
 use crate::sitting::{Doing, Sitting, Travel};
 use desk_journal::{Error, Store};
+use done_presses::{NextEvent, StorePlace, TakenPress};
 use event_bytes::Event;
-use press_plans::{NextEvent, StorePlace, TakenPress};
 use sector_disk::Disk;
 use status_line::{Deed, Saying};
 use std::alloc::Global;
