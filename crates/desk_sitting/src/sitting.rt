@@ -3,7 +3,7 @@ ghost use Rattle.std.specs.Prelude.{◌≡◌, ◌≢◌, [], false, Some, None,
 ghost use Rattle.terminal_presses.specs.Hands.{handled};
 ghost use Rattle.desk_journal.specs.Session.{session_of};
 ghost use Rattle.desk_sitting.specs.Doing.{ComesToSeat, DoesAction, DoesPress, TellsDone, seat_of};
-ghost use Rattle.desk_sitting.specs.Scenes.{sitting_line};
+ghost use Rattle.desk_sitting.specs.TheDesk.{sitting_line};
 ghost use Rattle.desk_sitting.specs.Questions.{is_nothing, is_of_terminal, questioned, unasked};
 ghost use Rattle.desk_journal.specs.View.{IsDurable};
 ghost use Rattle.desk_sitting.specs.Sittings.{followed_cell, acted, acted_alone, after_press, after_fetch, looked};
