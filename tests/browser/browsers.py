@@ -219,8 +219,11 @@ class Chromium(Page):
         self.ask('Input.dispatchTouchEvent', type='touchEnd', touchPoints=[])
 
     def shift_tab(self):
-        for kind in ('keyDown', 'keyUp'):
-            self.ask('Input.dispatchKeyEvent', type=kind, key='Tab', code='Tab', windowsVirtualKeyCode=9, modifiers=8)
+        self.tab(8)
+
+    def tab(self, held=0):
+        for kind in ('rawKeyDown', 'keyUp'):
+            self.ask('Input.dispatchKeyEvent', type=kind, key='Tab', code='Tab', windowsVirtualKeyCode=9, modifiers=held)
 
     def dark(self):
         self.ask('Emulation.setEmulatedMedia', features=[{'name': 'prefers-color-scheme', 'value': 'dark'}])
@@ -229,6 +232,10 @@ class Chromium(Page):
         """The window has this size in pixels of the page; on a phone it takes touches."""
         self.ask('Emulation.setDeviceMetricsOverride', width=width, height=height, deviceScaleFactor=scale, mobile=mobile)
         self.ask('Emulation.setTouchEmulationEnabled', enabled=mobile)
+
+    def clear(self, url):
+        """Clears the data of the site, as a person may."""
+        self.ask('Storage.clearDataForOrigin', origin=url.rsplit('/', 1)[0], storageTypes='all')
 
     def told(self):
         """What the browser tells a screen reader, as text."""
@@ -362,8 +369,13 @@ class Firefox(Page):
         self.ask('WebDriver:PerformActions', actions=[finger])
 
     def shift_tab(self):
-        acts = [{'type': kind, 'value': key} for kind, key in
-                (('keyDown', '\ue008'), ('keyDown', '\ue004'), ('keyUp', '\ue004'), ('keyUp', '\ue008'))]
+        self.keys(('keyDown', '\ue008'), ('keyDown', '\ue004'), ('keyUp', '\ue004'), ('keyUp', '\ue008'))
+
+    def tab(self):
+        self.keys(('keyDown', '\ue004'), ('keyUp', '\ue004'))
+
+    def keys(self, *acts):
+        acts = [{'type': kind, 'value': key} for kind, key in acts]
         self.ask('WebDriver:PerformActions', actions=[{'type': 'key', 'id': 'keys', 'actions': acts}])
 
     def dark(self):
@@ -375,6 +387,14 @@ class Firefox(Page):
     def sized(self, width, height, scale=1, mobile=False):
         """The window has about this size: Firefox has a least width, and counts its frame."""
         self.ask('WebDriver:SetWindowRect', width=width, height=height)
+
+    def clear(self, url):
+        """Clears the data of the site, as a person may."""
+        self.ask('Marionette:SetContext', value='chrome')
+        self.ask('WebDriver:ExecuteAsyncScript', args=[url.split('/')[2].split(':')[0]], sandbox='system', script="""
+            const [host, done] = arguments;
+            Services.clearData.deleteDataFromHost(host, true, Ci.nsIClearDataService.CLEAR_DOM_QUOTA, done);""")
+        self.ask('Marionette:SetContext', value='content')
 
     def told(self):
         """Roles and names that the browser tells a screen reader of each part of the text, and their texts."""

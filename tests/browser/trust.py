@@ -13,6 +13,7 @@ from browsers import HARNESS, Chromium, browsers, copied, leaks, room, served
 WRONG = []
 HEAD = '<script type="text/plain" id="worker">\n'
 SIZE = 15621 * 1024
+BLIND = "void document.getElementById('keys').dispatchEvent(new KeyboardEvent('keydown', {key: 'y', bubbles: true}))"
 LEAVE = '''void document.getElementById('keys').dispatchEvent(
     new KeyboardEvent('keydown', {key: 'q', ctrlKey: true, bubbles: true}))'''
 # What the page asks and hands out: questions are answered with yes, and what would be downloaded is kept.
@@ -55,6 +56,14 @@ PUT = '''navigator.storage.getDirectory().then(async folder => {
     await file.close();
     return true;
 })'''
+OPEN = '''(() => {
+    const all = new Uint8Array(15621 * 1024);
+    for (const [n, bytes] of %s) all.set(Uint8Array.from(atob(bytes), c => c.charCodeAt(0)), 1024 * n);
+    const input = document.getElementById('load'), files = new DataTransfer();
+    files.items.add(new File([all], 'backup.disk'));
+    input.files = files.files;
+    input.dispatchEvent(new Event('change'));
+})()'''
 SEEN = "(id => { const it = document.getElementById(id); return Boolean(it && !it.closest('[hidden]')); })(%r)"
 FILL = '''navigator.storage.getDirectory().then(async folder => {
     for (const [name, byte] of %s) {
@@ -343,14 +352,7 @@ def ways(kind):
     backup.type('of the backup')
     store = saved(backup)
     backup.quit()
-    open_it = '''(() => {
-        const all = new Uint8Array(15621 * 1024);
-        for (const [n, bytes] of %s) all.set(Uint8Array.from(atob(bytes), c => c.charCodeAt(0)), 1024 * n);
-        const input = document.getElementById('load'), files = new DataTransfer();
-        files.items.add(new File([all], 'backup.disk'));
-        input.files = files.files;
-        input.dispatchEvent(new Event('change'));
-    })()''' % sectors_of(store)
+    open_it = OPEN % sectors_of(store)
     for way in ('load', 'anew'):
         page = kind(room())
         page.go(url.replace('desk.html', 'empty.html'))
@@ -394,8 +396,23 @@ def ways(kind):
           all(page.js(SEEN % it) for it in ('again', 'save-bytes', 'load-instead', 'anew')))
     page.js('void (window.handed = null)')
     click_on(page, 'save-bytes')
-    time.sleep(1)
-    check(kind, 'ways', 'and the bytes can be saved', page.js('Boolean(window.handed) && window.handed.size') == SIZE)
+    page.until('Boolean(window.handed)')
+    check(kind, 'ways', 'and the bytes can be saved', page.js('window.handed.size') == SIZE)
+    page.js("document.getElementById('keys').focus()")
+    page.tab()
+    check(kind, 'ways', 'and Tab leads to the ways out', page.js('document.activeElement.id') == 'again',
+          page.js('document.activeElement.id'))
+    page.quit()
+    page = kind(room())
+    page.begin(changed('FileSystemFileHandle.prototype.createSyncAccessHandle = () => '
+                       'Promise.reject(new DOMException("no handle", "UnknownError"));').replace('desk.html', 'changed.html'))
+    page.js(ANSWERS)
+    check(kind, 'ways', 'a file that the browser does not open is told', 'no handle' in page.note(), page.note())
+    click_on(page, 'save-bytes')
+    page.until("document.getElementById('note').textContent.includes('no bytes')", 20)
+    click_on(page, 'anew')
+    page.until("document.body.dataset.ready === 'memory'", 20)
+    check(kind, 'ways', 'and one can begin anew in memory', 'In memory' in page.note() and 'no handle' in page.note(), page.note())
     page.quit()
 
 
@@ -423,10 +440,12 @@ def causes(kind):
         page.quit()
     url = served()
     page = fresh(kind, url)
+    typing(page)
     if kind is Chromium:
         first, first_target = page.session, page.target
         page.go(url)
         check(kind, 'causes', 'a second tab says what it waits for', waits(page), page.note())
+        page.js(BLIND)
         second = page.session
         page.session = None
         page.ask('Target.closeTarget', targetId=first_target)
@@ -437,6 +456,7 @@ def causes(kind):
         page.ask('WebDriver:SwitchToWindow', handle=second)
         page.go(url)
         check(kind, 'causes', 'a second tab says what it waits for', waits(page), page.note())
+        page.js(BLIND)
         page.ask('WebDriver:SwitchToWindow', handle=first)
         page.ask('WebDriver:CloseWindow')
         page.ask('WebDriver:SwitchToWindow', handle=second)
@@ -446,6 +466,8 @@ def causes(kind):
     except TimeoutError:
         taken = False
     check(kind, 'causes', 'and takes over when the first is closed', taken, page.note())
+    settle(page, 1)
+    check(kind, 'causes', 'without what was typed blindly', not any('y' in row for row in page.text(1, 50)), page.text(1, 50))
     page.quit()
 
 
@@ -474,17 +496,54 @@ def sentences(kind):
     persisted = page.js('navigator.storage.persisted()', wait=True)
     check(kind, 'sentences', 'a store that the browser may drop is told so', persisted or 'may drop' in said, said)
     page.quit()
-    if kind is Chromium:
-        url = served()
-        page = fresh(kind, url)
-        page.ask('Storage.clearDataForOrigin', origin=url.rsplit('/', 1)[0], storageTypes='all')
-        try:
-            page.until("document.getElementById('note').textContent.includes('cleared')", 25)
-            told = True
-        except TimeoutError:
-            told = False
-        check(kind, 'sentences', 'data that are cleared while the desktop is open are told', told, page.note())
-        page.quit()
+    for pressed_at_once in (False, True):
+        cleared(kind, pressed_at_once)
+    page = fresh(kind, changed('FileSystemFileHandle.prototype.createSyncAccessHandle = undefined; '
+                               'StorageManager.prototype.getDirectory = undefined; IDBFactory.prototype.open = undefined;')
+                 .replace('desk.html', 'changed.html'))
+    page.js("stop(); fail('The worker ended')")
+    said = settle(page)
+    check(kind, 'sentences', 'what was in memory alone is told as gone with its worker', 'is gone' in said, said)
+    page.quit()
+
+
+def cleared(kind, pressed_at_once):
+    """The data of the site are cleared while the desktop is open: what is seen is in memory, as the line says."""
+    url = served()
+    page = fresh(kind, url)
+    typing(page)
+    page.type('before it')
+    page.clear(url)
+    if pressed_at_once:
+        page.js("document.getElementById('keys').dispatchEvent(new KeyboardEvent('keydown', {key: '!', bubbles: true}))")
+        settle(page, 1)
+        click_on(page, 'again') if page.js('document.body.dataset.failed') else None
+    try:
+        page.until("document.getElementById('note').textContent.includes('cleared')", 25)
+        told = True
+    except TimeoutError:
+        told = False
+    when = 'with a press just then' if pressed_at_once else 'while it is open'
+    check(kind, 'sentences', f'data that are cleared {when} are told', told, page.note())
+    page.js("void document.getElementById('keys').dispatchEvent(new KeyboardEvent('keydown', {key: 'x', bubbles: true}))")
+    settle(page, 1)
+    rows = page.text(1, 50)
+    check(kind, 'sentences', 'and the desktop goes on', rows[-1].startswith('before it') and rows[-1].endswith('x'), rows)
+    store = saved(page)
+    page.js('void (window.answerNo = false)')
+    for _ in range(2):
+        page.js(LEAVE)
+        settle(page, 1)
+    click_on(page, 'again')
+    page.until("!document.body.classList.contains('ended')")
+    settle(page, 1)
+    check(kind, 'sentences', 'also when one has left it and sits down again', page.text(1, 50) == rows, page.text(1, 50))
+    page.quit()
+    page = fresh(kind, url)
+    page.js(OPEN % sectors_of(store))
+    page.until("document.getElementById('note').textContent.includes('backup.disk')")
+    check(kind, 'sentences', 'and what was saved then is it', page.text(1, 50) == rows, page.text(1, 50))
+    page.quit()
 
 
 def errors(kind):

@@ -8,7 +8,7 @@ const spelled = words => new TextEncoder().encode(words);
 
 // ---- The worker. Each request has a number, and one answer.
 const source = URL.createObjectURL(new Blob([by('worker').textContent], { type: 'text/javascript' }));
-const store = (new URLSearchParams(location.search).get('store') || '').replaceAll(' (second)', '') || 'desk';
+const store = (new URLSearchParams(location.search).get('store') || '').replace(/[^\w-]/g, '') || 'desk';
 let worker = null, module, number = 0;
 const asked = new Map();                                  // the requests that wait for their answers
 function ask(request, words = {}) {

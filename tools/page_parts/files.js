@@ -53,6 +53,7 @@ function imported(files, names) {
 async function bringIn(files) {                           // what can't be read is told, and nothing is imported
     if (!files.length) return;
     try {
+        if (!isOpen()) throw Error('The desktop is not open');
         await importFiles([...files]);
     } catch (error) {
         tell({ said: `${wordsOf(error)} Nothing was imported.` });
@@ -77,9 +78,10 @@ async function giveOut() {
 // ---- The whole desktop: saved, opened from a file, begun anew.
 async function save() {
     const { bytes } = await ask('save');
-    if (!bytes) return;
-    download(bytes, 'my.disk');
-    state.changed = false;
+    if (bytes?.some(Boolean)) {
+        download(bytes, 'my.disk');
+        state.changed = false;
+    } else if (bytes) tell({ said: 'There are no bytes to save.' });
 }
 async function replace(request, words, done) {
     const answer = await ask(request, words);

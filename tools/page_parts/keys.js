@@ -44,6 +44,7 @@ function modifiers({ metaKey, isComposing, shiftKey, altKey }) {
     return { metaKey, isComposing, shiftKey, altKey };
 }
 keys.addEventListener('keydown', event => {
+    if (!isOpen()) return;                                // Tab leads to the ways out
     const bytes = pressed(event);
     if (event.key === 'Tab' && event.shiftKey) by('bar').querySelector('[data-key]').focus();  // Shift-Tab leaves the screen
     else if (bytes === control('o') || bytes === spell('F8', 0)) by('typed').click();
@@ -72,9 +73,9 @@ function inAscii(text) {
     }).join('');
 }
 let hasToldAscii = false;
-function type(text) {
-    const ascii = inAscii(text.normalize('NFC'));
-    if (ascii !== text && !hasToldAscii) {
+function type(given) {                                    // too long a text is cut, but no room for the rest is told
+    const text = given.slice(0, 2 * LONGEST), all = inAscii(text.normalize('NFC')), ascii = all.slice(0, LONGEST + 1);
+    if (all !== text && !hasToldAscii) {
         hasToldAscii = true;
         tell({ said: 'Texts are ASCII: another sign is put in as the nearest one, as é as e, or as a question mark.' });
     }

@@ -100,15 +100,37 @@ async function tableMedium(name) {
 }
 
 // ---- Else memory, with the reason.
-function memoryMedium(why) {
-    const all = new Uint8Array(SIZE);
+function memoryMedium(why, kind = 'memory', all = new Uint8Array(SIZE)) {
     return {
-        kind: 'memory', why,
+        kind, why,
         load: () => all.slice(),
         make(bytes) { all.fill(0); all.set(bytes); },
         write: (n, bytes) => all.set(bytes, n * SECTOR),
         sync() {},
         isThere: async () => true,
+    };
+}
+
+// ---- Beside a medium there is a copy of its sectors in memory: where the data of the site are cleared it goes on alone.
+function withCopy(medium) {
+    let copy = new Uint8Array(SIZE);
+    return {
+        ...medium,
+        async load() {
+            const bytes = await medium.load();
+            if (bytes.length === SIZE) copy = bytes; else copy.set(bytes);
+            return bytes;
+        },
+        async make(bytes) {
+            await medium.make(bytes);
+            copy = new Uint8Array(SIZE);
+            copy.set(bytes);
+        },
+        write(n, bytes) {
+            copy.set(bytes, n * SECTOR);
+            medium.write(n, bytes);                       // durable
+        },
+        alone: () => memoryMedium('', 'cleared', copy),
     };
 }
 
@@ -131,8 +153,8 @@ async function chosenMedium(name, waits) {
         return memoryMedium(error);
     }
     const folder = await navigator.storage?.getDirectory?.().catch(() => null);
-    if (folder && self.FileSystemSyncAccessHandle) return fileMedium(folder, name);
-    return tableMedium(name).catch(memoryMedium);
+    if (folder && self.FileSystemSyncAccessHandle) return withCopy(await fileMedium(folder, name));
+    return tableMedium(name).then(withCopy, memoryMedium);
 }
 async function repeat(calls, on) {
     const numbers = new DataView(calls.buffer, calls.byteOffset, calls.byteLength);

@@ -1,6 +1,6 @@
 // ---- The mouse, as a terminal reports it: the button, the cell from 1, pressed or released.
 async function send(bytes) {
-    if (state.failed || state.left) return;
+    if (!isOpen()) return;
     state.changed = true;
     const { rings } = await ask('press', { press: spelled(bytes) });
     if (bytes === control('s') && !rings) askToKeep();

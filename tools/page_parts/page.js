@@ -33,7 +33,7 @@ async function open(how) {
 }
 async function again() {                                  // what is in memory is in the worker alone
     tell({ failed: '', left: false, said: '' });
-    if (state.kind === 'memory' && worker) return open('reopen');
+    if (isInMemory() && worker) return open('reopen');
     stop();
     tell({ kind: '' });
     return open('open');

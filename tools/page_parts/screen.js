@@ -68,9 +68,13 @@ function wordAt(x, y) {                                   // the word of letters
     }
     return null;
 }
+function isOfMenu({ first }, y) {                         // a word behind a title, which may be cut at the edge
+    const [from, to] = trackOf(first), bar = rowOf(y, from, to).indexOf('|');
+    return bar > 0 && from + bar < first && titles(from, to).includes(y);
+}
 function commandAt(x, y) {
     const there = wordAt(x, y);
-    return there && /^(Edit|System)\.[A-Z][A-Za-z]+$/.test(there.word) ? there : null;
+    return there && (/^(Edit|System)\.[A-Z][A-Za-z]+$/.test(there.word) || isOfMenu(there, y)) ? there : null;
 }
 
 // ---- For readers of the screen: each viewer is a region with its text; what is selected is marked, and the caret is told.

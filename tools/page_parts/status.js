@@ -34,6 +34,15 @@ const KEPT = {
 function isKept() {                                       // whether it outlives this tab
     return state.kind === 'file' || state.kind === 'table';
 }
+function isInMemory() {                                   // of the worker, alone
+    return state.kind === 'memory' || state.kind === 'cleared';
+}
+function isOver() {
+    return Boolean(state.failed || state.left);
+}
+function isOpen() {                                       // or being opened: then it takes what is pressed already
+    return !isOver() && state.kind !== 'waiting';
+}
 function kept() {
     if (!isKept()) return KEPT[state.kind] + (state.why ? ` (${wordsOf(state.why)})` : '');
     const until = state.persisted ? 'It stays until you clear the data of this site.'
@@ -46,19 +55,21 @@ function leaving() {
 }
 function ending() {                                       // what a failure leaves
     if (state.isUnread) return 'Its bytes are kept as they are: save them before you put another desktop in their place.';
-    if (state.kind === 'memory') return 'What this tab has in memory can be saved or opened again.';
-    return isKept() ? 'What you saw before is kept.' : '';
+    if (!isInMemory()) return isKept() ? 'What you saw before is kept.' : '';
+    const why = state.kind === 'cleared' ? 'The data of this site were cleared. ' : '';
+    return why + (worker ? 'What this tab has in memory can be saved or opened again.' : 'What this tab had in memory is gone.');
 }
 function tell(change) {
     Object.assign(state, change);
-    const over = state.failed || state.left;
+    if (change.kind === 'cleared') state.changed = true;  // no copy has it but that of the worker
     const how = state.failed ? `${state.failed} ${ending()}` : state.left ? leaving() : kept();
     const words = [state.said, how].filter(Boolean).join(' ');
     if (by('note').textContent !== words) by('note').textContent = words;
-    by('ways').hidden = !over;
-    document.body.classList.toggle('ended', Boolean(over));
+    by('ways').hidden = !isOver();
+    document.body.classList.toggle('ended', isOver());
+    document.body.classList.toggle('waits', state.kind === 'waiting');
     for (const way of document.querySelectorAll('#ways .after-failure')) way.hidden = !state.failed;
-    by('plug').disabled = !isKept() || Boolean(over);
+    by('plug').disabled = !isKept() || isOver();
     document.body.dataset.failed = state.failed;
 }
 function fail(error) {
@@ -69,7 +80,7 @@ addEventListener('unhandledrejection', event => {
     tell({ said: wordsOf(event.reason) });
 });
 addEventListener('beforeunload', event => {
-    if (state.changed && (state.kind === 'memory' || state.kind === 'cleared')) event.preventDefault();
+    if (state.changed && isInMemory()) event.preventDefault();
 });
 
 // ---- The browser's promise to keep it is asked for when there is something to keep: after the first document.

@@ -84,7 +84,20 @@ async function openDesk() {
     return true;
 }
 function opening(isNew) {
-    return { ...desk.scene(0), kind: medium.kind, why: told(medium.why), isNew };
+    return { ...desk.scene(0), kind: medium.kind || 'memory', why: told(medium.why), isNew };
+}
+async function takeMedium(store) {
+    try {
+        medium = await chosenMedium(store, () => postMessage({ waits: true }));
+    } catch (error) {                                     // memory has nothing, but takes another desktop
+        medium = memoryMedium(error, '');
+        throw error;
+    }
+}
+async function isThere() {                                // where it was cleared its copy goes on
+    const there = await medium.isThere();
+    if (!there) medium = medium.alone();
+    return there;
 }
 async function replaced(sectors) {                        // this one in the place of the store, or everything as before
     if (!sectors.length || sectors.length > SIZE) return { refused: 2 };
@@ -101,13 +114,13 @@ async function replaced(sectors) {                        // this one in the pla
 const ASKED = {
     async open({ store, module }) {
         code = module;
-        medium = await chosenMedium(store, () => postMessage({ waits: true }));
+        await takeMedium(store);
         return opening(await openDesk());
     },
     async rescue({ store, module }) {                     // the medium alone, whatever is on it
         code = module;
         over = true;
-        medium = await chosenMedium(store, () => postMessage({ waits: true }));
+        await takeMedium(store);
         return { kind: medium.kind };
     },
     reopen: async () => opening(await openDesk()),
@@ -129,7 +142,7 @@ const ASKED = {
     save: async () => ({ bytes: await medium.load() }),
     load: ({ bytes }) => replaced(used(bytes)),
     anew: async () => replaced((await newDesk())[1]),
-    look: async () => ({ there: await medium.isThere() }),
+    look: async () => ({ there: await isThere() }),
 };
 const AFTER_THE_END = ['save', 'load', 'anew', 'reopen'];  // what can be asked when the sitting is over
 
@@ -143,7 +156,8 @@ async function answer({ number, ask, words }) {
         postMessage({ number, ...answered });
     } catch (error) {
         over = true;
-        postMessage({ number, failed: told(error), kind: medium?.kind });
+        await isThere();
+        postMessage({ number, failed: told(error), kind: medium.kind });
     }
 }
 onmessage = ({ data }) => { queue = queue.then(() => answer(data)); };
