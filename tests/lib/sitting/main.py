@@ -12,6 +12,7 @@ import sys
 import tempfile
 
 import endings
+import pairs
 from model import COLUMNS, ROWS, Model
 from presses import FILES, press, spelled
 from sitting import MODES, Ended, Sitting, TooSlow
@@ -237,7 +238,7 @@ def main():
         sys.exit(endings.run_all(desk, oberon, int(runs)) != 0)
     faults = random_sittings(desk, oberon, tool_path, int(runs), int(first), what == 'twins')
     if what == 'twins':
-        faults += endings.kill_all(desk, oberon, int(runs), int(first))
+        faults += endings.kill_all(desk, oberon, int(runs), int(first)) + pairs.run_pairs(desk, oberon)
     sys.exit(faults != 0)
 
 
