@@ -22,7 +22,8 @@ pub record HasStartRoom (size base : ℕ) : Type 0 where
   pub room : base + STORE_SECTORS ≤ size
 
 -- At every moment of the call a crash leaves each sector as it was, but those of a start from this one on.
-pub record SparesOthers {D : Type 0} (d : Ghosts D) (base : ℕ) (old new : StoreView D) : Type 0 where
+pub record SparesOthers {D : Type 0} (d : Ghosts D) (base : ℕ) (old new : StoreView D)
+    : Type 0 where
   pub moments : old.must_reopen ≡ false → d.honest old.disk
       → LeavesOnly (d.trail old.disk) (d.trail new.disk)
       (λ c. (n : ℕ) → ¬ InRange base STORE_SECTORS n → c n ≡ (now (d.trail old.disk)).reads n)
