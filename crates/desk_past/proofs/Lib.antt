@@ -8,3 +8,4 @@ pub mod StillReads
 pub mod PageReads
 pub mod Stepping
 pub mod Opened
+pub mod Begun

@@ -72,7 +72,7 @@ remembers_turned r end next before short room stands written = record {
   is = r.is;
 }
 
-abbrev remembers_on : {size size' : ℕ} {start : Start} {events : List Event} {desktop : Desktop} {c c' : Content}
+abbrev pub remembers_on : {size size' : ℕ} {start : Start} {events : List Event} {desktop : Desktop} {c c' : Content}
     (r : Remembers size start events desktop c) → size' ≡ size → Stands size' c' r.standing → HoldsPages c' start r.pages
     → Remembers size' start events desktop c'
 remembers_on r large stands written = record {

@@ -21,7 +21,7 @@ use Rattle.desk_past.specs.Page.{Page, page_bytes}
 use Rattle.desk_past.specs.Reading.{IsOnlyReadFrom}
 use Rattle.desk_past.proofs.Remembering.{IsQuiet}
 
-nothing_written : (t : Trail) → LeavesOnly t t (IsCrashImage (now t))
+pub nothing_written : (t : Trail) → LeavesOnly t t (IsCrashImage (now t))
 nothing_written t = record {
   later = omega arith;
   kept = λ n le. refl;

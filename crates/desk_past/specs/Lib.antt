@@ -1,3 +1,4 @@
 pub mod Page
 pub mod Past
 pub mod Reading
+pub mod Beginning

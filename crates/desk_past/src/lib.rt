@@ -6,6 +6,7 @@
 //! what a store keeps of it; `moment` lays any moment of it on another disk.
 #![tactic(auto)]
 
+mod beginning;
 mod keeping;
 mod laws;
 mod page;
@@ -13,6 +14,7 @@ mod pages;
 mod reading;
 mod sectors;
 
+pub use beginning::begin;
 pub use keeping::{EPOCH_EVENTS, end_epoch, post, undo};
 pub use laws::{one_past_law, present_law};
 pub use page::{EVENTS_PAGE, PAGE_FRONT};

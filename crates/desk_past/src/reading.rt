@@ -7,6 +7,7 @@ ghost use Rattle.desktop_definitions.specs.Step.{steps, steps_in};
 ghost use Rattle.store_layout.specs.declared.layout.TheConstants.{LAYOUT, STORE_SECTORS};
 ghost use Rattle.store_layout.specs.declared.head.PastEnd.{PastEnd};
 ghost use Rattle.store_layout.specs.Meaning.{Standing};
+ghost use Rattle.desk_journal.specs.Device.{IsOnlyRead};
 ghost use Rattle.desk_journal.specs.Undoing.{IsLedOn, ShowsStanding};
 ghost use Rattle.desk_past.specs.Page.{Page, HasPages, end_of_pages};
 ghost use Rattle.desk_past.specs.Past.{AreGood, IsHeadTold, HasMoment, KeepsAll, StandsFrom, Start, events_of, first_page, moment as moment_of};
@@ -55,6 +56,8 @@ pub(crate) fn events_before<D: Disk>(store: &mut Store<D>) -> Result<Option<u64>
         → MatchOption found (2 ^ 64 ≤ s.past.before + length s.events)
         (λ n. n ≡ s.past.before + length s.events)) }
     ensures still { OnOk result (IsOnlyReadFrom D.Disk store.old store.new) }
+    ensures disk { IsOnlyRead D.Disk store.old.disk store.new.disk }
+    ensures usable { OnOk result (store.old.must_reopen ≡ false) }
 {
     standing_law();
     store.shows_what_crashes_leave();

@@ -1,5 +1,5 @@
-//! Sectors behind a store: read, and copied to another disk.
-ghost use Rattle.std.specs.Prelude.{◌≡◌, ◌+◌, ◌*◌, ◌^◌, ◌<◌, ◌≤◌, ℕ, false, length, IfOk, OnOk};
+//! Sectors behind a store: read, copied and compared.
+ghost use Rattle.std.specs.Prelude.{◌≡◌, ◌+◌, ◌*◌, ◌^◌, ◌<◌, ◌≤◌, ℕ, true, false, length, IfOk, OnOk};
 ghost use Rattle.sector_disk.specs.declared.disk.TheConstants.{SECTOR_BYTES};
 ghost use Rattle.sector_disk.specs.Stored.{stored};
 ghost use Rattle.sector_disk.specs.Trail.{now};
@@ -81,4 +81,40 @@ pub(crate) fn copy_to<D: Disk, E: Disk>(
         disk.write(n, &sector)?;
     }
     Ok(())
+}
+
+/// Whether the sectors from `base` on hold what those of the store hold.
+///
+/// Errors: those of `Store::read_behind`.
+pub(crate) fn is_copied<D: Disk>(store: &mut Store<D>, base: u32) -> Result<bool, Error>
+    requires usable { store.old.must_reopen ≡ false }
+    requires numbered { base + STORE_SECTORS < 2 ^ 32 }
+    requires there { base + STORE_SECTORS ≤ D.size store.old.disk }
+    ensures same { IfOk result (λ is. is ≡ true → D.honest store.old.disk → (n : ℕ)
+        → n < STORE_SECTORS → (now (D.trail store.old.disk)).reads (base + n)
+        ≡ (now (D.trail store.old.disk)).reads n) }
+    ensures still { IsOnlyReadFrom D.Disk store.old store.new }
+{
+    store.shows_what_crashes_leave();
+    for k in 0..STORE_SECTORS {
+        if !are_alike(store, k, base + k)? {
+            return Ok(false);
+        }
+    }
+    Ok(true)
+}
+
+/// Whether two sectors hold the same.
+fn are_alike<D: Disk>(store: &mut Store<D>, n: u32, other: u32) -> Result<bool, Error>
+    requires usable { store.old.must_reopen ≡ false }
+    requires first { n < D.size store.old.disk }
+    requires second { other < D.size store.old.disk }
+    ensures same { IfOk result (λ is. is ≡ true → D.honest store.old.disk
+        → (now (D.trail store.old.disk)).reads other ≡ (now (D.trail store.old.disk)).reads n) }
+    ensures still { IsOnlyReadFrom D.Disk store.old store.new }
+{
+    store.shows_what_crashes_leave();
+    let sector = sector_at(store, n)?;
+    let copy = sector_at(store, other)?;
+    Ok(copy == sector)
 }

@@ -1,0 +1,12 @@
+use Rattle.std.proofs.Common.{◌≡◌, ◌+◌, ◌<◌, ℕ}
+use Rattle.sector_disk.specs.Trail.{now}
+use Rattle.desk_past.specs.Reading.{IsOnlyReadFrom}
+use Rattle.desk_past.proofs.sectors.is_copied.Given as goal
+
+-- nothing is written, and the sectors so far are alike
+abbrev pub invariant-loop-k : goal.invariant-loop-k
+invariant-loop-k g l = record {
+  still : IsOnlyReadFrom g.D.Disk l.fn.store l.store;
+  same : g.D.Disk.honest l.fn.store.disk → (n : ℕ) → n < l.k
+      → (now (g.D.Disk.trail l.fn.store.disk)).reads (l.base + n) ≡ (now (g.D.Disk.trail l.fn.store.disk)).reads n;
+}

@@ -1,0 +1,84 @@
+-- A past that begins, behind another one or none. `d` is what is known of a disk.
+use Rattle.std.specs.Prelude.{◌≡◌, ◌⊎◌, ◌+◌, ◌<◌, ◌≤◌, ◌^◌, ℕ, [], List, false, length, nat_lt, if◌then◌else◌}
+use Rattle.sector_disk.specs.declared.disk.Disk.{Ghosts}
+use Rattle.sector_disk.specs.Trail.{Content, now, LeavesOnly}
+use Rattle.event_bytes.specs.declared.event.Event.{Event}
+use Rattle.desktop_definitions.specs.Desktop.{Desktop}
+use Rattle.store_layout.specs.declared.layout.TheConstants.{STORE_SECTORS}
+use Rattle.store_layout.specs.Filling.{InRange}
+use Rattle.store_layout.specs.Meaning.{Standing}
+use Rattle.desk_journal.specs.Undoing.{ShowsStanding}
+use Rattle.desk_journal.specs.View.{StoreView}
+use Rattle.desk_past.specs.Past.{KeepsAll, Remembers, Start}
+
+-- the start of a past that begins with this desktop, behind so many events
+abbrev pub begun_at : Desktop → ℕ → ℕ → Start
+begun_at desktop before base = record { desktop = desktop; before = before; base = base }
+
+-- a disk of so many sectors has room for a start from this sector on
+pub record HasStartRoom (size base : ℕ) : Type 0 where
+  pub behind : STORE_SECTORS ≤ base
+  pub numbered : base + STORE_SECTORS < 2 ^ 32
+  pub room : base + STORE_SECTORS ≤ size
+
+-- At every moment of the call a crash leaves each sector as it was, but those of a start from this one on.
+pub record SparesOthers {D : Type 0} (d : Ghosts D) (base : ℕ) (old new : StoreView D)
+    : Type 0 where
+  pub moments : old.must_reopen ≡ false → d.honest old.disk
+      → LeavesOnly (d.trail old.disk) (d.trail new.disk)
+      (λ c. (n : ℕ) → ¬ InRange base STORE_SECTORS n → c n ≡ (now (d.trail old.disk)).reads n)
+
+-- something was written behind a store, which is in use and shows what it showed
+pub record IsAside {D : Type 0} (d : Ghosts D) (old new : StoreView D) : Type 0 where
+  pub usable : new.must_reopen ≡ false
+  pub desktop : d.honest old.disk → new.desktop ≡ old.desktop
+
+-- The start stands from this sector on: the sectors of the store were copied there. So many events came before it.
+pub record IsStarted {D : Type 0} (d : Ghosts D) (base before : ℕ) (old new : StoreView D)
+    : Type 0 where
+  pub was : old.must_reopen ≡ false
+  pub aside : IsAside d old new
+  pub same : d.honest old.disk → (n : ℕ) → n < STORE_SECTORS
+      → (now (d.trail new.disk)).reads (base + n) ≡ (now (d.trail new.disk)).reads n
+  pub counted : d.honest old.disk → (s : Standing) → ShowsStanding d old s
+      → before ≡ s.past.before + length s.events
+
+-- ---- behind another past
+
+-- what a disk would hold if the start from this sector on were copied back over the store
+abbrev pub copied_back : ℕ → Content → Content
+copied_back base c n = if nat_lt n STORE_SECTORS then c (base + n) else c n
+
+-- The content has the former past, up to the start from this sector on: copied back, that would have it.
+abbrev pub RemembersFormer : ℕ → ℕ → Start → List Event → Desktop → Content → Type 0
+RemembersFormer size base start events desktop c =
+    Remembers size start events desktop (copied_back base c)
+
+-- The content has a past that begins behind the former one, and that one too.
+pub record GoesOnFrom (size base : ℕ) (start : Start) (events : List Event) (desktop : Desktop)
+    (c : Content)
+    : Type 0 where
+  pub anew : Remembers size (begun_at desktop (start.before + length events) base) [] desktop c
+  pub former : RemembersFormer size base start events desktop c
+
+module _ {D : Type 0} (d : Ghosts D) where
+  -- a start from this sector on touches no sector of the past
+  abbrev pub IsApart : {start : Start} {events : List Event} {desktop : Desktop}
+      {store : StoreView D} → ℕ → KeepsAll d start events desktop store → Type 0
+  IsApart {start = start} base keeps =
+      (base + STORE_SECTORS ≤ start.base) ⊎ (keeps.remembers.standing.past.next ≤ base)
+
+  -- Nothing is forgotten: at every moment of the call a crash leaves the past that there was, or that and one that
+  -- begins behind it.
+  abbrev pub ForgetsNoneBefore : ℕ → StoreView D → StoreView D → Type 0
+  ForgetsNoneBefore base old new = d.honest old.disk → (start : Start) (events : List Event)
+      (desktop : Desktop) → (keeps : KeepsAll d start events desktop old) → IsApart base keeps
+      → LeavesOnly (d.trail old.disk) (d.trail new.disk)
+      (λ c. Remembers (d.size old.disk) start events desktop c
+      ⊎ GoesOnFrom (d.size old.disk) base start events desktop c)
+
+  -- Ok: the latter
+  abbrev pub BeginsBehind : ℕ → StoreView D → StoreView D → Type 0
+  BeginsBehind base old new = d.honest old.disk → (start : Start) (events : List Event)
+      (desktop : Desktop) → (keeps : KeepsAll d start events desktop old) → IsApart base keeps
+      → GoesOnFrom (d.size old.disk) base start events desktop (now (d.trail new.disk)).reads

@@ -1,0 +1,131 @@
+//! A past that begins.
+ghost use Rattle.std.specs.Prelude.{◌≡◌, ◌+◌, ◌^◌, ◌≤◌, ◌<◌, ℕ, [], true, false, IfOk, IfSome, OnOk};
+ghost use Rattle.store_layout.specs.declared.layout.TheConstants.{STORE_SECTORS};
+ghost use Rattle.desk_journal.specs.Checkpointing.{LeavesDesktop};
+ghost use Rattle.desk_journal.specs.Device.{IsSameDevice};
+ghost use Rattle.desk_past.specs.Beginning.{ForgetsNoneBefore, BeginsBehind, HasStartRoom, IsAside, IsStarted, SparesOthers, begun_at};
+ghost use Rattle.desk_past.specs.Past.{KeepsAll};
+
+use crate::reading::events_before;
+use crate::sectors::{bytes_at, is_copied};
+use desk_journal::{Error, STORE_SECTORS, Store};
+use sector_disk::Disk;
+use std::alloc::Global;
+use store_layout::{PastEnd, standing_law};
+
+/// How many sectors are copied in one call, which syncs.
+const AT_ONCE: u32 = 1024;
+
+/// Copies so many sectors of the store, from `from` on, each `base` sectors further on.
+///
+/// Errors: those of `Store::read_behind` and `Store::write_behind`; `NoMemory`.
+fn copy_some<D: Disk>(
+    alloc: Global,
+    store: &mut Store<D>,
+    base: u32,
+    from: u32,
+    count: u32,
+) -> Result<(), Error>
+    requires usable { store.old.must_reopen ≡ false }
+    requires start { HasStartRoom (D.size store.old.disk) base }
+    requires some { 0 < count }
+    requires inside { from + count ≤ STORE_SECTORS }
+    ensures others { SparesOthers D.Disk base store.old store.new }
+    ensures device { IsSameDevice D.Disk store.old.disk store.new.disk }
+    ensures aside { OnOk result (IsAside D.Disk store.old store.new) }
+{
+    store.shows_what_crashes_leave();
+    let bytes = bytes_at(alloc, store, from, count)?;
+    store.shows_what_crashes_leave();
+    store.write_behind(base + from, count, bytes.as_slice())?;
+    Ok(())
+}
+
+/// Copies the sectors of the store behind its label, each `base` sectors further on.
+///
+/// Errors: those of `copy_some`.
+fn copy_rest<D: Disk>(alloc: Global, store: &mut Store<D>, base: u32) -> Result<(), Error>
+    requires usable { store.old.must_reopen ≡ false }
+    requires start { HasStartRoom (D.size store.old.disk) base }
+    ensures others { SparesOthers D.Disk base store.old store.new }
+    ensures device { IsSameDevice D.Disk store.old.disk store.new.disk }
+    ensures aside { OnOk result (IsAside D.Disk store.old store.new) }
+{
+    store.shows_what_crashes_leave();
+    let mut done = 1;
+    while done < STORE_SECTORS {
+        let count = AT_ONCE.min(STORE_SECTORS - done);
+        copy_some(alloc, store, base, done, count)?;
+        done += count;
+    }
+    Ok(())
+}
+
+/// Copies the sectors of the store to those from `base` on. The label there is taken away first, and comes last.
+///
+/// Errors: those of `copy_some`.
+fn copy_behind<D: Disk>(alloc: Global, store: &mut Store<D>, base: u32) -> Result<(), Error>
+    requires usable { store.old.must_reopen ≡ false }
+    requires start { HasStartRoom (D.size store.old.disk) base }
+    ensures others { SparesOthers D.Disk base store.old store.new }
+    ensures device { IsSameDevice D.Disk store.old.disk store.new.disk }
+    ensures aside { OnOk result (IsAside D.Disk store.old store.new) }
+{
+    store.shows_what_crashes_leave();
+    store.write_behind(base, 1, &[])?;
+    copy_rest(alloc, store, base)?;
+    copy_some(alloc, store, base, 0, 1)
+}
+
+/// Copies the store to the sectors from `base` on and reads the copy back: how many events came before what it shows. None
+/// where what is read isn't what was written, or where they are too many to be counted.
+///
+/// Errors: those of `events_before` and `copy_some`.
+fn make_start<D: Disk>(alloc: Global, store: &mut Store<D>, base: u32) -> Result<Option<u64>, Error>
+    requires { HasStartRoom (D.size store.old.disk) base }
+    ensures others { SparesOthers D.Disk base store.old store.new }
+    ensures device { IsSameDevice D.Disk store.old.disk store.new.disk }
+    ensures start { IfOk result (λ found. IfSome found (λ before. IsStarted D.Disk base before
+        store.old store.new)) }
+{
+    store.shows_what_crashes_leave();
+    let Some(before) = events_before(store)? else {
+        return Ok(None);
+    };
+    store.shows_what_crashes_leave();
+    copy_behind(alloc, store, base)?;
+    store.shows_what_crashes_leave();
+    if !is_copied(store, base)? {
+        return Ok(None);
+    }
+    Ok(Some(before))
+}
+
+/// Begins a past, from what the store shows now: the store is copied to the sectors from `base` on and read back, and a
+/// checkpoint begins an epoch whose head tells of it. Where the store has a past already, apart from these sectors, that
+/// one stays, up to the new start. False where what is read isn't what was written: then the store is as it was.
+///
+/// Errors: those of `Store::read_behind`, `Store::write_behind` and `Store::checkpoint`.
+pub fn begin<D: Disk>(alloc: Global, store: &mut Store<D>, base: u32) -> Result<bool, Error>
+    requires behind { STORE_SECTORS ≤ base }
+    requires numbered { base + STORE_SECTORS < 2 ^ 32 }
+    requires room { base + STORE_SECTORS ≤ D.size store.old.disk }
+    ensures any_moment { LeavesDesktop D.Disk store.old store.new }
+    ensures none_forgotten { ForgetsNoneBefore D.Disk base store.old store.new }
+    ensures begun { IfOk result (λ done. done ≡ true → D.honest store.old.disk
+        → (before : ℕ) × KeepsAll D.Disk (begun_at store.old.desktop before base) []
+        store.old.desktop store.new) }
+    ensures goes_on { IfOk result (λ done. done ≡ true
+        → BeginsBehind D.Disk base store.old store.new) }
+    ensures device { IsSameDevice D.Disk store.old.disk store.new.disk }
+{
+    standing_law();
+    store.shows_what_crashes_leave();
+    let Some(before) = make_start(alloc, store, base)? else {
+        return Ok(false);
+    };
+    store.shows_what_crashes_leave();
+    let next = base + STORE_SECTORS;
+    store.checkpoint_with(PastEnd { next, before })?;
+    Ok(true)
+}
