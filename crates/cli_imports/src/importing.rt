@@ -1,4 +1,8 @@
 //! Documents on their way in: all that an order names come together, or none.
+ghost use Rattle.std.specs.Prelude.{◌≡◌, true, Err, OnOk};
+ghost use Rattle.desktop_definitions.specs.declared.codes.TheConstants.{TOO_MANY_FILES};
+ghost use Rattle.desktop_definitions.specs.declared.reply.Reply.TheVariants.{No};
+ghost use Rattle.cli_documents.specs.declared.sentences.Stop.TheVariants.{Refused};
 
 use crate::collecting::collect;
 use crate::fitting::documents_in;
@@ -232,7 +236,9 @@ fn answer<D: Disk>(
     reply: Reply,
     coming: Coming,
     manner: Manner,
-) -> Result<(), Stop> {
+) -> Result<(), Stop>
+    ensures number { reply ≡ No TOO_MANY_FILES → result ≡ Err Refused }
+{
     match reply {
         Reply::Done => tell(rt, &coming, coming.same.as_slice()),
         Reply::No(TOO_MANY_FILES) => Err(refused_number(rt, path)),
@@ -263,7 +269,9 @@ fn make_room<D: Disk>(
     path: &str,
     documents: &[Document],
     manner: Manner,
-) -> Result<(), Stop> {
+) -> Result<(), Stop>
+    ensures asked { OnOk result (manner.collect ≡ true) }
+{
     let written = store.info()?.written;
     if manner.collect && is_worn(written, documents) {
         return collect(rt, store);
@@ -324,7 +332,9 @@ fn tell_one(rt: &HostRuntime, document: &Document, what: &str) -> io::Result<()>
 }
 
 /// Says which documents would be replaced.
-fn refused_others(rt: &HostRuntime, path: &str, others: &[Document]) -> Stop {
+fn refused_others(rt: &HostRuntime, path: &str, others: &[Document]) -> Stop
+    ensures { result ≡ Refused }
+{
     for document in others {
         let name = word_of(document.name());
         let _ = eprintln!(rt;
@@ -335,7 +345,9 @@ fn refused_others(rt: &HostRuntime, path: &str, others: &[Document]) -> Stop {
 }
 
 /// Says that there would be too many documents.
-fn refused_number(rt: &HostRuntime, path: &str) -> Stop {
+fn refused_number(rt: &HostRuntime, path: &str) -> Stop
+    ensures { result ≡ Refused }
+{
     let _ = eprintln!(rt;
         "desk: {path:?} would have more than {MOST_FILES} documents, so nothing was done"
     );
@@ -352,7 +364,9 @@ fn is_worn(written: u32, documents: &[Document]) -> bool {
 }
 
 /// Says that documents don't fit behind a System.Collect either, and that this was done, unless all of it is only tried.
-fn refused_behind(rt: &HostRuntime, path: &str, dry_run: bool) -> Stop {
+fn refused_behind(rt: &HostRuntime, path: &str, dry_run: bool) -> Stop
+    ensures { result ≡ Refused }
+{
     let _ = if dry_run {
         eprintln!(rt;
             "desk: behind a System.Collect, too, {path:?} would hold more than {MOST_HELD} characters, so nothing would come; delete documents or close viewers"
@@ -366,7 +380,9 @@ fn refused_behind(rt: &HostRuntime, path: &str, dry_run: bool) -> Stop {
 }
 
 /// Says which limit on characters is passed, where so many were written.
-fn refused_length(rt: &HostRuntime, path: &str, written: u32, documents: &[Document]) -> Stop {
+fn refused_length(rt: &HostRuntime, path: &str, written: u32, documents: &[Document]) -> Stop
+    ensures { result ≡ Refused }
+{
     let _ = if is_worn(written, documents) {
         eprintln!(rt;
             "desk: {path:?} counts {written} characters as written, of {MOST_WRITTEN}, so nothing was done; System.Collect at the desk makes room, and --collect has it done"

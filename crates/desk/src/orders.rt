@@ -8,16 +8,8 @@ use std::alloc::{AllocError, Global};
 /// What the program is asked to do.
 #[derive(Drop)]
 pub enum Order<'a> {
-    /// To serve a person at a terminal of this size, at the desktop of a store, or at one in memory where no path is
-    /// given; with word there whether the program is unproved, whether it asks before a press loses something, and the
-    /// store's twin, if it is to have one.
-    Sit {
-        window: Window,
-        unproved: bool,
-        questions: bool,
-        path: Option<&'a str>,
-        twin: Option<&'a str>,
-    },
+    /// To serve a person at a terminal.
+    Sit(Sit<'a>),
     /// To print the screen of a store as a picture.
     Picture(&'a str),
     /// To put documents of a store out.
@@ -47,6 +39,21 @@ pub enum Order<'a> {
         count: u32,
         copy: &'a str,
     },
+}
+
+/// A person at a terminal.
+#[derive(Drop)]
+pub struct Sit<'a> {
+    /// The size of the terminal.
+    pub window: Window,
+    /// Whether the program is an unproved one.
+    pub unproved: bool,
+    /// Whether it asks before a press loses something.
+    pub questions: bool,
+    /// The store's file; without one the desktop is in memory.
+    pub path: Option<&'a str>,
+    /// The store's twin, if it is to have one.
+    pub twin: Option<&'a str>,
 }
 
 /// Documents on their way out.
@@ -111,13 +118,13 @@ fn order_named<'a>(alloc: Global, asked: &Asked<'a>) -> Result<Option<Order<'a>>
 /// The same for a command that takes no list of words.
 fn short_order<'a>(asked: &Asked<'a>) -> Option<Order<'a>> {
     match asked.command {
-        "sit" => Some(Order::Sit {
+        "sit" => Some(Order::Sit(Sit {
             window: window_of(asked)?,
             unproved: asked.chooses("unproved"),
             questions: !asked.chooses("no-questions"),
             path: asked.word("path"),
             twin: asked.word("twin"),
-        }),
+        })),
         "picture" => Some(Order::Picture(asked.word("path")?)),
         "list" => Some(Order::List {
             path: asked.word("path")?,

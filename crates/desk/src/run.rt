@@ -1,7 +1,7 @@
 //! What a run of the program `desk` does: its arguments say what (`orders`), and it is done over a store (the crates
 //! `cli_stores` and `cli_documents`). A person who sits down is served by `serve` of `desk_sitting` (`sitting`).
 
-use crate::orders::{Export, Import, Order, order_of};
+use crate::orders::{Export, Import, Order, Sit, order_of};
 use crate::sitting::{Service, sit_at, sit_at_pair, sit_in_memory};
 use crate::usages::usage_of;
 use cli_documents::{
@@ -64,44 +64,8 @@ fn decline(rt: &HostRuntime, refusal: Refusal) -> u8 {
 /// Does what is ordered, and returns the status. What goes wrong is said.
 fn follow(rt: &HostRuntime, order: &Order<'_>) -> u8 {
     match order {
-        Order::Sit {
-            window,
-            questions,
-            path: None,
-            ..
-        } => {
-            let service = Service {
-                window: *window,
-                greeting: Saying::InMemory,
-                questions: *questions,
-            };
-            sit_in_memory(rt, service)
-        }
-        Order::Sit {
-            window,
-            unproved,
-            questions,
-            path: Some(path),
-            twin,
-        } => {
-            let service = Service {
-                window: *window,
-                greeting: greeting(*unproved),
-                questions: *questions,
-            };
-            match twin {
-                None => sit_at(rt, path, service),
-                Some(twin) => sit_at_pair(rt, path, twin, service),
-            }
-        }
+        Order::Sit(order) => sit(rt, order),
         Order::Picture(path) => told(rt, path, picture(rt, path)),
-        other => follow_over_documents(rt, other),
-    }
-}
-
-/// The same for an order about the documents of a store.
-fn follow_over_documents(rt: &HostRuntime, order: &Order<'_>) -> u8 {
-    match order {
         Order::Export(order) => done(rt, order.path, put_out(rt, order)),
         Order::Import(order) => take_in(rt, order),
         Order::List { path, json: false } => done(rt, path, list(rt, path)),
@@ -114,7 +78,24 @@ fn follow_over_documents(rt: &HostRuntime, order: &Order<'_>) -> u8 {
         } => check_both(rt, path, twin),
         Order::History(path) => done(rt, path, events_back(rt, path)),
         Order::Earlier { path, count, copy } => done(rt, path, earlier(rt, path, *count, copy)),
-        _ => 0,
+    }
+}
+
+/// Serves a person at a terminal, and returns the status.
+fn sit(rt: &HostRuntime, order: &Sit<'_>) -> u8 {
+    let greeting = match order.path {
+        None => Saying::InMemory,
+        Some(_) => greeting(order.unproved),
+    };
+    let service = Service {
+        window: order.window,
+        greeting,
+        questions: order.questions,
+    };
+    match (order.path, order.twin) {
+        (None, _) => sit_in_memory(rt, service),
+        (Some(path), None) => sit_at(rt, path, service),
+        (Some(path), Some(twin)) => sit_at_pair(rt, path, twin, service),
     }
 }
 

@@ -8,6 +8,7 @@ use Rattle.terminal_presses.specs.declared.press.Press.{Press}
 use Rattle.desk_sitting.specs.declared.sitting.Sitting.{Sitting}
 use Rattle.desk_sitting.specs.Doing.{DoesPresses}
 use Rattle.desk_sitting.specs.Sittings.{after_fetch}
+use Rattle.desk_sitting.specs.TheDesk.{the_desk}
 
 -- bytes, and then a quiet while
 abbrev pub heard_of : List ℕ → List Heard
@@ -19,5 +20,5 @@ pub record Hears {D : Type 0} (d : Ghosts D) (presses : List Press) (s s' : Sitt
     (old new : StoreView D)
     : Type 0 where
   pub sitting : Sitting
-  pub does : DoesPresses d presses s sitting old new
+  pub does : DoesPresses the_desk d presses s sitting old new
   pub unread : s' ≡ after_fetch false sitting

@@ -22,6 +22,7 @@ use Rattle.desk_sitting.specs.declared.sitting.Sitting.{Sitting}
 use Rattle.status_line.specs.declared.saying.Saying.TheVariants.{Greeting}
 use Rattle.desk_sitting.specs.Sittings.{looked, new_sitting}
 use Rattle.desk_sitting.specs.Travels.{IsTravelled}
+use Rattle.desk_sitting.specs.TheDesk.{the_desk}
 use Rattle.screen_drawing.specs.Drawn.{drawing_of}
 use Rattle.desk_page.specs.Recording.{Recording, first_moment, forgotten}
 use Rattle.desk_page.specs.Spelling.{spelling_of_calls}
@@ -106,7 +107,7 @@ module _ (d : Ghosts Recording) where
     none : {s : Sitting} {store : StoreView Recording} → AreTravelled 0 s s store store
     one_more : {count : ℕ} {s s' s'' : Sitting} {old mid new : StoreView Recording}
         → AreTravelled count s s' old mid → is_none s'.travels ≡ false
-        → IsTravelled d s' s'' mid new → AreTravelled (count + 1) s s'' old new
+        → IsTravelled the_desk d s' s'' mid new → AreTravelled (count + 1) s s'' old new
 
   -- What is pressed by these bytes and a quiet while is done, press after press, as at a terminal; then what they ask
   -- for, until nothing is asked for; and the page that this comes to is handed to the host.

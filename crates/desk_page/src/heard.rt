@@ -5,6 +5,7 @@ ghost use Rattle.desk_journal.specs.View.{IsDurable};
 ghost use Rattle.sector_disk.specs.Faults.{FailsAs};
 ghost use Rattle.terminal_keyboard.specs.Presses.{parser_after, presses_heard};
 ghost use Rattle.desk_sitting.specs.Doing.{Breaks, OfPresses};
+ghost use Rattle.desk_sitting.specs.TheDesk.{the_desk};
 ghost use Rattle.desk_page.specs.Hearing.{Hears, heard_of};
 
 use crate::page::Page;
@@ -40,7 +41,7 @@ pub fn hear<D: Disk>(alloc: Global, page: &mut Page<D>, heard: &[Heard]) -> Resu
         page.old.store page.new.store) }
     ensures broke { IfErr result (λ error. D.honest page.old.store.disk
         → IsDurable D.Disk page.old.store
-        → Breaks D.Disk error (presses_heard page.old.parser heard.now) page.old.sitting
+        → Breaks the_desk D.Disk error (presses_heard page.old.parser heard.now) page.old.sitting
         page.old.store page.new.store) }
     ensures usable { OnOk result (page.new.store.must_reopen ≡ false) }
     ensures faults { FailsAs Error.Fault OfPresses result (D.failures page.old.store.disk)

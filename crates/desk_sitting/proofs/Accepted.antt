@@ -23,7 +23,9 @@ use Rattle.desk_sitting.specs.Sittings.{accepted_unasked, after_planned, after_p
 use Rattle.desk_sitting.specs.Sittings.{after_stage}
 use Rattle.desk_sitting.specs.Sittings.{after_task, asks_first, does, does_all, done_by, done_so, noted_at, task_in}
 use Rattle.desk_sitting.specs.Sittings.{task_left, planned, with_hand}
-use Rattle.desk_sitting.specs.Sittings.{accepted_events, accepted_of, PressesAreSteps}
+use Rattle.desk_sitting.specs.Sittings.{accepted_of}
+use Rattle.desk_sitting.specs.Desk.{accepted_events}
+use Rattle.desk_sitting.specs.TheDesk.{PressesAreSteps, the_desk}
 
 -- ---- one event
 
@@ -213,7 +215,7 @@ pub presses_steps : PressesAreSteps
 presses_steps [] d = refl
 presses_steps (press ∷ presses) d =
     let first = accepted_of press d in
-    let later = accepted_events presses (after_press press d) in
+    let later = accepted_events the_desk presses (after_press press d) in
     presses_steps presses (after_press press d)
     ∙ ap (λ desktop. steps desktop later) (press_steps press d)
     ∙ sym (steps_both d.session.desktop first later)

@@ -10,6 +10,7 @@ use Rattle.desk_sitting.specs.Endings.{sitting_end_of}
 use Rattle.desk_sitting.specs.Serving.{TurnState}
 use Rattle.desk_sitting.specs.Travelling.{IsStill, TakesBetween}
 use Rattle.desk_sitting.proofs.Turning.{calm_presses, counts_presses, unusable}
+use Rattle.desk_sitting.specs.TheDesk.{the_desk}
 
 -- whether there is none is the opposite of whether there is one
 pub none_so : {A : Type 0} (o : Option A) (is : Bool) → is_some o ≡ not is → is_none o ≡ is
@@ -18,9 +19,9 @@ none_so None false opposite = absurd (false≢true opposite)
 none_so (Some x) true opposite = absurd (true≢false opposite)
 none_so (Some x) false opposite = refl
 
-module _ {D : Type 0} (d : Ghosts D) (old new : TurnState D) (still : IsStill d old new) where
+module _ {D : Type 0} (d : Ghosts D) (old new : TurnState D) (still : IsStill old new) where
   pub between : {T U : Type 0} (value : T) (x : U)
-      → Travels d (Ok x) old.sitting new.sitting old.store new.store → TakesBetween d (Ok value) old new
+      → Travels the_desk d (Ok x) old.sitting new.sitting old.store new.store → TakesBetween the_desk d (Ok value) old new
   between value x travels = record {
     goes_on = λ honest durable. record {
       travelled = travels.done honest durable;
@@ -37,8 +38,8 @@ module _ {D : Type 0} (d : Ghosts D) (old new : TurnState D) (still : IsStill d 
   }
 
   pub broken_off : {T U : Type 0} (result : Result T SittingEnd) (error : Error) → result ≡ Err (sitting_end_of error)
-      → Travels d {T = U} (Err error) old.sitting new.sitting old.store new.store → TakesBetween d result old new
-  broken_off result error is travels = subst (λ r. TakesBetween d r old new) (sym is) (record {
+      → Travels the_desk d {T = U} (Err error) old.sitting new.sitting old.store new.store → TakesBetween the_desk d result old new
+  broken_off result error is travels = subst (λ r. TakesBetween the_desk d r old new) (sym is) (record {
     goes_on = tt;
     stops = λ honest durable. record {
       error = error;

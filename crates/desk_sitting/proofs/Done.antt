@@ -16,6 +16,7 @@ use Rattle.terminal_keyboard.proofs.Pieces.{parser_of_both, pressed_of_both}
 use Rattle.desk_sitting.specs.declared.sitting.Sitting.{Sitting}
 use Rattle.desk_sitting.specs.Sittings.{accepted_of, after_press}
 use Rattle.desk_sitting.specs.Doing.{seat_of, OfPresses, DoesPress, DoesPresses, none, one_more, Breaks, DoesAllPresses}
+use Rattle.desk_sitting.specs.TheDesk.{the_desk}
 
 -- ---- one thing more is heard
 
@@ -42,21 +43,23 @@ module _ {D : Type 0} (d : Ghosts D) where
 
   -- presses are done, and then others from there
   does_both : {first second : List Press} {s s' s'' : Sitting} {old mid new : StoreView D}
-      → DoesPresses d first s s' old mid → DoesPresses d second s' s'' mid new → DoesPresses d (first ++ second) s s'' old new
+      → DoesPresses the_desk d first s s' old mid → DoesPresses the_desk d second s' s'' mid new
+      → DoesPresses the_desk d (first ++ second) s s'' old new
   does_both {first = first} {s = s} {s' = s'} {old = old} {mid = mid} one none =
-      subst (λ presses. DoesPresses d presses s s' old mid) (sym (append-nil first)) one
+      subst (λ presses. DoesPresses the_desk d presses s s' old mid) (sym (append-nil first)) one
   does_both {first = first} {s = s} {s'' = s''} {old = old} {new = new} one (one_more {presses = more} press two done) =
-      subst (λ presses. DoesPresses d presses s s'' old new) (append_assoc first more (press ∷ []))
+      subst (λ presses. DoesPresses the_desk d presses s s'' old new) (append_assoc first more (press ∷ []))
       (one_more press (does_both one two) done)
 
   -- a crash leaves what the store shows, as it did before
-  does_last : {presses : List Press} {s s' : Sitting} {old new : StoreView D} → DoesPresses d presses s s' old new
+  does_last : {presses : List Press} {s s' : Sitting} {old new : StoreView D} → DoesPresses the_desk d presses s s' old new
       → IsDurable d old → IsDurable d new
   does_last none durable = durable
   does_last (one_more press before done) durable = done.goes.durable
 
   breaks_both : {error : Error} {first second : List Press} {s s' : Sitting} {old mid new : StoreView D}
-      → DoesPresses d first s s' old mid → Breaks d error second s' mid new → Breaks d error (first ++ second) s old new
+      → DoesPresses the_desk d first s s' old mid → Breaks the_desk d error second s' mid new
+      → Breaks the_desk d error (first ++ second) s old new
   breaks_both {first = first} one broke = record {
     done = first ++ broke.done;
     press = broke.press;
@@ -70,7 +73,7 @@ module _ {D : Type 0} (d : Ghosts D) where
 
   -- more is pressed, and isn't done
   breaks_before : (more : List Press) {error : Error} {presses : List Press} {s : Sitting} {old new : StoreView D}
-      → Breaks d error presses s old new → Breaks d error (presses ++ more) s old new
+      → Breaks the_desk d error presses s old new → Breaks the_desk d error (presses ++ more) s old new
   breaks_before more broke = record {
     done = broke.done;
     press = broke.press;
@@ -85,7 +88,7 @@ module _ {D : Type 0} (d : Ghosts D) where
   -- ---- calls, one after another
 
   pub none_taken : (s : Sitting) (store : StoreView D) → store.must_reopen ≡ false
-      → DoesAllPresses d {T = Unit} [] (Ok tt) s s store store
+      → DoesAllPresses the_desk d {T = Unit} [] (Ok tt) s s store store
   none_taken s store usable = record {
     done = λ honest durable. none;
     broke = tt;
@@ -96,7 +99,7 @@ module _ {D : Type 0} (d : Ghosts D) where
 
   pub one_taken : {T : Type 0} (press : Press) (result : Result T Error) (s s' : Sitting) (old new : StoreView D)
       → DoesPress d (accepted_of press (seat_of s old)) (after_press press (seat_of s old)) result s' old new
-      → DoesAllPresses d (press ∷ []) result s s' old new
+      → DoesAllPresses the_desk d (press ∷ []) result s s' old new
   one_taken press result s s' old new takes = record {
     done = on_ok_weaker result (λ done honest durable. one_more press none (done honest durable)) takes.done;
     broke = IfErr-weaker result _ _ (λ error undone honest durable. record {
@@ -116,8 +119,9 @@ module _ {D : Type 0} (d : Ghosts D) where
 
   -- a call that did its presses, and then one that may fail
   pub both_taken : {T U : Type 0} {first second : List Press} {x : U} {result : Result T Error} {s s' s'' : Sitting}
-      {old mid new : StoreView D} → DoesAllPresses d first (Ok x) s s' old mid
-      → DoesAllPresses d second result s' s'' mid new → DoesAllPresses d (first ++ second) result s s'' old new
+      {old mid new : StoreView D} → DoesAllPresses the_desk d first (Ok x) s s' old mid
+      → DoesAllPresses the_desk d second result s' s'' mid new
+      → DoesAllPresses the_desk d (first ++ second) result s s'' old new
   both_taken {result = result} {new = new} one two = record {
     done = on_ok_weaker result (λ done honest durable.
         let before = one.done honest durable in
@@ -137,8 +141,8 @@ module _ {D : Type 0} (d : Ghosts D) where
 
   -- a call that failed, where more was pressed
   pub rest_left : {T : Type 0} (more : List Press) {error : Error} {presses : List Press} {s s' : Sitting}
-      {old new : StoreView D} → DoesAllPresses d {T = T} presses (Err error) s s' old new
-      → DoesAllPresses d {T = T} (presses ++ more) (Err error) s s' old new
+      {old new : StoreView D} → DoesAllPresses the_desk d {T = T} presses (Err error) s s' old new
+      → DoesAllPresses the_desk d {T = T} (presses ++ more) (Err error) s s' old new
   rest_left more takes = record {
     done = tt;
     broke = λ honest durable. breaks_before more (takes.broke honest durable);
@@ -151,10 +155,10 @@ module _ {D : Type 0} (d : Ghosts D) where
 
   -- a call that failed, where more was heard
   rest_unheard : {T : Type 0} (parser : Parser) (hearing : List Heard) (n : ℕ) {error : Error} {s s' : Sitting}
-      {old new : StoreView D} → DoesAllPresses d {T = T} (presses_heard parser (take n hearing)) (Err error) s s' old new
-      → DoesAllPresses d {T = T} (presses_heard parser hearing) (Err error) s s' old new
+      {old new : StoreView D} → DoesAllPresses the_desk d {T = T} (presses_heard parser (take n hearing)) (Err error) s s' old new
+      → DoesAllPresses the_desk d {T = T} (presses_heard parser hearing) (Err error) s s' old new
   rest_unheard {T = T} parser hearing n {error = error} {s = s} {s' = s'} {old = old} {new = new} takes =
-      subst (λ l. DoesAllPresses d {T = T} l (Err error) s s' old new)
+      subst (λ l. DoesAllPresses the_desk d {T = T} l (Err error) s s' old new)
       (sym (pressed_of_both parser (take n hearing) (drop n hearing))
       ∙ ap (presses_heard parser) (take-append-drop n hearing))
       (rest_left (presses_heard (parser_after parser (take n hearing)) (drop n hearing)) takes)
@@ -164,16 +168,16 @@ module _ {D : Type 0} (d : Ghosts D) where
       {s s' s'' : Sitting} {old mid new : StoreView D} where
     pub next_taken : (result : Result Unit Error) → i < length hearing → now ≡ parser_after parser (take i hearing)
         → presses ≡ (heard_by now (get_or hearing i filler)).1
-        → DoesAllPresses d {T = Unit} (presses_heard parser (take i hearing)) (Ok tt) s s' old mid
-        → DoesAllPresses d (in_order presses) result s' s'' mid new
-        → DoesAllPresses d (presses_heard parser (take (i + 1) hearing)) result s s'' old new
-    next_taken result room is made before here = subst (λ l. DoesAllPresses d l result s s'' old new)
+        → DoesAllPresses the_desk d {T = Unit} (presses_heard parser (take i hearing)) (Ok tt) s s' old mid
+        → DoesAllPresses the_desk d (in_order presses) result s' s'' mid new
+        → DoesAllPresses the_desk d (presses_heard parser (take (i + 1) hearing)) result s s'' old new
+    next_taken result room is made before here = subst (λ l. DoesAllPresses the_desk d l result s s'' old new)
         (pressed_next parser now hearing i filler room is presses made) (both_taken before here)
 
     pub next_broken : {error : Error} → i < length hearing → now ≡ parser_after parser (take i hearing)
         → presses ≡ (heard_by now (get_or hearing i filler)).1
-        → DoesAllPresses d {T = Unit} (presses_heard parser (take i hearing)) (Ok tt) s s' old mid
-        → DoesAllPresses d {T = Unit} (in_order presses) (Err error) s' s'' mid new
-        → DoesAllPresses d {T = Unit} (presses_heard parser hearing) (Err error) s s'' old new
+        → DoesAllPresses the_desk d {T = Unit} (presses_heard parser (take i hearing)) (Ok tt) s s' old mid
+        → DoesAllPresses the_desk d {T = Unit} (in_order presses) (Err error) s' s'' mid new
+        → DoesAllPresses the_desk d {T = Unit} (presses_heard parser hearing) (Err error) s s'' old new
     next_broken {error = error} room is made before here =
         rest_unheard parser hearing (i + 1) (next_taken (Err error) room is made before here)

@@ -10,6 +10,7 @@ use Rattle.sector_disk.specs.declared.disk.Disk.{Ghosts}
 use Rattle.sector_disk.specs.Faults.{FailsAs}
 use Rattle.sector_disk.specs.Trail.{Content, now, Leaves, LeavesOnly}
 use Rattle.sector_disk.proofs.Touching.{weakened, chained, at_last}
+use Rattle.desktop_definitions.specs.Desktop.{Desktop}
 use Rattle.event_bytes.specs.declared.event.Event.{Event}
 use Rattle.desktop_definitions.specs.Step.{steps}
 use Rattle.store_layout.specs.Meaning.{Means, MeansEither}
@@ -146,6 +147,21 @@ module _ {D : Type 0} (d : Ghosts D) where
 
   -- ---- a press that has one event at most
 
+  undone_so : (events : List Event) → length events ≤ 1 → {next : Desktop} {old new : StoreView D}
+      → next ≡ steps old.desktop events → (error : Error) → IsUndone d error next old new
+      → IsPressUndone d error events old new
+  undone_so events few {old = old} {new = new} leads error undone = record {
+    acknowledged = [];
+    begun = events;
+    rest = [];
+    parts = sym (append-nil events);
+    one = few;
+    survives = either_survives events old new (subst (λ e. LeavesOnly (d.trail old.disk) (d.trail new.disk)
+        (MeansEither (d.size old.disk) old.desktop e)) leads undone.any_moment);
+    starved = λ is. same_survives old new (undone.starved is);
+    device = undone.device;
+  }
+
   module _ (events : List Event) (few : length events ≤ 1) {next : Seat} {old new : StoreView D}
       (leads : next.session.desktop ≡ steps old.desktop events) where
     done_so : {s' : Sitting} → IsDone d next s' old new → d.honest new.disk → IsPressDone d events next s' old new
@@ -155,25 +171,12 @@ module _ {D : Type 0} (d : Ghosts D) where
           honest done.durable done.device;
     }
 
-    undone_so : (error : Error) → IsUndone d error next old new → IsPressUndone d error events old new
-    undone_so error undone = record {
-      acknowledged = [];
-      begun = events;
-      rest = [];
-      parts = sym (append-nil events);
-      one = few;
-      survives = either_survives events old new (subst (λ e. LeavesOnly (d.trail old.disk) (d.trail new.disk)
-          (MeansEither (d.size old.disk) old.desktop e)) leads undone.any_moment);
-      starved = λ is. same_survives old new (undone.starved is);
-      device = undone.device;
-    }
-
     pub one_press : {T : Type 0} {s' : Sitting} (result : Result T Error) → ComesToSeat d next result s' old new
         → DoesPress d events next result s' old new
     one_press result takes = record {
       done = on_ok_weaker result (λ done honest durable. done_so (done honest durable) (takes.device.still honest))
           takes.done;
-      undone = IfErr-weaker result _ _ (λ error undone honest durable. undone_so error (undone honest durable))
+      undone = IfErr-weaker result _ _ (λ error undone honest durable. undone_so events few leads error (undone honest durable))
           takes.undone;
       usable = takes.usable;
       faults = takes.faults;

@@ -24,13 +24,13 @@ use Rattle.terminal_presses.specs.Sights.{terminal_place}
 use Rattle.screen_reading.specs.Windows.{following_sight}
 use Rattle.desk_journal.specs.Session.{Session, is_worn}
 use Rattle.desk_journal.specs.View.{StoreView}
-use Rattle.press_plans.specs.declared.again.StorePlace.{StorePlace}
+use Rattle.done_presses.specs.declared.again.StorePlace.{StorePlace}
 use Rattle.status_line.specs.declared.deed.Deed.{Deed}
-use Rattle.press_plans.specs.Past.{with_refused}
+use Rattle.done_presses.specs.Past.{with_refused}
 use Rattle.press_plans.specs.Replacing.{noted}
 use Rattle.status_line.specs.declared.question.Question.{Question}
 use Rattle.status_line.specs.declared.saying.Saying.{Saying}
-use Rattle.status_line.specs.declared.saying.Saying.TheVariants.{Asks, NothingAgain, NothingBack, Worn}
+use Rattle.status_line.specs.declared.saying.Saying.TheVariants.{Asks, NothingBack, Worn}
 use Rattle.status_line.specs.Choosing.{refused_saying}
 use Rattle.status_line.specs.Question.{asks_to_leave, comes_first}
 use Rattle.status_line.specs.Sayings.{line_of, said_by_pointer}
@@ -41,7 +41,7 @@ use Rattle.desk_sitting.specs.Doing.{none as no_press, one_more as one_press}
 use Rattle.desk_sitting.specs.Questions.{click_made}
 use Rattle.press_plans.specs.Tasks.{calling_wish}
 use Rattle.desk_sitting.specs.Questions.{forgetful, is_nothing, is_of_terminal, questioned, unasked}
-use Rattle.desk_sitting.specs.Scenes.{◌>>=◌, IsSceneOf, IsSeen, known_by}
+use Rattle.desk_sitting.specs.Scenes.{IsSceneOf, IsSeen, known_by}
 use Rattle.desk_sitting.specs.Serving.{Exchange, IsSeenUnlessDue, IsShownIfDue, TurnState, Turns, anew, sitting_shown}
 use Rattle.desk_sitting.specs.Serving.{still, store_screen}
 use Rattle.desk_sitting.specs.Sittings.{Seat, acted, acted_alone, after_fetch, after_planned, after_post, after_posts}
@@ -54,8 +54,9 @@ use Rattle.desk_sitting.specs.Sittings.{task_in, task_left, turned_away, turned_
 use Rattle.press_plans.specs.Tasks.{task_of}
 use Rattle.press_plans.specs.Plans.{Plan, Aims, Events, PutsAway, Refused as NotDone, Says, Shows, plan_of}
 use Rattle.desk_sitting.specs.Travelling.{IsBetween}
-use Rattle.desk_sitting.specs.Travels.{Travelled, did_again, goes_again, is_unmoved, settled, store_place, took_back}
+use Rattle.desk_sitting.specs.Travels.{Travelled, did_again, goes_again, is_unmoved, none_again, settled, store_place, took_back}
 use Rattle.desk_sitting.specs.Travels.{none as not_asked, back, nothing, again}
+use Rattle.desk_sitting.specs.TheDesk.{◌>>=◌, the_desk}
 
 -- ---- a scene that isn't due
 
@@ -106,9 +107,9 @@ looks_same screen s due =
 
 -- before anything is heard
 pub seen_so : {D : Type 0} {s : Sitting} {old mid : StoreView D} {known known' : List (List Face)}
-    {held held' : Option (List ℕ)} {waiting waiting' : ℕ} → IsShownIfDue s old mid known known' held held' waiting waiting'
-    → (is_scene_due s ≡ false → IsSeen s (store_screen old) known held × (waiting ≡ 0))
-    → IsSeen (looked (store_screen old) s) (store_screen old) known' held'
+    {held held' : Option (List ℕ)} {waiting waiting' : ℕ} → IsShownIfDue the_desk s old mid known known' held held' waiting waiting'
+    → (is_scene_due s ≡ false → IsSeen the_desk s (store_screen old) known held × (waiting ≡ 0))
+    → IsSeen the_desk (looked (store_screen old) s) (store_screen old) known' held'
 seen_so {s = s} {known = known} {held = held} (anew due shown) seen = record {
   scene = shown.painted.scene;
   is = shown.painted.is;
@@ -123,13 +124,13 @@ seen_so {s = s} {known = known} {held = held} (anew due shown) seen = record {
 }
 seen_so {s = s} {old = old} {known = known} {known' = known'} {held' = held'}
     (still due same_store same_known same_held same_waiting) seen =
-    subst (λ t. IsSeen t (store_screen old) known' held') (sym (looks_same (store_screen old) s due))
-    (subst (λ k. IsSeen s (store_screen old) k held') (sym same_known)
-    (subst (λ h. IsSeen s (store_screen old) known h) (sym same_held) (seen due).0))
+    subst (λ t. IsSeen the_desk t (store_screen old) known' held') (sym (looks_same (store_screen old) s due))
+    (subst (λ k. IsSeen the_desk s (store_screen old) k held') (sym same_known)
+    (subst (λ h. IsSeen the_desk s (store_screen old) known h) (sym same_held) (seen due).0))
 
 pub handed_so : {D : Type 0} {s : Sitting} {old mid : StoreView D} {known known' : List (List Face)}
-    {held held' : Option (List ℕ)} {waiting waiting' : ℕ} → IsShownIfDue s old mid known known' held held' waiting waiting'
-    → (is_scene_due s ≡ false → IsSeen s (store_screen old) known held × (waiting ≡ 0)) → waiting' ≡ 0
+    {held held' : Option (List ℕ)} {waiting waiting' : ℕ} → IsShownIfDue the_desk s old mid known known' held held' waiting waiting'
+    → (is_scene_due s ≡ false → IsSeen the_desk s (store_screen old) known held × (waiting ≡ 0)) → waiting' ≡ 0
 handed_so (anew due shown) seen = shown.handed
 handed_so (still due same_store same_known same_held same_waiting) seen = same_waiting ∙ (seen due).1
 
@@ -300,7 +301,7 @@ line_unseen screen log saying hand hand' is is' =
 
 -- the same scene is due
 scene_stays : (next : Hand × Action) (s : Sitting) (screen : List (List Cell)) (scene : Scene) → NothingSeen s.hand
-    → NothingSeen next.0 → IsSceneOf s screen scene → IsSceneOf (with_hand next s) screen scene
+    → NothingSeen next.0 → IsSceneOf the_desk s screen scene → IsSceneOf the_desk (with_hand next s) screen scene
 scene_stays next s screen scene none none' is = record {
   cells = is.cells;
   first = is.first;
@@ -318,7 +319,7 @@ scene_stays next s screen scene none none' is = record {
 module _ (known : List (List Face)) (held : Option (List ℕ)) where
   -- unless a scene is due, it is what was sent last
   abbrev Stands : Sitting → Desktop → Type 0
-  Stands s desktop = is_scene_due s ≡ false → IsSeen s (shown_screen desktop) known held
+  Stands s desktop = is_scene_due s ≡ false → IsSeen the_desk s (shown_screen desktop) known held
 
   hand_stands : (next : Hand × Action) (seat : Seat) → Stands seat.sitting seat.session.desktop
       → (let after : Seat = acted next.1 (record seat { sitting = with_hand next seat.sitting }) in
@@ -338,7 +339,7 @@ module _ (known : List (List Face)) (held : Option (List ℕ)) where
       ∙ nothing_acted there (not_true (asks_to_leave s.question) three.1) in
       let now : IsQuiet (with_hand next s) = quiet (with_hand next s)
       (subst (λ (t : Seat). is_scene_due t.sitting ≡ false) same due) in
-      let before : IsSeen s (shown_screen seat.session.desktop) known held =
+      let before : IsSeen the_desk s (shown_screen seat.session.desktop) known held =
       stands (not_due s (record {
         changed = parts.0;
         follows = (or_parts (is_some (pointer_cell next.0.pointer)) s.follows now.follows).1;
@@ -346,7 +347,7 @@ module _ (known : List (List Face)) (held : Option (List ℕ)) where
         forgets = now.forgets;
         asks = now.asks;
       })) in
-      subst (λ (t : Seat). IsSeen t.sitting (shown_screen t.session.desktop) known held) (sym same) (record {
+      subst (λ (t : Seat). IsSeen the_desk t.sitting (shown_screen t.session.desktop) known held) (sym same) (record {
         scene = before.scene;
         is = scene_stays next s (shown_screen seat.session.desktop) before.scene (nothing_seen s.hand two.1)
             (nothing_seen next.0 one.1) before.is;
@@ -374,7 +375,7 @@ module _ (known : List (List Face)) (held : Option (List ℕ)) where
       ]
 
   presses_stand : {D : Type 0} (d : Ghosts D) {presses : List Press} {s s' : Sitting} {old new : StoreView D}
-      → DoesPresses d presses s s' old new → Stands s old.desktop → Stands s' new.desktop
+      → DoesPresses the_desk d presses s s' old new → Stands s old.desktop → Stands s' new.desktop
   presses_stand d no_press stands = stands
   presses_stand d (one_press {s' = s'} {s'' = s''} {mid = mid} {new = new} press before done) stands =
       subst (λ (t : Seat). Stands t.sitting t.session.desktop) (sym done.seat)
@@ -397,10 +398,10 @@ module _ (known : List (List Face)) (held : Option (List ℕ)) where
 -- ---- turns
 
 module _ {D : Type 0} (d : Ghosts D) {old new : TurnState D} where
-  pub turn_seen : {events : List Event} → Turns d events old new → IsSeenUnlessDue new
+  pub turn_seen : {events : List Event} → Turns the_desk d events old new → IsSeenUnlessDue the_desk new
   turn_seen turn =
-      let start : Stands new.known new.held (sitting_shown old) turn.mid.desktop = λ due.
-      subst (λ desktop. IsSeen (sitting_shown old) (shown_screen desktop) new.known new.held)
+      let start : Stands new.known new.held (sitting_shown the_desk old) turn.mid.desktop = λ due.
+      subst (λ desktop. IsSeen the_desk (sitting_shown the_desk old) (shown_screen desktop) new.known new.held)
       (sym (ap (λ (s : Session). s.desktop) turn.scene.looked.session)) turn.scene.seen in
       let after : Stands new.known new.held new.sitting new.store.desktop =
       subst (λ t. Stands new.known new.held t new.store.desktop) (sym turn.brings.brings)
@@ -440,28 +441,28 @@ again_due deed from to s due = either_due (is_unmoved from to) s _ due (changed_
 
 module _ {D : Type 0} (d : Ghosts D) {s s' : Sitting} {old new : StoreView D} where
   -- or nothing was asked for
-  travelled_due : Travelled d s s' old new → ((s' ≡ s) × (new ≡ old)) ⊎ IsDue s'
+  travelled_due : Travelled the_desk d s s' old new → ((s' ≡ s) × (new ≡ old)) ⊎ IsDue s'
   travelled_due (not_asked none same unmoved) = inl (same, unmoved)
   travelled_due (back events asked taken is) = inr (subst IsDue (sym is)
       (back_due events (store_place old) (store_place new) (settled s)))
-  travelled_due (nothing asked none is unmoved) = inr (subst IsDue (sym is) (rings_due (refused NothingAgain
-      (goes_again (store_place old) s)) refl))
-  travelled_due (again event mid asked next comes is) = inr (subst IsDue (sym is)
-      (again_due event.deed (store_place old) (store_place new) mid
-      (subst (λ (t : Seat). IsDue t.sitting) (sym comes)
-      (post_due event.event (seat_of (goes_again (store_place old) s) old)))))
+  travelled_due (nothing asked none is unmoved) = inr (subst IsDue (sym is)
+      (rings_due (none_again (store_place old) s) refl))
+  travelled_due (again event asked next takes is) = inr (subst IsDue (sym is)
+      (again_due event.deed (store_place old) (store_place new) _
+      (post_due event.event (seat_of (goes_again (store_place old) s) old))))
 
-pub between_seen : {D : Type 0} (d : Ghosts D) {old new : TurnState D} → IsBetween d old new → IsSeenUnlessDue old
-    → IsSeenUnlessDue new
+pub between_seen : {D : Type 0} (d : Ghosts D) {old new : TurnState D} → IsBetween the_desk d old new
+    → IsSeenUnlessDue the_desk old
+    → IsSeenUnlessDue the_desk new
 between_seen d {old = old} {new = new} between seen due =
     elim (travelled_due d between.travelled.what) [
       | inl same ↦
           let before = seen (subst (λ t. is_scene_due t ≡ false) same.0 due) in (
-            subst (λ k. IsSeen new.sitting (store_screen new.store) k new.held) (sym between.still.known)
-                (subst (λ h. IsSeen new.sitting (store_screen new.store) old.known h)
+            subst (λ k. IsSeen the_desk new.sitting (store_screen new.store) k new.held) (sym between.still.known)
+                (subst (λ h. IsSeen the_desk new.sitting (store_screen new.store) old.known h)
                 (sym (ap (λ (x : Exchange). x.held) between.still.out))
-                (subst (λ t. IsSeen new.sitting (store_screen t) old.known old.held) (sym same.1)
-                (subst (λ t. IsSeen t (store_screen old.store) old.known old.held) (sym same.0) before.0))),
+                (subst (λ t. IsSeen the_desk new.sitting (store_screen t) old.known old.held) (sym same.1)
+                (subst (λ t. IsSeen the_desk t (store_screen old.store) old.known old.held) (sym same.0) before.0))),
             ap (λ (x : Exchange). x.waiting) between.still.out ∙ before.1,
           )
       | inr is ↦ absurd (true≢false (sym is.is ∙ due))

@@ -9,7 +9,7 @@ use Rattle.terminal_presses.specs.declared.press.Press.{Press}
 use Rattle.desk_sitting.specs.declared.sitting.Sitting.{Sitting}
 use Rattle.desk_sitting.specs.Doing.{Breaks, DoesPresses, GoesBy, IsPressDone, SittingSurvives, seat_of}
 use Rattle.desk_sitting.specs.Doing.{none as no_press, one_more as one_press}
-use Rattle.desk_sitting.specs.Sittings.{Seat, PressesAreSteps, accepted_events, accepted_of, after_press, after_presses}
+use Rattle.desk_sitting.specs.Desk.{Desk, Seat, accepted_events, after_presses}
 use Rattle.desk_sitting.specs.declared.ending.SittingEnd.{SittingEnd}
 use Rattle.desk_sitting.specs.declared.ending.SittingEnd.TheVariants.{Left, Closed, Input, TooLong, Output, Fault}
 use Rattle.desk_sitting.specs.declared.ending.SittingEnd.TheVariants.{Memory}
@@ -24,50 +24,51 @@ use Rattle.desk_sitting.proofs.Pressed.{goes_by_look, goes_nowhere, goes_on, loo
 
 -- ---- the events of presses
 
-accepted_more : (presses : List Press) (press : Press) (d : Seat)
-    → accepted_events (presses ++ press ∷ []) d ≡ accepted_events presses d ++ accepted_of press (after_presses presses d)
-accepted_more [] press d = append-nil (accepted_of press d)
-accepted_more (first ∷ presses) press d =
-    ap (λ es. accepted_of first d ++ es) (accepted_more presses press (after_press first d))
-    ∙ sym (append_assoc (accepted_of first d) (accepted_events presses (after_press first d))
-    (accepted_of press (after_presses presses (after_press first d))))
+module _ (desk : Desk) where
+  accepted_more : (presses : List Press) (press : Press) (seat : Seat)
+      → accepted_events desk (presses ++ press ∷ []) seat
+      ≡ accepted_events desk presses seat ++ desk.accepts press (after_presses desk presses seat)
+  accepted_more [] press seat = append-nil (desk.accepts press seat)
+  accepted_more (first ∷ presses) press seat =
+      ap (λ es. desk.accepts first seat ++ es) (accepted_more presses press (desk.does first seat))
+      ∙ sym (append_assoc (desk.accepts first seat) (accepted_events desk presses (desk.does first seat))
+      (desk.accepts press (after_presses desk presses (desk.does first seat))))
 
-after_more : (presses : List Press) (press : Press) (d : Seat)
-    → after_presses (presses ++ press ∷ []) d ≡ after_press press (after_presses presses d)
-after_more [] press d = refl
-after_more (first ∷ presses) press d = after_more presses press (after_press first d)
+  after_more : (presses : List Press) (press : Press) (seat : Seat)
+      → after_presses desk (presses ++ press ∷ []) seat ≡ desk.does press (after_presses desk presses seat)
+  after_more [] press seat = refl
+  after_more (first ∷ presses) press seat = after_more presses press (desk.does first seat)
 
-module _ {D : Type 0} (d : Ghosts D) where
-  pub scenes_survive : ScenesSurvive d
-  scenes_survive hearing old new mid scene = look_survives d old.store mid scene.looked
+  module _ {D : Type 0} (d : Ghosts D) where
+    pub scenes_survive : ScenesSurvive desk d
+    scenes_survive hearing old new mid scene = look_survives d old.store mid scene.looked
 
-  -- ---- presses that are done
+    -- ---- presses that are done
 
-  -- what presses leave
-  record Leads (presses : List Press) (s s' : Sitting) (old new : StoreView D) : Type 0 where
-    pub goes : GoesBy d (accepted_events presses (seat_of s old)) old new
-    pub seat : seat_of s' new ≡ after_presses presses (seat_of s old)
+    -- what presses leave
+    record Leads (presses : List Press) (s s' : Sitting) (old new : StoreView D) : Type 0 where
+      pub goes : GoesBy d (accepted_events desk presses (seat_of s old)) old new
+      pub seat : seat_of s' new ≡ after_presses desk presses (seat_of s old)
 
-  module _ (law : PressesAreSteps) where
     -- one press more
     leads_more : (presses : List Press) (press : Press) (s s' s'' : Sitting) (old mid new : StoreView D)
         → Leads presses s s' old mid
-        → IsPressDone d (accepted_of press (seat_of s' mid)) (after_press press (seat_of s' mid)) s'' mid new
+        → IsPressDone d (desk.accepts press (seat_of s' mid)) (desk.does press (seat_of s' mid)) s'' mid new
         → Leads (presses ++ press ∷ []) s s'' old new
     leads_more presses press s s' s'' old mid new before done =
         let start : Seat = seat_of s old in
-        let goes : GoesBy d (accepted_events presses start ++ accepted_of press (seat_of s' mid)) old new =
-        goes_on d (accepted_events presses start) (accepted_of press (seat_of s' mid)) old mid new before.goes
+        let goes : GoesBy d (accepted_events desk presses start ++ desk.accepts press (seat_of s' mid)) old new =
+        goes_on d (accepted_events desk presses start) (desk.accepts press (seat_of s' mid)) old mid new before.goes
         done.goes in
         record {
           goes = subst (λ es. GoesBy d es old new)
-              (ap (λ e. accepted_events presses start ++ accepted_of press e) before.seat
+              (ap (λ e. accepted_events desk presses start ++ desk.accepts press e) before.seat
               ∙ sym (accepted_more presses press start))
               goes;
-          seat = done.seat ∙ ap (after_press press) before.seat ∙ sym (after_more presses press start);
+          seat = done.seat ∙ ap (desk.does press) before.seat ∙ sym (after_more presses press start);
         }
 
-    leads : {presses : List Press} {s s' : Sitting} {old new : StoreView D} → DoesPresses d presses s s' old new
+    leads : {presses : List Press} {s s' : Sitting} {old new : StoreView D} → DoesPresses desk d presses s s' old new
         → d.honest old.disk → IsDurable d old → Leads presses s s' old new
     leads (no_press {store = store}) honest durable = record {
       goes = goes_nowhere d store honest durable;
@@ -80,35 +81,35 @@ module _ {D : Type 0} (d : Ghosts D) where
 
     -- presses of which the last one fails
     survives_break : (error : Error) (presses : List Press) (s : Sitting) (old new : StoreView D)
-        → (breaks : Breaks d error presses s old new) → d.honest old.disk → IsDurable d old
-        → SittingSurvives d (accepted_events breaks.done (seat_of s old) ++ breaks.undone.acknowledged)
+        → (breaks : Breaks desk d error presses s old new) → d.honest old.disk → IsDurable d old
+        → SittingSurvives d (accepted_events desk breaks.done (seat_of s old) ++ breaks.undone.acknowledged)
         breaks.undone.begun old new
     survives_break error presses s old new breaks honest durable =
         let first : Leads breaks.done s breaks.sitting old breaks.mid = leads breaks.does honest durable in
-        survives_on d (accepted_events breaks.done (seat_of s old)) breaks.undone.acknowledged breaks.undone.begun old
+        survives_on d (accepted_events desk breaks.done (seat_of s old)) breaks.undone.acknowledged breaks.undone.begun old
         breaks.mid new first.goes breaks.undone.survives
 
     -- for want of memory
     survives_starving : (presses : List Press) (s : Sitting) (old new : StoreView D)
-        → (breaks : Breaks d NoMemory presses s old new) → d.honest old.disk → IsDurable d old
-        → SittingSurvives d (accepted_events breaks.done (seat_of s old) ++ breaks.undone.acknowledged) [] old new
+        → (breaks : Breaks desk d NoMemory presses s old new) → d.honest old.disk → IsDurable d old
+        → SittingSurvives d (accepted_events desk breaks.done (seat_of s old) ++ breaks.undone.acknowledged) [] old new
     survives_starving presses s old new breaks honest durable =
         let first : Leads breaks.done s breaks.sitting old breaks.mid = leads breaks.does honest durable in
-        survives_on d (accepted_events breaks.done (seat_of s old)) breaks.undone.acknowledged [] old breaks.mid new
+        survives_on d (accepted_events desk breaks.done (seat_of s old)) breaks.undone.acknowledged [] old breaks.mid new
         first.goes (breaks.undone.starved refl)
 
     -- ---- turns
 
-    turn_goes : (events : List Event) (old new : TurnState D) → Turns d events old new → d.honest old.store.disk
+    turn_goes : (events : List Event) (old new : TurnState D) → Turns desk d events old new → d.honest old.store.disk
         → IsDurable d old.store → GoesBy d events old.store new.store
     turn_goes events old new turn honest durable =
         let looks : IsLookedAt d old.store turn.mid = turn.scene.looked in
-        let done : Leads _ (sitting_shown old) turn.sitting turn.mid new.store =
+        let done : Leads _ (sitting_shown desk old) turn.sitting turn.mid new.store =
         leads turn.does (looks.disk.device.still honest) looks.durable in
         subst (λ es. GoesBy d es old.store new.store) (sym turn.are)
         (goes_on d [] _ old.store turn.mid new.store (goes_by_look d old.store turn.mid looks honest durable) done.goes)
 
-    run_goes : {old : TurnState D} {count : ℕ} {events : List Event} {new : TurnState D} → IsTurnRun d old count events new
+    run_goes : {old : TurnState D} {count : ℕ} {events : List Event} {new : TurnState D} → IsTurnRun desk d old count events new
         → d.honest old.store.disk → IsDurable d old.store → GoesBy d events old.store new.store
     run_goes {old = old} no_turn honest durable = goes_nowhere d old.store honest durable
     run_goes {old = old} {new = new} (one_more_turn {events = events} {more = more} {mid = mid} run none_asked turn stays) honest
@@ -117,7 +118,7 @@ module _ {D : Type 0} (d : Ghosts D) where
         goes_on d events more old.store mid.store new.store first
         (turn_goes more mid new turn (first.device.still honest) first.durable)
 
-    pub turns_survive : TurnsSurvive d
+    pub turns_survive : TurnsSurvive desk d
     turns_survive count events old new run honest durable = run_goes run honest durable
 
     -- ---- the end
@@ -137,7 +138,7 @@ module _ {D : Type 0} (d : Ghosts D) where
     behind_scene events begun old mid new looks honest durable rest =
         survives_on d [] events begun old mid new (goes_by_look d old mid looks honest durable) rest
 
-    faulty_survives : (events begun : List Event) (old new : TurnState D) → Broke d DiskFault events begun old new
+    faulty_survives : (events begun : List Event) (old new : TurnState D) → Broke desk d DiskFault events begun old new
         → d.honest old.store.disk → IsDurable d old.store → SurvivesEnd d Fault events begun old.store new.store
     faulty_survives events begun old new broke honest durable =
         let looks : IsLookedAt d old.store broke.mid = broke.scene.looked in
@@ -145,21 +146,21 @@ module _ {D : Type 0} (d : Ghosts D) where
           survives = behind_scene events begun old.store broke.mid new.store looks honest durable
               (subst (λ es. SittingSurvives d events es broke.mid new.store) (sym broke.fails)
               (subst (λ es. SittingSurvives d es broke.breaks.undone.begun broke.mid new.store) (sym broke.are)
-              (survives_break DiskFault _ (sitting_shown old) broke.mid new.store broke.breaks
+              (survives_break DiskFault _ (sitting_shown desk old) broke.mid new.store broke.breaks
               (looks.disk.device.still honest) looks.durable)));
           one = subst (λ es. length es ≤ 1) (sym broke.fails) broke.breaks.undone.one;
           none_begun = λ wrong. absurd (wrong refl);
           goes_by = λ wrong _. absurd (wrong refl);
         }
 
-    starved_survives : (events begun : List Event) (old new : TurnState D) → Broke d NoMemory events begun old new
+    starved_survives : (events begun : List Event) (old new : TurnState D) → Broke desk d NoMemory events begun old new
         → d.honest old.store.disk → IsDurable d old.store → SurvivesEnd d Memory events [] old.store new.store
     starved_survives events begun old new broke honest durable =
         let looks : IsLookedAt d old.store broke.mid = broke.scene.looked in
         record {
           survives = behind_scene events [] old.store broke.mid new.store looks honest durable
               (subst (λ es. SittingSurvives d es [] broke.mid new.store) (sym broke.are)
-              (survives_starving _ (sitting_shown old) broke.mid new.store broke.breaks
+              (survives_starving _ (sitting_shown desk old) broke.mid new.store broke.breaks
               (looks.disk.device.still honest) looks.durable));
           one = omega arith;
           none_begun = λ _. refl;
@@ -168,7 +169,7 @@ module _ {D : Type 0} (d : Ghosts D) where
 
     -- in the turn in which the sitting ends
     stop_survives : {end : SittingEnd} {events begun : List Event} {old new : TurnState D}
-        → SittingStops d end events begun old new
+        → SittingStops desk d end events begun old new
         → d.honest old.store.disk → IsDurable d old.store → SurvivesEnd d end events begun old.store new.store
     stop_survives (left {events = events} {old = old} {new = new} turn leaves) honest durable =
         well_ended Left events old.store new.store (turn_goes events old new turn honest durable)
@@ -199,13 +200,13 @@ module _ {D : Type 0} (d : Ghosts D) where
     }
 
     end_survives : {end : SittingEnd} {turns : ℕ} {more begun : List Event} {mid new : TurnState D}
-        → Ends d end turns more begun mid new → d.honest mid.store.disk → IsDurable d mid.store
+        → Ends desk d end turns more begun mid new → d.honest mid.store.disk → IsDurable d mid.store
         → SurvivesEnd d end more begun mid.store new.store
     end_survives (stopped none_asked stops) honest durable = stop_survives stops honest durable
     end_survives (too_long {place = place}) honest durable =
         well_ended TooLong [] place.store place.store (goes_nowhere d place.store honest durable)
 
-    pub ends_survive : EndsSurvive d
+    pub ends_survive : EndsSurvive desk d
     ends_survive end count turns events more begun old mid new run ends honest durable =
         let first : GoesBy d events old.store mid.store = run_goes run honest durable in
         both_survive end events more begun old.store mid.store new.store first

@@ -1,7 +1,7 @@
 -- What taking back and doing again come to.
 use Rattle.std.proofs.Common.{◌≡◌, ◌≢◌, inl, inr, ℕ, List, false, refl, sym, ap, ◌∙◌}
 use Rattle.std.proofs.Common.{Option, Some, None, subst}
-use Rattle.press_plans.specs.declared.again.NextEvent.{NextEvent}
+use Rattle.done_presses.specs.declared.again.NextEvent.{NextEvent}
 use Rattle.std.specs.Prelude.{Result, Ok, Err, OnOk, IfErr}
 use Rattle.std.proofs.lemmas.Bool.{false≢true}
 use Rattle.sector_disk.specs.declared.disk.Disk.{Ghosts}
@@ -19,12 +19,20 @@ use Rattle.desk_journal.proofs.Passing.{at_start, shows_means}
 use Rattle.status_line.specs.declared.saying.Saying.TheVariants.{NotBack, NothingAgain}
 use Rattle.desk_sitting.specs.declared.sitting.Sitting.{Sitting}
 use Rattle.desk_sitting.specs.declared.sitting.Travel.TheVariants.{Back, Again}
-use Rattle.press_plans.specs.Again.{next_event}
-use Rattle.press_plans.specs.declared.again.StorePlace.{StorePlace}
+use Rattle.done_presses.specs.Again.{next_event}
+use Rattle.done_presses.specs.declared.again.StorePlace.{StorePlace}
 use Rattle.desk_sitting.specs.Doing.{IsUndone, OfPresses, ComesToSeat, seat_of}
 use Rattle.desk_sitting.specs.Sittings.{after_post, refused}
 use Rattle.desk_sitting.specs.Travels.{Travelled, Travels, did_again, goes_again, settled, step_count, store_place, took_back}
 use Rattle.desk_sitting.specs.Travels.{ComesBack, back, nothing, again, not_taken, taken as came_back}
+use Rattle.desk_journal.specs.Session.{Session, taken}
+use Rattle.desk_sitting.specs.Desk.{Seat}
+use Rattle.desk_sitting.specs.TheDesk.{the_desk}
+
+-- what the session is after a post
+posted_session : (event : Event) (seat : Seat) → (after_post event seat).session ≡ taken seat.session event
+unfolding after_post
+posted_session event seat = refl
 
 -- an error of an undo over an honest disk is one of these
 not_look : (error : Error) → OfLook error → error ≢ NoMemory → error ≢ Fault → error ≢ MustReopen → ⊥
@@ -50,8 +58,8 @@ module _ {D : Type 0} (d : Ghosts D) where
 
   -- nothing was written
   pub stays_there : {T : Type 0} (value : T) {s s' : Sitting} (store : StoreView D) → store.must_reopen ≡ false
-      → (s.travels ≡ Some Back → ComesBack d s s' store store) → Travelled d s s' store store
-      → Travels d (Ok value) s s' store store
+      → (s.travels ≡ Some Back → ComesBack d s s' store store) → Travelled the_desk d s s' store store
+      → Travels the_desk d (Ok value) s s' store store
   stays_there value store usable told what = record {
     done = λ honest durable. record {
       what = what;
@@ -74,7 +82,7 @@ module _ {D : Type 0} (d : Ghosts D) where
         → IsTakenBack d count events old new
         → FailsAs {T = U} Fault OfUndo (Ok x) (d.failures old.disk) (d.failures new.disk)
         → from ≡ store_place old → to ≡ store_place new
-        → s' ≡ took_back events from to (settled s) → Travels d (Ok value) s s' old new
+        → s' ≡ took_back events from to (settled s) → Travels the_desk d (Ok value) s s' old new
     goes_back value x events from to taken faults at come is = record {
       done = λ honest durable. record {
         what = back events asked taken_back so;
@@ -107,7 +115,7 @@ module _ {D : Type 0} (d : Ghosts D) where
         → (old.must_reopen ≡ false → new.must_reopen ≡ false → IsLeft d old new)
         → OnOk result ((error ≢ NoMemory) × (error ≢ Fault))
         → OnOk result (s' ≡ refused NotBack (settled s))
-        → IfErr result (λ e. (e ≡ error) × OfPresses error) → Travels d result s s' old new
+        → IfErr result (λ e. (e ≡ error) × OfPresses error) → Travels the_desk d result s s' old new
     goes_not error (Ok value) in_use stops reopen faults left stays said passed =
         let open_still : error ≢ MustReopen =
         λ is. false≢true (sym usable ∙ reopen.only (ap (λ e. Err e) is)) in
@@ -140,7 +148,7 @@ module _ {D : Type 0} (d : Ghosts D) where
   pub nothing_again : {T : Type 0} (value : T) {s s' : Sitting} (store : StoreView D) (from : StorePlace)
       (gone : Sitting) (found : Option NextEvent) → s.travels ≡ Some Again → store.must_reopen ≡ false
       → from ≡ store_place store → found ≡ next_event from s.again → found ≡ None → gone ≡ goes_again from s
-      → s' ≡ refused NothingAgain gone → Travels d (Ok value) s s' store store
+      → s' ≡ refused NothingAgain gone → Travels the_desk d (Ok value) s s' store store
   nothing_again value {s = s} store from gone found asked usable at found_is none_left left is =
       stays_there value store usable (λ wrong. again_not_back (sym asked ∙ wrong)) (nothing asked
       (ap (λ p. next_event p s.again) (sym at) ∙ sym found_is ∙ none_left)
@@ -159,14 +167,17 @@ module _ {D : Type 0} (d : Ghosts D) where
     -- the event is done again
     pub goes_on : {T U : Type 0} (value : T) (x : U) {s' : Sitting} (to : StorePlace) → to ≡ store_place new
         → ComesToSeat d {T = U} (after_post event.event (seat_of gone old)) (Ok x) mid old new
-        → s' ≡ did_again event.deed from to mid → Travels d (Ok value) s s' old new
+        → s' ≡ did_again event.deed from to mid → Travels the_desk d (Ok value) s s' old new
     goes_on value x to come takes is = record {
       done = λ honest durable.
           let done = takes.done honest durable in
           record {
-            what = again event mid asked there (done.seat ∙ ap (λ t. after_post event.event (seat_of t old)) same)
+            what = again event asked there
+                (ap (λ (t : Seat). t.session) done.seat ∙ posted_session event.event (seat_of gone old))
                 (is ∙ ap (λ p. did_again event.deed p to mid) at
-                ∙ ap (λ p. did_again event.deed (store_place old) p mid) come);
+                ∙ ap (λ p. did_again event.deed (store_place old) p mid) come
+                ∙ ap (λ (t : Seat). did_again event.deed (store_place old) (store_place new) t.sitting)
+                (done.seat ∙ ap (λ t. after_post event.event (seat_of t old)) same));
             any_moment = done.any_moment;
             durable = done.durable;
           };
@@ -184,11 +195,11 @@ module _ {D : Type 0} (d : Ghosts D) where
     -- it fails
     pub goes_wrong : {T U : Type 0} (result : Result T Error) (error : Error) → result ≡ Err error
         → ComesToSeat d {T = U} (after_post event.event (seat_of gone old)) (Err error) mid old new
-        → Travels d result s mid old new
-    goes_wrong {T = T} result error is takes = subst (λ r. Travels d r s mid old new) (sym is) (record {
+        → Travels the_desk d result s mid old new
+    goes_wrong {T = T} result error is takes = subst (λ r. Travels the_desk d r s mid old new) (sym is) (record {
       done = tt;
       stuck = λ honest durable. again event asked there
-          (subst (λ t. IsUndone d error (after_post event.event (seat_of t old)) old new) same
+          (subst (λ (t : Session). IsUndone d error t.desktop old new) (posted_session event.event (seat_of gone old))
           (takes.undone honest durable));
       told = tt;
       usable = tt;

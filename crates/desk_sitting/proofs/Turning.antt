@@ -25,7 +25,7 @@ use Rattle.desk_journal.specs.View.{StoreView, IsDurable}
 use Rattle.desk_journal.proofs.Passing.{at_start}
 use Rattle.desk_sitting.specs.declared.sitting.Sitting.{Sitting}
 use Rattle.desk_sitting.specs.Doing.{Breaks, DoesPresses, OfPresses, seat_of}
-use Rattle.desk_sitting.specs.Sittings.{accepted_events, is_scene_due, looked}
+use Rattle.desk_sitting.specs.Sittings.{is_scene_due, looked}
 use Rattle.desk_sitting.specs.declared.ending.SittingEnd.{SittingEnd}
 use Rattle.desk_sitting.specs.declared.ending.SittingEnd.TheVariants.{Left, Closed, Input, TooLong, Output, Fault}
 use Rattle.desk_sitting.specs.declared.ending.SittingEnd.TheVariants.{Memory}
@@ -38,6 +38,8 @@ use Rattle.desk_sitting.specs.Serving.{CountsOutput, left, closed}
 use Rattle.desk_sitting.specs.Serving.{unheard, unseen, faulty, starved, faulty_press, starved_press}
 use Rattle.desk_sitting.specs.Serving.{IsSeenUnlessDue, IsShownIfDue, StaysInUse}
 use Rattle.desk_sitting.proofs.Seen.{handed_so, seen_so}
+use Rattle.desk_sitting.specs.Desk.{accepted_events}
+use Rattle.desk_sitting.specs.TheDesk.{the_desk}
 
 -- ---- a scene
 
@@ -86,14 +88,14 @@ module _ {D : Type 0} (d : Ghosts D) where
 module _ (s s' : Sitting) (screen screen' : List (List Cell)) (known known' : List (List Face))
     (held between held' : Option (List ℕ)) {H : Type 0} where
   pub cut_behind : {T : Type 0} (result : Result T SittingEnd) → s' ≡ looked screen' s → (H → screen' ≡ screen)
-      → IsScenePainted s' screen' (known_by s.forgets known) known' held between
+      → IsScenePainted the_desk s' screen' (known_by s.forgets known) known' held between
       → OnErr result (AppendsFront between held' (after_scene s.rings s.asks))
-      → IfErr result (λ end. end ≡ Output) → IfErr result (λ end. H → IsUnshown end s screen known held held')
+      → IfErr result (λ end. end ≡ Output) → IfErr result (λ end. H → IsUnshown the_desk end s screen known held held')
   cut_behind (Ok value) looks shows painted front is = tt
   cut_behind (Err end) looks shows painted front is = λ h.
-      subst (λ e. IsUnshown e s screen known held held') (sym is) (behind_it
-      (subst (λ x. IsScenePainted (looked x s) x (known_by s.forgets known) known' held between) (shows h)
-      (subst (λ t. IsScenePainted t screen' (known_by s.forgets known) known' held between) looks painted)) front)
+      subst (λ e. IsUnshown the_desk e s screen known held held') (sym is) (behind_it
+      (subst (λ x. IsScenePainted the_desk (looked x s) x (known_by s.forgets known) known' held between) (shows h)
+      (subst (λ t. IsScenePainted the_desk t screen' (known_by s.forgets known) known' held between) looks painted)) front)
 
 -- ---- failures
 
@@ -216,11 +218,11 @@ module _ {D : Type 0} (d : Ghosts D) where
 
   -- a turn in which the sitting ends
   ended : {T : Type 0} (result : Result T SittingEnd) (end : SittingEnd) (old new : TurnState D) → result ≡ Err end
-      → (d.honest old.store.disk → IsDurable d old.store → IsSeenUnlessDue old → HasStopped d end old new)
+      → (d.honest old.store.disk → IsDurable d old.store → IsSeenUnlessDue the_desk old → HasStopped the_desk d end old new)
       → IsUsableAt end new.store
       → CountsEnding end (d.failures old.store.disk) (d.failures new.store.disk)
-      → IsSameDevice d old.store.disk new.store.disk → TakesTurn d result old new
-  ended result end old new is stops usable counts device = subst (λ r. TakesTurn d r old new) (sym is) (record {
+      → IsSameDevice d old.store.disk new.store.disk → TakesTurn the_desk d result old new
+  ended result end old new is stops usable counts device = subst (λ r. TakesTurn the_desk d r old new) (sym is) (record {
     goes_on = tt;
     stays = tt;
     stops = stops;
@@ -233,7 +235,8 @@ module _ {D : Type 0} (d : Ghosts D) where
   -- the scene isn't shown
   unshown_stops : (end : SittingEnd) (old new : TurnState D) → is_scene_due old.sitting ≡ true
       → IsLookedAt d old.store new.store → new.heard ≡ old.heard → new.asked ≡ old.asked
-      → IsUnshown end old.sitting (store_screen old.store) old.known old.held new.held → HasStopped d end old new
+      → IsUnshown the_desk end old.sitting (store_screen old.store) old.known old.held new.held
+      → HasStopped the_desk d end old new
   unshown_stops Left old new due looks heard unasked why = absurd why
   unshown_stops Closed old new due looks heard unasked why = absurd why
   unshown_stops Input old new due looks heard unasked why = absurd why
@@ -248,17 +251,17 @@ module _ {D : Type 0} (d : Ghosts D) where
   pub unshown_ends : {T : Type 0} {old new : TurnState D} (result : Result T SittingEnd) (end : SittingEnd)
       → result ≡ Err end → (d.honest old.store.disk → IsDurable d old.store → IsLookedAt d old.store new.store)
       → (is_scene_due old.sitting ≡ true)
-      × (d.honest old.store.disk → IsUnshown end old.sitting (store_screen old.store) old.known old.held new.held)
+      × (d.honest old.store.disk → IsUnshown the_desk end old.sitting (store_screen old.store) old.known old.held new.held)
       → new.heard ≡ old.heard → new.asked ≡ old.asked → new.store.must_reopen ≡ false
       → CountsEnding end (d.failures old.store.disk) (d.failures new.store.disk)
-      → IsSameDevice d old.store.disk new.store.disk → TakesTurn d result old new
+      → IsSameDevice d old.store.disk new.store.disk → TakesTurn the_desk d result old new
   unshown_ends {old = old} {new = new} result end is looks why heard unasked usable = ended result end old new is
       (λ honest durable seen. unshown_stops end old new why.0 (looks honest durable) heard unasked (why.1 honest))
       (λ _ _. usable)
 
   -- nothing is heard
-  deaf_stops : (why : KeyboardEnd) (old new : TurnState D) → IsDeaf d old new
-      → HasStopped d (end_of_keyboard why) old new
+  deaf_stops : (why : KeyboardEnd) (old new : TurnState D) → IsDeaf the_desk d old new
+      → HasStopped the_desk d (end_of_keyboard why) old new
   deaf_stops keyboard.Closed old new deaf = ([], [], closed deaf)
   deaf_stops keyboard.Fault old new deaf = ([], [], unheard deaf)
 
@@ -266,10 +269,10 @@ module _ {D : Type 0} (d : Ghosts D) where
       → result ≡ Err (end_of_keyboard why)
       → (d.honest old.store.disk → IsDurable d old.store → IsLookedAt d old.store new.store)
       → (d.honest old.store.disk
-      → IsShownIfDue old.sitting old.store new.store old.known new.known old.held new.held old.waiting new.waiting)
+      → IsShownIfDue the_desk old.sitting old.store new.store old.known new.known old.held new.held old.waiting new.waiting)
       → new.heard ≡ old.heard → new.asked ≡ old.asked → new.store.must_reopen ≡ false
       → d.failures new.store.disk ≡ d.failures old.store.disk
-      → IsSameDevice d old.store.disk new.store.disk → TakesTurn d result old new
+      → IsSameDevice d old.store.disk new.store.disk → TakesTurn the_desk d result old new
   deaf_ends {old = old} {new = new} result why is looks shown heard unasked usable calm =
       ended result (end_of_keyboard why) old new is
       (λ honest durable seen. deaf_stops why old new (record {
@@ -286,11 +289,12 @@ module _ {D : Type 0} (d : Ghosts D) where
   -- a scene is shown, after which the store and the sitting are these, and this is heard
   module _ {old new : TurnState D} (mid : StoreView D) (s : Sitting) (hearing : List Heard)
       (looks : d.honest old.store.disk → IsDurable d old.store → IsLookedAt d old.store mid)
-      (sees : d.honest old.store.disk → s ≡ sitting_shown old)
+      (sees : d.honest old.store.disk → s ≡ sitting_shown the_desk old)
       (shown : d.honest old.store.disk
-      → IsShownIfDue old.sitting old.store mid old.known new.known old.held new.held old.waiting new.waiting)
+      → IsShownIfDue the_desk old.sitting old.store mid old.known new.known old.held new.held old.waiting new.waiting)
       (heard : new.heard ≡ old.heard ++ hearing) (something : 1 ≤ length hearing) where
-    scene : d.honest old.store.disk → IsDurable d old.store → IsSeenUnlessDue old → HearsAfterScene d hearing old mid new
+    scene : d.honest old.store.disk → IsDurable d old.store → IsSeenUnlessDue the_desk old
+        → HearsAfterScene the_desk d hearing old mid new
     scene honest durable seen = record {
       looked = looks honest durable;
       shown = shown honest;
@@ -300,11 +304,12 @@ module _ {D : Type 0} (d : Ghosts D) where
     }
 
     pub turned : (s' : Sitting) → new.parser ≡ parser_after old.parser hearing
-        → (d.honest mid.disk → IsDurable d mid → DoesPresses d (presses_heard old.parser hearing) s s' mid new.store)
-        → IsFetched s' new.sitting old.asked new.asked → d.honest old.store.disk → IsDurable d old.store → IsSeenUnlessDue old
-        → HasTurned d old new
+        → (d.honest mid.disk → IsDurable d mid → DoesPresses the_desk d (presses_heard old.parser hearing) s s' mid new.store)
+        → IsFetched the_desk s' new.sitting old.asked new.asked → d.honest old.store.disk → IsDurable d old.store
+        → IsSeenUnlessDue the_desk old
+        → HasTurned the_desk d old new
     turned s' parser does brings honest durable seen = (
-      accepted_events (presses_heard old.parser hearing) (seat_of (sitting_shown old) mid),
+      accepted_events the_desk (presses_heard old.parser hearing) (seat_of (sitting_shown the_desk old) mid),
       record {
         hearing = hearing;
         something = something;
@@ -312,7 +317,7 @@ module _ {D : Type 0} (d : Ghosts D) where
         scene = scene honest durable seen;
         parser = parser;
         sitting = s';
-        does = subst (λ t. DoesPresses d (presses_heard old.parser hearing) t s' mid new.store) (sees honest)
+        does = subst (λ t. DoesPresses the_desk d (presses_heard old.parser hearing) t s' mid new.store) (sees honest)
             (does ((looks honest durable).disk.device.still honest) (looks honest durable).durable);
         are = refl;
         brings = brings;
@@ -321,17 +326,17 @@ module _ {D : Type 0} (d : Ghosts D) where
 
     -- a press fails
     broken : (error : Error) → OfPresses error → new.asked ≡ old.asked
-        → (d.honest mid.disk → IsDurable d mid → Breaks d error (presses_heard old.parser hearing) s mid new.store)
-        → d.honest old.store.disk → IsDurable d old.store → IsSeenUnlessDue old
-        → HasStopped d (sitting_end_of error) old new
+        → (d.honest mid.disk → IsDurable d mid → Breaks the_desk d error (presses_heard old.parser hearing) s mid new.store)
+        → d.honest old.store.disk → IsDurable d old.store → IsSeenUnlessDue the_desk old
+        → HasStopped the_desk d (sitting_end_of error) old new
     broken error why unasked fails honest durable seen =
-        let breaks : Breaks d error (presses_heard old.parser hearing) (sitting_shown old) mid new.store =
-        subst (λ t. Breaks d error (presses_heard old.parser hearing) t mid new.store) (sees honest)
+        let breaks : Breaks the_desk d error (presses_heard old.parser hearing) (sitting_shown the_desk old) mid new.store =
+        subst (λ t. Breaks the_desk d error (presses_heard old.parser hearing) t mid new.store) (sees honest)
         (fails ((looks honest durable).disk.device.still honest) (looks honest durable).durable) in
-        let events : List Event = accepted_events breaks.done (seat_of (sitting_shown old) mid)
+        let events : List Event = accepted_events the_desk breaks.done (seat_of (sitting_shown the_desk old) mid)
         ++ breaks.undone.acknowledged in
         let begun : List Event = breaks.undone.begun in
-        let broke : Broke d error events begun old new = record {
+        let broke : Broke the_desk d error events begun old new = record {
           hearing = hearing;
           something = something;
           mid = mid;
@@ -342,24 +347,25 @@ module _ {D : Type 0} (d : Ghosts D) where
           unasked = unasked;
         } in
         elim why [
-          | inl is ↦ subst (λ e. HasStopped d (sitting_end_of e) old new) (sym is)
-              (events, [], starved_press (subst (λ e. Broke d e events begun old new) is broke))
-          | inr is ↦ subst (λ e. HasStopped d (sitting_end_of e) old new) (sym is)
-              (events, begun, faulty_press (subst (λ e. Broke d e events begun old new) is broke))
+          | inl is ↦ subst (λ e. HasStopped the_desk d (sitting_end_of e) old new) (sym is)
+              (events, [], starved_press (subst (λ e. Broke the_desk d e events begun old new) is broke))
+          | inr is ↦ subst (λ e. HasStopped the_desk d (sitting_end_of e) old new) (sym is)
+              (events, begun, faulty_press (subst (λ e. Broke the_desk d e events begun old new) is broke))
         ]
 
     pub broken_ends : {T : Type 0} (result : Result T SittingEnd) (error : Error) → result ≡ Err (sitting_end_of error)
         → new.asked ≡ old.asked
-        → (d.honest mid.disk → IsDurable d mid → Breaks d error (presses_heard old.parser hearing) s mid new.store)
+        → (d.honest mid.disk → IsDurable d mid → Breaks the_desk d error (presses_heard old.parser hearing) s mid new.store)
         → d.failures mid.disk ≡ d.failures old.store.disk
         → FailsAs {T = T} DiskFault OfPresses (Err error) (d.failures mid.disk) (d.failures new.store.disk)
-        → IsSameDevice d old.store.disk new.store.disk → TakesTurn d result old new
+        → IsSameDevice d old.store.disk new.store.disk → TakesTurn the_desk d result old new
     broken_ends result error is unasked fails calm faults = ended result (sitting_end_of error) old new is
         (broken error faults.errors unasked fails) (unusable error new.store faults.errors)
         (counts_presses error (d.failures old.store.disk) (d.failures mid.disk) (d.failures new.store.disk) calm faults)
 
   -- the person leaves
-  pub left_stops : {old new : TurnState D} → HasTurned d old new → new.sitting.leaves ≡ true → HasStopped d Left old new
+  pub left_stops : {old new : TurnState D} → HasTurned the_desk d old new → new.sitting.leaves ≡ true
+      → HasStopped the_desk d Left old new
   left_stops turn leaves = (turn.0, [], left turn.1 leaves)
 
 -- what is heard is what the keyboard told
@@ -368,6 +374,6 @@ pub heard_so : {after told slice : List Heard} (heard : List Heard) → after �
 heard_so heard grown same = grown ∙ ap (λ l. heard ++ l) (sym same)
 
 -- hearing asks for nothing
-pub asked_so : {old new : Sitting} {first mid last : List ℕ} → mid ≡ first → IsFetched old new mid last
-    → IsFetched old new first last
-asked_so {old = old} {new = new} {last = last} same fetched = subst (λ a. IsFetched old new a last) same fetched
+pub asked_so : {old new : Sitting} {first mid last : List ℕ} → mid ≡ first → IsFetched the_desk old new mid last
+    → IsFetched the_desk old new first last
+asked_so {old = old} {new = new} {last = last} same fetched = subst (λ a. IsFetched the_desk old new a last) same fetched

@@ -16,20 +16,21 @@ use Rattle.desk_sitting.specs.Sitting.{Comes, IsStretchOfTurns, Sits, TakesEithe
 use Rattle.desk_sitting.specs.Travelling.{TakesBetween}
 use Rattle.desk_sitting.proofs.Seen.{between_seen, turn_seen}
 use Rattle.desk_sitting.proofs.Turning.{same_device}
+use Rattle.desk_sitting.specs.TheDesk.{the_desk}
 
 module _ {D : Type 0} (d : Ghosts D) where
   -- so many turns have led to a place of a stretch
   pub record HasRun (first : TurnState D) (count : ℕ) (place : TurnState D) : Type 0 where
     pub before : ℕ
     pub start : TurnState D
-    pub comes : Comes d first before start
+    pub comes : Comes the_desk d first before start
     pub within : ℕ
     pub counts : before + within ≡ count
     pub still : d.honest start.store.disk
     pub started : IsDurable d start.store
     pub events : List Event
-    pub run : IsTurnRun d start within events place
-    pub seen : IsSeenUnlessDue place
+    pub run : IsTurnRun the_desk d start within events place
+    pub seen : IsSeenUnlessDue the_desk place
 
   -- after so many turns
   pub record HasCome (first : TurnState D) (count : ℕ) (place : TurnState D) : Type 0 where
@@ -39,7 +40,7 @@ module _ {D : Type 0} (d : Ghosts D) where
     pub device : IsSameDevice d first.store.disk place.store.disk
 
   pub come_none : {first : TurnState D} → IsDurable d first.store → first.store.must_reopen ≡ false
-      → IsSeenUnlessDue first → HasCome first 0 first
+      → IsSeenUnlessDue the_desk first → HasCome first 0 first
   come_none {first = first} durable usable seen = record {
     run = λ honest. record {
       before = 0;
@@ -58,9 +59,10 @@ module _ {D : Type 0} (d : Ghosts D) where
     device = record { as_large = refl; still = λ honest. honest; already = λ honest. honest };
   }
 
-  module _ (turns : TurnsSurvive d) (ends : EndsSurvive d) {first : TurnState D} {count : ℕ} {place : TurnState D}
+  module _ (turns : TurnsSurvive the_desk d) (ends : EndsSurvive the_desk d) {first : TurnState D} {count : ℕ}
+      {place : TurnState D}
       (come : HasCome first count place) where
-    stretch : (run : HasRun first count place) → IsStretchOfTurns d run.start run.within place
+    stretch : (run : HasRun first count place) → IsStretchOfTurns the_desk d run.start run.within place
     stretch run = record {
       durable = run.started;
       events = run.events;
@@ -70,7 +72,7 @@ module _ {D : Type 0} (d : Ghosts D) where
 
     -- a turn more
     turn_more : {T : Type 0} {new : TurnState D} (value : T) → is_none place.sitting.travels ≡ true
-        → TakesTurn d (Ok value) place new → HasCome first (count + 1) new
+        → TakesTurn the_desk d (Ok value) place new → HasCome first (count + 1) new
     turn_more {new = new} value none_asked turn = record {
       run = λ honest.
           let run = come.run honest in
@@ -94,7 +96,7 @@ module _ {D : Type 0} (d : Ghosts D) where
 
     -- what was asked for beside the presses
     between_more : {T : Type 0} {new : TurnState D} (value : T) → is_none place.sitting.travels ≡ false
-        → TakesBetween d (Ok value) place new → HasCome first (count + 1) new
+        → TakesBetween the_desk d (Ok value) place new → HasCome first (count + 1) new
     between_more {new = new} value asked turn = record {
       run = λ honest.
           let run = come.run honest in
@@ -116,7 +118,7 @@ module _ {D : Type 0} (d : Ghosts D) where
       device = same_device d first.store.disk place.store.disk new.store.disk come.device turn.device;
     }
 
-    pub come_more : {T : Type 0} {new : TurnState D} (value : T) → TakesEitherTurn d (Ok value) place new
+    pub come_more : {T : Type 0} {new : TurnState D} (value : T) → TakesEitherTurn the_desk d (Ok value) place new
         → HasCome first (count + 1) new
     come_more value either = elim (true_or_false (is_none place.sitting.travels)) [
       | inl none_asked ↦ turn_more value none_asked (either.shows none_asked)
@@ -124,8 +126,8 @@ module _ {D : Type 0} (d : Ghosts D) where
     ]
 
     sat_with : (end : SittingEnd) (more begun : List Event) (last : TurnState D) (run : HasRun first count place)
-        → Ends d end (run.before + run.within) more begun place last
-        → Sits d end first last.store (exchange_at last)
+        → Ends the_desk d end (run.before + run.within) more begun place last
+        → Sits the_desk d end first last.store (exchange_at last)
     sat_with end more begun last run why = record {
       before = run.before;
       start = run.start;
@@ -151,16 +153,16 @@ module _ {D : Type 0} (d : Ghosts D) where
 
     -- a turn in which the sitting ends
     turn_to_end : {T : Type 0} {last : TurnState D} (end : SittingEnd) → is_none place.sitting.travels ≡ true
-        → TakesTurn d {T = T} (Err end) place last → d.honest first.store.disk
-        → Sits d end first last.store (exchange_at last)
+        → TakesTurn the_desk d {T = T} (Err end) place last → d.honest first.store.disk
+        → Sits the_desk d end first last.store (exchange_at last)
     turn_to_end {last = last} end none_asked turn honest =
         let run = come.run honest in
-        let why : HasStopped d end place last =
+        let why : HasStopped the_desk d end place last =
         turn.stops (come.device.still honest) (stretch run).goes.durable run.seen in
         sat_with end why.0 why.1 last run (stopped none_asked why.2)
 
-    lost_to_end : {T : Type 0} {last : TurnState D} (end : SittingEnd) → TakesBetween d {T = T} (Err end) place last
-        → d.honest first.store.disk → Sits d end first last.store (exchange_at last)
+    lost_to_end : {T : Type 0} {last : TurnState D} (end : SittingEnd) → TakesBetween the_desk d {T = T} (Err end) place last
+        → d.honest first.store.disk → Sits the_desk d end first last.store (exchange_at last)
     lost_to_end {last = last} end turn honest =
         let run = come.run honest in
         record {
@@ -178,8 +180,8 @@ module _ {D : Type 0} (d : Ghosts D) where
           });
         }
 
-    pub sat_to_end : {T : Type 0} {last : TurnState D} (end : SittingEnd) → TakesEitherTurn d {T = T} (Err end) place last
-        → d.honest first.store.disk → Sits d end first last.store (exchange_at last)
+    pub sat_to_end : {T : Type 0} {last : TurnState D} (end : SittingEnd) → TakesEitherTurn the_desk d {T = T} (Err end) place last
+        → d.honest first.store.disk → Sits the_desk d end first last.store (exchange_at last)
     sat_to_end {last = last} end either honest = elim (true_or_false (is_none place.sitting.travels)) [
       | inl none_asked ↦ turn_to_end end none_asked (either.shows none_asked) honest
       | inr asked ↦ lost_to_end end (either.goes asked) honest
@@ -187,8 +189,8 @@ module _ {D : Type 0} (d : Ghosts D) where
 
     -- as many turns as there may be
     pub sat_too_long : count ≡ MOST_TURNS → d.honest first.store.disk
-        → Sits d TooLong first place.store (exchange_at place)
+        → Sits the_desk d TooLong first place.store (exchange_at place)
     sat_too_long most honest =
         let run = come.run honest in
         sat_with TooLong [] [] place run
-        (subst (λ n. Ends d TooLong n [] [] place place) (omega (arith, most, run.counts)) too_long)
+        (subst (λ n. Ends the_desk d TooLong n [] [] place place) (omega (arith, most, run.counts)) too_long)

@@ -15,7 +15,8 @@ use Rattle.terminal_presses.specs.declared.action.Action.{Action}
 use Rattle.terminal_presses.specs.declared.press.Press.{Press}
 use Rattle.desk_sitting.specs.declared.sitting.Sitting.{Sitting}
 use Rattle.desk_journal.specs.Session.{session_of}
-use Rattle.desk_sitting.specs.Sittings.{Seat, accepted_as, accepted_of, after_press, done_by, does}
+use Rattle.desk_sitting.specs.Desk.{Desk, Seat}
+use Rattle.desk_sitting.specs.Sittings.{accepted_as, done_by, does}
 
 abbrev pub seat_of : {D : Type 0} → Sitting → StoreView D → Seat
 seat_of s store = record { sitting = s; session = session_of store }
@@ -36,11 +37,11 @@ module _ {D : Type 0} (d : Ghosts D) where
     pub durable : IsDurable d new
     pub device : IsSameDevice d old.disk new.disk
 
-  -- It was to come to this seat, and fails. After a fault the event may be in an image, and for want of memory it is in
+  -- It was to lead to this desktop, and fails. After a fault the event may be in an image, and for want of memory it is in
   -- none.
-  pub record IsUndone (error : Error) (next : Seat) (old new : StoreView D) : Type 0 where
+  pub record IsUndone (error : Error) (next : Desktop) (old new : StoreView D) : Type 0 where
     pub any_moment : LeavesOnly (d.trail old.disk) (d.trail new.disk)
-        (MeansEither (d.size old.disk) old.desktop next.session.desktop)
+        (MeansEither (d.size old.disk) old.desktop next)
     pub starved : error ≡ NoMemory
         → LeavesOnly (d.trail old.disk) (d.trail new.disk) (Means (d.size old.disk) old.desktop)
     pub device : IsSameDevice d old.disk new.disk
@@ -51,7 +52,7 @@ module _ {D : Type 0} (d : Ghosts D) where
       : Type 0 where
     pub done : OnOk result (d.honest old.disk → IsDurable d old → IsDone next s' old new)
     pub undone : IfErr result (λ error. d.honest old.disk → IsDurable d old
-        → IsUndone error next old new)
+        → IsUndone error next.session.desktop old new)
     pub usable : OnOk result (new.must_reopen ≡ false)
     pub faults : FailsAs Fault OfPresses result (d.failures old.disk) (d.failures new.disk)
     pub device : IsSameDevice d old.disk new.disk
@@ -122,15 +123,16 @@ module _ {D : Type 0} (d : Ghosts D) where
   DoesAction a result s s' old new = DoesPress (accepted_as a (seat_of s old))
       (done_by a (seat_of s old)) result s' old new
 
-  -- ---- presses
+-- ---- presses
 
+module _ (desk : Desk) {D : Type 0} (d : Ghosts D) where
   -- presses are done, one after another
   pub data DoesPresses : List Press → Sitting → Sitting → StoreView D → StoreView D → Type 0 where
     none : {s : Sitting} {store : StoreView D} → DoesPresses [] s s store store
     one_more : {presses : List Press} {s s' s'' : Sitting} {old mid new : StoreView D}
         (press : Press)
         → DoesPresses presses s s' old mid
-        → IsPressDone (accepted_of press (seat_of s' mid)) (after_press press (seat_of s' mid))
+        → IsPressDone d (desk.accepts press (seat_of s' mid)) (desk.does press (seat_of s' mid))
         s'' mid new
         → DoesPresses (presses ++ press ∷ []) s s'' old new
 
@@ -144,7 +146,7 @@ module _ {D : Type 0} (d : Ghosts D) where
     pub sitting : Sitting
     pub mid : StoreView D
     pub does : DoesPresses done s sitting old mid
-    pub undone : IsPressUndone error (accepted_of press (seat_of sitting mid)) mid new
+    pub undone : IsPressUndone d error (desk.accepts press (seat_of sitting mid)) mid new
 
   -- All that a call promises that is to do these presses.
   pub record DoesAllPresses {T : Type 0} (presses : List Press) (result : Result T Error)

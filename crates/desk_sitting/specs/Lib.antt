@@ -1,3 +1,4 @@
+pub mod Desk
 pub mod Doing
 pub mod Endings
 pub mod Files
@@ -7,5 +8,6 @@ pub mod Serving
 pub mod Sitting
 pub mod Sittings
 pub mod Surviving
+pub mod TheDesk
 pub mod Travelling
 pub mod Travels

@@ -1,45 +1,21 @@
 -- What a terminal is sent in a turn of a sitting.
-use Rattle.std.specs.Prelude.{◌≡◌, ◌+◌, ℕ, Bool, if◌then◌else◌, List, [], ◌∷◌, ◌++◌, Option, is_some}
+use Rattle.std.specs.Prelude.{◌≡◌, ◌+◌, ℕ, Bool, if◌then◌else◌, List, [], ◌∷◌, ◌++◌, Option}
 use Rattle.std.specs.Io.KnownBytes.{Appends}
 use Rattle.byte_streams.specs.Sent.{AppendsFront}
 use Rattle.viewer_tracks.specs.declared.display.TheConstants.{ROWS}
 use Rattle.screen_pictures.specs.declared.cell.Cell.{Cell}
-use Rattle.terminal_presses.specs.Sights.{columns_in_sight, first_column, terminal_place}
-use Rattle.terminal_presses.specs.Pointers.{pointer_cell}
-pub use Rattle.event_bytes.specs.Parts.{◌>>=◌}
+use Rattle.terminal_presses.specs.Sights.{columns_in_sight, first_column}
 use Rattle.screen_drawing.specs.declared.face.Face.{Face}
 use Rattle.screen_drawing.specs.declared.scene.Scene.{Scene}
 use Rattle.screen_drawing.specs.declared.operation.Operation.TheVariants.{Ring}
 use Rattle.screen_drawing.specs.Scene.{scene_rows, line_height, text_below}
 use Rattle.screen_drawing.specs.Painting.{Paints, PaintsFront}
 use Rattle.screen_drawing.specs.Spelling.{operation_bytes}
-use Rattle.status_line.specs.Sayings.{line_of, said_by_pointer}
 use Rattle.desk_sitting.specs.declared.sitting.Sitting.{Sitting}
-use Rattle.desk_sitting.specs.Sittings.{looked}
+use Rattle.desk_sitting.specs.Desk.{Desk}
 use Rattle.desk_sitting.specs.declared.ending.SittingEnd.{SittingEnd}
 use Rattle.desk_sitting.specs.declared.ending.SittingEnd.TheVariants.{Left, Closed, Input, TooLong, Output, Fault}
 use Rattle.desk_sitting.specs.declared.ending.SittingEnd.TheVariants.{Memory}
-
--- where in the terminal the pointer is that keys move, while it is shown
-abbrev pub pointer_of : Sitting → Option (ℕ × ℕ)
-pointer_of s = pointer_cell s.hand.pointer >>= terminal_place s.sight
-
--- the line below a screen
-abbrev pub sitting_line : List (List Cell) → Sitting → List ℕ
-sitting_line screen s = line_of screen s.logged.items s.hand.asked s.hand.asks_line s.hand.armed
-    (said_by_pointer (is_some (pointer_cell s.hand.pointer)) s.saying)
-
--- the part of the screen that is in sight, the pointer, and the line below
-pub record IsSceneOf (s : Sitting) (screen : List (List Cell)) (scene : Scene) : Type 0 where
-  pub cells : scene.screen.now ≡ screen
-  pub first : scene.first + s.sight.top + 1 ≡ ROWS
-  pub rows : scene.rows ≡ s.sight.rows
-  pub left : scene.left ≡ first_column s.sight
-  pub columns : scene.columns ≡ columns_in_sight s.sight
-  pub width : scene.width ≡ s.sight.width
-  pub has_line : line_height scene.below ≡ 1
-  pub pointer : scene.pointer ≡ pointer_of s
-  pub line : text_below scene.below ≡ sitting_line screen s
 
 -- what is known of the terminal before the scene is painted
 abbrev pub known_by : Bool → List (List Face) → List (List Face)
@@ -59,63 +35,75 @@ request asks = if asks then size_request else []
 abbrev pub after_scene : Bool → Bool → List ℕ
 after_scene rings asks = bell_bytes rings ++ request asks
 
--- A writer took what has the terminal show the scene.
-pub record IsScenePainted (s : Sitting) (screen : List (List Cell))
-    (known known' : List (List Face))
-    (held held' : Option (List ℕ)) : Type 0 where
-  pub scene : Scene
-  pub is : IsSceneOf s screen scene
-  pub paints : Paints held held' known scene
-  pub rows : known' ≡ scene_rows scene
+module _ (desk : Desk) where
+  -- the part of the screen that is in sight, the pointer, and the line below
+  pub record IsSceneOf (s : Sitting) (screen : List (List Cell)) (scene : Scene) : Type 0 where
+    pub cells : scene.screen.now ≡ screen
+    pub first : scene.first + s.sight.top + 1 ≡ ROWS
+    pub rows : scene.rows ≡ s.sight.rows
+    pub left : scene.left ≡ first_column s.sight
+    pub columns : scene.columns ≡ columns_in_sight s.sight
+    pub width : scene.width ≡ s.sight.width
+    pub has_line : line_height scene.below ≡ 1
+    pub pointer : scene.pointer ≡ desk.points s
+    pub line : text_below scene.below ≡ desk.says screen s
 
--- It took a front of that.
-pub record IsHalfPainted (s : Sitting) (screen : List (List Cell)) (known : List (List Face))
-    (held held' : Option (List ℕ)) : Type 0 where
-  pub scene : Scene
-  pub is : IsSceneOf s screen scene
-  pub front : PaintsFront held held' known scene
+  -- A writer took what has the terminal show the scene.
+  pub record IsScenePainted (s : Sitting) (screen : List (List Cell))
+      (known known' : List (List Face)) (held held' : Option (List ℕ)) : Type 0 where
+    pub scene : Scene
+    pub is : IsSceneOf s screen scene
+    pub paints : Paints held held' known scene
+    pub rows : known' ≡ scene_rows scene
 
--- A writer took the scene, and what is sent after it, and handed all of it on: no write waits for a flush.
-pub record IsSceneShown (s : Sitting) (screen : List (List Cell)) (known known' : List (List Face))
-    (held held' : Option (List ℕ)) (waiting' : ℕ) : Type 0 where
-  pub between : Option (List ℕ)
-  pub painted : IsScenePainted (looked screen s) screen (known_by s.forgets known) known' held
-      between
-  pub after : Appends between held' (after_scene s.rings s.asks)
-  pub handed : waiting' ≡ 0
+  -- It took a front of that.
+  pub record IsHalfPainted (s : Sitting) (screen : List (List Cell)) (known : List (List Face))
+      (held held' : Option (List ℕ)) : Type 0 where
+    pub scene : Scene
+    pub is : IsSceneOf s screen scene
+    pub front : PaintsFront held held' known scene
 
--- What was sent last has the terminal show this scene. What is sent after a scene changes nothing of that.
-pub record IsSeen (s : Sitting) (screen : List (List Cell)) (known : List (List Face))
-    (held : Option (List ℕ)) : Type 0 where
-  pub scene : Scene
-  pub is : IsSceneOf s screen scene
-  pub rows : known ≡ scene_rows scene
-  pub was_known : List (List Face)
-  pub before : Option (List ℕ)
-  pub between : Option (List ℕ)
-  pub paints : Paints before between was_known scene
-  pub rings : Bool
-  pub asks : Bool
-  pub after : Appends between held (after_scene rings asks)
+  -- A writer took the scene, and what is sent after it, and handed all of it on: no write waits for a flush.
+  pub record IsSceneShown (s : Sitting) (screen : List (List Cell))
+      (known known' : List (List Face)) (held held' : Option (List ℕ)) (waiting' : ℕ)
+      : Type 0 where
+    pub between : Option (List ℕ)
+    pub painted : IsScenePainted (desk.looks screen s) screen (known_by s.forgets known) known' held
+        between
+    pub after : Appends between held' (after_scene s.rings s.asks)
+    pub handed : waiting' ≡ 0
 
--- It took a front of that.
-pub data IsSceneCutShort (s : Sitting) (screen : List (List Cell)) (known : List (List Face))
-    (held held' : Option (List ℕ)) : Type 0 where
-  in_scene : IsHalfPainted (looked screen s) screen (known_by s.forgets known) held held'
-      → IsSceneCutShort s screen known held held'
-  behind_it : {known' : List (List Face)} {between : Option (List ℕ)}
-      → IsScenePainted (looked screen s) screen (known_by s.forgets known) known' held between
-      → AppendsFront between held' (after_scene s.rings s.asks)
-      → IsSceneCutShort s screen known held held'
+  -- What was sent last has the terminal show this scene. What is sent after a scene changes nothing of that.
+  pub record IsSeen (s : Sitting) (screen : List (List Cell)) (known : List (List Face))
+      (held : Option (List ℕ)) : Type 0 where
+    pub scene : Scene
+    pub is : IsSceneOf s screen scene
+    pub rows : known ≡ scene_rows scene
+    pub was_known : List (List Face)
+    pub before : Option (List ℕ)
+    pub between : Option (List ℕ)
+    pub paints : Paints before between was_known scene
+    pub rings : Bool
+    pub asks : Bool
+    pub after : Appends between held (after_scene rings asks)
 
--- Why the scene isn't shown. Where the screen can't be worked out, nothing is sent.
-abbrev pub IsUnshown : SittingEnd → Sitting → List (List Cell) → List (List Face) → Option (List ℕ)
-    → Option (List ℕ)
-    → Type 0
-IsUnshown Left s screen known held held' = ⊥
-IsUnshown Closed s screen known held held' = ⊥
-IsUnshown Input s screen known held held' = ⊥
-IsUnshown TooLong s screen known held held' = ⊥
-IsUnshown Output s screen known held held' = IsSceneCutShort s screen known held held'
-IsUnshown Fault s screen known held held' = held' ≡ held
-IsUnshown Memory s screen known held held' = held' ≡ held
+  -- It took a front of that.
+  pub data IsSceneCutShort (s : Sitting) (screen : List (List Cell)) (known : List (List Face))
+      (held held' : Option (List ℕ)) : Type 0 where
+    in_scene : IsHalfPainted (desk.looks screen s) screen (known_by s.forgets known) held held'
+        → IsSceneCutShort s screen known held held'
+    behind_it : {known' : List (List Face)} {between : Option (List ℕ)}
+        → IsScenePainted (desk.looks screen s) screen (known_by s.forgets known) known' held between
+        → AppendsFront between held' (after_scene s.rings s.asks)
+        → IsSceneCutShort s screen known held held'
+
+  -- Why the scene isn't shown. Where the screen can't be worked out, nothing is sent.
+  abbrev pub IsUnshown : SittingEnd → Sitting → List (List Cell) → List (List Face)
+      → Option (List ℕ) → Option (List ℕ) → Type 0
+  IsUnshown Left s screen known held held' = ⊥
+  IsUnshown Closed s screen known held held' = ⊥
+  IsUnshown Input s screen known held held' = ⊥
+  IsUnshown TooLong s screen known held held' = ⊥
+  IsUnshown Output s screen known held held' = IsSceneCutShort s screen known held held'
+  IsUnshown Fault s screen known held held' = held' ≡ held
+  IsUnshown Memory s screen known held held' = held' ≡ held

@@ -15,12 +15,12 @@ use Rattle.screen_drawing.specs.declared.face.Face.{Face}
 use Rattle.terminal_keyboard.specs.declared.parser.Parser.{Parser}
 use Rattle.terminal_presses.specs.declared.press.Heard.{Heard}
 use Rattle.terminal_keyboard.specs.Hearings.{asked_for}
-use Rattle.terminal_keyboard.specs.Presses.{at_rest, parser_after, presses_heard}
-use Rattle.press_plans.specs.Past.{PastView}
+use Rattle.done_presses.specs.Past.{PastView}
 use Rattle.status_line.specs.declared.saying.Saying.{Saying}
 use Rattle.desk_sitting.specs.declared.sitting.Sitting.{Sitting}
 use Rattle.desk_sitting.specs.Doing.{Breaks, DoesPresses, seat_of}
-use Rattle.desk_sitting.specs.Sittings.{accepted_events, after_fetch, is_scene_due, looked, new_sitting}
+use Rattle.desk_sitting.specs.Desk.{Desk, accepted_events}
+use Rattle.desk_sitting.specs.Sittings.{is_scene_due}
 use Rattle.desk_sitting.specs.declared.ending.SittingEnd.{SittingEnd}
 use Rattle.desk_sitting.specs.declared.ending.SittingEnd.TheVariants.{Left, Closed, Input, TooLong, Output, Fault}
 use Rattle.desk_sitting.specs.declared.ending.SittingEnd.TheVariants.{Memory}
@@ -61,26 +61,6 @@ exchange_at p = exchange p.heard p.asked p.held p.waiting
 abbrev pub store_screen : {D : Type 0} → StoreView D → List (List Cell)
 store_screen store = shown_screen store.desktop
 
--- the sitting after the scene was shown; where none is due it is as before
-abbrev pub sitting_shown : {D : Type 0} → TurnState D → Sitting
-sitting_shown p = looked (store_screen p.store) p.sitting
-
--- Unless a scene is due, what was sent last has the terminal show the scene of the desktop that stands, and all of it
--- was handed on.
-abbrev pub IsSeenUnlessDue : {D : Type 0} → TurnState D → Type 0
-IsSeenUnlessDue p = is_scene_due p.sitting ≡ false
-    → IsSeen p.sitting (store_screen p.store) p.known p.held × (p.waiting ≡ 0)
-
--- What is shown before anything is heard: the scene, where one is due. Else nothing is sent, and nobody looks at the
--- store.
-pub data IsShownIfDue {D : Type 0} (s : Sitting) (old mid : StoreView D)
-    (known known' : List (List Face)) (held held' : Option (List ℕ)) (waiting waiting' : ℕ)
-    : Type 0 where
-  anew : is_scene_due s ≡ true → IsSceneShown s (store_screen old) known known' held held' waiting'
-      → IsShownIfDue s old mid known known' held held' waiting waiting'
-  still : is_scene_due s ≡ false → mid ≡ old → known' ≡ known → held' ≡ held → waiting' ≡ waiting
-      → IsShownIfDue s old mid known known' held held' waiting waiting'
-
 abbrev pub turn_state_of : {D : Type 0} → Parser → Sitting → StoreView D → List (List Face)
     → Exchange → TurnState D
 turn_state_of parser sitting store known out = record {
@@ -94,24 +74,10 @@ turn_state_of parser sitting store known out = record {
   waiting = out.waiting;
 }
 
--- nothing was heard yet, and nothing is known of the terminal
-abbrev pub first_place : {D : Type 0} → ℕ → ℕ → Saying → Bool → Bool → PastView → StoreView D
-    → Exchange → TurnState D
-first_place height width greeting questions fills past store out =
-    turn_state_of at_rest
-    (record (new_sitting height width greeting questions) { fills = fills; past = past }) store []
-    out
-
 -- the host file that is asked for, where one is wanted, and the answer
 abbrev pub asking_for : Option (List ℕ) → Bool → List ℕ
 asking_for None will_be_heard = []
 asking_for (Some name) will_be_heard = asked_for name will_be_heard
-
--- the keyboard was asked for the text of the host file that is wanted, and of no other
-pub record IsFetched (old new : Sitting) (asked asked' : List ℕ) : Type 0 where
-  pub will_be_heard : Bool
-  pub brings : new ≡ after_fetch will_be_heard old
-  pub asks : asked' ≡ asked ++ asking_for old.wanted will_be_heard
 
 -- where neither the disk nor the memory failed, the store needn't be opened again
 abbrev pub IsUsableAt : {D : Type 0} → SittingEnd → StoreView D → Type 0
@@ -149,16 +115,61 @@ module _ {D : Type 0} (d : Ghosts D) where
     pub usable : new.must_reopen ≡ false
     pub device : IsSameDevice d old.disk new.disk
 
-  -- ---- a turn
+  -- the screen can't be worked out
+  pub record IsBlind (old new : TurnState D) : Type 0 where
+    pub due : is_scene_due old.sitting ≡ true
+    pub looked : IsLookedAt old.store new.store
+    pub held : new.held ≡ old.held
+    pub heard : new.heard ≡ old.heard
+    pub unasked : new.asked ≡ old.asked
 
+-- ---- a turn
+
+module _ (desk : Desk) where
+  -- the sitting after the scene was shown; where none is due it is as before
+  abbrev pub sitting_shown : {D : Type 0} → TurnState D → Sitting
+  sitting_shown p = desk.looks (store_screen p.store) p.sitting
+
+  -- Unless a scene is due, what was sent last has the terminal show the scene of the desktop that stands, and all of it
+  -- was handed on.
+  abbrev pub IsSeenUnlessDue : {D : Type 0} → TurnState D → Type 0
+  IsSeenUnlessDue p = is_scene_due p.sitting ≡ false
+      → IsSeen desk p.sitting (store_screen p.store) p.known p.held × (p.waiting ≡ 0)
+
+  -- What is shown before anything is heard: the scene, where one is due. Else nothing is sent, and nobody looks at the
+  -- store.
+  pub data IsShownIfDue {D : Type 0} (s : Sitting) (old mid : StoreView D)
+      (known known' : List (List Face)) (held held' : Option (List ℕ)) (waiting waiting' : ℕ)
+      : Type 0 where
+    anew : is_scene_due s ≡ true
+        → IsSceneShown desk s (store_screen old) known known' held held' waiting'
+        → IsShownIfDue s old mid known known' held held' waiting waiting'
+    still : is_scene_due s ≡ false → mid ≡ old → known' ≡ known → held' ≡ held → waiting' ≡ waiting
+        → IsShownIfDue s old mid known known' held held' waiting waiting'
+
+  -- nothing was heard yet, and nothing is known of the terminal
+  abbrev pub first_place : {D : Type 0} → ℕ → ℕ → Saying → Bool → Bool → PastView → StoreView D
+      → Exchange → TurnState D
+  first_place height width greeting questions fills past store out =
+      turn_state_of desk.parser
+      (record (desk.begins height width greeting questions) { fills = fills; past = past }) store []
+      out
+
+  -- the keyboard was asked for the text of the host file that is wanted, and of no other
+  pub record IsFetched (old new : Sitting) (asked asked' : List ℕ) : Type 0 where
+    pub will_be_heard : Bool
+    pub brings : new ≡ desk.fetches will_be_heard old
+    pub asks : asked' ≡ asked ++ asking_for old.wanted will_be_heard
+
+module _ (desk : Desk) {D : Type 0} (d : Ghosts D) where
   -- The terminal shows the desktop, be it anew or still: all that was sent was handed on. Then this is heard.
   pub record HearsAfterScene (hearing : List Heard) (old : TurnState D) (mid : StoreView D)
       (new : TurnState D) : Type 0 where
-    pub looked : IsLookedAt old.store mid
-    pub shown : IsShownIfDue old.sitting old.store mid old.known new.known old.held new.held
+    pub looked : IsLookedAt d old.store mid
+    pub shown : IsShownIfDue desk old.sitting old.store mid old.known new.known old.held new.held
         old.waiting new.waiting
     pub handed : new.waiting ≡ 0
-    pub seen : IsSeen (sitting_shown old) (store_screen old.store) new.known new.held
+    pub seen : IsSeen desk (sitting_shown desk old) (store_screen old.store) new.known new.held
     pub heard : new.heard ≡ old.heard ++ hearing
 
   -- Then what is pressed by it is done, of which these events are accepted, and the keyboard is asked for the text of a
@@ -168,13 +179,13 @@ module _ {D : Type 0} (d : Ghosts D) where
     pub something : 1 ≤ length hearing
     pub mid : StoreView D
     pub scene : HearsAfterScene hearing old mid new
-    pub parser : new.parser ≡ parser_after old.parser hearing
+    pub parser : new.parser ≡ desk.parses old.parser hearing
     pub sitting : Sitting
-    pub does : DoesPresses d (presses_heard old.parser hearing) (sitting_shown old) sitting mid
-        new.store
-    pub are : events ≡ accepted_events (presses_heard old.parser hearing)
-        (seat_of (sitting_shown old) mid)
-    pub brings : IsFetched sitting new.sitting old.asked new.asked
+    pub does : DoesPresses desk d (desk.pressed old.parser hearing) (sitting_shown desk old)
+        sitting mid new.store
+    pub are : events ≡ accepted_events desk (desk.pressed old.parser hearing)
+        (seat_of (sitting_shown desk old) mid)
+    pub brings : IsFetched desk sitting new.sitting old.asked new.asked
 
   -- so many turns, one after another, in which these events are accepted, and after none of which the person has left,
   -- or before which something was to be taken back or done again
@@ -195,16 +206,8 @@ module _ {D : Type 0} (d : Ghosts D) where
   -- the output takes a front of what has the terminal show the scene
   pub record IsUnseen (old new : TurnState D) : Type 0 where
     pub due : is_scene_due old.sitting ≡ true
-    pub looked : IsLookedAt old.store new.store
-    pub cut : IsSceneCutShort old.sitting (store_screen old.store) old.known old.held new.held
-    pub heard : new.heard ≡ old.heard
-    pub unasked : new.asked ≡ old.asked
-
-  -- the screen can't be worked out
-  pub record IsBlind (old new : TurnState D) : Type 0 where
-    pub due : is_scene_due old.sitting ≡ true
-    pub looked : IsLookedAt old.store new.store
-    pub held : new.held ≡ old.held
+    pub looked : IsLookedAt d old.store new.store
+    pub cut : IsSceneCutShort desk old.sitting (store_screen old.store) old.known old.held new.held
     pub heard : new.heard ≡ old.heard
     pub unasked : new.asked ≡ old.asked
 
@@ -216,8 +219,9 @@ module _ {D : Type 0} (d : Ghosts D) where
     pub something : 1 ≤ length hearing
     pub mid : StoreView D
     pub scene : HearsAfterScene hearing old mid new
-    pub breaks : Breaks d error (presses_heard old.parser hearing) (sitting_shown old) mid new.store
-    pub are : events ≡ accepted_events breaks.done (seat_of (sitting_shown old) mid)
+    pub breaks : Breaks desk d error (desk.pressed old.parser hearing) (sitting_shown desk old)
+        mid new.store
+    pub are : events ≡ accepted_events desk breaks.done (seat_of (sitting_shown desk old) mid)
         ++ breaks.undone.acknowledged
     pub fails : begun ≡ breaks.undone.begun
     pub unasked : new.asked ≡ old.asked
@@ -232,8 +236,8 @@ module _ {D : Type 0} (d : Ghosts D) where
     closed : {old new : TurnState D} → IsDeaf old new → SittingStops Closed [] [] old new
     unheard : {old new : TurnState D} → IsDeaf old new → SittingStops Input [] [] old new
     unseen : {old new : TurnState D} → IsUnseen old new → SittingStops Output [] [] old new
-    faulty : {old new : TurnState D} → IsBlind old new → SittingStops Fault [] [] old new
-    starved : {old new : TurnState D} → IsBlind old new → SittingStops Memory [] [] old new
+    faulty : {old new : TurnState D} → IsBlind d old new → SittingStops Fault [] [] old new
+    starved : {old new : TurnState D} → IsBlind d old new → SittingStops Memory [] [] old new
     faulty_press : {events begun : List Event} {old new : TurnState D}
         → Broke DiskFault events begun old new
         → SittingStops Fault events begun old new
@@ -261,10 +265,10 @@ module _ {D : Type 0} (d : Ghosts D) where
   pub record TakesTurn {T : Type 0} (result : Result T SittingEnd) (old new : TurnState D)
       : Type 0 where
     pub goes_on : OnOk result (d.honest old.store.disk → IsDurable d old.store
-        → IsSeenUnlessDue old → HasTurned old new)
+        → IsSeenUnlessDue desk old → HasTurned old new)
     pub stays : OnOk result (new.sitting.leaves ≡ false)
     pub stops : IfErr result (λ end. d.honest old.store.disk → IsDurable d old.store
-        → IsSeenUnlessDue old → HasStopped end old new)
+        → IsSeenUnlessDue desk old → HasStopped end old new)
     pub usable : OnOk result (new.store.must_reopen ≡ false)
     pub still_usable : IfErr result (λ end. IsUsableAt end new.store)
     pub counts : CountsTurn result (d.failures old.store.disk) (d.failures new.store.disk)

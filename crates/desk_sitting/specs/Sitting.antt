@@ -5,24 +5,25 @@ use Rattle.event_bytes.specs.declared.event.Event.{Event}
 use Rattle.desk_journal.specs.View.{StoreView, IsDurable}
 use Rattle.desk_sitting.specs.declared.ending.SittingEnd.{SittingEnd}
 use Rattle.desk_sitting.specs.Serving.{Exchange, TakesTurn, TurnState, IsTurnRun, Ends, exchange_at}
+use Rattle.desk_sitting.specs.Desk.{Desk}
 use Rattle.desk_sitting.specs.Doing.{GoesBy}
 use Rattle.desk_sitting.specs.Surviving.{SurvivesEnd}
 use Rattle.desk_sitting.specs.Travelling.{IsBetween, IsBrokenOff, TakesBetween}
 
-module _ {D : Type 0} (d : Ghosts D) where
+module _ (desk : Desk) {D : Type 0} (d : Ghosts D) where
   -- All that a turn promises, by what the sitting waits for: where something is to be taken back or done again that is
   -- done, and else the desktop is shown and something is heard.
   pub record TakesEitherTurn {T : Type 0} (result : Result T SittingEnd) (old new : TurnState D)
       : Type 0 where
-    pub shows : is_none old.sitting.travels ≡ true → TakesTurn d result old new
-    pub goes : is_none old.sitting.travels ≡ false → TakesBetween d result old new
+    pub shows : is_none old.sitting.travels ≡ true → TakesTurn desk d result old new
+    pub goes : is_none old.sitting.travels ≡ false → TakesBetween desk d result old new
 
   -- A stretch of turns in which nothing is taken back and done again: from its first place so many turns led to this
   -- one, and the store went on by the events that were accepted in them.
   pub record IsStretchOfTurns (first : TurnState D) (count : ℕ) (place : TurnState D) : Type 0 where
     pub durable : IsDurable d first.store
     pub events : List Event
-    pub run : IsTurnRun d first count events place
+    pub run : IsTurnRun desk d first count events place
     pub goes : GoesBy d events first.store place.store
 
   -- So many turns have led to the beginning of a stretch, by stretches and by what was taken back or done again between
@@ -31,7 +32,7 @@ module _ {D : Type 0} (d : Ghosts D) where
     here : Comes first 0 first
     again : {before count : ℕ} {start place next : TurnState D} → Comes first before start
         → IsStretchOfTurns start count place → is_none place.sitting.travels ≡ false
-        → IsBetween d place next
+        → IsBetween desk d place next
         → Comes first (before + count + 1) next
 
   -- From the first place of its last stretch, before which there were so many turns, a sitting came to this end, where
@@ -43,12 +44,12 @@ module _ {D : Type 0} (d : Ghosts D) where
     pub count : ℕ
     pub turned : List Event
     pub place : TurnState D
-    pub run : IsTurnRun d first count turned place
+    pub run : IsTurnRun desk d first count turned place
     -- the last turn, the events that were accepted in it, and the one that was begun
     pub more : List Event
     pub begun : List Event
     pub last : TurnState D
-    pub ends : Ends d end (before + count) more begun place last
+    pub ends : Ends desk d end (before + count) more begun place last
     pub stands : last.store ≡ store
     pub exchanged : exchange_at last ≡ out
     -- what a crash leaves of it all
@@ -63,7 +64,7 @@ module _ {D : Type 0} (d : Ghosts D) where
     pub place : TurnState D
     pub stretch : IsStretchOfTurns first count place
     pub last : TurnState D
-    pub broken : IsBrokenOff d end place last
+    pub broken : IsBrokenOff desk d end place last
     pub stands : last.store ≡ store
     pub exchanged : exchange_at last ≡ out
 

@@ -7,7 +7,7 @@ use Rattle.screen_pictures.specs.declared.cell.Cell.{Cell}
 use Rattle.desktop_definitions.specs.Shown.{shown_screen}
 use Rattle.desktop_definitions.specs.declared.reply.Reply.{Reply}
 use Rattle.desktop_definitions.specs.declared.reply.Reply.TheVariants.{Done, No}
-use Rattle.desktop_definitions.specs.Step.{step, steps}
+use Rattle.desktop_definitions.specs.Step.{step}
 use Rattle.terminal_presses.specs.declared.press.Press.{Press}
 use Rattle.terminal_presses.specs.declared.action.Action.{Action}
 use Rattle.terminal_presses.specs.declared.action.Action.TheVariants as action
@@ -24,12 +24,13 @@ use Rattle.status_line.specs.declared.saying.Saying.{Saying}
 use Rattle.status_line.specs.declared.saying.Saying.TheVariants.{NoKey, Worn, Unread, Unfinished, Logged, NoSearch}
 use Rattle.status_line.specs.declared.saying.Saying.TheVariants.{NothingTyped}
 use Rattle.desk_sitting.specs.declared.sitting.Sitting.{Sitting}
+pub use Rattle.desk_sitting.specs.Desk.{Seat}
 use Rattle.desk_sitting.specs.declared.sitting.Travel.TheVariants.{Back, Again}
-use Rattle.press_plans.specs.Again.{no_again}
+use Rattle.done_presses.specs.Again.{no_again}
 use Rattle.status_line.specs.declared.deed.Deed.{Deed}
 use Rattle.status_line.specs.Deeds.{typed_more}
 use Rattle.press_plans.specs.Replacing.{ReplacingView, is_untouched, left_place, no_replacing, noted, replacement}
-use Rattle.press_plans.specs.Past.{PastView, past_after, named, no_past, selects, with_refused}
+use Rattle.done_presses.specs.Past.{PastView, past_after, named, no_past, selects, with_refused}
 use Rattle.desk_sitting.specs.Questions.{click_made, is_nothing, questioned, question_of, unasked}
 use Rattle.status_line.specs.Question.{asks_to_leave, comes_first}
 use Rattle.status_line.specs.Choosing.{came_to, done_saying, first_saying, fitted_saying, fill_saying, refused_saying}
@@ -43,11 +44,6 @@ use Rattle.press_plans.specs.Plans.{Aims, Events, PutsAway, Refused as NotDone, 
 use Rattle.desk_journal.specs.Session.{Session, is_worn, taken}
 use Rattle.screen_reading.specs.Windows.{fitted, following_sight, height_told, is_low, is_narrow, moved_sight}
 use Rattle.screen_reading.specs.Windows.{width_told}
-
--- a sitting, and the session of the store before which it is
-pub record Seat : Type 0 where
-  pub sitting : Sitting
-  pub session : Session
 
 -- ---- a sitting alone
 
@@ -349,10 +345,6 @@ after_press press seat = if seat.sitting.leaves then seat else
     (let next = handled seat.sitting.sight press seat.sitting.hand in
     acted next.1 (record seat { sitting = with_hand next seat.sitting }))
 
-abbrev pub after_presses : List Press → Seat → Seat
-after_presses [] seat = seat
-after_presses (press ∷ presses) seat = after_presses presses (after_press press seat)
-
 -- ---- its events
 
 -- which of these events are accepted: a worn store takes none, and one that isn't done is the last one
@@ -397,17 +389,6 @@ abbrev pub accepted_of : Press → Seat → List Event
 accepted_of press seat = if seat.sitting.leaves then [] else
     (let next = handled seat.sitting.sight press seat.sitting.hand in
     accepted_unasked next.1 (record seat { sitting = with_hand next seat.sitting }))
-
-abbrev pub accepted_events : List Press → Seat → List Event
-accepted_events [] seat = []
-accepted_events (press ∷ presses) seat =
-    accepted_of press seat ++ accepted_events presses (after_press press seat)
-
--- presses lead to the desktop to which the events lead that are accepted of them
-abbrev pub PressesAreSteps : Type 0
-PressesAreSteps = (presses : List Press) (seat : Seat)
-    → (after_presses presses seat).session.desktop
-    ≡ steps seat.session.desktop (accepted_events presses seat)
 
 -- ---- questions
 

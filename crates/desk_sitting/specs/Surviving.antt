@@ -9,6 +9,7 @@ use Rattle.desk_journal.specs.View.{StoreView, IsDurable}
 use Rattle.terminal_presses.specs.declared.press.Heard.{Heard}
 use Rattle.desk_sitting.specs.declared.ending.SittingEnd.{SittingEnd}
 use Rattle.desk_sitting.specs.declared.ending.SittingEnd.TheVariants.{Fault, Memory}
+use Rattle.desk_sitting.specs.Desk.{Desk}
 use Rattle.desk_sitting.specs.Doing.{GoesBy, SittingSurvives}
 use Rattle.desk_sitting.specs.Serving.{TurnState, HearsAfterScene, IsTurnRun, Ends}
 
@@ -22,18 +23,19 @@ module _ {D : Type 0} (d : Ghosts D) where
     pub none_begun : end ≢ Fault → begun ≡ []
     pub goes_by : end ≢ Fault → end ≢ Memory → GoesBy d acknowledged old new
 
-  -- ---- what holds of all sittings, from any of their places on
+-- ---- what holds of all sittings, from any of their places on, at any desk
 
+module _ (desk : Desk) {D : Type 0} (d : Ghosts D) where
   -- Turns: the store goes on by the events that are accepted in them, and so each further place is such a place.
   abbrev pub TurnsSurvive : Type 0
   TurnsSurvive = (count : ℕ) (events : List Event) (old new : TurnState D)
-      → IsTurnRun d old count events new
+      → IsTurnRun desk d old count events new
       → d.honest old.store.disk → IsDurable d old.store → GoesBy d events old.store new.store
 
   -- A scene: until the first press after it is done a crash leaves the desktop that is shown.
   abbrev pub ScenesSurvive : Type 0
   ScenesSurvive = (hearing : List Heard) (old new : TurnState D) (mid : StoreView D)
-      → HearsAfterScene d hearing old mid new
+      → HearsAfterScene desk d hearing old mid new
       → d.honest old.store.disk → IsDurable d old.store
       → LeavesOnly (d.trail old.store.disk) (d.trail mid.disk)
       (Means (d.size old.store.disk) old.store.desktop)
@@ -43,6 +45,6 @@ module _ {D : Type 0} (d : Ghosts D) where
   abbrev pub EndsSurvive : Type 0
   EndsSurvive = (end : SittingEnd) (count turns : ℕ) (events more begun : List Event)
       (old mid new : TurnState D)
-      → IsTurnRun d old count events mid → Ends d end turns more begun mid new
+      → IsTurnRun desk d old count events mid → Ends desk d end turns more begun mid new
       → d.honest old.store.disk → IsDurable d old.store
-      → SurvivesEnd end (events ++ more) begun old.store new.store
+      → SurvivesEnd d end (events ++ more) begun old.store new.store

@@ -4,22 +4,23 @@ use Rattle.sector_disk.specs.declared.disk.Disk.{Ghosts}
 use Rattle.desk_journal.specs.Device.{IsSameDevice}
 use Rattle.desk_journal.specs.Errors.{Error}
 use Rattle.desk_journal.specs.View.{IsDurable}
+use Rattle.desk_sitting.specs.Desk.{Desk}
 use Rattle.desk_sitting.specs.Travels.{ComesBack, IsStuck, IsTravelled}
 use Rattle.desk_sitting.specs.declared.ending.SittingEnd.{SittingEnd}
 use Rattle.desk_sitting.specs.declared.sitting.Travel.TheVariants.{Back}
 use Rattle.desk_sitting.specs.Endings.{sitting_end_of}
 use Rattle.desk_sitting.specs.Serving.{CountsTurn, IsUsableAt, TurnState, exchange_at}
 
-module _ {D : Type 0} (d : Ghosts D) where
-  -- nothing is shown and heard, and the keyboard is asked for nothing
-  pub record IsStill (old new : TurnState D) : Type 0 where
-    pub parser : new.parser ≡ old.parser
-    pub out : exchange_at new ≡ exchange_at old
-    pub known : new.known ≡ old.known
+-- nothing is shown and heard, and the keyboard is asked for nothing
+pub record IsStill {D : Type 0} (old new : TurnState D) : Type 0 where
+  pub parser : new.parser ≡ old.parser
+  pub out : exchange_at new ≡ exchange_at old
+  pub known : new.known ≡ old.known
 
+module _ (desk : Desk) {D : Type 0} (d : Ghosts D) where
   -- a press was taken back, or an event done again
   pub record IsBetween (old new : TurnState D) : Type 0 where
-    pub travelled : IsTravelled d old.sitting new.sitting old.store new.store
+    pub travelled : IsTravelled desk d old.sitting new.sitting old.store new.store
     pub device : IsSameDevice d old.store.disk new.store.disk
     pub still : IsStill old new
 
@@ -27,7 +28,7 @@ module _ {D : Type 0} (d : Ghosts D) where
   pub record IsBrokenOff (end : SittingEnd) (old new : TurnState D) : Type 0 where
     pub error : Error
     pub ends : end ≡ sitting_end_of error
-    pub stuck : IsStuck d error old.sitting old.store new.store
+    pub stuck : IsStuck desk d error old.sitting old.store new.store
     pub still : IsStill old new
 
   -- All that such a turn promises that returns this.

@@ -10,16 +10,18 @@ use Rattle.desk_journal.specs.Device.{IsSameDevice}
 use Rattle.desk_journal.specs.Errors.{Error, Fault}
 use Rattle.desk_journal.specs.Undoing.{IsLeft, IsTakenBack, LeavesUndone}
 use Rattle.desk_journal.specs.View.{StoreView, IsDurable}
-use Rattle.press_plans.specs.declared.again.StorePlace.{StorePlace}
+use Rattle.done_presses.specs.declared.again.StorePlace.{StorePlace}
 use Rattle.status_line.specs.declared.saying.Saying.TheVariants.{TookBack, DidAgain, NotBack, NothingBack, NothingAgain}
 use Rattle.desk_sitting.specs.declared.sitting.Sitting.{Sitting}
 use Rattle.desk_sitting.specs.declared.sitting.Travel.TheVariants.{Back, Again}
-use Rattle.press_plans.specs.declared.again.NextEvent.{NextEvent}
+use Rattle.done_presses.specs.declared.again.NextEvent.{NextEvent}
 use Rattle.status_line.specs.declared.deed.Deed.{Deed}
 use Rattle.desk_sitting.specs.declared.sitting.Travel.{Travel}
-use Rattle.press_plans.specs.Again.{kept_at, next_event, rest_at, taken_press}
-use Rattle.press_plans.specs.Past.{back_count, back_deed, gathered, left_past, named}
-use Rattle.desk_sitting.specs.Doing.{IsUndone, OfPresses, seat_of}
+use Rattle.done_presses.specs.Again.{kept_at, next_event, rest_at, taken_press}
+use Rattle.done_presses.specs.Past.{back_count, back_deed, gathered, left_past, named}
+use Rattle.desk_sitting.specs.Doing.{IsUndone, OfPresses}
+use Rattle.desk_journal.specs.Session.{Session, session_of, taken as taken_by}
+use Rattle.desk_sitting.specs.Desk.{Desk}
 use Rattle.desk_sitting.specs.Sittings.{after_post, refused}
 
 -- where a store stands
@@ -69,6 +71,15 @@ did_again deed from to s =
       past = named deed s.past;
     }
 
+-- and from the one before it
+abbrev pub done_again : NextEvent → Session → StorePlace → StorePlace → Sitting → Sitting
+done_again event session from to s = did_again event.deed from to
+    (after_post event.event (record { sitting = goes_again from s; session = session })).sitting
+
+-- where there is nothing to do again
+abbrev pub none_again : StorePlace → Sitting → Sitting
+none_again place s = refused NothingAgain (goes_again place s)
+
 module _ {D : Type 0} (d : Ghosts D) where
   -- Over any disk: the events of the last press were taken back, or nothing was done, and that is said. Nothing more is
   -- asked for.
@@ -78,24 +89,25 @@ module _ {D : Type 0} (d : Ghosts D) where
         → ComesBack s s' old new
     not_taken : IsLeft d old new → s' ≡ refused NotBack (settled s) → ComesBack s s' old new
 
+module _ (desk : Desk) {D : Type 0} (d : Ghosts D) where
   -- what was asked for beside the presses is done
   pub data Travelled (s s' : Sitting) (old new : StoreView D) : Type 0 where
     -- nothing was asked for
     none : s.travels ≡ None → s' ≡ s → new ≡ old → Travelled s s' old new
     -- the events of the last press were taken back, as far as there were any
     back : (events : List Event) → s.travels ≡ Some Back
-        → IsTakenBack d (step_count s) events old new
-        → s' ≡ took_back events (store_place old) (store_place new) (settled s)
+        → IsTakenBack d (desk.counts s) events old new
+        → s' ≡ desk.takes_back events (store_place old) (store_place new) s
         → Travelled s s' old new
     -- there was nothing to do again
-    nothing : s.travels ≡ Some Again → next_event (store_place old) s.again ≡ None
-        → s' ≡ refused NothingAgain (goes_again (store_place old) s) → new ≡ old
+    nothing : s.travels ≡ Some Again → desk.follows (store_place old) s ≡ None
+        → s' ≡ desk.ends_there (store_place old) s → new ≡ old
         → Travelled s s' old new
     -- the next event of the press that was taken back last was done again
-    again : (event : NextEvent) (mid : Sitting) → s.travels ≡ Some Again
-        → next_event (store_place old) s.again ≡ Some event
-        → seat_of mid new ≡ after_post event.event (seat_of (goes_again (store_place old) s) old)
-        → s' ≡ did_again event.deed (store_place old) (store_place new) mid
+    again : (event : NextEvent) → s.travels ≡ Some Again
+        → desk.follows (store_place old) s ≡ Some event
+        → session_of new ≡ taken_by (session_of old) event.event
+        → s' ≡ desk.repeats event (session_of old) (store_place old) (store_place new) s
         → Travelled s s' old new
 
   -- At every moment between a crash leaves the desktop before it or the one after it, and from then on the one after it.
@@ -107,12 +119,11 @@ module _ {D : Type 0} (d : Ghosts D) where
 
   -- It fails. A crash leaves what was shown, or what was asked for.
   pub data IsStuck (error : Error) (s : Sitting) (old new : StoreView D) : Type 0 where
-    back : s.travels ≡ Some Back → LeavesUndone d (step_count s) old new
+    back : s.travels ≡ Some Back → LeavesUndone d (desk.counts s) old new
         → IsStuck error s old new
     again : (event : NextEvent) → s.travels ≡ Some Again
-        → next_event (store_place old) s.again ≡ Some event
-        → IsUndone d error (after_post event.event (seat_of (goes_again (store_place old) s) old))
-        old new
+        → desk.follows (store_place old) s ≡ Some event
+        → IsUndone d error (taken_by (session_of old) event.event).desktop old new
         → IsStuck error s old new
 
   -- All that a call promises that is to do what was asked for.
@@ -121,7 +132,7 @@ module _ {D : Type 0} (d : Ghosts D) where
     pub done : OnOk result (d.honest old.disk → IsDurable d old → IsTravelled s s' old new)
     pub stuck : IfErr result (λ error. d.honest old.disk → IsDurable d old
         → IsStuck error s old new)
-    pub told : OnOk result (s.travels ≡ Some Back → ComesBack s s' old new)
+    pub told : OnOk result (s.travels ≡ Some Back → ComesBack d s s' old new)
     pub usable : OnOk result (new.must_reopen ≡ false)
     pub faults : FailsAs Fault OfPresses result (d.failures old.disk) (d.failures new.disk)
     pub device : IsSameDevice d old.disk new.disk

@@ -5,6 +5,7 @@ ghost use Rattle.desk_journal.specs.View.{IsDurable};
 ghost use Rattle.sector_disk.specs.Faults.{FailsAs};
 ghost use Rattle.terminal_keyboard.specs.Presses.{in_order, parser_after, presses_heard};
 ghost use Rattle.desk_sitting.specs.Doing.{Breaks, DoesPresses, OfPresses, DoesAllPresses};
+ghost use Rattle.desk_sitting.specs.TheDesk.{the_desk};
 
 use crate::sitting::Sitting;
 use desk_journal::{Error, Store};
@@ -28,10 +29,10 @@ pub fn do_presses<D: Disk>(
     requires { store.old.must_reopen ≡ false }
     ensures parser { OnOk result (parser.new ≡ parser_after parser.old hearing.now) }
     ensures done { OnOk result (D.honest store.old.disk → IsDurable D.Disk store.old
-        → DoesPresses D.Disk (presses_heard parser.old hearing.now) sitting.old sitting.new
+        → DoesPresses the_desk D.Disk (presses_heard parser.old hearing.now) sitting.old sitting.new
         store.old store.new) }
     ensures broke { IfErr result (λ error. D.honest store.old.disk → IsDurable D.Disk store.old
-        → Breaks D.Disk error (presses_heard parser.old hearing.now) sitting.old store.old
+        → Breaks the_desk D.Disk error (presses_heard parser.old hearing.now) sitting.old store.old
         store.new) }
     ensures usable { OnOk result (store.new.must_reopen ≡ false) }
     ensures faults { FailsAs Error.Fault OfPresses result (D.failures store.old.disk)
@@ -54,8 +55,8 @@ fn do_each<D: Disk>(
     store: &mut Store<D>,
 ) -> Result<(), Error>
     requires { store.old.must_reopen ≡ false }
-    ensures { DoesAllPresses D.Disk (in_order presses) result sitting.old sitting.new store.old
-        store.new }
+    ensures { DoesAllPresses the_desk D.Disk (in_order presses) result sitting.old sitting.new
+        store.old store.new }
 {
     match presses {
         Presses::Nothing => Ok(()),
@@ -76,8 +77,8 @@ fn do_both<D: Disk>(
     store: &mut Store<D>,
 ) -> Result<(), Error>
     requires { store.old.must_reopen ≡ false }
-    ensures { DoesAllPresses D.Disk (first ∷ second ∷ []) result sitting.old sitting.new store.old
-        store.new }
+    ensures { DoesAllPresses the_desk D.Disk (first ∷ second ∷ []) result sitting.old sitting.new
+        store.old store.new }
 {
     sitting.press(alloc, first, store)?;
     sitting.press(alloc, second, store)

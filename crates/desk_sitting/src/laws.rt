@@ -1,5 +1,6 @@
 //! What holds of all sittings.
-ghost use Rattle.desk_sitting.specs.Sittings.{ClicksAreTold, PressesAreSteps, QuestionsComeOnce, QuestionsPostNothing};
+ghost use Rattle.desk_sitting.specs.Sittings.{ClicksAreTold, QuestionsComeOnce, QuestionsPostNothing};
+ghost use Rattle.desk_sitting.specs.TheDesk.{PressesAreSteps};
 
 /// Presses lead to the desktop to which the events lead that are accepted of them.
 pub fn presses_are_steps()

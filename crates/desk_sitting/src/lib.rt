@@ -8,7 +8,9 @@
 //! `serve` goes on turn by turn (`specs/Serving.antt`): a scene is shown (`specs/Scenes.antt`), something is heard, and
 //! what is pressed by it is done, each event acknowledged before the next scene. A whole sitting is `Sits` of
 //! `specs/Sitting.antt`. What a crash leaves of it, from any of its places on, is said in `specs/Surviving.antt`, and
-//! `sittings_survive` is the theorem: what was shown is never lost.
+//! `sittings_survive` is the theorem: what was shown is never lost. These definitions and the theorem speak of any desk
+//! (`specs/Desk.antt`): of any functions for what is pressed, what it comes to and what is said. That of `serve` is
+//! `the_desk` (`specs/TheDesk.antt`).
 #![tactic(auto)]
 
 mod asking;
@@ -21,9 +23,9 @@ mod sitting;
 mod travels;
 
 pub use doing::do_presses;
+pub use done_presses::Past;
 pub use ending::SittingEnd;
 pub use laws::{clicks_are_told, presses_are_steps, questions_post_nothing};
-pub use press_plans::Past;
 pub use serving::{MOST_TURNS, serve};
 pub use serving_laws::{sittings_survive, sittings_survive_in_files};
 pub use sitting::{Sitting, Travel};

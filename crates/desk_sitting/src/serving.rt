@@ -6,19 +6,19 @@ ghost use Rattle.byte_streams.specs.Counting.{CountsFault, RisesWhere};
 ghost use Rattle.byte_streams.specs.Sent.{Sends};
 ghost use Rattle.desk_journal.specs.Device.{IsSameDevice};
 ghost use Rattle.desk_journal.specs.View.{IsDurable};
-ghost use Rattle.desk_sitting.specs.Scenes.{sitting_line};
 ghost use Rattle.desk_sitting.specs.Sittings.{after_fetch, is_scene_due, looked};
 ghost use Rattle.desk_sitting.specs.declared.ending.SittingEnd.TheVariants.{Output as TakesNoMore};
 ghost use Rattle.screen_drawing.specs.Scene.{IsInSight};
 ghost use Rattle.desk_sitting.specs.Scenes.{IsSceneOf, IsHalfPainted, IsScenePainted, IsSceneShown, IsUnshown};
 ghost use Rattle.desk_sitting.specs.Endings.{EndsBy, IsOfNoKeyboard};
-ghost use Rattle.desk_sitting.specs.Scenes.{pointer_of as pointer_at, after_scene, bell_bytes, known_by, request};
+ghost use Rattle.desk_sitting.specs.Scenes.{after_scene, bell_bytes, known_by, request};
 ghost use Rattle.desk_sitting.specs.Scenes.{size_request};
 ghost use Rattle.desk_sitting.specs.Serving.{CountsEnding, CountsOutput, CountsTurn, Exchange, IsFetched, IsLookedAt, exchange};
 ghost use Rattle.desk_sitting.specs.Serving.{IsShownIfDue, IsUsableAt};
 ghost use Rattle.desk_sitting.specs.Serving.{StaysInUse, TakesTurn, first_place, turn_state_of, store_screen};
 ghost use Rattle.desk_sitting.specs.Sitting.{Sits, TakesEitherTurn};
 ghost use Rattle.desk_sitting.specs.Travelling.{TakesBetween};
+ghost use Rattle.desk_sitting.specs.TheDesk.{pointer_of as pointer_at, sitting_line, the_desk};
 
 use crate::ending::SittingEnd;
 use crate::serving_laws::sittings_survive;
@@ -60,8 +60,8 @@ pub fn serve<K: Keyboard, W: AnswerWriter, D: Disk>(
     past: Past,
 ) -> SittingEnd
     requires { store.old.must_reopen ≡ false }
-    ensures sat { D.honest store.old.disk → Sits D.Disk result
-        (first_place height width greeting questions fills past store.old
+    ensures sat { D.honest store.old.disk → Sits the_desk D.Disk result
+        (first_place the_desk height width greeting questions fills past store.old
         (exchange (K.heard keyboard.old) (K.asked keyboard.old) (W.contents writer.old)
         (W.unflushed writer.old)))
         store.new
@@ -111,7 +111,7 @@ fn step<K: Keyboard, W: AnswerWriter, D: Disk>(
     store: &mut Store<D>,
 ) -> Result<(), SittingEnd>
     requires { store.old.must_reopen ≡ false }
-    ensures steps { TakesEitherTurn D.Disk result
+    ensures steps { TakesEitherTurn the_desk D.Disk result
         (turn_state_of parser.old sitting.old store.old painter.old
         (exchange (K.heard keyboard.old) (K.asked keyboard.old) (W.contents writer.old)
         (W.unflushed writer.old)))
@@ -134,7 +134,7 @@ fn step<K: Keyboard, W: AnswerWriter, D: Disk>(
 fn go<D: Disk>(alloc: Global, sitting: &mut Sitting, store: &mut Store<D>) -> Result<(), SittingEnd>
     requires { store.old.must_reopen ≡ false }
     ensures between { (parser : AParser) (known : List (List Face)) (out : Exchange)
-        → TakesBetween D.Disk result (turn_state_of parser sitting.old store.old known out)
+        → TakesBetween the_desk D.Disk result (turn_state_of parser sitting.old store.old known out)
         (turn_state_of parser sitting.new store.new known out) }
     ensures cause { IfErr result IsOfNoKeyboard }
     ensures unsent { IfErr result (λ end. end ≢ TakesNoMore) }
@@ -156,7 +156,7 @@ fn turn<K: Keyboard, W: AnswerWriter, D: Disk>(
     store: &mut Store<D>,
 ) -> Result<(), SittingEnd>
     requires { store.old.must_reopen ≡ false }
-    ensures turns { TakesTurn D.Disk result
+    ensures turns { TakesTurn the_desk D.Disk result
         (turn_state_of parser.old sitting.old store.old painter.old
         (exchange (K.heard keyboard.old) (K.asked keyboard.old) (W.contents writer.old)
         (W.unflushed writer.old)))
@@ -179,7 +179,7 @@ fn turn<K: Keyboard, W: AnswerWriter, D: Disk>(
 
 /// Asks the keyboard for the text of a host file where one is wanted.
 fn bring<K: Keyboard>(sitting: &mut Sitting, keyboard: &mut K)
-    ensures brought { IsFetched sitting.old sitting.new (K.asked keyboard.old)
+    ensures brought { IsFetched the_desk sitting.old sitting.new (K.asked keyboard.old)
         (K.asked keyboard.new) }
     ensures asked { IfSome sitting.old.wanted (λ name. (will_be_heard : Bool)
         × K.answers keyboard.old keyboard.new name will_be_heard
@@ -209,11 +209,11 @@ fn show_if_due<W: AnswerWriter, D: Disk>(
         → IsLookedAt D.Disk store.old store.new }
     ensures shown { OnOk result (D.honest store.old.disk
         → (sitting.new ≡ looked (store_screen store.old) sitting.old)
-        × IsShownIfDue sitting.old store.old store.new
+        × IsShownIfDue the_desk sitting.old store.old store.new
         painter.old painter.new (W.contents writer.old) (W.contents writer.new)
         (W.unflushed writer.old) (W.unflushed writer.new)) }
     ensures unshown { IfErr result (λ end. (is_scene_due sitting.old ≡ true)
-        × (D.honest store.old.disk → IsUnshown end sitting.old (store_screen store.old)
+        × (D.honest store.old.disk → IsUnshown the_desk end sitting.old (store_screen store.old)
         painter.old (W.contents writer.old) (W.contents writer.new))) }
     ensures cause { IfErr result IsOfNoKeyboard }
     ensures output { CountsOutput result (W.failures writer.old) (W.failures writer.new) }
@@ -242,11 +242,11 @@ fn show<W: AnswerWriter, D: Disk>(
         → IsLookedAt D.Disk store.old store.new }
     ensures shown { OnOk result (D.honest store.old.disk
         → (sitting.new ≡ looked (store_screen store.old) sitting.old)
-        × IsSceneShown sitting.old (store_screen store.old)
+        × IsSceneShown the_desk sitting.old (store_screen store.old)
         painter.old painter.new (W.contents writer.old) (W.contents writer.new)
         (W.unflushed writer.new)) }
     ensures unshown { IfErr result (λ end. D.honest store.old.disk
-        → IsUnshown end sitting.old (store_screen store.old)
+        → IsUnshown the_desk end sitting.old (store_screen store.old)
         painter.old (W.contents writer.old) (W.contents writer.new)) }
     ensures cause { IfErr result IsOfNoKeyboard }
     ensures output { CountsOutput result (W.failures writer.old) (W.failures writer.new) }
@@ -271,10 +271,10 @@ fn paint<W: AnswerWriter>(
     writer: &mut W,
     screen: &Screen,
 ) -> Result<(), SittingEnd>
-    ensures painted { OnOk result (IsScenePainted sitting.now screen.now
+    ensures painted { OnOk result (IsScenePainted the_desk sitting.now screen.now
         (known_by forgets painter.old) painter.new
         (W.contents writer.old) (W.contents writer.new)) }
-    ensures front { OnErr result (IsHalfPainted sitting.now screen.now
+    ensures front { OnErr result (IsHalfPainted the_desk sitting.now screen.now
         (known_by forgets painter.old)
         (W.contents writer.old) (W.contents writer.new)) }
     ensures handed { OnOk result (W.unflushed writer.new ≡ 0) }
@@ -300,7 +300,7 @@ fn pointer_of(sitting: &Sitting) -> Option<(u8, u8)>
 /// The part of the screen that is in sight, and the sitting's line below it.
 fn scene_of<'a>(sitting: &Sitting, screen: &'a Screen, line: &'a [u8]) -> Scene<'a>
     requires { line.now ≡ sitting_line screen.now sitting.now }
-    ensures scene { IsSceneOf sitting.now screen.now result }
+    ensures scene { IsSceneOf the_desk sitting.now screen.now result }
     ensures in_sight { IsInSight result }
 {
     Scene {

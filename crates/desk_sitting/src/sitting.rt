@@ -3,7 +3,7 @@ ghost use Rattle.std.specs.Prelude.{◌≡◌, ◌≢◌, [], false, Some, None,
 ghost use Rattle.terminal_presses.specs.Hands.{handled};
 ghost use Rattle.desk_journal.specs.Session.{session_of};
 ghost use Rattle.desk_sitting.specs.Doing.{ComesToSeat, DoesAction, DoesPress, TellsDone, seat_of};
-ghost use Rattle.desk_sitting.specs.Scenes.{sitting_line};
+ghost use Rattle.desk_sitting.specs.TheDesk.{sitting_line};
 ghost use Rattle.desk_sitting.specs.Questions.{is_nothing, is_of_terminal, questioned, unasked};
 ghost use Rattle.desk_journal.specs.View.{IsDurable};
 ghost use Rattle.desk_sitting.specs.Sittings.{followed_cell, acted, acted_alone, after_press, after_fetch, looked};
@@ -22,8 +22,9 @@ ghost use Rattle.press_plans.specs.Plans.{seen_plan};
 
 use desk_journal::{Error, Store};
 use desktop_definitions::Reply;
+use done_presses::{Again, Past};
 use event_bytes::Event;
-use press_plans::{Again, MOST_PLANS, Past, Plan, Replacing, Task};
+use press_plans::{MOST_PLANS, Plan, Replacing, Task};
 use screen_cells::Screen;
 use screen_reading::{
     caret_of, fitted, followed, height_told, is_low, is_narrow, moved, width_told,

@@ -2,15 +2,16 @@
 ghost use Rattle.std.specs.Prelude.{◌≡◌, ◌≢◌, ◌==◌, length, false, Some, None, OnOk, IfErr, IfOk};
 ghost use Rattle.desk_sitting.specs.declared.sitting.Travel.TheVariants.{Back, Again as Forth};
 ghost use Rattle.status_line.specs.declared.saying.Saying.TheVariants.{NotBack};
-ghost use Rattle.press_plans.specs.Again.{next_event};
+ghost use Rattle.done_presses.specs.Again.{next_event};
 ghost use Rattle.desk_sitting.specs.Doing.{OfPresses, ComesToSeat, seat_of};
 ghost use Rattle.desk_sitting.specs.Sittings.{after_post, refused};
 ghost use Rattle.desk_sitting.specs.Travels.{Travels, did_again, goes_again, on_to, settled, step_count, store_place, took_back};
+ghost use Rattle.desk_sitting.specs.TheDesk.{the_desk};
 
 use crate::sitting::{Doing, Sitting, Travel};
 use desk_journal::{Error, Store};
+use done_presses::{NextEvent, StorePlace, TakenPress};
 use event_bytes::Event;
-use press_plans::{NextEvent, StorePlace, TakenPress};
 use sector_disk::Disk;
 use status_line::{Deed, Saying};
 use std::alloc::Global;
@@ -20,7 +21,7 @@ use std::alloc::Global;
 /// Errors: `NoMemory`, where memory runs out; `Fault`, where the disk fails.
 pub fn travel<D: Disk>(alloc: Global, sitting: &mut Sitting, store: &mut Store<D>) -> Doing
     requires { store.old.must_reopen ≡ false }
-    ensures { Travels D.Disk result sitting.old sitting.new store.old store.new }
+    ensures { Travels the_desk D.Disk result sitting.old sitting.new store.old store.new }
 {
     match sitting.travels {
         None => Ok(()),
@@ -47,7 +48,7 @@ fn place<D: Disk>(store: &Store<D>) -> StorePlace
 fn take_back<D: Disk>(alloc: Global, sitting: &mut Sitting, store: &mut Store<D>) -> Doing
     requires usable { store.old.must_reopen ≡ false }
     requires asked { sitting.old.travels ≡ Some Back }
-    ensures { Travels D.Disk result sitting.old sitting.new store.old store.new }
+    ensures { Travels the_desk D.Disk result sitting.old sitting.new store.old store.new }
 {
     let from = place(store);
     let count = sitting.settle();
@@ -64,7 +65,7 @@ fn take_back<D: Disk>(alloc: Global, sitting: &mut Sitting, store: &mut Store<D>
 fn do_again<D: Disk>(alloc: Global, sitting: &mut Sitting, store: &mut Store<D>) -> Doing
     requires usable { store.old.must_reopen ≡ false }
     requires asked { sitting.old.travels ≡ Some Forth }
-    ensures { Travels D.Disk result sitting.old sitting.new store.old store.new }
+    ensures { Travels the_desk D.Disk result sitting.old sitting.new store.old store.new }
 {
     let from = place(store);
     match sitting.next_again(from) {

@@ -1,4 +1,2 @@
 mod Meant
 mod Planning
-mod Popped
-mod Steps

@@ -9,7 +9,6 @@ ghost use Rattle.desk_journal.specs.Views.{desk_info};
 ghost use Rattle.desk_journal.specs.Views.{shown_viewer};
 ghost use Rattle.desktop_definitions.specs.Shown.{shown_screen};
 
-use crate::again::take_last;
 use crate::by_screen::{click, go_plan, plan_on};
 use crate::filling::{return_plan, type_plan};
 use crate::listed::{begins_in_viewer, has_tool, place_at, uncalled_event};
@@ -17,6 +16,7 @@ use crate::over::{erase_plan, over_plan};
 use crate::task::{CellPlace, Task, posting};
 use desk_journal::{DeskInfo, Error, KeyWish, ShownViewer, Store, WhyNot, Wish};
 use desktop_definitions::Entry;
+use done_presses::take_last;
 use event_bytes::{Event, Key, Keys};
 use screen_cells::Screen;
 use screen_reading::{text_rows_in_sight, text_start};

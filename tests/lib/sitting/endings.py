@@ -591,6 +591,24 @@ def paused(trial):
     trial.kept('beforeafter', 'beforeafter')
 
 
+def paused_by_a_key(trial):
+    """Ctrl-] stops the script as Ctrl-Z does elsewhere, and what comes behind it waits until that goes on."""
+    sitting = trial.sit_anew()
+    sitting.press(b'before')
+    trial.check(sitting.look_anew(), 'no scene')
+    sitting.press(b'\x1d')
+    trial.check(sitting.wait(lambda: 1049 not in sitting.terminal.modes, 5), 'the screen is the desk\'s still')
+    trial.check(sitting.wait(lambda: stopped(sitting.process), 5), 'it is not stopped')
+    trial.check(termios.tcgetattr(sitting.file) == sitting.before, 'the keys are the desk\'s still')
+    scenes = sitting.terminal.scenes
+    os.kill(sitting.process, signal.SIGCONT)
+    trial.check(sitting.wait(lambda: sitting.terminal.scenes > scenes, 5), 'nothing is painted again')
+    sitting.press(b'after')
+    trial.check(sitting.look_anew(), 'no scene')
+    trial.leaves(sitting)
+    trial.kept('beforeafter', 'beforeafter')
+
+
 def stopped(process):
     with open(f'/proc/{process}/stat', encoding='ascii') as stat:
         return stat.read().rsplit(')', 1)[1].split()[0] == 'T'
@@ -936,6 +954,7 @@ TRIALS = {
     'USR1 at the script': killed(signal.SIGUSR1, False, 138),
     'PIPE at the script': killed(signal.SIGPIPE, False, 141),
     'TSTP at the script': paused,
+    'Ctrl-]': paused_by_a_key,
     'signal 9 at the script': script_killed,
     'a hang-up': hung_up([]),
     'a hang-up that nobody is told of': hung_up(['sh', '-c', 'trap "" HUP; "$@"', 'sh']),

@@ -2,10 +2,10 @@ use Rattle.desk_sitting.proofs.Surviving.{scenes_survive, turns_survive, ends_su
 use Rattle.desk_sitting.proofs.serving_laws.sittings_survive.Goals as goal
 
 pub returns-clause-scenes : goal.returns-clause-scenes
-returns-clause-scenes g c = scenes_survive g.D.Disk
+returns-clause-scenes g c = λ desk. scenes_survive desk g.D.Disk
 
 pub returns-clause-turns : goal.returns-clause-turns
-returns-clause-turns g c = turns_survive g.D.Disk c.presses_are_steps.ensures
+returns-clause-turns g c = λ desk. turns_survive desk g.D.Disk
 
 pub returns-clause-ends : goal.returns-clause-ends
-returns-clause-ends g c = ends_survive g.D.Disk c.presses_are_steps.ensures
+returns-clause-ends g c = λ desk. ends_survive desk g.D.Disk

@@ -2,7 +2,7 @@
 use Rattle.std.proofs.Common.{◌≡◌, ◌∙◌, ◌<◌, ◌+◌, ℕ, false, List, [], ◌∷◌, ◌++◌, length, take, get_or, refl, sym, ap}
 use Rattle.std.proofs.lemmas.List.{take_more}
 use Rattle.event_bytes.specs.declared.event.Event.{Event}
-use Rattle.press_plans.specs.Past.{PastView, no_past, past_after, past_of}
+use Rattle.done_presses.specs.Past.{PastView, no_past, past_after, past_of}
 
 past_more : (events : List Event) (event : Event) (past : PastView)
     → past_of (events ++ event ∷ []) past ≡ past_after false false event (past_of events past)

@@ -1,7 +1,7 @@
 use Rattle.std.proofs.Common.{◌∙◌, ◌-◌, ap, arith}
 use Rattle.std.specs.Prelude.{take}
-use Rattle.press_plans.proofs.Popped.{popped}
-use Rattle.press_plans.proofs.again.take_last.Goals as goal
+use Rattle.done_presses.proofs.Popped.{popped}
+use Rattle.done_presses.proofs.again.take_last.Goals as goal
 
 pub returns-clause-last : goal.returns-clause-last
 returns-clause-last c = popped _ _ _ c.args.events.now.items _ (omega (arith, c.args.events.now.ok))

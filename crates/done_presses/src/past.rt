@@ -1,8 +1,8 @@
 //! What the presses of a sitting did, as far as they can be taken back, in the steps in which they are.
 ghost use Rattle.std.specs.Prelude.{◌≡◌, length};
-ghost use Rattle.press_plans.specs.Past.{past_after, past_of, past_with, back_count, back_deed, but_last_press, counted};
-ghost use Rattle.press_plans.specs.Past.{continues, first_deed, gathered, gathered_from, last_press, left_past, moved_on};
-ghost use Rattle.press_plans.specs.Past.{named, no_past, pushed, selects, with_event, with_moves, with_refused};
+ghost use Rattle.done_presses.specs.Past.{past_after, past_of, past_with, back_count, back_deed, but_last_press, counted};
+ghost use Rattle.done_presses.specs.Past.{continues, first_deed, gathered, gathered_from, last_press, left_past, moved_on};
+ghost use Rattle.done_presses.specs.Past.{named, no_past, pushed, selects, with_event, with_moves, with_refused};
 
 use crate::kind::PressKind;
 use arrayvec::ArrayVec;
@@ -33,7 +33,7 @@ pub struct Past {
 }
 
 impl Model for Past {
-    ghost use Rattle.press_plans.specs.Past.{PastView};
+    ghost use Rattle.done_presses.specs.Past.{PastView};
 
     ghost Value = { PastView };
 

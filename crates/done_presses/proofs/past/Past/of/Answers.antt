@@ -1,8 +1,8 @@
 use Rattle.std.proofs.Common.{◌∙◌, ap, arith}
 use Rattle.std.proofs.lemmas.List.{take_all}
-use Rattle.press_plans.specs.Past.{no_past, past_of}
-use Rattle.press_plans.proofs.Steps.{done_more}
-use Rattle.press_plans.proofs.past.Past.of.Goals as goal
+use Rattle.done_presses.specs.Past.{no_past, past_of}
+use Rattle.done_presses.proofs.Steps.{done_more}
+use Rattle.done_presses.proofs.past.Past.of.Goals as goal
 
 pub loop-event-init : goal.loop-event-init
 loop-event-init c = c.none-past.ensures

@@ -1,8 +1,8 @@
 //! What was taken back, as far as it can be done again.
 ghost use Rattle.std.specs.Prelude.{◌≡◌, ◌-◌, length, take, slice_get};
-ghost use Rattle.press_plans.specs.Again.{events_behind, holds_at, kept_at, next_event, next_of_press, no_again};
-ghost use Rattle.press_plans.specs.Again.{put_back};
-ghost use Rattle.press_plans.specs.Again.{rest_at, taken_press, with_press, with_rest};
+ghost use Rattle.done_presses.specs.Again.{events_behind, holds_at, kept_at, next_event, next_of_press, no_again};
+ghost use Rattle.done_presses.specs.Again.{put_back};
+ghost use Rattle.done_presses.specs.Again.{rest_at, taken_press, with_press, with_rest};
 
 use arrayvec::ArrayVec;
 use event_bytes::Event;
@@ -27,7 +27,7 @@ pub struct TakenPress {
 }
 
 impl Model for TakenPress {
-    ghost use Rattle.press_plans.specs.Again.{TakenPressView};
+    ghost use Rattle.done_presses.specs.Again.{TakenPressView};
 
     ghost Value = { TakenPressView };
 
@@ -61,7 +61,7 @@ impl TakenPress {
 }
 
 /// Takes the last of these events off, if there is one.
-pub(crate) fn take_last(events: &mut Vec<Event>) -> Option<Event>
+pub fn take_last(events: &mut Vec<Event>) -> Option<Event>
     ensures last { result ≡ slice_get events.old.items (length events.old.items - 1) }
     ensures rest { events.new.items ≡ take (length events.old.items - 1) events.old.items }
 {
@@ -85,7 +85,7 @@ pub struct Again {
 }
 
 impl Model for Again {
-    ghost use Rattle.press_plans.specs.Again.{AgainView};
+    ghost use Rattle.done_presses.specs.Again.{AgainView};
 
     ghost Value = { AgainView };
 

@@ -3,10 +3,10 @@ use Rattle.std.specs.Prelude.{◌-◌, Bool, ◌==◌, ◌&&◌, if◌then◌els
 use Rattle.std.specs.Prelude.{Option, Some, None, option_map, reverse, slice_get}
 use Rattle.event_bytes.specs.declared.event.Event.{Event}
 use Rattle.status_line.specs.declared.deed.Deed.{Deed}
-use Rattle.press_plans.specs.declared.again.NextEvent.{NextEvent}
-use Rattle.press_plans.specs.declared.again.StorePlace.{StorePlace}
-use Rattle.press_plans.specs.declared.again.TheConstants.{MOST_AGAIN}
-use Rattle.press_plans.specs.Past.{with_room}
+use Rattle.done_presses.specs.declared.again.NextEvent.{NextEvent}
+use Rattle.done_presses.specs.declared.again.StorePlace.{StorePlace}
+use Rattle.done_presses.specs.declared.again.TheConstants.{MOST_AGAIN}
+use Rattle.done_presses.specs.Past.{with_room}
 
 pub record TakenPressView : Type 0 where
   -- the next to be done again stands last

@@ -1,6 +1,6 @@
 use Rattle.std.proofs.Common.{◌≡◌, take}
-use Rattle.press_plans.specs.Past.{no_past, past_of}
-use Rattle.press_plans.proofs.past.Past.of.Given as goal
+use Rattle.done_presses.specs.Past.{no_past, past_of}
+use Rattle.done_presses.proofs.past.Past.of.Given as goal
 
 -- the events so far were done
 abbrev pub invariant-loop-event : goal.invariant-loop-event

@@ -7,8 +7,8 @@ use Rattle.event_bytes.specs.declared.keys.Keys.{Keys}
 use Rattle.event_bytes.specs.declared.keys.Keys.TheVariants.{Left, Middle, Right}
 use Rattle.viewer_tracks.specs.declared.display.Track.TheVariants.{System, User}
 use Rattle.viewer_tracks.specs.Display.{left_of}
-use Rattle.press_plans.specs.declared.kind.PressKind.{PressKind}
-use Rattle.press_plans.specs.declared.kind.PressKind.TheVariants.{Word, Gap, Moves, Selects, Alone}
+use Rattle.done_presses.specs.declared.kind.PressKind.{PressKind}
+use Rattle.done_presses.specs.declared.kind.PressKind.TheVariants.{Word, Gap, Moves, Selects, Alone}
 
 -- a blank, a TAB or an end of a line
 abbrev pub ends_word : ℕ → Bool

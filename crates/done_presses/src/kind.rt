@@ -1,8 +1,8 @@
 //! What events and presses were, as far as an undo takes others back with them.
 ghost use Rattle.std.specs.Prelude.{◌≡◌};
-ghost use Rattle.press_plans.specs.Kinds.{after_gap, ends_word, is_moving, is_of_bars, kind_moved, kind_of, kind_pointed};
-ghost use Rattle.press_plans.specs.Kinds.{is_selecting, kind_posted, kind_typed, kind_with, only_moves, selects_at};
-ghost use Rattle.press_plans.specs.Kinds.{word_goes_on};
+ghost use Rattle.done_presses.specs.Kinds.{after_gap, ends_word, is_moving, is_of_bars, kind_moved, kind_of, kind_pointed};
+ghost use Rattle.done_presses.specs.Kinds.{is_selecting, kind_posted, kind_typed, kind_with, only_moves, selects_at};
+ghost use Rattle.done_presses.specs.Kinds.{word_goes_on};
 
 use event_bytes::{Event, Keys};
 use viewer_tracks::Track;

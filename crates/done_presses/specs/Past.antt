@@ -6,10 +6,10 @@ use Rattle.std.specs.Prelude.{Option, Some, None, slice_get}
 use Rattle.event_bytes.specs.declared.event.Event.{Event}
 use Rattle.status_line.specs.declared.deed.Deed.{Deed}
 use Rattle.status_line.specs.declared.deed.Deed.TheVariants.{Part}
-use Rattle.press_plans.specs.declared.past.DonePress.{DonePress}
-use Rattle.press_plans.specs.Kinds.{is_moving, is_selecting, kind_moved, kind_posted, kind_with, word_goes_on}
-use Rattle.press_plans.specs.declared.kind.PressKind.{PressKind}
-use Rattle.press_plans.specs.declared.past.TheConstants.{MOST_DONE}
+use Rattle.done_presses.specs.declared.past.DonePress.{DonePress}
+use Rattle.done_presses.specs.Kinds.{is_moving, is_selecting, kind_moved, kind_posted, kind_with, word_goes_on}
+use Rattle.done_presses.specs.declared.kind.PressKind.{PressKind}
+use Rattle.done_presses.specs.declared.past.TheConstants.{MOST_DONE}
 use Rattle.status_line.specs.Deeds.{deed_of, deed_with}
 
 pub record PastView : Type 0 where

@@ -1,0 +1,49 @@
+-- The desk of `serve`.
+use Rattle.std.specs.Prelude.{◌≡◌, ℕ, List, Option, is_some}
+use Rattle.screen_pictures.specs.declared.cell.Cell.{Cell}
+use Rattle.desktop_definitions.specs.Step.{steps}
+use Rattle.terminal_keyboard.specs.Presses.{at_rest, parser_after, presses_heard}
+use Rattle.terminal_presses.specs.declared.press.Press.{Press}
+use Rattle.terminal_presses.specs.Pointers.{pointer_cell}
+use Rattle.terminal_presses.specs.Sights.{terminal_place}
+use Rattle.done_presses.specs.Again.{next_event}
+pub use Rattle.event_bytes.specs.Parts.{◌>>=◌}
+use Rattle.status_line.specs.Sayings.{line_of, said_by_pointer}
+use Rattle.desk_sitting.specs.declared.sitting.Sitting.{Sitting}
+use Rattle.desk_sitting.specs.Desk.{Desk, Seat, accepted_events, after_presses}
+use Rattle.desk_sitting.specs.Sittings.{accepted_of, after_fetch, after_press, looked, new_sitting}
+use Rattle.desk_sitting.specs.Travels.{done_again, none_again, settled, step_count, took_back}
+
+-- where in the terminal the pointer is that keys move, while it is shown
+abbrev pub pointer_of : Sitting → Option (ℕ × ℕ)
+pointer_of s = pointer_cell s.hand.pointer >>= terminal_place s.sight
+
+-- the line below a screen
+abbrev pub sitting_line : List (List Cell) → Sitting → List ℕ
+sitting_line screen s = line_of screen s.logged.items s.hand.asked s.hand.asks_line s.hand.armed
+    (said_by_pointer (is_some (pointer_cell s.hand.pointer)) s.saying)
+
+abbrev pub the_desk : Desk
+the_desk = record {
+  parser = at_rest;
+  begins = new_sitting;
+  pressed = presses_heard;
+  parses = parser_after;
+  does = after_press;
+  accepts = accepted_of;
+  looks = looked;
+  points = pointer_of;
+  says = sitting_line;
+  fetches = after_fetch;
+  counts = step_count;
+  takes_back = λ events from to s. took_back events from to (settled s);
+  follows = λ place s. next_event place s.again;
+  repeats = done_again;
+  ends_there = none_again;
+}
+
+-- presses lead to the desktop to which the events lead that are accepted of them
+abbrev pub PressesAreSteps : Type 0
+PressesAreSteps = (presses : List Press) (seat : Seat)
+    → (after_presses the_desk presses seat).session.desktop
+    ≡ steps seat.session.desktop (accepted_events the_desk presses seat)

@@ -1,0 +1,2 @@
+mod Popped
+mod Steps
