@@ -6,7 +6,6 @@
 mod ascii;
 mod copying;
 mod counts;
-mod event_lines;
 mod examining;
 mod exporting;
 mod file_bytes;
@@ -23,7 +22,6 @@ mod words;
 pub use ascii::{InAscii, in_ascii};
 pub use copying::{Watch, are_same, copy};
 pub use counts::Counts;
-pub use event_lines::event_line;
 pub use examining::{Examined, Part, SlotState, examine, part_of, parts_are_of_layout};
 pub use exporting::{ExportFault, Form, Reader, export};
 pub use file_bytes::{MOST_BYTES, Unfit, document};

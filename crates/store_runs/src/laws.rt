@@ -1,6 +1,6 @@
 //! What holds of stores that are closed and opened, and of runs of calls.
 ghost use Rattle.store_runs.specs.Run.{ComposingLaw, ReopeningLaw, SurvivalLaw};
-ghost use Rattle.store_runs.specs.Undone.{UndoSurvivalLaw};
+ghost use Rattle.store_runs.specs.Deeds.{DeedSurvivalLaw};
 
 use sector_disk::Disk;
 use store_layout::showing_law;
@@ -23,8 +23,9 @@ pub fn runs_survive<D: Disk>()
     ensures { SurvivalLaw D.Disk }
 {}
 
-/// The same of runs between which events are taken back: from the moment at which that is answered Ok they are no longer
-/// among the accepted ones, and what a crash leaves is reckoned from the desktop that is left.
-pub fn undos_survive<D: Disk>()
-    ensures { UndoSurvivalLaw D.Disk }
+/// The same of runs between which events are taken back and documents are brought. From the moment at which that is answered
+/// Ok those events are no longer among the accepted ones, and these documents are there; what a crash leaves is reckoned
+/// from the desktop to which that led.
+pub fn deeds_survive<D: Disk>()
+    ensures { DeedSurvivalLaw D.Disk }
 {}

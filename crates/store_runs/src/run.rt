@@ -6,11 +6,11 @@ ghost use Rattle.desk_journal.specs.Device.{IsSameDevice, disk_after, result_of}
 ghost use Rattle.desk_journal.specs.Errors.{OfReopen};
 ghost use Rattle.store_runs.specs.Run.{IsCallRun, SurvivesRun, ServesCall, MeansSome, IsReopened, served_of, events_in};
 ghost use Rattle.store_runs.specs.Run.{LeadsToLastEpoch, StopsAReopening};
-ghost use Rattle.store_runs.specs.Undone.{PromisesUndo, told_of};
+ghost use Rattle.store_runs.specs.Deeds.{PromisesBringing, PromisesUndo, told_of};
 
 use crate::call::{StoreAnswer, StoreCall};
 use crate::laws::{reopening_law, runs_survive};
-use desk_journal::{Error, Store, finding_law};
+use desk_journal::{Document, Error, Store, finding_law};
 use desktop_definitions::Reply;
 use event_bytes::Event;
 use sector_disk::{Disk, NoMemory};
@@ -43,6 +43,15 @@ pub fn take_back<D: Disk>(
         store.new }
 {
     store.undo(alloc, count)
+}
+
+/// Brings the documents, all or none.
+///
+/// Errors: those of `Store::bring`.
+pub fn bring_in<D: Disk>(alloc: Global, store: &mut Store<D>, documents: &[Document]) -> StoreAnswer
+    ensures { PromisesBringing D.Disk documents.now result store.old store.new }
+{
+    store.bring(alloc, documents)
 }
 
 /// Makes the calls in order, and returns what each returned. It allocates the memory for that first, and changes

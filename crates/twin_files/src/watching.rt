@@ -1,5 +1,5 @@
 //! A keyboard that stops a sitting when one of a store's two files has failed, so that the next one can begin with it.
-ghost use Rattle.std.specs.Prelude.{◌≡◌, ◌<◌, ◌⊎◌, true, false, IfOk, IfErr, OnErr};
+ghost use Rattle.std.specs.Prelude.{◌≡◌, ◌<◌, ◌⊎◌, true, false, is_some, IfOk, IfErr, OnErr};
 ghost use Rattle.sector_disk.specs.declared.file.TheConstants.{FILE_SECTORS};
 ghost use Rattle.terminal_keyboard.specs.declared.keyboard.KeyboardEnd.TheVariants.{Closed};
 
@@ -52,7 +52,7 @@ fn says_alone(leg: &mut FileDisk<File>) -> bool
 }
 
 /// A keyboard that tells what another one does. After a quiet while in which one of the files has failed it says that
-/// nothing more comes, once.
+/// nothing more comes, once, and then tells which one.
 #[derive(Drop)]
 pub struct WatchedKeyboard<K> {
     keyboard: K,
@@ -75,13 +75,16 @@ impl<K: Keyboard> WatchedKeyboard<K> {
     }
 
     /// Which of the files failed, if it has stopped for that.
-    pub fn failed(&self) -> Option<Leg> {
+    pub fn failed(&self) -> Option<Leg>
+        ensures { result ≡ self.now.failed }
+    {
         self.failed
     }
 
     /// Whether one of the files has failed, which is told once.
     fn stops(&mut self) -> bool
-        ensures { self.new.keyboard ≡ self.old.keyboard }
+        ensures keyboard { self.new.keyboard ≡ self.old.keyboard }
+        ensures told { result ≡ true → is_some self.new.failed ≡ true }
     {
         if !self.was_quiet {
             return false;
@@ -108,7 +111,7 @@ impl<K: Keyboard> Keyboard for WatchedKeyboard<K> {
 
     ghost tells = { λ old new told. K.tells old.keyboard new.keyboard told };
 
-    ghost ended = { λ k why. (why ≡ Closed) ⊎ K.ended k.keyboard why };
+    ghost ended = { λ k why. (why ≡ Closed) × (is_some k.failed ≡ true) ⊎ K.ended k.keyboard why };
 
     ghost answers = { λ old new name will. K.answers old.keyboard new.keyboard name will };
 
