@@ -526,7 +526,7 @@ def cleared(kind, pressed_at_once):
     when = 'with a press just then' if pressed_at_once else 'while it is open'
     check(kind, 'sentences', f'data that are cleared {when} are told', told, page.note())
     page.js("void document.getElementById('keys').dispatchEvent(new KeyboardEvent('keydown', {key: 'x', bubbles: true}))")
-    settle(page, 1)
+    page.until("/before it.?x/.test(document.getElementById('screen').textContent)")
     rows = page.text(1, 50)
     check(kind, 'sentences', 'and the desktop goes on', rows[-1].startswith('before it') and rows[-1].endswith('x'), rows)
     store = saved(page)

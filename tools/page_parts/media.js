@@ -136,13 +136,18 @@ function withCopy(medium) {
 
 // ---- Which of them. One page at a time has the store: a second one waits until the first is closed.
 function locked(name, waits) {
+    const lock = 'store ' + name;
+    let isSettled = false;
+    setTimeout(async () => {                              // not where a browser is slow alone
+        const { held } = await navigator.locks.query();
+        if (!isSettled && held.some(other => other.name === lock)) waits();
+    }, 1000);
     return new Promise((done, failed) => {
-        const late = setTimeout(waits, 1000);
-        navigator.locks.request('store ' + name, () => {  // durable: one page at a time has the store
-            clearTimeout(late);
+        navigator.locks.request(lock, () => {             // durable: one page at a time has the store
+            isSettled = true;
             done();
             return new Promise(() => {});                 // until this worker ends
-        }).catch(error => { clearTimeout(late); failed(error); });
+        }).catch(error => { isSettled = true; failed(error); });
     });
 }
 async function chosenMedium(name, waits) {
