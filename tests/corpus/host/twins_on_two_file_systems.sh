@@ -1,6 +1,7 @@
 # The files of a store lie on two file systems. One of them becomes full amid an import: the import is done, the other file has
 # it, and goes on alone until there is room. Then it is unmounted amid a sitting: all that was typed is in the first file, and
-# the second one is missed until the first is used once without it.
+# the second one is missed until the first is used once without it. Where there is no room for a new twin nothing is left of
+# it, and it can be made elsewhere.
 if [ -z "${ROOM-}" ]; then
     unshare -rm true 2> /dev/null || { cat "$TESTS/corpus/host/twins_on_two_file_systems.out"; exit; }
     ROOM=$PWD exec unshare -rm bash "$TESTS/corpus/host/twins_on_two_file_systems.sh"
@@ -32,3 +33,12 @@ echo "status $?"
 echo "status $?"
 "$DESK_PROGRAM" import one.disk D.Text=A.Text
 "$DESK_PROGRAM" import one.disk E.Text=A.Text
+
+echo 'no room for a new one:'
+mkdir less && mount -t tmpfs -o size=16k none less || exit 1
+"$DESK_PROGRAM" import three.disk A.Text
+"$DESK_PROGRAM" import three.disk --twin less/four.disk C.Text=A.Text
+echo "status $?"
+ls less
+"$DESK_PROGRAM" import three.disk --twin four.disk C.Text=A.Text
+cmp three.disk four.disk && "$DESK_PROGRAM" list four.disk | grep Text
