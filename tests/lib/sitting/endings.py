@@ -870,6 +870,7 @@ def closing(trial):
     terminal, asked = sitting.terminal, "A.Text isn't stored: press again to close it"
 
     def at(word, with_f2=False):
+        sitting.wait(lambda: word in terminal.line(0))
         column = terminal.line(0).index(word) + 2
         return (b'\x1bOQ\x1b[<0;%d;1M\x1b[<0;%d;1m' if with_f2 else b'\x1b[<1;%d;1M\x1b[<1;%d;1m') % (column, column)
 

@@ -104,7 +104,7 @@ class Sitting:
         self.press(data + b'\x0c')
         return self.wait(lambda: self.terminal.asked > asked)
 
-    def wait(self, is_so, seconds=20):
+    def wait(self, is_so, seconds=60):
         """Reads until it is so. False where it isn't after a time."""
         end = time.monotonic() + seconds
         while not is_so():
