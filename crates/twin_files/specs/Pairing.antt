@@ -5,6 +5,8 @@ use Rattle.sector_disk.specs.Trail.{now}
 use Rattle.twin_disk.specs.Choosing.{OfChosen, choice_of}
 use Rattle.twin_disk.specs.Flags.{says_alone}
 use Rattle.twin_disk.specs.Survival.{twin_moments, twin_size}
+use Rattle.twin_disk.specs.declared.choosing.Leg.{Leg}
+use Rattle.twin_disk.specs.declared.choosing.Leg.TheVariants.{First, Second}
 use Rattle.twin_files.specs.declared.pairing.Pair.{Pair}
 use Rattle.twin_files.specs.declared.pairing.Unpaired.{Unpaired}
 use Rattle.twin_files.specs.declared.pairing.Unpaired.TheVariants.{BothAlone}
@@ -31,3 +33,8 @@ module _ {D : Type 0} (d : Ghosts D) (sectors : ℕ) where
   abbrev pub AreBothAlone : D → D → Unpaired → Type 0
   AreBothAlone first second why = why ≡ BothAlone → d.honest first → d.honest second
       → (leg_flag first ≡ true) × (leg_flag second ≡ true)
+
+  -- a leg has failed: the other one says *alone*
+  abbrev pub HasFailed : D → D → Leg → Type 0
+  HasFailed first second First = d.honest second → leg_flag second ≡ true
+  HasFailed first second Second = d.honest first → leg_flag first ≡ true

@@ -1,7 +1,8 @@
 //! A keyboard that stops a sitting when one of a store's two files has failed, so that the next one can begin with it.
-ghost use Rattle.std.specs.Prelude.{◌≡◌, ◌<◌, ◌⊎◌, true, false, is_some, IfOk, IfErr, OnErr};
+ghost use Rattle.std.specs.Prelude.{◌≡◌, ◌<◌, ◌⊎◌, true, false, is_some, IfOk, IfErr, IfSome, OnErr};
 ghost use Rattle.sector_disk.specs.declared.file.TheConstants.{FILE_SECTORS};
 ghost use Rattle.terminal_keyboard.specs.declared.keyboard.KeyboardEnd.TheVariants.{Closed};
+ghost use Rattle.twin_files.specs.Pairing.{HasFailed, leg_flag};
 
 use crate::legs::LEG_SECTORS;
 use host_files::{HostFault, open_regular};
@@ -29,7 +30,10 @@ impl PairWatch {
     }
 
     /// Which file failed, as the flag of the other one says.
-    pub fn failed(&mut self) -> Option<Leg> {
+    pub fn failed(&mut self) -> Option<Leg>
+        ensures { IfSome result (HasFailed ⟦<FileDisk<File> as Disk>⟧ FILE_SECTORS
+            self.old.first self.old.second) }
+    {
         if says_alone(&mut self.first) {
             Some(Leg::Second)
         } else if says_alone(&mut self.second) {
@@ -43,7 +47,10 @@ impl PairWatch {
 /// Whether the leg in a file says *alone*, as far as it can be read.
 fn says_alone(leg: &mut FileDisk<File>) -> bool
     requires { FILE_SECTORS < ⟦<FileDisk<File> as Disk>⟧.size leg.old }
-    ensures { ⟦<FileDisk<File> as Disk>⟧.size leg.new ≡ ⟦<FileDisk<File> as Disk>⟧.size leg.old }
+    ensures size { ⟦<FileDisk<File> as Disk>⟧.size leg.new
+        ≡ ⟦<FileDisk<File> as Disk>⟧.size leg.old }
+    ensures told { result ≡ true → ⟦<FileDisk<File> as Disk>⟧.honest leg.old
+        → leg_flag ⟦<FileDisk<File> as Disk>⟧ FILE_SECTORS leg.old ≡ true }
 {
     match flag_at(leg, FILE_SECTORS) {
         Ok(flag) => flag.alone,
@@ -85,6 +92,9 @@ impl<K: Keyboard> WatchedKeyboard<K> {
     fn stops(&mut self) -> bool
         ensures keyboard { self.new.keyboard ≡ self.old.keyboard }
         ensures told { result ≡ true → is_some self.new.failed ≡ true }
+        ensures watched { result ≡ true → is_some self.old.watch ≡ true }
+        ensures right { IfSome self.old.watch (λ watch. result ≡ true → IfSome self.new.failed
+            (HasFailed ⟦<FileDisk<File> as Disk>⟧ FILE_SECTORS watch.first watch.second)) }
     {
         if !self.was_quiet {
             return false;
