@@ -82,7 +82,7 @@ second_chosen false false P Q not is q = absurd (cc)
 second_chosen false true P Q not is q = q
 second_chosen true y P Q not is q = absurd (cc)
 
-by_three : {P : Type 0} (l : Left) → (l ≡ Both → P) → (l ≡ First → P) → (l ≡ Second → P) → P
+pub by_three : {P : Type 0} (l : Left) → (l ≡ Both → P) → (l ≡ First → P) → (l ≡ Second → P) → P
 by_three Both both first second = both refl
 by_three First both first second = first refl
 by_three Second both first second = second refl

@@ -11,3 +11,4 @@ pub mod Joining
 pub mod Flagged
 pub mod Copies
 pub mod Compared
+pub mod Marked

@@ -63,7 +63,7 @@ bounded_same flag n c c' same = elim (cases_lt n flag) [
   | inr high ↦ past_at flag n c high ∙ sym (past_at flag n c' high)
 ]
 
-settled_at : (flag n : ℕ) (p : ℕ → Bool) → n < flag → (if nat_lt n flag then p n else false) ≡ p n
+pub settled_at : (flag n : ℕ) (p : ℕ → Bool) → n < flag → (if nat_lt n flag then p n else false) ≡ p n
 settled_at flag n p low = ap (λ b. if b then p n else false) (tests_low n flag low)
 
 settled_past : (flag n : ℕ) (p : ℕ → Bool) → flag ≤ n → (if nat_lt n flag then p n else false) ≡ false

@@ -6,3 +6,4 @@ pub mod Survival
 pub mod Copying
 pub mod Files
 pub mod Choosing
+pub mod Closing

@@ -1,13 +1,16 @@
 //! What a leg says of itself, in a sector behind those that it has of the twin.
-ghost use Rattle.std.specs.Prelude.{◌≡◌, ◌<◌, ℕ, false, OnOk};
+ghost use Rattle.std.specs.Prelude.{◌≡◌, ◌<◌, ℕ, true, false, OnOk};
 ghost use Rattle.sector_disk.specs.Trail.{now, Only, CountsFault};
 ghost use Rattle.sector_disk.specs.Confined.{IsConfined};
-ghost use Rattle.twin_disk.specs.Flags.{says_alone, ShowsFlag};
+ghost use Rattle.twin_disk.specs.Flags.{IsNameless, ShowsFlag, name_in, says_alone, says_closed};
 
 use sector_disk::{Disk, Fault, SECTOR_BYTES, Sector};
 
 /// The first byte of the flag's sector of a leg that goes on without its twin. Any other byte says *in pair*.
 pub const ALONE: u8 = 1;
+
+/// The first byte of that sector of a leg that was closed with its twin, which is also in pair.
+pub const CLOSED: u8 = 2;
 
 /// How many bytes the name of a pair has.
 pub const NAME_BYTES: usize = 16;
@@ -23,23 +26,30 @@ const NAMELESS: Name = [0; NAME_BYTES];
 pub struct Flag {
     /// Whether the leg goes on without its twin.
     pub alone: bool,
+
+    /// Whether it was closed with its twin, and reads as this does if it bears the same stamp.
+    pub closed: bool,
     pub name: Name,
 }
 
 impl Flag {
     /// The flag in a sector.
     pub fn of(sector: &Sector) -> Flag
-        ensures { result.alone ≡ says_alone sector.now }
+        ensures alone { result.alone ≡ says_alone sector.now }
+        ensures closed { result.closed ≡ says_closed sector.now }
+        ensures name { result.name ≡ name_in sector.now }
     {
         Flag {
             alone: sector[0] == ALONE,
-            name: name_in(sector),
+            closed: sector[0] == CLOSED,
+            name: name_of(sector),
         }
     }
 
-    /// The sector with this flag.
+    /// The sector with this flag, which doesn't say *closed*.
     pub fn sector(&self) -> Sector
-        ensures { says_alone result ≡ self.now.alone }
+        ensures alone { says_alone result ≡ self.now.alone }
+        ensures in_use { says_closed result ≡ false }
     {
         let mut sector = named(&self.name);
         set_alone(&mut sector, self.alone);
@@ -48,12 +58,16 @@ impl Flag {
 }
 
 /// Whether the disk was in a pair.
-pub fn has_name(flag: &Flag) -> bool {
+pub fn has_name(flag: &Flag) -> bool
+    ensures { result ≡ false → IsNameless flag.now.name }
+{
     flag.name != NAMELESS
 }
 
 /// The name in a flag's sector.
-fn name_in(sector: &Sector) -> Name {
+fn name_of(sector: &Sector) -> Name
+    ensures { result ≡ name_in sector.now }
+{
     let mut name = [0; NAME_BYTES];
     name.copy_from_slice(&sector[1..1 + NAME_BYTES]);
     name
@@ -68,7 +82,8 @@ fn named(name: &Name) -> Sector {
 
 /// Says in a flag's sector whether the leg is alone.
 fn set_alone(sector: &mut Sector, alone: bool)
-    ensures { says_alone sector.new ≡ alone }
+    ensures alone { says_alone sector.new ≡ alone }
+    ensures in_use { says_closed sector.new ≡ false }
 {
     sector[0] = if alone { ALONE } else { 0 };
 }
@@ -86,6 +101,35 @@ pub fn put_flag<D: Disk>(leg: &mut D, at: u32, flag: Flag) -> Result<(), Fault>
         → (n : ℕ) → (now (D.trail leg.new)).pending n ≡ false) }
 {
     let sector = flag.sector();
+    leg.write(at, &sector)?;
+    leg.sync()
+}
+
+/// The sector of the flag of a leg that is closed with its twin under this stamp.
+fn closed_sector(name: &Name, stamp: &Name) -> Sector
+    ensures { says_closed result ≡ true }
+{
+    let mut sector = named(name);
+    sector[1 + NAME_BYTES..1 + 2 * NAME_BYTES].copy_from_slice(stamp);
+    sector[0] = CLOSED;
+    sector
+}
+
+/// Has a leg say *closed* in its sector `at`, for good, under this stamp.
+///
+/// `Fault`: a call of the leg failed, and that sector may hold anything.
+pub(crate) fn put_mark<D: Disk>(
+    leg: &mut D,
+    at: u32,
+    name: &Name,
+    stamp: &Name,
+) -> Result<(), Fault>
+    requires { at < D.size leg.old }
+    ensures kept { IsConfined D.size D.honest D.trail (Only at) leg.old leg.new }
+    ensures shown { OnOk result (D.honest leg.old
+        → says_closed ((now (D.trail leg.new)).reads at) ≡ true) }
+{
+    let sector = closed_sector(name, stamp);
     leg.write(at, &sector)?;
     leg.sync()
 }

@@ -1,8 +1,8 @@
 //! A leg that goes on without its twin.
-ghost use Rattle.std.specs.Prelude.{◌≡◌, ◌<◌, true, IfOk, OnOk};
+ghost use Rattle.std.specs.Prelude.{◌≡◌, ◌<◌, ◌⊎◌, true, false, IfOk, OnOk};
 ghost use Rattle.sector_disk.specs.Trail.{now, Only};
 ghost use Rattle.sector_disk.specs.Confined.{IsConfined};
-ghost use Rattle.twin_disk.specs.Flags.{ShowsFlag};
+ghost use Rattle.twin_disk.specs.Flags.{IsNameless, ShowsFlag, name_in, says_alone};
 
 use crate::copying::flag_at;
 use crate::flags::{Flag, Name, has_name, put_flag};
@@ -17,6 +17,9 @@ pub fn leave_twin<D: Disk>(leg: &mut D, at: u32) -> Result<bool, Fault>
     ensures kept { IsConfined D.size D.honest D.trail (Only at) leg.old leg.new }
     ensures shown { IfOk result (λ left. left ≡ true → D.honest leg.old
         → ShowsFlag at true (now (D.trail leg.new))) }
+    ensures stays { IfOk result (λ left. left ≡ false → D.honest leg.old
+        → (says_alone ((now (D.trail leg.old)).reads at) ≡ true)
+        ⊎ IsNameless (name_in ((now (D.trail leg.old)).reads at))) }
 {
     let flag = flag_at(leg, at)?;
     if flag.alone || !has_name(&flag) {
@@ -33,6 +36,10 @@ fn leave<D: Disk>(leg: &mut D, at: u32, name: &Name) -> Result<(), Fault>
     ensures shown { OnOk result (D.honest leg.old → ShowsFlag at true (now (D.trail leg.new))) }
 {
     let name = *name;
-    let alone = Flag { alone: true, name };
+    let alone = Flag {
+        alone: true,
+        closed: false,
+        name,
+    };
     put_flag(leg, at, alone)
 }

@@ -38,6 +38,7 @@ impl Beside {
     {
         Flag {
             alone: true,
+            closed: false,
             name: self.name,
         }
     }

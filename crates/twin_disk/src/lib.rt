@@ -5,6 +5,7 @@
 #![tactic(auto)]
 
 mod choosing;
+mod closing;
 mod copying;
 mod files;
 mod flags;
@@ -16,7 +17,8 @@ mod twin;
 mod twin_laws;
 
 pub use choosing::{Choice, Leg, choose};
-pub use copying::{copy_disk, differing, flag_at, mirror};
+pub use closing::closed_together;
+pub use copying::{copy_disk, differing, flag_at, hold_same, mirror};
 pub use files::{FileLegs, file_legs};
 pub use flags::{ALONE, Flag, NAME_BYTES, Name, has_name, put_flag};
 pub use leaving::leave_twin;
@@ -24,5 +26,5 @@ pub use pairing::paired;
 pub use twin::TwinDisk;
 pub use twin_laws::{
     calls_compose, calls_follow, dropped_leg_is_old, each_moment_survives, either_survives,
-    flags_choose_newest,
+    flags_choose_newest, marks_stay_honest,
 };

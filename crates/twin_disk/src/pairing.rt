@@ -1,7 +1,9 @@
 //! A twin of two disks.
 ghost use Rattle.std.specs.Prelude.{◌≡◌, ◌<◌, ◌↔◌, ℕ, IfOk, IsTrue};
 ghost use Rattle.sector_disk.specs.Trail.{now};
-ghost use Rattle.twin_disk.specs.Copying.{ReadSame};
+ghost use Rattle.twin_disk.specs.Closing.{KeepsMark};
+ghost use Rattle.twin_disk.specs.Copying.{HoldSame};
+ghost use Rattle.twin_disk.specs.Survival.{first_leg, second_leg};
 
 use crate::copying::mirror;
 use crate::flags::Name;
@@ -9,7 +11,7 @@ use crate::twin::TwinDisk;
 use sector_disk::{Disk, Fault};
 
 /// The twin of two disks, after the second one was made to read as the first one does (`mirror`), unless they are known to
-/// read the `same`.
+/// hold the `same`.
 ///
 /// `Fault`, after a call of either failed, as `mirror` says.
 pub fn paired<A: Disk + Drop, B: Disk + Drop>(
@@ -21,13 +23,15 @@ pub fn paired<A: Disk + Drop, B: Disk + Drop>(
 ) -> Result<TwinDisk<A, B>, Fault>
     requires first { sectors < A.size first }
     requires second { sectors < B.size second }
-    requires same { IsTrue same → ReadSame A.Disk B.Disk sectors first second }
+    requires same { IsTrue same → HoldSame A.Disk B.Disk sectors first second }
     ensures size { IfOk result (λ d. ⟦<TwinDisk<A, B> as Disk>⟧.size d ≡ sectors) }
     ensures honest { IfOk result (λ d. ⟦<TwinDisk<A, B> as Disk>⟧.honest d
         ↔ (A.honest first × B.honest second)) }
     ensures reads { IfOk result (λ d. A.honest first → B.honest second → (n : ℕ)
         → n < sectors
         → (now (⟦<TwinDisk<A, B> as Disk>⟧.trail d)).reads n ≡ (now (A.trail first)).reads n) }
+    ensures marks { IfOk result (λ d. IsTrue same
+        → KeepsMark A.Disk B.Disk sectors first (first_leg d) second (second_leg d)) }
 {
     let mut first = first;
     let mut second = second;

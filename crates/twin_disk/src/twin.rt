@@ -9,6 +9,7 @@ ghost use Rattle.twin_disk.specs.Legs.{IsHonest};
 ghost use Rattle.twin_disk.specs.Twin.{Agrees, TwinEnds, IsFlagged, IsLegFollowed, with_mark, pending_now, twin_trail};
 
 use crate::choosing::Leg;
+use crate::closing::mark_both;
 use crate::flags::Name;
 use crate::legs::{Beside, Left, Legs};
 use crate::notes::Notes;
@@ -89,10 +90,11 @@ fn end_sync<A: Disk, B: Disk>(settled: bool, legs: &mut Legs<A, B>, calls: &mut 
 }
 
 impl<A: Disk, B: Disk> TwinDisk<A, B> {
-    ghost use Rattle.std.specs.Prelude.{ℕ, ◌↔◌, IsTrue};
+    ghost use Rattle.std.specs.Prelude.{ℕ, ◌↔◌, ◌⊎◌, IsTrue};
     ghost use Rattle.twin_disk.specs.Bounded.{bounded_moment};
+    ghost use Rattle.twin_disk.specs.Closing.{IsClosed, IsMarked};
     ghost use Rattle.twin_disk.specs.Flags.{ShowsFlag};
-    ghost use Rattle.twin_disk.specs.Survival.{HasBothLegs, dropped_of, either_pending, first_leg, second_leg};
+    ghost use Rattle.twin_disk.specs.Survival.{HasBothLegs, HasHonestLegs, dropped_of, either_pending, first_leg, second_leg, twin_moments};
 
     /// The disk over two legs of which the first `sectors` read the same, and whose flags, in the sector behind them, say
     /// *in pair*. `name` is written beside a flag that is changed.
@@ -150,6 +152,42 @@ impl<A: Disk, B: Disk> TwinDisk<A, B> {
             Left::First => Some(Leg::Second),
             Left::Second => Some(Leg::First),
         }
+    }
+
+    /// Hands out both legs at the end. Where both are in use, all is synced, and then both say *closed* under this stamp, as
+    /// far as they can: the next start needn't compare them.
+    pub fn close(self, stamp: &Name) -> (A, B)
+        ensures { IsClosed self result.0 result.1 }
+    {
+        let mut twin = self;
+        match twin.sync() {
+            Ok(()) => twin.leave(stamp),
+            Err(_) => twin.into_legs(),
+        }
+    }
+
+    /// The same of a twin of which all is settled.
+    fn leave(self, stamp: &Name) -> (A, B)
+        requires { HasHonestLegs self → (n : ℕ) → (now (twin_moments self)).pending n ≡ false }
+        ensures { (result ≡ (first_leg self, second_leg self)) ⊎ IsMarked self result.0 result.1 }
+    {
+        if !self.is_whole() {
+            return self.into_legs();
+        }
+        self.mark(stamp)
+    }
+
+    /// Hands out both legs, which say *closed*, as far as they can.
+    fn mark(self, stamp: &Name) -> (A, B)
+        requires whole { HasBothLegs self }
+        requires settled { HasHonestLegs self
+            → (n : ℕ) → (now (twin_moments self)).pending n ≡ false }
+        ensures { IsMarked self result.0 result.1 }
+    {
+        let beside = self.beside;
+        let (mut first, mut second) = self.into_legs();
+        let _ = mark_both(&mut first, &mut second, beside.sector, &beside.name, stamp);
+        (first, second)
     }
 
     /// Hands out both legs, also one that was dropped.
