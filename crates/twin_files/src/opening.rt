@@ -9,7 +9,10 @@ use desk_journal::{Error, Store};
 use host_files::{HostFault, LockedFile, lock_alone, read_front, remove};
 use host_stores::opened;
 use sector_disk::{Disk, FILE_SECTORS};
-use twin_disk::{FileLegs, Leg, NAME_BYTES, Name, file_legs, flag_at, has_name};
+use twin_disk::{
+    FileLegs, Leg, NAME_BYTES, Name, closed_together, file_legs, flag_at, has_name, hold_same,
+    leave_twin,
+};
 
 /// A store on two files.
 #[derive(Drop)]
@@ -45,8 +48,22 @@ fn pair_at(rt: &HostRuntime, path: &str, twin: &str) -> Result<Pair<LegDisk>, Pa
     }
 }
 
-/// The disk over two files that are there.
+/// The disk over two files that are there, which needn't be compared where they were closed together.
 fn pair_there(
+    rt: &HostRuntime,
+    first: LockedFile,
+    second: LockedFile,
+) -> Result<Pair<LegDisk>, PairTrouble> {
+    let mut first = leg_in(first);
+    let mut second = leg_in(second);
+    if closed_together(&mut first, &mut second, FILE_SECTORS)? {
+        return Ok(pair_both(rt.alloc(), first, second, FILE_SECTORS, true)?);
+    }
+    pair_compared(rt, first.into_file(), second.into_file())
+}
+
+/// The same after both were compared.
+fn pair_compared(
     rt: &HostRuntime,
     first: LockedFile,
     second: LockedFile,
@@ -56,6 +73,9 @@ fn pair_there(
         second,
         same,
     } = file_legs(rt.alloc(), first, second, FILE_SECTORS);
+    let mut first = first;
+    let mut second = second;
+    let same = hold_same(&mut first, &mut second, FILE_SECTORS, same)?;
     Ok(pair_both(rt.alloc(), first, second, FILE_SECTORS, same)?)
 }
 
@@ -122,7 +142,7 @@ fn pair_made(
     pair
 }
 
-/// Gives a copy its name.
+/// Gives a copy its name. Where it can't get it the leg that was copied goes on alone, as far as it can say so.
 fn named(
     rt: &HostRuntime,
     pair: Pair<LegDisk>,
@@ -132,7 +152,11 @@ fn named(
 ) -> Result<Pair<LegDisk>, PairTrouble> {
     match give_name(rt, aside, path) {
         Ok(()) => Ok(pair),
-        Err(trouble) => Err(PairTrouble::One(missing, trouble)),
+        Err(trouble) => {
+            let (mut leg, _copy) = pair.disk.into_legs();
+            let _ = leave_twin(&mut leg, FILE_SECTORS);
+            Err(PairTrouble::One(missing, trouble))
+        }
     }
 }
 
@@ -146,17 +170,28 @@ fn new_name(rt: &HostRuntime) -> Result<Name, PairTrouble> {
 }
 
 impl OpenedPair {
-    /// Closes the store. Where one of the files failed since it was opened, that is said, and that the other one has all.
+    /// Closes the store, and both files together, so that the next start needn't compare them. Where one of the files failed
+    /// since it was opened, that is said, and that the other one has all.
     pub fn end(self, rt: &HostRuntime, path: &str, twin: &str) {
         let OpenedPair { store, swapped } = self;
         let disk = store.close();
         let (gone, left) = match (disk.dropped(), swapped) {
-            (None, _) => return,
+            (None, _) => {
+                close_both(rt, disk);
+                return;
+            }
             (Some(Leg::First), false) | (Some(Leg::Second), true) => (path, twin),
             _ => (twin, path),
         };
         let _ = eprintln!(rt;
             "desk: reading or writing {gone:?} failed, so only {left:?} has all that was shown; the next start with both makes them equal again"
         );
+    }
+}
+
+/// Has both files say that they were closed together, at a time that no other closing had, by chance.
+fn close_both(rt: &HostRuntime, disk: PairDisk) {
+    if let Ok(stamp) = new_name(rt) {
+        let _ = disk.close(&stamp);
     }
 }

@@ -3,13 +3,14 @@ ghost use Rattle.std.specs.Prelude.{◌≡◌, ◌≢◌, ◌<◌, IfOk, IfErr, 
 ghost use Rattle.twin_files.specs.declared.pairing.Unpaired.TheVariants.{BothAlone, Fault as Failed};
 ghost use Rattle.sector_disk.specs.Trail.{Nowhere};
 ghost use Rattle.sector_disk.specs.Confined.{IsConfined};
-ghost use Rattle.twin_disk.specs.Copying.{ReadSame};
+ghost use Rattle.twin_disk.specs.Choosing.{choice_of};
+ghost use Rattle.twin_disk.specs.Copying.{HoldSame};
 ghost use Rattle.twin_files.specs.Pairing.{AreBothAlone, IsPairFrom, IsPairOf};
 
 use desk_journal::{Error, Store};
 use sector_disk::{Disk, Fault};
 use std::alloc::Global;
-use twin_disk::{Choice, Name, TwinDisk, choose, differing, flag_at, has_name, paired};
+use twin_disk::{Choice, Flag, Name, TwinDisk, choose, flag_at, has_name, paired};
 
 /// Two legs as one disk.
 #[derive(Drop)]
@@ -27,6 +28,8 @@ pub enum Unpaired {
     Strangers,
     /// Each says that it goes on without the other.
     BothAlone,
+    /// They differ, and one of them says that it was closed with the other: so one was put back as an older copy.
+    PutBack,
     /// They differ, and what stands in the one that is right opens as no store.
     NoStore(bool, Error),
     /// A call of either failed.
@@ -42,10 +45,10 @@ impl From<Fault> for Unpaired {
 }
 
 /// The disk over two legs: the one that their flags choose stays as it is, and the other one is made equal to it, unless they
-/// are known to read the `same`.
+/// are known to hold the `same`.
 ///
-/// Errors, of which the first three write nothing: `Strangers`; `BothAlone`; `NoStore`, with whether it is the second leg;
-/// `Fault`, and the flags choose the same leg as before.
+/// Errors, of which the first four write nothing: `Strangers`; `BothAlone`; `PutBack`; `NoStore`, with whether it is the
+/// second leg; `Fault`, and the flags choose the same leg as before.
 pub fn pair_both<D: Disk + Drop>(
     alloc: Global,
     first: D,
@@ -55,7 +58,7 @@ pub fn pair_both<D: Disk + Drop>(
 ) -> Result<Pair<D>, Unpaired>
     requires first { sectors < D.size first }
     requires second { sectors < D.size second }
-    requires same { IsTrue same → ReadSame D.Disk D.Disk sectors first second }
+    requires same { IsTrue same → HoldSame D.Disk D.Disk sectors first second }
     ensures chosen { IfOk result (IsPairOf D.Disk sectors first second) }
     ensures alone { IfErr result (AreBothAlone D.Disk sectors first second) }
 {
@@ -66,15 +69,28 @@ pub fn pair_both<D: Disk + Drop>(
     if !has_name(&mine) || mine.name != other.name {
         return Err(Unpaired::Strangers);
     }
-    match choose(mine, other) {
+    match chosen(mine, other, same)? {
         Choice::First => pair_from(alloc, first, second, sectors, mine.name, false, same),
         Choice::Second => pair_from(alloc, second, first, sectors, mine.name, true, same),
         Choice::Neither => Err(Unpaired::BothAlone),
     }
 }
 
-/// The disk over two legs of which the first is right. Where the other one differs, the first has to open as a store before
-/// it is copied.
+/// Which leg goes on. Legs that may differ, of which neither is alone, and one says that it was closed with the other, no crash
+/// leaves: they are refused.
+fn chosen(mine: Flag, other: Flag, same: bool) -> Result<Choice, Unpaired>
+    ensures choice { IfOk result (λ choice. choice ≡ choice_of mine.alone other.alone) }
+    ensures alone { IfErr result (λ why. why ≢ BothAlone) }
+{
+    let closed = mine.closed || other.closed;
+    if !same && closed && !mine.alone && !other.alone {
+        return Err(Unpaired::PutBack);
+    }
+    Ok(choose(mine, other))
+}
+
+/// The disk over two legs of which the first is right. Where the other one may differ, the first has to open as a store
+/// before it is copied.
 ///
 /// Errors: `NoStore`; `Fault`.
 pub fn pair_from<D: Disk + Drop>(
@@ -88,13 +104,11 @@ pub fn pair_from<D: Disk + Drop>(
 ) -> Result<Pair<D>, Unpaired>
     requires right { sectors < D.size right }
     requires other { sectors < D.size other }
-    requires same { IsTrue same → ReadSame D.Disk D.Disk sectors right other }
+    requires same { IsTrue same → HoldSame D.Disk D.Disk sectors right other }
     ensures chosen { IfOk result (IsPairFrom D.Disk sectors swapped right other) }
     ensures alone { IfErr result (λ why. why ≢ BothAlone) }
 {
     let mut right = right;
-    let mut other = other;
-    let same = same || differing(&mut right, &mut other, sectors)? == 0;
     if !same {
         right = with_store(alloc, right, swapped)?;
     }

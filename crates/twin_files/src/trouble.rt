@@ -22,6 +22,8 @@ pub enum PairTrouble {
     Strangers,
     /// Each was used without the other.
     BothAlone,
+    /// One of them was put back as an older copy.
+    PutBack,
     /// Reading or writing either failed.
     Fault,
 }
@@ -49,6 +51,7 @@ impl From<Unpaired> for PairTrouble {
         match why {
             Unpaired::Strangers => PairTrouble::Strangers,
             Unpaired::BothAlone => PairTrouble::BothAlone,
+            Unpaired::PutBack => PairTrouble::PutBack,
             Unpaired::NoStore(false, error) => PairTrouble::One(Leg::First, Trouble::Store(error)),
             Unpaired::NoStore(true, error) => PairTrouble::One(Leg::Second, Trouble::Store(error)),
             Unpaired::Fault => PairTrouble::Fault,
@@ -85,6 +88,9 @@ impl PairTrouble {
             ),
             PairTrouble::BothAlone => eprintln!(rt;
                 "desk: {path:?} and {twin:?} were each used without the other, so nothing was done; look at both, move away the one that you give up, and it is made anew"
+            ),
+            PairTrouble::PutBack => eprintln!(rt;
+                "desk: {path:?} and {twin:?} differ, and one seems to be an older copy that was put back, so nothing was done; look at both, move away the one that you give up, and sit down at the other one once without --twin"
             ),
             _ => eprintln!(rt; "desk: reading or writing {path:?} or {twin:?} failed"),
         }

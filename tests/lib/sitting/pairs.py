@@ -112,7 +112,30 @@ def no_pair(trial):
     trial.check([read(it) for it in both] == kept, 'something was written to files that were used alone')
 
 
-PAIRS = {'one of two files fails': one_fails, 'one file under two names': no_two, 'files of no pair': no_pair}
+def put_back(trial):
+    """An older copy is put back over either file: nothing is written. Amid a sitting neither file says that it is closed, and
+    after it both say so alike."""
+    both = pair(trial)
+    trial.check(read(both[0])[FLAG:FLAG + 1] == b'\2', 'the files were not closed')
+    for number in (0, 1):
+        older = read(both[number])
+        sitting = trial.sit(both[0], '--twin', both[1])
+        sitting.press(b'text')
+        trial.check(sitting.look_anew(), 'no scene')
+        trial.check(all(read(it)[FLAG:FLAG + 1] == b'\0' for it in both), 'a file says that it is closed amid a sitting')
+        trial.leaves(sitting)
+        newer = read(both[number])
+        trial.check(newer[FLAG:] != older[FLAG:], 'two ends have one mark')
+        with open(both[number], 'wb') as file:
+            file.write(older)
+        kept = [read(it) for it in both]
+        turned_away(trial, 4, 'an older copy', both[0], '--twin', both[1])
+        trial.check([read(it) for it in both] == kept, 'something was written')
+        with open(both[number], 'wb') as file:
+            file.write(newer)
+
+
+PAIRS = {'an older copy': put_back, 'one of two files fails': one_fails, 'one file under two names': no_two, 'files of no pair': no_pair}
 
 
 def run_pairs(desk, oberon):
