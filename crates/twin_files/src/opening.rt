@@ -154,7 +154,9 @@ fn named(
         Ok(()) => Ok(pair),
         Err(trouble) => {
             let (mut leg, _copy) = pair.disk.into_legs();
-            let _ = leave_twin(&mut leg, FILE_SECTORS);
+            if FILE_SECTORS < leg.sectors() {
+                let _ = leave_twin(&mut leg, FILE_SECTORS);
+            }
             Err(PairTrouble::One(missing, trouble))
         }
     }

@@ -94,6 +94,8 @@ def no_two(trial):
     turned_away(trial, 4, 'so nothing was done', path, '--twin', f'{trial.folder}/away')
     trial.check(read(path)[:FLAG] == before, 'something was written to the store')
     trial.check(sorted(os.listdir(trial.folder)) == there, 'something was made')
+    trial.leaves(trial.sit(path, '--twin', f'{trial.folder}/fine'))
+    trial.check(read(path) == read(f'{trial.folder}/fine'), 'no twin was made after one that got no name')
 
 
 def no_pair(trial):
