@@ -1,12 +1,15 @@
 -- What is found in a file when the store in it is opened. `f` is what is known of a file.
-use Rattle.std.specs.Prelude.{◌≡◌, ℕ}
+use Rattle.std.specs.Prelude.{◌≡◌, ℕ, List}
 use Rattle.sector_disk.specs.declared.host_file.HostFile.{Ghosts}
 use Rattle.sector_disk.specs.declared.file.FileDisk.{FileDisk}
 use Rattle.sector_disk.specs.declared.file.TheConstants.{FILE_SECTORS}
 use Rattle.sector_disk.specs.Trail.{Content, now}
 use Rattle.sector_disk.specs.FileSectors.{sectors_of}
 use Rattle.store_layout.specs.Finding.{IsForeign, IsDamagedAt}
-use Rattle.store_layout.specs.Meaning.{Shows}
+use Rattle.desktop_definitions.specs.Desktop.{Desktop}
+use Rattle.desktop_definitions.specs.Shown.{shown_screen}
+use Rattle.screen_pictures.specs.declared.cell.Cell.{Cell}
+use Rattle.store_layout.specs.Meaning.{Means, Shows}
 use Rattle.desk_journal.specs.Errors.{Error, NotAStore, Damaged}
 use Rattle.desk_journal.specs.View.{StoreView}
 
@@ -25,3 +28,8 @@ module _ {F : Type 0} (f : Ghosts F) where
     pub foreign : error ≡ NotAStore → f.honest file → IsForeign FILE_SECTORS (content_of file)
     pub damaged : (n : ℕ) → error ≡ Damaged n → f.honest file
         → IsDamagedAt FILE_SECTORS (content_of file) n
+
+  -- a screen shows what stands in the file
+  abbrev pub IsScreenOf : F → List (List Cell) → Type 0
+  IsScreenOf file screen = f.honest file → (desktop : Desktop)
+      × Means FILE_SECTORS desktop (content_of file) × (screen ≡ shown_screen desktop)

@@ -4,20 +4,23 @@
 //! locked before it is opened, and until the store is gone.
 #![tactic(auto)]
 
-ghost use Rattle.std.specs.Prelude.{◌≡◌, IfErr, IfOk, false, true};
-ghost use Rattle.sector_disk.specs.Trail.{Leaves, now};
+ghost use Rattle.std.specs.Prelude.{◌≡◌, ◌<◌, ◌≤◌, IfErr, IfOk, OnOk, false, true};
+ghost use Rattle.sector_disk.specs.Confined.{IsConfined};
+ghost use Rattle.sector_disk.specs.Trail.{Leaves, Nowhere, now};
 ghost use Rattle.desktop_definitions.specs.Desktop.{empty_desktop};
 ghost use Rattle.store_layout.specs.Meaning.{Shows};
-ghost use Rattle.store_layout.specs.declared.layout.TheConstants.{LAYOUT};
+ghost use Rattle.store_layout.specs.declared.layout.TheConstants.{LAYOUT, STORE_SECTORS};
 ghost use Rattle.desk_journal.specs.Errors.{OfFormat, OfOpen};
 ghost use Rattle.desk_journal.specs.Opening.{IsOpened, IsNoStore};
-ghost use Rattle.host_stores.specs.Found.{IsFoundIn, IsNoneIn};
+ghost use Rattle.host_stores.specs.Found.{IsFoundIn, IsNoneIn, IsScreenOf};
+ghost use Rattle.host_stores.specs.Leaving.{SaysAlone};
 
 pub use desk_journal::{Error, Store};
 use host_files::{HostFault, LockedFile, empty};
 use screen_cells::Screen;
 use sector_disk::{FILE_SECTORS, HostFile};
 pub use sector_disk::{Disk, FileDisk, MemoryDisk};
+use store_layout::showing_law;
 use twin_disk::{flag_at, has_name, leave_twin};
 
 /// The store on a disk. A disk that is refused is left as it is: it isn't formatted.
@@ -28,6 +31,8 @@ pub fn opened<D: Disk + Drop>(rt: &HostRuntime, disk: D) -> Result<Store<D>, Err
     ensures ok { IfOk result (λ store. IsOpened D.Disk disk store) }
     ensures no_store { IfErr result (λ e. IsNoStore D.Disk disk e) }
     ensures errors { IfErr result OfOpen }
+    ensures untouched { IfOk result (λ store. IsConfined D.size D.honest D.trail Nowhere disk
+        store.disk) }
 {
     match Store::open(rt.alloc(), disk) {
         Ok(store) => Ok(store),
@@ -41,12 +46,25 @@ pub fn opened<D: Disk + Drop>(rt: &HostRuntime, disk: D) -> Result<Store<D>, Err
 pub fn formatted<D: Disk + Drop>(disk: D) -> Result<D, Error>
     ensures empty { IfOk result (λ new. D.honest disk
         → Leaves (now (D.trail new)) (Shows (D.size new) LAYOUT 1 0 empty_desktop)) }
+    ensures still { IfOk result (λ new. D.honest disk → D.honest new) }
     ensures errors { IfErr result OfFormat }
 {
     match Store::format(disk) {
         Ok(disk) => Ok(disk),
         Err((error, _disk)) => Err(error),
     }
+}
+
+/// A new store on a disk, whose desktop is empty.
+///
+/// Errors: those of `Store::format` and `Store::open`.
+pub fn opened_new<D: Disk + Drop>(rt: &HostRuntime, disk: D) -> Result<Store<D>, Error>
+    ensures usable { IfOk result (λ store. store.must_reopen ≡ false) }
+    ensures empty { IfOk result (λ store. D.honest disk → store.desktop ≡ empty_desktop) }
+    ensures still { IfOk result (λ store. D.honest disk → D.honest store.disk) }
+{
+    showing_law();
+    opened(rt, formatted(disk)?)
 }
 
 /// The store in a file, which stays locked, if it is, as long as there is the store.
@@ -61,6 +79,8 @@ pub fn in_locked_file<F: HostFile + Drop>(
     ensures ok { IfOk result (IsFoundIn F.HostFile file) }
     ensures no_store { IfErr result (IsNoneIn F.HostFile file) }
     ensures errors { IfErr result OfOpen }
+    ensures still { IfOk result (λ store. F.honest file
+        → ⟦<FileDisk<F> as Disk>⟧.honest store.disk) }
 {
     opened(rt, FileDisk::new(file))
 }
@@ -75,15 +95,37 @@ pub fn without_twin(
 ) -> Result<(Store<FileDisk<LockedFile>>, bool), Error>
     ensures { IfOk result (λ found. found.0.must_reopen ≡ false) }
 {
-    let mut leg = FileDisk::with_sectors(file, FILE_SECTORS + 1);
-    let flag = flag_at(&mut leg, FILE_SECTORS)?;
+    left_alone(
+        rt,
+        FileDisk::with_sectors(file, FILE_SECTORS + 1),
+        FILE_SECTORS,
+    )
+}
+
+/// The store on a leg whose flag stands in sector `at`, and whether the leg was in a pair: then it says *alone* there, for
+/// good.
+///
+/// Errors: those of `Store::open`.
+pub fn left_alone<D: Disk + Drop>(
+    rt: &HostRuntime,
+    leg: D,
+    at: u32,
+) -> Result<(Store<D>, bool), Error>
+    requires within { at < D.size leg }
+    requires behind { STORE_SECTORS ≤ at }
+    ensures usable { IfOk result (λ found. found.0.must_reopen ≡ false) }
+    ensures alone { IfOk result (λ found. found.1 ≡ true → D.honest leg
+        → SaysAlone at (now (D.trail found.0.disk))) }
+    ensures errors { IfErr result OfOpen }
+{
+    let mut leg = leg;
+    let flag = flag_at(&mut leg, at)?;
     if flag.alone || !has_name(&flag) {
-        return Ok((in_locked_file(rt, leg.into_file())?, false));
+        return Ok((opened(rt, leg)?, false));
     }
-    let store = in_locked_file(rt, leg.into_file())?;
-    leg = FileDisk::with_sectors(store.close().into_file(), FILE_SECTORS + 1);
-    let left = leave_twin(&mut leg, FILE_SECTORS)?;
-    Ok((in_locked_file(rt, leg.into_file())?, left))
+    let mut leg = opened(rt, leg)?.close();
+    let left = leave_twin(&mut leg, at)?;
+    Ok((opened(rt, leg)?, left))
 }
 
 /// A disk of zeros in a file that is locked, of which nothing is left. Nothing is synced.
@@ -102,9 +144,10 @@ pub fn emptied(file: LockedFile) -> Result<FileDisk<LockedFile>, Error> {
 ///
 /// Errors: `NoMemory`.
 pub fn new_in_memory(rt: &HostRuntime) -> Result<Store<MemoryDisk>, Error>
-    ensures { IfOk result (λ store. store.must_reopen ≡ false) }
+    ensures usable { IfOk result (λ store. store.must_reopen ≡ false) }
+    ensures empty { IfOk result (λ store. store.desktop ≡ empty_desktop) }
 {
-    opened(rt, formatted(MemoryDisk::new(rt.alloc(), FILE_SECTORS)?)?)
+    opened_new(rt, MemoryDisk::new(rt.alloc(), FILE_SECTORS)?)
 }
 
 /// Paints the screen of the store in a file.
@@ -112,6 +155,7 @@ pub fn new_in_memory(rt: &HostRuntime) -> Result<Store<MemoryDisk>, Error>
 /// Errors: those of `in_locked_file` and `Store::screen`.
 pub fn show<F: HostFile + Drop>(rt: &HostRuntime, file: F, screen: &mut Screen) -> Result<(), Error>
     requires { F.intact file ≡ true }
+    ensures shown { OnOk result (IsScreenOf F.HostFile file screen.new) }
 {
     let mut store = in_locked_file(rt, file)?;
     store.screen(rt.alloc(), screen)

@@ -10,12 +10,14 @@
 
 mod by_screen;
 mod filling;
+mod laws;
 mod listed;
 mod over;
 mod plan;
 mod replacing;
 mod task;
 
+pub use laws::constants_are_defined;
 pub use plan::Plan;
 pub use replacing::{MOST_TYPED, Replacing, Typing};
 pub use task::{MOST_PLANS, Task, calling_wish};

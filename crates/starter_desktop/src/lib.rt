@@ -78,6 +78,7 @@ pub fn furnish<D: Disk>(alloc: Global, store: &mut Store<D>) -> Result<(), Error
     ensures desktop { OnOk result (D.honest store.old.disk
         → store.new.desktop ≡ steps store.old.desktop furnishing) }
     ensures usable { OnOk result (store.new.must_reopen ≡ false) }
+    ensures still { D.honest store.old.disk → D.honest store.new.disk }
 {
     store.post(alloc, &tool_event())?;
     store.post(alloc, &help_event())?;
