@@ -37,6 +37,7 @@ use Rattle.desk_sitting.specs.Serving.{sitting_shown}
 use Rattle.desk_sitting.specs.Serving.{CountsOutput, left, closed}
 use Rattle.desk_sitting.specs.Serving.{unheard, unseen, faulty, starved, faulty_press, starved_press}
 use Rattle.desk_sitting.specs.Serving.{IsSeenUnlessDue, IsShownIfDue, StaysInUse}
+use Rattle.desk_sitting.specs.Clips.{clip_sent, clip_told}
 use Rattle.desk_sitting.proofs.Seen.{handed_so, seen_so}
 use Rattle.desk_sitting.specs.Desk.{accepted_events}
 use Rattle.desk_sitting.specs.TheDesk.{the_desk}
@@ -85,15 +86,15 @@ module _ {D : Type 0} (d : Ghosts D) where
   unused store usable = record { usable = usable; device = same_disk store.disk }
 
 -- the output fails behind the scene
-module _ (s s' : Sitting) (screen screen' : List (List Cell)) (known known' : List (List Face))
+module _ (s s' : Sitting) (screen screen' : List (List Cell)) (clip : List ℕ) (known known' : List (List Face))
     (held between held' : Option (List ℕ)) {H : Type 0} where
   pub cut_behind : {T : Type 0} (result : Result T SittingEnd) → s' ≡ looked screen' s → (H → screen' ≡ screen)
       → IsScenePainted the_desk s' screen' (known_by s.forgets known) known' held between
-      → OnErr result (AppendsFront between held' (after_scene s.rings s.asks))
-      → IfErr result (λ end. end ≡ Output) → IfErr result (λ end. H → IsUnshown the_desk end s screen known held held')
+      → OnErr result (AppendsFront between held' (after_scene s.rings s.asks clip))
+      → IfErr result (λ end. end ≡ Output) → IfErr result (λ end. H → IsUnshown the_desk end s screen clip known held held')
   cut_behind (Ok value) looks shows painted front is = tt
   cut_behind (Err end) looks shows painted front is = λ h.
-      subst (λ e. IsUnshown the_desk e s screen known held held') (sym is) (behind_it
+      subst (λ e. IsUnshown the_desk e s screen clip known held held') (sym is) (behind_it
       (subst (λ x. IsScenePainted the_desk (looked x s) x (known_by s.forgets known) known' held between) (shows h)
       (subst (λ t. IsScenePainted the_desk t screen' (known_by s.forgets known) known' held between) looks painted)) front)
 
@@ -235,7 +236,8 @@ module _ {D : Type 0} (d : Ghosts D) where
   -- the scene isn't shown
   unshown_stops : (end : SittingEnd) (old new : TurnState D) → is_scene_due old.sitting ≡ true
       → IsLookedAt d old.store new.store → new.heard ≡ old.heard → new.asked ≡ old.asked
-      → IsUnshown the_desk end old.sitting (store_screen old.store) old.known old.held new.held
+      → IsUnshown the_desk end (clip_told old.store.desktop old.sitting) (store_screen old.store)
+      (clip_sent old.store.desktop old.sitting) old.known old.held new.held
       → HasStopped the_desk d end old new
   unshown_stops Left old new due looks heard unasked why = absurd why
   unshown_stops Closed old new due looks heard unasked why = absurd why
@@ -251,7 +253,8 @@ module _ {D : Type 0} (d : Ghosts D) where
   pub unshown_ends : {T : Type 0} {old new : TurnState D} (result : Result T SittingEnd) (end : SittingEnd)
       → result ≡ Err end → (d.honest old.store.disk → IsDurable d old.store → IsLookedAt d old.store new.store)
       → (is_scene_due old.sitting ≡ true)
-      × (d.honest old.store.disk → IsUnshown the_desk end old.sitting (store_screen old.store) old.known old.held new.held)
+      × (d.honest old.store.disk → IsUnshown the_desk end (clip_told old.store.desktop old.sitting) (store_screen old.store)
+      (clip_sent old.store.desktop old.sitting) old.known old.held new.held)
       → new.heard ≡ old.heard → new.asked ≡ old.asked → new.store.must_reopen ≡ false
       → CountsEnding end (d.failures old.store.disk) (d.failures new.store.disk)
       → IsSameDevice d old.store.disk new.store.disk → TakesTurn the_desk d result old new

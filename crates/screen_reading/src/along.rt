@@ -23,6 +23,8 @@ pub(crate) enum Kind {
     Blank,
     /// A byte of a name is there.
     Name,
+    /// A period is there.
+    Period,
 }
 
 /// Whether a cell is of a kind.
@@ -35,6 +37,7 @@ pub(crate) fn is_of(kind: Kind, cell: Cell) -> bool
         Kind::Letter => cell.ch != b' ',
         Kind::Blank => cell.ch == b' ',
         Kind::Name => is_name_byte(cell.ch),
+        Kind::Period => cell.ch == b'.',
     }
 }
 

@@ -19,7 +19,7 @@ use Rattle.status_line.specs.declared.saying.Saying.TheVariants.{CutShort, OneSi
 use Rattle.status_line.specs.declared.saying.Saying.TheVariants.{Worn, Unread, Unfinished, TooNarrow, TooLow}
 use Rattle.status_line.specs.declared.saying.Saying.TheVariants.{TookBack, DidAgain}
 use Rattle.status_line.specs.declared.saying.Saying.TheVariants.{NothingBack, NothingAgain, NotBack, Logged}
-use Rattle.status_line.specs.declared.saying.Saying.TheVariants.{FirstFailed, TwinFailed, WithoutTwin}
+use Rattle.status_line.specs.declared.saying.Saying.TheVariants.{FirstFailed, TwinFailed, WithoutTwin, NotClipped}
 use Rattle.status_line.specs.declared.question.Question.{Question}
 use Rattle.status_line.specs.declared.question.Question.TheVariants.{Leaving, Closing, Taking, Rivalled, Deleting, Misnamed}
 use Rattle.status_line.specs.declared.deed.Deed.{Deed}
@@ -42,7 +42,7 @@ reasons =
     codes "No viewer has the marker (F1 and a click set it), or none was closed." ∷
     codes "There are 256 documents already: System.DeleteFiles makes room." ∷
     codes "That lies outside the desktop." ∷
-    codes "Not found from the caret on: click at the beginning, and search again." ∷
+    codes "Not found from the caret on: Ctrl-F again goes to the beginning of the text." ∷
     codes "Fonts are 0 to 4, colours 0 to 15, and offsets -64 to 63." ∷
     codes "Eight viewers lie over one another there: close one first." ∷
     codes "A viewer of one row can't be parted." ∷ []
@@ -186,6 +186,8 @@ words screen log TwinFailed =
     codes "The twin failed, the first file has all: mend it, then start again with both."
 words screen log WithoutTwin =
     codes "This store has a twin, which gets nothing now: start with --twin to pair them."
+words screen log NotClipped =
+    codes "Copied here, but too long for the terminal's clipboard: it takes 74,994 bytes."
 
 -- the name of a host file or the number of a line, as far as it is typed, of which the end is seen
 abbrev pub asked_words : Bool → List ℕ

@@ -104,6 +104,8 @@ pub enum Saying {
     TwinFailed,
     /// The store has a twin, which isn't written.
     WithoutTwin,
+    /// What was copied is too long for the clipboard of the terminal.
+    NotClipped,
 }
 
 /// Why an event was refused, by the code of the refusal.
@@ -118,7 +120,7 @@ const REASONS: [&[u8]; 14] = [
     b"No viewer has the marker (F1 and a click set it), or none was closed.",
     b"There are 256 documents already: System.DeleteFiles makes room.",
     b"That lies outside the desktop.",
-    b"Not found from the caret on: click at the beginning, and search again.",
+    b"Not found from the caret on: Ctrl-F again goes to the beginning of the text.",
     b"Fonts are 0 to 4, colours 0 to 15, and offsets -64 to 63.",
     b"Eight viewers lie over one another there: close one first.",
     b"A viewer of one row can't be parted.",
@@ -392,6 +394,9 @@ impl Saying {
             ),
             Saying::WithoutTwin => line(
                 b"This store has a twin, which gets nothing now: start with --twin to pair them.",
+            ),
+            Saying::NotClipped => line(
+                b"Copied here, but too long for the terminal's clipboard: it takes 74,994 bytes.",
             ),
         }
     }
