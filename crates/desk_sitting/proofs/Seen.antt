@@ -18,7 +18,7 @@ use Rattle.terminal_presses.specs.declared.action.Action.{Action}
 use Rattle.terminal_presses.specs.declared.action.Action.TheVariants as action
 use Rattle.terminal_presses.specs.declared.hand.Hand.{Hand}
 use Rattle.terminal_presses.specs.declared.press.Press.{Press}
-use Rattle.desk_sitting.specs.Sittings.{taken_by}
+use Rattle.desk_sitting.specs.Sittings.{meant_by}
 use Rattle.terminal_presses.specs.Pointers.{pointer_cell}
 use Rattle.terminal_presses.specs.Sights.{terminal_place}
 use Rattle.screen_reading.specs.Windows.{following_sight}
@@ -373,7 +373,7 @@ module _ (known : List (List Face)) (held : Option (List ℕ)) where
       → Stands (after_press press seat).sitting (after_press press seat).session.desktop
   unfolding after_press
   press_stands press seat stands =
-      let next : Hand × Action = taken_by press seat.sitting in
+      let next : Hand × Action = meant_by press seat.sitting in
       let after : Seat = acted next.1 (record seat { sitting = with_hand next seat.sitting }) in
       elim (true_or_false seat.sitting.leaves) [
         | inl left ↦ subst (λ (t : Seat). Stands t.sitting t.session.desktop)

@@ -363,14 +363,14 @@ with_hand next s = record s {
 }
 
 -- what the hand makes of a press is a way to the beginning of the text, where it is a search behind one that found nothing
-abbrev pub taken_by : Press → Sitting → Hand × Action
-taken_by press s =
+abbrev pub meant_by : Press → Sitting → Hand × Action
+meant_by press s =
     let next = handled s.sight press s.hand in (next.0, action_meant s.missed next.1)
 
 -- nothing is done after the person has left
 unfoldable pub after_press : Press → Seat → Seat
 after_press press seat = if seat.sitting.leaves then seat else
-    (let next = taken_by press seat.sitting in
+    (let next = meant_by press seat.sitting in
     acted next.1 (record seat { sitting = with_hand next seat.sitting }))
 
 -- ---- its events
@@ -415,7 +415,7 @@ accepted_unasked a seat = if asks_first a seat then []
 -- the events of a press that are accepted
 abbrev pub accepted_of : Press → Seat → List Event
 accepted_of press seat = if seat.sitting.leaves then [] else
-    (let next = taken_by press seat.sitting in
+    (let next = meant_by press seat.sitting in
     accepted_unasked next.1 (record seat { sitting = with_hand next seat.sitting }))
 
 -- ---- questions
@@ -423,7 +423,7 @@ accepted_of press seat = if seat.sitting.leaves then [] else
 -- a press asks a question
 abbrev pub asks_by : Press → Seat → Bool
 asks_by press seat = not seat.sitting.leaves
-    && asks_first (taken_by press seat.sitting).1 seat
+    && asks_first (meant_by press seat.sitting).1 seat
 
 -- A press that asks posts nothing, and leaves what it is asked about as it is.
 abbrev pub QuestionsPostNothing : Type 0

@@ -25,20 +25,20 @@ cell_clicked (action.Post event) = cell_pointed event
 cell_clicked _ = None
 
 -- the cell of a click that is the second one there
-abbrev pub is_cell : ℕ × ℕ → ℕ × ℕ → Bool
-is_cell one other = (one.0 == other.0) && (one.1 == other.1)
+abbrev pub is_same_cell : ℕ × ℕ → ℕ × ℕ → Bool
+is_same_cell one other = (one.0 == other.0) && (one.1 == other.1)
 
 abbrev pub cell_again : Option (ℕ × ℕ) → Option (ℕ × ℕ) → Option (ℕ × ℕ)
 cell_again None before = None
 cell_again (Some cell) None = None
-cell_again (Some cell) (Some before) = if is_cell cell before then Some cell else None
+cell_again (Some cell) (Some before) = if is_same_cell cell before then Some cell else None
 
 -- the cell to be kept of a press, at which the next click is the second one; a third one is a first one again
-abbrev pub cell_after : Action → Option (ℕ × ℕ) → Option (ℕ × ℕ)
-cell_after a before = if is_some (cell_again (cell_clicked a) before) then None else cell_clicked a
+abbrev pub cell_noted : Action → Option (ℕ × ℕ) → Option (ℕ × ℕ)
+cell_noted a before = if is_some (cell_again (cell_clicked a) before) then None else cell_clicked a
 
 abbrev pub cell_kept : Action → Option (ℕ × ℕ) → Option (ℕ × ℕ)
-cell_kept a before = if is_no_deed a then before else cell_after a before
+cell_kept a before = if is_no_deed a then before else cell_noted a before
 
 -- whether an event was a search that found nothing from the caret on
 abbrev pub is_missed : Reply → Bool

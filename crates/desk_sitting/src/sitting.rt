@@ -16,7 +16,7 @@ ghost use Rattle.desk_sitting.specs.Sittings.{kept_follows, left_by};
 ghost use Rattle.desk_sitting.specs.Sittings.{aimed_at, most_plans, noted_in, task_left, unplaced, why_unreplaced};
 ghost use Rattle.desk_sitting.specs.Sittings.{with_log_line};
 ghost use Rattle.desk_sitting.specs.Sittings.{brought_in_sight, is_scene_due, is_unseen, planned, pointed_no_more};
-ghost use Rattle.desk_sitting.specs.Sittings.{taken_by, task_or_word, with_hand};
+ghost use Rattle.desk_sitting.specs.Sittings.{meant_by, task_or_word, with_hand};
 ghost use Rattle.press_plans.specs.Plans.{seen_plan};
 
 use crate::clips::is_copying;
@@ -326,8 +326,8 @@ impl Sitting {
     /// The hand takes a press. Amid a text that is pasted it is counted how many of its characters are typed, and its
     /// events are those of one press.
     fn take(&mut self, press: Press) -> Action
-        ensures state { self.new ≡ with_hand (taken_by press self.old) self.old }
-        ensures answer { result ≡ (taken_by press self.old).1 }
+        ensures state { self.new ≡ with_hand (meant_by press self.old) self.old }
+        ensures answer { result ≡ (meant_by press self.old).1 }
     {
         let stays = is_unseen(&self.hand) && !asks_to_leave(self.question);
         let pastes = self.hand.pastes_text();

@@ -1,6 +1,6 @@
 //! What a press is by the one before it: a second click at a cell, and a search behind one that found nothing.
 ghost use Rattle.std.specs.Prelude.{◌≡◌};
-ghost use Rattle.desk_sitting.specs.Twice.{action_meant, cell_again, cell_clicked, cell_kept, cell_pointed, is_cell};
+ghost use Rattle.desk_sitting.specs.Twice.{action_meant, cell_again, cell_clicked, cell_kept, cell_pointed, is_same_cell};
 ghost use Rattle.desk_sitting.specs.Twice.{is_no_deed};
 
 use event_bytes::{Event, Keys};
@@ -33,8 +33,8 @@ pub(crate) fn cell_clicked(action: &Action) -> Option<(u8, u8)>
 }
 
 /// Whether two cells are the same.
-fn is_cell(one: (u8, u8), other: (u8, u8)) -> bool
-    ensures { result ≡ is_cell one other }
+fn is_same_cell(one: (u8, u8), other: (u8, u8)) -> bool
+    ensures { result ≡ is_same_cell one other }
 {
     one.0 == other.0 && one.1 == other.1
 }
@@ -44,7 +44,7 @@ pub(crate) fn cell_again(clicked: Option<(u8, u8)>, before: Option<(u8, u8)>) ->
     ensures { result ≡ cell_again clicked before }
 {
     match (clicked, before) {
-        (Some(cell), Some(before)) if is_cell(cell, before) => Some(cell),
+        (Some(cell), Some(before)) if is_same_cell(cell, before) => Some(cell),
         _ => None,
     }
 }
