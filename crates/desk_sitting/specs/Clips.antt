@@ -1,7 +1,5 @@
 -- What the clipboard of the terminal is given of what is copied.
-use Rattle.std.specs.Prelude.{ℕ, Bool, true, false, ◌&&◌, nat_lt, if◌then◌else◌, List, [], ◌∷◌, ◌++◌, length, map, codes}
-use Rattle.base64.specs.Engines.{standard}
-use Rattle.base64.specs.GeneralPurpose.{encode_of}
+use Rattle.std.specs.Prelude.{ℕ, Bool, true, false, ◌&&◌, nat_lt, if◌then◌else◌, List, length, map, Option, Some, None}
 use Rattle.event_bytes.specs.Bytes.{lies_within}
 use Rattle.event_bytes.specs.declared.event.Event.{Event}
 use Rattle.event_bytes.specs.declared.event.Event.TheVariants.{Key}
@@ -23,18 +21,14 @@ is_copying _ = false
 abbrev pub copied_text : Desktop → List ℕ
 copied_text d = exported (map (λ character. character.0) d.copied)
 
--- An escape byte and ]52;c;, then the text in base64, and a bell byte. A terminal takes the text into its clipboard by
--- them, and shows nothing.
-abbrev pub clip_order : List ℕ → List ℕ
-clip_order text = (27 ∷ codes "]52;c;") ++ encode_of standard text ++ 7 ∷ []
+-- What the clipboard is given of it, where something was copied since the last scene: all of it, or nothing where it is
+-- empty or too long.
+abbrev pub text_given : Bool → List ℕ → Option (List ℕ)
+text_given copies text =
+    if copies && lies_within 1 MOST_CLIPPED (length text) then Some text else None
 
--- What is sent of it, where something was copied since the last scene: all of it, or nothing where it is too long.
-abbrev pub clip_bytes : Bool → List ℕ → List ℕ
-clip_bytes copies text =
-    if copies && lies_within 1 MOST_CLIPPED (length text) then clip_order text else []
-
-abbrev pub clip_sent : Desktop → Sitting → List ℕ
-clip_sent d s = clip_bytes s.copies (copied_text d)
+abbrev pub clip_sent : Desktop → Sitting → Option (List ℕ)
+clip_sent d s = text_given s.copies (copied_text d)
 
 -- Where it is too long, the line below says so, unless something is asked.
 abbrev pub unless_asked : Saying → Saying

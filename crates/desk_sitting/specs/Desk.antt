@@ -32,8 +32,9 @@ pub record Desk : Type 0 where
   pub looks : List (List Cell) → Sitting → Sitting
   pub points : Sitting → Option (ℕ × ℕ)
   pub says : List (List Cell) → Sitting → List ℕ
-  -- what the clipboard of the terminal is given with a scene of this desktop, and the sitting that says so where it can't be
-  pub gives : Desktop → Sitting → List ℕ
+  -- the text that the clipboard of the terminal is given with a scene of this desktop, and the sitting that says where a text
+  -- can't be given
+  pub gives : Desktop → Sitting → Option (List ℕ)
   pub tells : Desktop → Sitting → Sitting
   -- after the keyboard was asked for the text of a host file, which will be heard or not
   pub fetches : Bool → Sitting → Sitting

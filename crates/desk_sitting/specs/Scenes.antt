@@ -1,5 +1,7 @@
 -- What a terminal is sent in a turn of a sitting.
-use Rattle.std.specs.Prelude.{◌≡◌, ◌+◌, ℕ, Bool, if◌then◌else◌, List, [], ◌∷◌, ◌++◌, Option}
+use Rattle.std.specs.Prelude.{◌≡◌, ◌+◌, ℕ, Bool, if◌then◌else◌, List, [], ◌∷◌, ◌++◌, Option, Some, None, codes}
+use Rattle.base64.specs.Engines.{standard}
+use Rattle.base64.specs.GeneralPurpose.{encode_of}
 use Rattle.std.specs.Io.KnownBytes.{Appends}
 use Rattle.byte_streams.specs.Sent.{AppendsFront}
 use Rattle.viewer_tracks.specs.declared.display.TheConstants.{ROWS}
@@ -25,8 +27,17 @@ known_by forgets known = if forgets then [] else known
 abbrev pub size_request : List ℕ
 size_request = 27 ∷ 91 ∷ 49 ∷ 56 ∷ 116 ∷ []
 
+-- An escape byte and ]52;c;, then a text in base64, and a bell byte. A terminal takes the text into its clipboard by them,
+-- and shows nothing.
+abbrev pub clip_order : List ℕ → List ℕ
+clip_order text = (27 ∷ codes "]52;c;") ++ encode_of standard text ++ 7 ∷ []
+
+abbrev pub clip_bytes : Option (List ℕ) → List ℕ
+clip_bytes None = []
+clip_bytes (Some text) = clip_order text
+
 -- what the terminal is sent after the scene, which changes nothing of what it shows: a bell, the request for its size, and
--- what its clipboard is given
+-- what gives its clipboard a text
 abbrev pub bell_bytes : Bool → List ℕ
 bell_bytes rings = if rings then operation_bytes Ring else []
 
@@ -86,8 +97,8 @@ module _ (desk : Desk) where
     pub paints : Paints before between was_known scene
     pub rings : Bool
     pub asks : Bool
-    pub clip : List ℕ
-    pub after : Appends between held (after_scene rings asks clip)
+    pub clip : Option (List ℕ)
+    pub after : Appends between held (after_scene rings asks (clip_bytes clip))
 
   -- It took a front of that.
   pub data IsSceneCutShort (s : Sitting) (screen : List (List Cell)) (clip : List ℕ)

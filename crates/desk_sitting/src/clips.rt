@@ -1,8 +1,9 @@
 //! What the clipboard of the terminal is given of what is copied.
 ghost use Rattle.std.specs.Prelude.{◌≡◌, ◌≤◌, [], ◌++◌, false, length, OnOk, IfOk, IfErr};
 ghost use Rattle.desk_journal.specs.View.{IsDurable};
-ghost use Rattle.desk_sitting.specs.Clips.{clip_bytes, clip_order, clip_sent, clip_told, copied_text, is_copying};
+ghost use Rattle.desk_sitting.specs.Clips.{clip_saying, clip_sent, clip_told, copied_text, is_copying, text_given};
 ghost use Rattle.desk_sitting.specs.Clips.{unless_asked};
+ghost use Rattle.desk_sitting.specs.Scenes.{clip_bytes, clip_order};
 ghost use Rattle.desk_sitting.specs.Endings.{IsOfNoKeyboard};
 ghost use Rattle.desk_sitting.specs.Serving.{CountsTurn, IsLookedAt, StaysInUse};
 ghost use Rattle.desk_sitting.specs.declared.ending.SittingEnd.TheVariants.{Output as TakesNoMore};
@@ -39,8 +40,9 @@ pub(crate) fn clip<D: Disk>(
     requires { store.old.must_reopen ≡ false }
     ensures looks { D.honest store.old.disk → IsDurable D.Disk store.old
         → IsLookedAt D.Disk store.old store.new }
+    ensures shows { D.honest store.old.disk → store.new.desktop ≡ store.old.desktop }
     ensures sent { IfOk result (λ clip. D.honest store.old.disk
-        → (clip.items ≡ clip_sent store.old.desktop sitting.old)
+        → (clip.items ≡ clip_bytes (clip_sent store.old.desktop sitting.old))
         × (sitting.new ≡ clip_told store.old.desktop sitting.old)) }
     ensures cause { IfErr result IsOfNoKeyboard }
     ensures counts { CountsTurn result (D.failures store.old.disk) (D.failures store.new.disk) }
@@ -88,7 +90,7 @@ fn unless_asked(saying: Saying) -> Saying
 ///
 /// Error: an allocation was refused.
 fn clip_of(alloc: Global, text: &[u8]) -> Result<Vec<u8>, AllocError>
-    ensures { IfOk result (λ clip. clip.items ≡ clip_bytes true text.now) }
+    ensures { IfOk result (λ clip. clip.items ≡ clip_bytes (text_given true text.now)) }
 {
     if text.is_empty() || text.len() > MOST_CLIPPED {
         return Ok(Vec::new(alloc));

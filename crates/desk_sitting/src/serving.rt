@@ -12,7 +12,7 @@ ghost use Rattle.desk_sitting.specs.declared.ending.SittingEnd.TheVariants.{Outp
 ghost use Rattle.screen_drawing.specs.Scene.{IsInSight};
 ghost use Rattle.desk_sitting.specs.Scenes.{IsSceneOf, IsHalfPainted, IsScenePainted, IsSceneShown, IsUnshown};
 ghost use Rattle.desk_sitting.specs.Endings.{EndsBy, IsOfNoKeyboard};
-ghost use Rattle.desk_sitting.specs.Scenes.{after_scene, bell_bytes, known_by, request};
+ghost use Rattle.desk_sitting.specs.Scenes.{after_scene, bell_bytes, clip_bytes, known_by, request};
 ghost use Rattle.desk_sitting.specs.Scenes.{size_request};
 ghost use Rattle.desk_sitting.specs.Serving.{CountsEnding, CountsOutput, CountsTurn, Exchange, IsFetched, IsLookedAt, exchange};
 ghost use Rattle.desk_sitting.specs.Serving.{IsShownIfDue, IsUsableAt};
@@ -217,7 +217,7 @@ fn show_if_due<W: AnswerWriter, D: Disk>(
     ensures unshown { IfErr result (λ end. (is_scene_due sitting.old ≡ true)
         × (D.honest store.old.disk
         → IsUnshown the_desk end (clip_told store.old.desktop sitting.old) (store_screen store.old)
-        (clip_sent store.old.desktop sitting.old)
+        (clip_bytes (clip_sent store.old.desktop sitting.old))
         painter.old (W.contents writer.old) (W.contents writer.new))) }
     ensures cause { IfErr result IsOfNoKeyboard }
     ensures output { CountsOutput result (W.failures writer.old) (W.failures writer.new) }
@@ -247,12 +247,12 @@ fn show<W: AnswerWriter, D: Disk>(
     ensures shown { OnOk result (D.honest store.old.disk
         → (sitting.new ≡ looked (store_screen store.old) (clip_told store.old.desktop sitting.old))
         × IsSceneShown the_desk (clip_told store.old.desktop sitting.old) (store_screen store.old)
-        (clip_sent store.old.desktop sitting.old)
+        (clip_bytes (clip_sent store.old.desktop sitting.old))
         painter.old painter.new (W.contents writer.old) (W.contents writer.new)
         (W.unflushed writer.new)) }
     ensures unshown { IfErr result (λ end. D.honest store.old.disk
         → IsUnshown the_desk end (clip_told store.old.desktop sitting.old) (store_screen store.old)
-        (clip_sent store.old.desktop sitting.old)
+        (clip_bytes (clip_sent store.old.desktop sitting.old))
         painter.old (W.contents writer.old) (W.contents writer.new)) }
     ensures cause { IfErr result IsOfNoKeyboard }
     ensures output { CountsOutput result (W.failures writer.old) (W.failures writer.new) }
