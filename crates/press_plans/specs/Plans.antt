@@ -313,8 +313,8 @@ opened_plan viewer = enter_plan viewer.is_log (text_start viewer.place)
 
 -- whether no viewer has the caret any more, though the one is shown that had it
 abbrev pub has_lost_caret : DeskInfo → Desktop → Bool
-has_lost_caret before d = is_none (desk_info d).caret_viewer
-    && is_some (before.caret_viewer >>= shown_viewer d)
+has_lost_caret before d = is_some (before.caret_viewer >>= shown_viewer d)
+    && is_none (desk_info d).caret_viewer
 
 -- the caret comes back then to the cell at which it was seen, if it was
 abbrev pub comeback_plan : DeskInfo → Option (ℕ × ℕ) → Desktop → Plan

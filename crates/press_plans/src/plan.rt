@@ -261,7 +261,7 @@ fn has_lost_caret<D: Disk>(before: DeskInfo, store: &Store<D>) -> bool
 {
     match before.caret_viewer {
         None => false,
-        Some(id) => info_of(store).caret_viewer.is_none() && viewer_of(id, store).is_some(),
+        Some(id) => viewer_of(id, store).is_some() && info_of(store).caret_viewer.is_none(),
     }
 }
 
