@@ -13,7 +13,6 @@ ghost use Rattle.screen_drawing.specs.Scene.{IsInSight};
 ghost use Rattle.desk_sitting.specs.Scenes.{IsSceneOf, IsHalfPainted, IsScenePainted, IsSceneShown, IsUnshown};
 ghost use Rattle.desk_sitting.specs.Endings.{EndsBy, IsOfNoKeyboard};
 ghost use Rattle.desk_sitting.specs.Scenes.{after_scene, bell_bytes, clip_bytes, known_by, request};
-ghost use Rattle.desk_sitting.specs.Scenes.{size_request};
 ghost use Rattle.desk_sitting.specs.Serving.{CountsEnding, CountsOutput, CountsTurn, Exchange, IsFetched, IsLookedAt, exchange};
 ghost use Rattle.desk_sitting.specs.Serving.{IsShownIfDue, IsUsableAt};
 ghost use Rattle.desk_sitting.specs.Serving.{StaysInUse, TakesTurn, first_place, turn_state_of, store_screen};
@@ -386,17 +385,13 @@ fn ring_and_ask<W: AnswerWriter>(
     ask_if(writer, asks)
 }
 
-/// Gives this to the clipboard of the terminal, where it is anything.
+/// Sends this to the clipboard of the terminal, where it is anything.
 fn clip_if<W: AnswerWriter>(writer: &mut W, clip: &[u8]) -> Result<(), OutputFault>
     ensures sent { Sends result (W.contents writer.old) (W.contents writer.new) clip.now }
     ensures handed { OnOk result (W.unflushed writer.old ≡ 0 → W.unflushed writer.new ≡ 0) }
     ensures cause { CountsFault result (W.failures writer.old) (W.failures writer.new) }
 {
-    if clip.is_empty() {
-        return Ok(());
-    }
-    send_bytes(writer, clip)?;
-    writer.flush()
+    if clip.is_empty() { Ok(()) } else { send(writer, clip) }
 }
 
 /// Rings the bell where that is to be.
@@ -414,15 +409,19 @@ fn ask_if<W: AnswerWriter>(writer: &mut W, asks: bool) -> Result<(), OutputFault
     ensures handed { OnOk result (W.unflushed writer.old ≡ 0 → W.unflushed writer.new ≡ 0) }
     ensures cause { CountsFault result (W.failures writer.old) (W.failures writer.new) }
 {
-    if asks { ask(writer) } else { Ok(()) }
+    if asks {
+        send(writer, &SIZE_REQUEST)
+    } else {
+        Ok(())
+    }
 }
 
-/// Asks the terminal for its size.
-fn ask<W: AnswerWriter>(writer: &mut W) -> Result<(), OutputFault>
-    ensures sent { Sends result (W.contents writer.old) (W.contents writer.new) size_request }
+/// Sends bytes, and hands them on.
+fn send<W: AnswerWriter>(writer: &mut W, bytes: &[u8]) -> Result<(), OutputFault>
+    ensures sent { Sends result (W.contents writer.old) (W.contents writer.new) bytes.now }
     ensures handed { OnOk result (W.unflushed writer.new ≡ 0) }
     ensures cause { CountsFault result (W.failures writer.old) (W.failures writer.new) }
 {
-    send_bytes(writer, &SIZE_REQUEST)?;
+    send_bytes(writer, bytes)?;
     writer.flush()
 }
