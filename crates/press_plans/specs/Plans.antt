@@ -11,7 +11,6 @@ use Rattle.event_bytes.specs.declared.keys.Key.TheVariants as key
 use Rattle.screen_pictures.specs.declared.cell.Cell.{Cell}
 use Rattle.desktop_definitions.specs.Desktop.{Desktop}
 use Rattle.desktop_definitions.specs.declared.entry.Entry.{Entry}
-use Rattle.desktop_definitions.specs.Limits.{no_caret}
 use Rattle.desktop_definitions.specs.Shown.{shown_screen}
 use Rattle.desk_journal.specs.Errors.{Error}
 use Rattle.desk_journal.specs.Looking.{OnlyLooks}
@@ -35,7 +34,7 @@ use Rattle.screen_reading.specs.Picked.{picked_word}
 use Rattle.screen_reading.specs.Frames.{text_rows_in_sight, text_start}
 pub use Rattle.event_bytes.specs.Parts.{◌>>=◌}
 use Rattle.status_line.specs.declared.saying.Saying.{Saying}
-use Rattle.status_line.specs.declared.saying.Saying.TheVariants.{Refused as TurnedAway, NoText, NoScroll, NothingAfter, NoWord, NoCommand}
+use Rattle.status_line.specs.declared.saying.Saying.TheVariants.{NoCaret, NoText, NoScroll, NothingAfter, NoWord, NoCommand}
 use Rattle.status_line.specs.declared.saying.Saying.TheVariants.{NoLine, PartHidden}
 use Rattle.press_plans.specs.declared.task.Task.{Task}
 use Rattle.press_plans.specs.declared.task.Task.TheVariants.{Post, Scroll, Lead}
@@ -98,7 +97,7 @@ part_hidden wish = nothing_there wish
 unfoldable pub why_not : KeyWish → WhyNot → Saying
 why_not wish why.NoRow = NoScroll
 why_not wish why.TooFar = NoScroll
-why_not wish why.NoCaret = TurnedAway no_caret
+why_not wish why.NoCaret = NoCaret
 why_not wish why.NothingBehind = nothing_there wish
 why_not wish why.PastEdge = part_hidden wish
 why_not wish why.NotInSight = part_hidden wish

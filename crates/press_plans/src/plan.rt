@@ -17,7 +17,6 @@ use crate::pouring::pour_plan;
 use crate::task::{CellPlace, Task, posting};
 use desk_journal::{DeskInfo, Error, KeyWish, ShownViewer, Store, WhyNot, Wish};
 use desktop_definitions::Entry;
-use desktop_definitions::codes::NO_CARET;
 use done_presses::take_last;
 use event_bytes::{Event, Key, Keys};
 use screen_cells::Screen;
@@ -427,7 +426,7 @@ pub(crate) fn why_not(wish: KeyWish, why: WhyNot) -> Saying
     match why {
         WhyNot::NoRow => Saying::NoScroll,
         WhyNot::TooFar => Saying::NoScroll,
-        WhyNot::NoCaret => Saying::Refused(NO_CARET),
+        WhyNot::NoCaret => Saying::NoCaret,
         WhyNot::NothingBehind => nothing_there(wish),
         WhyNot::PastEdge => part_hidden(wish),
         WhyNot::NotInSight => part_hidden(wish),

@@ -1,7 +1,7 @@
 -- What the line below the screen says.
 use Rattle.std.specs.Prelude.{ℕ, ◌-◌, ◌==◌, if◌then◌else◌, List, [], ◌∷◌, ◌++◌, Option, Some, None, codes, drop}
 use Rattle.std.specs.Prelude.{length, slice_get}
-use Rattle.desktop_definitions.specs.Limits.{no_file}
+use Rattle.desktop_definitions.specs.Limits.{no_caret, no_file}
 use Rattle.std.specs.Prelude.{Bool, true, false, unwrap_or}
 use Rattle.std.specs.Fmt.{decimal}
 use Rattle.event_bytes.specs.declared.keys.Keys.{Keys as MouseKeys}
@@ -11,7 +11,7 @@ use Rattle.terminal_presses.specs.declared.action.Click.{Click}
 use Rattle.terminal_presses.specs.declared.action.Click.TheVariants.{Mark, Keys}
 use Rattle.status_line.specs.declared.saying.Saying.{Saying}
 use Rattle.status_line.specs.declared.saying.Saying.TheVariants.{Greeting, Unproved, InMemory, Keys as ForKeys}
-use Rattle.status_line.specs.declared.saying.Saying.TheVariants.{Pointing, Asks, NoKey, NoText, NoScroll}
+use Rattle.status_line.specs.declared.saying.Saying.TheVariants.{Pointing, Asks, NoKey, NoCaret, NoText, NoScroll}
 use Rattle.status_line.specs.declared.saying.Saying.TheVariants.{NothingAfter, NoWord, NoCommand, NoSearch}
 use Rattle.status_line.specs.declared.saying.Saying.TheVariants.{NoLine, PartHidden}
 use Rattle.status_line.specs.declared.saying.Saying.TheVariants.{NothingTyped, Fills, FillsNot, ToolFiled, Refused}
@@ -146,16 +146,16 @@ words screen log Pointing =
     codes "Arrows move the pointer, Return clicks, F2 calls, F3 selects, Escape ends it"
 words screen log (Asks question) = question_words screen question
 words screen log NoKey = codes "That key means nothing here."
-words screen log NoText = codes "There is no text on that side of the caret, or no caret in sight."
-words screen log NothingAfter = codes "There is no character after the caret, or no caret in sight."
-words screen log NoLine =
-    codes "There is no line to cut, or no caret in sight."
+words screen log NoCaret = reason no_caret
+words screen log NoText = codes "There is no text on that side of the caret."
+words screen log NothingAfter = codes "No character after the caret is in sight."
+words screen log NoLine = codes "There is no line to cut."
 words screen log PartHidden =
     codes "An end of it is out of sight: make the viewer taller, or take less of the text."
 words screen log NoScroll =
     codes "Nothing moves there: no viewer, no caret, or too few rows of a text."
 words screen log NoWord =
-    codes "No caret, or no such word, is in sight: System.Tool shows the commands."
+    codes "No such word is in sight: System.Tool shows the commands."
 words screen log NoCommand =
     codes "No command's whole word is in sight: System.Tool shows the commands."
 words screen log NoSearch =

@@ -12,7 +12,7 @@ use crate::deed::Deed;
 use crate::named::{behind_call, deleting_words, misnamed_words};
 use crate::question::Question;
 use arrayvec::ArrayVec;
-use desktop_definitions::codes::NO_FILE;
+use desktop_definitions::codes::{NO_CARET, NO_FILE};
 use event_bytes::Keys;
 use screen_cells::Screen;
 use screen_reading::{called_word, parameter_word, word_from};
@@ -37,9 +37,11 @@ pub enum Saying {
     Asks(Question),
     /// A key that means nothing.
     NoKey,
+    /// A key for the caret, where none is set.
+    NoCaret,
     /// An arrow that leads to no text.
     NoText,
-    /// No character after the caret is in sight, or no caret is.
+    /// No character after the caret is in sight.
     NothingAfter,
     /// No line to cut.
     NoLine,
@@ -47,7 +49,7 @@ pub enum Saying {
     PartHidden,
     /// A scroll where no text can move.
     NoScroll,
-    /// No word of a command is in sight, or no caret.
+    /// No word of a command is in sight.
     NoWord,
     /// No word of a command is in sight whole.
     NoCommand,
@@ -340,13 +342,10 @@ impl Saying {
             ),
             Saying::Asks(question) => question_words(screen, question),
             Saying::NoKey => line(b"That key means nothing here."),
-            Saying::NoText => line(
-                b"There is no text on that side of the caret, or no caret in sight.",
-            ),
-            Saying::NothingAfter => line(
-                b"There is no character after the caret, or no caret in sight.",
-            ),
-            Saying::NoLine => line(b"There is no line to cut, or no caret in sight."),
+            Saying::NoCaret => line(reason(NO_CARET)),
+            Saying::NoText => line(b"There is no text on that side of the caret."),
+            Saying::NothingAfter => line(b"No character after the caret is in sight."),
+            Saying::NoLine => line(b"There is no line to cut."),
             Saying::PartHidden => line(
                 b"An end of it is out of sight: make the viewer taller, or take less of the text.",
             ),
@@ -354,7 +353,7 @@ impl Saying {
                 b"Nothing moves there: no viewer, no caret, or too few rows of a text.",
             ),
             Saying::NoWord => line(
-                b"No caret, or no such word, is in sight: System.Tool shows the commands.",
+                b"No such word is in sight: System.Tool shows the commands.",
             ),
             Saying::NoCommand => line(
                 b"No command's whole word is in sight: System.Tool shows the commands.",
