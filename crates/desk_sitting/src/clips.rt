@@ -1,20 +1,19 @@
 //! What the clipboard of the terminal is given of what is copied.
-ghost use Rattle.std.specs.Prelude.{◌≡◌, ◌≤◌, [], ◌++◌, false, length, OnOk, IfOk, IfErr};
-ghost use Rattle.desk_journal.specs.View.{IsDurable};
+ghost use Rattle.std.specs.Prelude.{◌≡◌, IfOk, IfErr, true, length};
+ghost use Rattle.event_bytes.specs.Bytes.{lies_within};
+ghost use Rattle.desk_journal.specs.Errors.{NoMemory};
+ghost use Rattle.desk_journal.specs.Looking.{OnlyLooks};
 ghost use Rattle.desk_sitting.specs.Clips.{clip_saying, clip_sent, clip_told, copied_text, is_copying, text_given};
 ghost use Rattle.desk_sitting.specs.Clips.{unless_asked};
 ghost use Rattle.desk_sitting.specs.Scenes.{clip_bytes, clip_order};
-ghost use Rattle.desk_sitting.specs.Endings.{IsOfNoKeyboard};
-ghost use Rattle.desk_sitting.specs.Serving.{CountsTurn, IsLookedAt, StaysInUse};
-ghost use Rattle.desk_sitting.specs.declared.ending.SittingEnd.TheVariants.{Output as TakesNoMore};
 
-use crate::ending::SittingEnd;
 use crate::{Saying, Sitting};
 use base64::engine::general_purpose::STANDARD;
-use desk_journal::Store;
+use desk_journal::{Error, Store};
 use event_bytes::{Event, Key};
 use sector_disk::Disk;
 use std::alloc::{AllocError, Global};
+use std::vec::Vec;
 use store_documents::host_text;
 
 /// How many bytes a text has at most that is given to the clipboard of a terminal. In base64 they are 99,992, and terminals
@@ -28,44 +27,47 @@ pub(crate) fn is_copying(event: &Event) -> bool
     matches!(event, Event::Key(Key::Copy | Key::Cut))
 }
 
-/// What the clipboard of the terminal is to be given, which is nothing where nothing was copied since the last scene. Where a
-/// text is too long for it, that is said.
+/// What gives the clipboard of the terminal what was copied since the last scene, and nothing where nothing was. Where a text
+/// is too long for it, that is said.
 ///
-/// Errors: `Memory`; `Fault`.
+/// Errors: `NoMemory`; `Fault`.
 pub(crate) fn clip<D: Disk>(
     alloc: Global,
     sitting: &mut Sitting,
     store: &mut Store<D>,
-) -> Result<Vec<u8>, SittingEnd>
+) -> Result<Vec<u8>, Error>
     requires { store.old.must_reopen ≡ false }
-    ensures looks { D.honest store.old.disk → IsDurable D.Disk store.old
-        → IsLookedAt D.Disk store.old store.new }
-    ensures shows { D.honest store.old.disk → store.new.desktop ≡ store.old.desktop }
     ensures sent { IfOk result (λ clip. D.honest store.old.disk
         → (clip.items ≡ clip_bytes (clip_sent store.old.desktop sitting.old))
         × (sitting.new ≡ clip_told store.old.desktop sitting.old)) }
-    ensures cause { IfErr result IsOfNoKeyboard }
-    ensures counts { CountsTurn result (D.failures store.old.disk) (D.failures store.new.disk) }
-    ensures store { StaysInUse D.Disk store.old store.new }
+    ensures looks { OnlyLooks D.Disk result store.old store.new }
 {
     if !sitting.copies {
         return Ok(Vec::new(alloc));
     }
-    let copied = store.copied(alloc)?;
-    let Ok(text) = host_text(alloc, copied.as_slice()) else {
-        return Err(SittingEnd::Memory);
-    };
+    let text = copied_text(alloc, store)?;
     sitting.tell_clip(text.as_slice());
-    match clip_of(alloc, text.as_slice()) {
-        Ok(clip) => Ok(clip),
-        Err(_) => Err(SittingEnd::Memory),
+    clip_of(alloc, text.as_slice())
+}
+
+/// What was copied last, as a text of the host's.
+///
+/// Errors: `NoMemory`; `Fault`.
+fn copied_text<D: Disk>(alloc: Global, store: &mut Store<D>) -> Result<Vec<u8>, Error>
+    ensures told { IfOk result (λ text. D.honest store.old.disk
+        → text.items ≡ copied_text store.old.desktop) }
+    ensures looks { OnlyLooks D.Disk result store.old store.new }
+{
+    let copied = store.copied(alloc)?;
+    match host_text(alloc, copied.as_slice()) {
+        Ok(text) => Ok(text),
+        Err(_) => Err(Error::NoMemory),
     }
 }
 
 impl Sitting {
     /// A text is copied: where it is too long for the clipboard of a terminal, that is said, unless something is asked.
     fn tell_clip(&mut self, text: &[u8])
-        requires { self.old.copies ≡ true }
         ensures { self.new ≡ record self.old {
           saying = clip_saying true text.now self.old.saying;
         } }
@@ -86,16 +88,27 @@ fn unless_asked(saying: Saying) -> Saying
     }
 }
 
+/// Whether the clipboard of a terminal is given a text of so many bytes.
+fn is_given(count: usize) -> bool
+    ensures { result ≡ lies_within 1 MOST_CLIPPED count }
+{
+    1 <= count && count <= MOST_CLIPPED
+}
+
 /// What gives a text to the clipboard of a terminal, where it isn't too long.
 ///
-/// Error: an allocation was refused.
-fn clip_of(alloc: Global, text: &[u8]) -> Result<Vec<u8>, AllocError>
-    ensures { IfOk result (λ clip. clip.items ≡ clip_bytes (text_given true text.now)) }
+/// Error: `NoMemory`.
+fn clip_of(alloc: Global, text: &[u8]) -> Result<Vec<u8>, Error>
+    ensures clip { IfOk result (λ clip. clip.items ≡ clip_bytes (text_given true text.now)) }
+    ensures memory { IfErr result (λ why. why ≡ NoMemory) }
 {
-    if text.is_empty() || text.len() > MOST_CLIPPED {
+    if !is_given(text.len()) {
         return Ok(Vec::new(alloc));
     }
-    clip_order(alloc, text)
+    match clip_order(alloc, text) {
+        Ok(clip) => Ok(clip),
+        Err(_) => Err(Error::NoMemory),
+    }
 }
 
 /// What gives this text to the clipboard of a terminal.
