@@ -108,10 +108,10 @@ module _ (s s' : Sitting) (screen screen' : List (List Cell)) (clip : List ℕ) 
       (subst (λ t. IsScenePainted the_desk t screen' (known_by s.forgets known) known' held between) looks painted)) front)
 
 -- what is said over what a look leaves, it says over what was there before
-module _ {H H' A B C : Type 0} (still : H → H') {a a' : A} {b b' : B} {c c' : C} (as : H → a' ≡ a) (bs : H → b' ≡ b)
-    (cs : H → c' ≡ c) where
+module _ {H H' A B C : Type 0} (still : H → H') {a a' : A} {b b' : B} {c c' : C} (one : H → a' ≡ a) (two : H → b' ≡ b)
+    (three : H → c' ≡ c) where
   moved : (P : A → B → C → Type 0) → H → P a' b' c' → P a b c
-  moved P h p = subst (λ z. P a b z) (cs h) (subst (λ y. P a y c') (bs h) (subst (λ x. P x b' c') (as h) p))
+  moved P h p = subst (λ z. P a b z) (three h) (subst (λ y. P a y c') (two h) (subst (λ x. P x b' c') (one h) p))
 
   pub ok_before : {T : Type 0} (result : Result T SittingEnd) (P : A → B → C → Type 0) → OnOk result (H' → P a' b' c')
       → OnOk result (H → P a b c)

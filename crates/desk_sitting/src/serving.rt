@@ -371,11 +371,7 @@ fn follow<W: AnswerWriter>(
 }
 
 /// Rings the bell, and asks the terminal for its size, where that is to be.
-fn ring_and_ask<W: AnswerWriter>(
-    writer: &mut W,
-    rings: bool,
-    asks: bool,
-) -> Result<(), OutputFault>
+fn ring_and_ask<W: AnswerWriter>(writer: &mut W, rings: bool, asks: bool) -> Result<(), OutputFault>
     ensures sent { Sends result (W.contents writer.old) (W.contents writer.new)
         (bell_bytes rings ++ request asks) }
     ensures handed { OnOk result (W.unflushed writer.old ≡ 0 → W.unflushed writer.new ≡ 0) }
@@ -391,7 +387,11 @@ fn clip_if<W: AnswerWriter>(writer: &mut W, clip: &[u8]) -> Result<(), OutputFau
     ensures handed { OnOk result (W.unflushed writer.old ≡ 0 → W.unflushed writer.new ≡ 0) }
     ensures cause { CountsFault result (W.failures writer.old) (W.failures writer.new) }
 {
-    if clip.is_empty() { Ok(()) } else { send(writer, clip) }
+    if clip.is_empty() {
+        Ok(())
+    } else {
+        send(writer, clip)
+    }
 }
 
 /// Rings the bell where that is to be.

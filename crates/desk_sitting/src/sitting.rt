@@ -236,12 +236,7 @@ impl Sitting {
     pub fn is_scene_due(&self) -> bool
         ensures { result ≡ is_scene_due self.now }
     {
-        self.changed
-            || self.follows
-            || self.rings
-            || self.forgets
-            || self.asks
-            || self.copies
+        self.changed || self.follows || self.rings || self.forgets || self.asks || self.copies
     }
 
     /// The keyboard was asked for the text of the host file that is wanted, and says whether it will be heard.

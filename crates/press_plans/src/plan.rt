@@ -112,10 +112,7 @@ fn calling_plan<D: Disk>(alloc: Global, event: Event, store: &mut Store<D>) -> R
     if begins_in_viewer(&event, store) {
         let mut screen = Screen::new();
         store.screen(alloc, &mut screen)?;
-        return Ok(Plan::Event(
-            event,
-            Some(Task::After(before, caret_of(&screen))),
-        ));
+        return Ok(Plan::Event(event, Some(Task::After(before, caret_of(&screen)))));
     }
     let entries = store.list(alloc)?;
     Ok(empty_plan(event, before, entries.as_slice()))

@@ -352,9 +352,7 @@ impl Saying {
             Saying::NoScroll => line(
                 b"Nothing moves there: no viewer, no caret, or too few rows of a text.",
             ),
-            Saying::NoWord => line(
-                b"No such word is in sight: System.Tool shows the commands.",
-            ),
+            Saying::NoWord => line(b"No such word is in sight: System.Tool shows the commands."),
             Saying::NoCommand => line(
                 b"No command's whole word is in sight: System.Tool shows the commands.",
             ),
