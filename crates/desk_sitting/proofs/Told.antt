@@ -53,9 +53,13 @@ use Rattle.press_plans.specs.Plans.{column_clicked, from_column, front_plan, pou
 use Rattle.press_plans.specs.Poured.{poured_at, word_length}
 use Rattle.press_plans.specs.Filling.{room_if, place_behind, is_place}
 use Rattle.press_plans.specs.Replacing.{TypingView, first_typed, first_byte_typed, rest_typed, typed_behind, nothing_typed}
+use Rattle.press_plans.specs.Replacing.{replacement}
+use Rattle.done_presses.specs.Past.{selects}
+use Rattle.terminal_presses.specs.Sights.{Sight}
 use Rattle.status_line.specs.declared.deed.Deed.{Deed}
 use Rattle.desk_sitting.specs.Sittings.{Seat, ClicksAreTold, IsClickTold, accepted_as, accepted_by, accepted_in}
-use Rattle.desk_sitting.specs.Sittings.{accepted_stage, after_stage}
+use Rattle.desk_sitting.specs.Sittings.{accepted_stage, after_stage, filling, task_or_word}
+use Rattle.desk_sitting.specs.Twice.{cell_again, cell_clicked}
 use Rattle.desk_sitting.specs.Sittings.{does, does_all, left_by, most_plans, noted_at, planned, task_left}
 
 module _ (told : Option MiddleClick) where
@@ -429,6 +433,13 @@ hand_posts : (over : Bool) (fills : Filling) (e : Event) → Posts (middle_click
 hand_posts true fills e = over_posts fills e
 hand_posts false fills e = posts_by (middle_click e) fills e (itself e)
 
+-- and of a second click
+or_word_posts : (e : Event) (again : Option (ℕ × ℕ)) (fills : Filling) (over : Bool) (replacement : Option TypingView)
+    (sight : Sight) → IfSome (task_or_word again fills over replacement sight (action.Post e)) (Posts (middle_click e))
+unfolding task_of
+or_word_posts e (Some cell) fills over replacement sight = word cell
+or_word_posts e None fills over replacement sight = hand_posts over fills e
+
 -- ---- what is wished of the caret
 
 -- what tells the click by which its events call, before which the marker may be set; or there are none
@@ -515,7 +526,9 @@ mark_wish_told d = marks (led_with d d.caret MarkWish) (mark_told d d.caret)
 
 pub clicks_told : ClicksAreTold
 unfolding accepted_as task_of click_made calling_wish plan_of plan_on
-clicks_told (action.Post e) seat is = all_told (middle_click e) most_plans _ (noted_at (action.Post e) seat) (hand_posts _ _ e)
+clicks_told (action.Post e) seat is = all_told (middle_click e) most_plans _ (noted_at (action.Post e) seat)
+    (or_word_posts e (cell_again (cell_clicked (action.Post e)) seat.sitting.clicked) (filling seat.sitting)
+    (selects seat.sitting.past) (replacement seat.sitting.replacing) seat.sitting.sight)
 clicks_told action.Search seat is = first_told _ most_plans _ (noted_at action.Search seat)
     (command_told seat.session.desktop caret.Search)
 clicks_told action.Store seat is = first_told _ most_plans _ (noted_at action.Store seat)
