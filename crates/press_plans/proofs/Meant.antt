@@ -1,6 +1,6 @@
 -- The events that presses come to at the desk.
 use Rattle.std.proofs.Common.{◌≡◌, ◌≢◌, ◌∙◌, ℕ, true, false, refl, sym, ap, [], ◌∷◌}
-use Rattle.std.specs.Prelude.{Bool, Some, None, ◌&&◌, not, is_some, if◌then◌else◌}
+use Rattle.std.specs.Prelude.{Bool, Option, Some, None, ◌&&◌, not, is_some, if◌then◌else◌}
 use Rattle.std.specs.List.{list_any}
 use Rattle.std.proofs.lemmas.Bool.{cond-true, cond-false}
 use Rattle.event_bytes.specs.declared.event.Event.{Event}
@@ -59,15 +59,16 @@ module _ (d : Desktop) where
   pub uncalled : (e meant : Event) → is_call e ≡ false → meant ≡ event_meant d e
       → Events (meant ∷ []) None ≡ plan_of (kind.Post e) d
   unfolding plan_of event_meant
-  uncalled (event.Typed bytes) meant is made = rw made (plain_plan (desk_info d) _ (event.Typed bytes) refl)
-  uncalled (event.Key key) meant is made = rw made (plain_plan (desk_info d) _ (event.Key key) refl)
-  uncalled (event.Mark x y) meant is made = rw made (plain_plan (desk_info d) _ (event.Mark x (middle_or y (place_at d (x, y)))) refl)
+  uncalled (event.Typed bytes) meant is made = rw made (plain_plan (desk_info d) (caret_seen d (event.Typed bytes)) (event.Typed bytes) refl)
+  uncalled (event.Key key) meant is made = rw made (plain_plan (desk_info d) (caret_seen d (event.Key key)) (event.Key key) refl)
+  uncalled (event.Mark x y) meant is made = rw made (plain_plan (desk_info d) (caret_seen d (event.Mark x y))
+      (event.Mark x (middle_or y (place_at d (x, y)))) refl)
   uncalled (event.Point keys x0 y0 x1 y1) meant is made =
       let same = no_tool (is_middle keys) (lacks_tool d (x0, y0)) tool_event (event.Point keys x0 y0 x1 y1) is in
       ap (λ (e : Event). Events (e ∷ []) None) (made ∙ same)
-      ∙ plain_plan (desk_info d) _ (event.Point keys x0 y0 x1 y1) is
-      ∙ ap (λ (e : Event). posted_plan e (desk_info d) _) (sym same)
-  uncalled (event.File name bytes) meant is made = rw made (plain_plan (desk_info d) _ (event.File name bytes) refl)
+      ∙ plain_plan (desk_info d) (caret_seen d (event.Point keys x0 y0 x1 y1)) (event.Point keys x0 y0 x1 y1) is
+      ∙ ap (λ (e : Event). posted_plan e (desk_info d) (caret_seen d (event.Point keys x0 y0 x1 y1))) (sym same)
+  uncalled (event.File name bytes) meant is made = rw made (plain_plan (desk_info d) (caret_seen d (event.File name bytes)) (event.File name bytes) refl)
 
   pub called_in_viewer : (e : Event) → is_call e ≡ true → begins_in_viewer d e ≡ true
       → Events (e ∷ []) (Some (kind.After (desk_info d) (caret_cell (shown_screen d)))) ≡ plan_of (kind.Post e) d

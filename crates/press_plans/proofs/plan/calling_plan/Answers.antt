@@ -11,7 +11,7 @@ use Rattle.press_plans.proofs.plan.calling_plan.Goals as goal
 
 pub returns-in_err-screen : goal.returns-in_err-screen
 returns-in_err-screen g c =
-    let p = err_from_is_err_and c.from_residual-in_err-screen.result c.from_residual-in_err-screen.ensures.1 in
+    let p = err_from_is_err_and c.from_residual.result c.from_residual.ensures.1 in
     rw (p.1, p.2) (plans_unseen g.D.Disk c.in_err-screen.ensures.looks)
 
 pub returns-then-begins_in_viewer : goal.returns-then-begins_in_viewer
@@ -23,7 +23,7 @@ returns-then-begins_in_viewer g c = plans_seen g.D.Disk tt _ c.in_ok-screen.ensu
 
 pub returns-in_err-entries : goal.returns-in_err-entries
 returns-in_err-entries g c =
-    let p = err_from_is_err_and c.from_residual.result c.from_residual.ensures.1 in
+    let p = err_from_is_err_and c.from_residual-in_err-entries.result c.from_residual-in_err-entries.ensures.1 in
     rw (p.1, p.2) (plans_unseen g.D.Disk c.in_err-entries.ensures.looks)
 
 pub returns : goal.returns
