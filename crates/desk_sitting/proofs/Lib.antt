@@ -1,6 +1,7 @@
 pub mod Accepted
 pub mod Between
 pub mod Carrying
+pub mod Clipping
 pub mod Done
 pub mod Pressed
 pub mod Seen

@@ -1,6 +1,6 @@
 -- Each click of the middle button that a press posts was told.
-use Rattle.std.proofs.Common.{ℕ, zero, suc, Bool, true, false, List, [], ◌∷◌, ◌++◌, length, refl, sym, subst}
-use Rattle.std.specs.Prelude.{◌-◌, Option, Some, None, IfSome, All, if◌then◌else◌, option_map, nat_lt, ◌&&◌, ◌≡◌, ◌==◌, ok_or, Result, Ok, Err, IfOk}
+use Rattle.std.proofs.Common.{ℕ, zero, suc, Bool, true, false, List, [], ◌∷◌, ◌++◌, length, take, refl, sym, subst}
+use Rattle.std.specs.Prelude.{◌-◌, drop, min, Option, Some, None, IfSome, All, if◌then◌else◌, option_map, nat_lt, ◌&&◌, ◌≡◌, ◌==◌, ok_or, Result, Ok, Err, IfOk}
 use Rattle.std.proofs.lemmas.List.Elements.{All-append, All-cons, All-head, All-nil, All-tail}
 use Rattle.event_bytes.specs.declared.event.Event.{Event}
 use Rattle.event_bytes.specs.declared.event.Event.TheVariants as event
@@ -19,7 +19,8 @@ use Rattle.caret_moves.specs.declared.wish.CaretCommand.TheVariants as caret
 use Rattle.caret_moves.specs.declared.wish.KeyWish.{KeyWish}
 use Rattle.caret_moves.specs.declared.wish.KeyWish.TheVariants.{Call, CallLine, CutSelected, Mark as MarkWish, Break, Place}
 use Rattle.caret_moves.specs.declared.wish.WhyNot.{WhyNot}
-use Rattle.caret_moves.specs.declared.wish.WhyNot.TheVariants.{NoCaret, NoRow, NoWord, NotInSight, NothingThere, PastEdge}
+use Rattle.caret_moves.specs.declared.wish.WhyNot.TheVariants.{NoBreak, NoCaret, NoRow, NoWord, NothingBehind, NothingThere}
+use Rattle.caret_moves.specs.declared.wish.WhyNot.TheVariants.{NotInSight, PastEdge, TooFar}
 use Rattle.caret_moves.specs.Calling.{call_by, call_led, line_word, mark_cell, middle_press, word_cell}
 use Rattle.caret_moves.specs.Stretches.{drag_by, selected_up_to}
 use Rattle.caret_moves.proofs.NearLaws.{near_click}
@@ -33,20 +34,32 @@ use Rattle.status_line.specs.Deeds.{deed_of, is_middle}
 use Rattle.screen_reading.specs.Frames.{text_start}
 use Rattle.status_line.specs.declared.clicks.MiddleClick.{MiddleClick}
 use Rattle.status_line.specs.Clicks.{click_in, middle_click}
+use Rattle.press_plans.specs.declared.task.Filling.{Filling}
+use Rattle.press_plans.specs.declared.task.Filling.TheVariants.{Letters, Off, Pasted}
+use Rattle.press_plans.specs.declared.task.Stage.{Stage}
+use Rattle.press_plans.specs.declared.task.Stage.TheVariants.{First, Back, On}
 use Rattle.press_plans.specs.declared.task.Task.{Task}
 use Rattle.press_plans.specs.declared.task.Task.TheVariants as kind
 use Rattle.press_plans.specs.Listed.{event_meant, lacks_tool}
 use Rattle.press_plans.specs.Plans.{Plan, Aims, Events, PutsAway, Refused as NotDone, Says, Shows, answer_plan}
+use Rattle.screen_reading.specs.Picked.{picked_word}
+use Rattle.press_plans.specs.Plans.{caret_seen, comeback_plan, go_plan, has_lost_caret, word_plan}
 use Rattle.press_plans.specs.Plans.{call_plan, erase_plan, erasing, lead_plan, over_plan}
 use Rattle.press_plans.specs.Plans.{click_of, enter_plan, is_call, opened_viewer, plan_of, plan_on}
 use Rattle.press_plans.specs.Tasks.{calling_wish, posted, posting, posting_over, task_of, typed_task}
 use Rattle.desk_sitting.specs.Questions.{click_led, click_made}
 use Rattle.press_plans.specs.Plans.{posted_plan, type_plan, unbroken_plan, broken_plan, placed_plan}
+use Rattle.press_plans.specs.Plans.{column_clicked, from_column, front_plan, poured_plan, room_plan, standing, typable}
+use Rattle.press_plans.specs.Poured.{poured_at, word_length}
 use Rattle.press_plans.specs.Filling.{room_if, place_behind, is_place}
 use Rattle.press_plans.specs.Replacing.{TypingView, first_typed, first_byte_typed, rest_typed, typed_behind, nothing_typed}
+use Rattle.press_plans.specs.Replacing.{replacement}
+use Rattle.done_presses.specs.Past.{selects}
+use Rattle.terminal_presses.specs.Sights.{Sight}
 use Rattle.status_line.specs.declared.deed.Deed.{Deed}
 use Rattle.desk_sitting.specs.Sittings.{Seat, ClicksAreTold, IsClickTold, accepted_as, accepted_by, accepted_in}
-use Rattle.desk_sitting.specs.Sittings.{accepted_stage, after_stage}
+use Rattle.desk_sitting.specs.Sittings.{accepted_stage, after_stage, filling, task_or_word}
+use Rattle.desk_sitting.specs.Twice.{cell_again, cell_clicked}
 use Rattle.desk_sitting.specs.Sittings.{does, does_all, left_by, most_plans, noted_at, planned, task_left}
 
 module _ (told : Option MiddleClick) where
@@ -56,12 +69,14 @@ module _ (told : Option MiddleClick) where
   -- tasks that post what was told, and nothing else of that button
   data Posts : Task → Type 0 where
     post : (e : Event) → Told e → Posts (kind.Post e)
-    after : (before : DeskInfo) → Posts (kind.After before)
+    after : (before : DeskInfo) (cell : Option (ℕ × ℕ)) → Posts (kind.After before cell)
+    word : (at : ℕ × ℕ) → Posts (kind.Word at)
     enter : (cell : ℕ × ℕ) → Posts (kind.Enter cell)
     reveal : (cell : ℕ × ℕ) → Posts (kind.Reveal cell)
     types : (t : TypingView) (fills : Bool) (deed : Deed) → Posts (kind.TypeOn t fills deed)
     goes_back : (place : ℕ) (t : TypingView) (fills : Bool) (deed : Deed) → Posts (kind.GoBack place t fills deed)
-    over : (e : Event) (fills : Bool) → Told e → Posts (kind.TypeOver e fills)
+    over : (e : Event) (fills : Filling) → Told e → Posts (kind.TypeOver e fills)
+    pours : (stage : Stage) (bytes : List ℕ) (typed : ℕ) → Posts (kind.Pour stage bytes typed)
     erase : Posts (kind.Erase false)
 
   abbrev next_of : Plan → Option Task
@@ -133,19 +148,33 @@ module _ (told : Option MiddleClick) where
   meant_told d (event.Point keys x0 y0 x1 y1) t = event_if (is_middle keys && lacks_tool d (x0, y0)) tool_event _ tt t
   meant_told d (event.File name bytes) t = t
 
-  after_if : (b : Bool) (before : DeskInfo) → IfSome (if b then Some (kind.After before) else None) Posts
-  after_if true before = after before
-  after_if false before = tt
+  after_if : (b : Bool) (before : DeskInfo) (cell : Option (ℕ × ℕ))
+      → IfSome (if b then Some (kind.After before cell) else None) Posts
+  after_if true before cell = after before cell
+  after_if false before cell = tt
+
+  coming_back : (cell : Option (ℕ × ℕ)) → IsTelling (go_plan cell)
+  coming_back None = empty_telling
+  coming_back (Some cell) = record { events = one (click_of cell) tt; next = tt }
+
+  picking : (at : ℕ × ℕ) (word : Option (ℕ × ℕ)) → IsTelling (word_plan at word)
+  picking at None = record { events = one (click_of at) tt; next = tt }
+  picking at (Some ends) = record {
+    events = one (click_of (ends.0, at.1)) tt;
+    next = post (event.Point keys.Right ends.0 at.1 ends.1 at.1) tt;
+  }
 
   entering : (is_log : Bool) (cell : Option (ℕ × ℕ)) → IsTelling (enter_plan is_log cell)
   entering is_log None = empty_telling
   entering true (Some cell) = record { events = nothing; next = reveal cell }
   entering false (Some cell) = record { events = nothing; next = enter cell }
 
-  answering : (viewer : Option ShownViewer) (before : DeskInfo) (d : Desktop) → IsTelling (answer_plan viewer before d)
-  answering (Some viewer) before d = entering viewer.is_log (text_start viewer.place)
-  answering None before d = chosen (nat_lt before.log_length (desk_info d).log_length) (Says (last_log_line d)) (Events [] None)
-      (record { events = nothing; next = tt }) empty_telling
+  answering : (viewer : Option ShownViewer) (before : DeskInfo) (cell : Option (ℕ × ℕ)) (d : Desktop)
+      → IsTelling (answer_plan viewer before cell d)
+  answering (Some viewer) before cell d = entering viewer.is_log (text_start viewer.place)
+  answering None before cell d = chosen (nat_lt before.log_length (desk_info d).log_length) (Says (last_log_line d))
+      (comeback_plan before cell d) (record { events = nothing; next = tt })
+      (chosen (has_lost_caret before d) (go_plan cell) (Events [] None) (coming_back cell) empty_telling)
 
   -- what is typed, before which a line may be broken
   byte_told : (bytes : List ℕ) → IfSome (first_byte_typed bytes) Told
@@ -230,10 +259,48 @@ module _ (told : Option MiddleClick) where
   by_room (Some n) next t fills deed d told =
       breaking (led d (Break n)) (place_behind d) next t fills deed (broken_told d n) told
 
-  placing : (wish : KeyWish) (result : Result (List Event) WhyNot) (t : TypingView) (fills : Bool) (deed : Deed)
-      → IfOk result (λ events. All Told events) → IsTelling (placed_plan wish result (kind.TypeOn t fills deed))
-  placing wish (Ok events) t fills deed all = record { events = all; next = types t fills deed }
-  placing wish (Err why) t fills deed all = record { events = nothing; next = tt }
+  placing : (wish : KeyWish) (result : Result (List Event) WhyNot) (next : Task) → Posts next
+      → IfOk result (λ events. All Told events) → IsTelling (placed_plan wish result next)
+  placing wish (Ok events) next posts all = record { events = all; next = posts }
+  placing wish (Err why) next posts all = record { events = nothing; next = tt }
+
+  -- ---- what is pasted
+
+  rooming : (result : Result (List Event) WhyNot) (place : ℕ) (bytes : List ℕ) (typed : ℕ)
+      → IfOk result (λ events. All Told events) → IsTelling (room_plan result place bytes typed)
+  rooming (Ok events) place bytes typed all = record { events = all; next = pours (Back place) bytes typed }
+  rooming (Err why) place bytes typed all = record { events = nothing; next = pours On bytes typed }
+
+  fronting : (bytes : Option (List ℕ)) (next : Option Task) → IfSome next Posts → IsTelling (front_plan bytes next)
+  fronting None next posts = empty_telling
+  fronting (Some bytes) next posts = record { events = one (event.Typed bytes) tt; next = posts }
+
+  more_posts : (o : Option (List ℕ)) → IfSome (option_map (λ (more : List ℕ). kind.Post (event.Typed more)) o) Posts
+  more_posts None = tt
+  more_posts (Some more) = post (event.Typed more) tt
+
+  more_pours : (n : ℕ) (o : Option (List ℕ)) → IfSome (option_map (λ (more : List ℕ). kind.Pour First more n) o) Posts
+  more_pours n None = tt
+  more_pours n (Some more) = pours First more n
+
+  as_it_is : (bytes : List ℕ) → IsTelling (Events (event.Typed bytes ∷ []) None)
+  as_it_is bytes = record { events = one (event.Typed bytes) tt; next = tt }
+
+  columned : (column : Option ℕ) (bytes : List ℕ) → IsTelling (from_column column bytes)
+  columned None bytes = as_it_is bytes
+  columned (Some x) bytes = fronting (typable (take 900 (poured_at x bytes))) _ (more_posts (typable (drop 900 (poured_at x bytes))))
+
+  pouring : (r : Result (List Event) WhyNot) (bytes : List ℕ) (typed : ℕ) → IsTelling (poured_plan r bytes typed)
+  pouring (Ok events) bytes typed = columned (column_clicked events) bytes
+  pouring (Err NotInSight) bytes typed = fronting (typable (take 1 bytes)) _ (more_pours _ (typable (drop 1 bytes)))
+  pouring (Err NoCaret) bytes typed = as_it_is bytes
+  pouring (Err NoRow) bytes typed = as_it_is bytes
+  pouring (Err TooFar) bytes typed = as_it_is bytes
+  pouring (Err NothingBehind) bytes typed = as_it_is bytes
+  pouring (Err PastEdge) bytes typed = as_it_is bytes
+  pouring (Err NoWord) bytes typed = as_it_is bytes
+  pouring (Err NothingThere) bytes typed = as_it_is bytes
+  pouring (Err NoBreak) bytes typed = as_it_is bytes
 
   -- ---- what cuts what is selected up to the caret
 
@@ -268,8 +335,10 @@ module _ (told : Option MiddleClick) where
   erases (Ok events) all = record { events = all; next = tt }
   erases (Err why) all = record { events = nothing; next = post (event.Key key.Back) tt }
 
-  posts_by : (fills : Bool) (e : Event) → Told e → Posts (posting fills e)
-  posts_by fills (event.Typed bytes) t = by_count (fills && (length bytes == 1))
+  posts_by : (fills : Filling) (e : Event) → Told e → Posts (posting fills e)
+  posts_by Off (event.Typed bytes) t = post (event.Typed bytes) tt
+  posts_by (Pasted typed) (event.Typed bytes) t = pours First bytes typed
+  posts_by Letters (event.Typed bytes) t = by_count (length bytes == 1)
     where
       by_room_left : (t : Option TypingView) → Posts (typed_task t bytes)
       by_room_left None = post (event.Typed bytes) tt
@@ -288,9 +357,10 @@ module _ (told : Option MiddleClick) where
   unfolding plan_of plan_on posted_plan
   telling _ d (post e t) = record {
     events = one (event_meant d e) (meant_told d e t);
-    next = after_if (is_call (event_meant d e)) (desk_info d);
+    next = after_if (is_call (event_meant d e)) (desk_info d) (caret_seen d e);
   }
-  telling _ d (after before) = answering (opened_viewer before d) before d
+  telling _ d (after before cell) = answering (opened_viewer before d) before cell d
+  telling _ d (word at) = picking at (picked_word (shown_screen d) at)
   telling _ d (enter cell) = chosen (desk_info d).is_marked _ _
       (record { events = one (event.Key key.Escape) tt; next = post (click_of cell) tt })
       (record { events = one (click_of cell) tt; next = tt })
@@ -299,7 +369,13 @@ module _ (told : Option MiddleClick) where
       by_room (room_if fills (first_typed t)) (first_typed t) t fills deed d (first_event_told t)
   telling _ d (goes_back place t fills deed) = chosen (is_place place (desk_info d).caret_position) _ _
       (record { events = nothing; next = types t fills deed })
-      (placing (Place place) (led d (Place place)) t fills deed (placed_told d place))
+      (placing (Place place) (led d (Place place)) (kind.TypeOn t fills deed) (types t fills deed) (placed_told d place))
+  telling _ d (pours First bytes typed) = let n : ℕ = min (word_length bytes) 255 in
+      rooming (led d (Break n)) (place_behind d) bytes typed (broken_told d n)
+  telling _ d (pours (Back place) bytes typed) = chosen (is_place place (desk_info d).caret_position) _ _
+      (record { events = nothing; next = pours On bytes typed })
+      (placing (Place place) (led d (Place place)) (kind.Pour On bytes typed) (pours On bytes typed) (placed_told d place))
+  telling _ d (pours On bytes typed) = pouring (led d (Place (standing d))) bytes typed
   telling _ d (over e fills t) = typing_over (posting fills e) (posts_by fills e t) (led d CutSelected) (cut_wish_told d)
   telling _ d erase = erases (led d CutSelected) (cut_wish_told d)
 
@@ -342,7 +418,7 @@ itself (event.Point keys.RightLeft x0 y0 x1 y1) = tt
 itself (event.Point keys.RightMiddle x0 y0 x1 y1) = tt
 itself (event.File name bytes) = tt
 
-over_posts : (fills : Bool) (e : Event) → Posts (middle_click e) (posting_over fills e)
+over_posts : (fills : Filling) (e : Event) → Posts (middle_click e) (posting_over fills e)
 over_posts fills (event.Typed bytes) = over (event.Typed bytes) fills tt
 over_posts fills (event.Key key.Back) = erase
 over_posts fills (event.Key key.Copy) = post (event.Key key.Copy) tt
@@ -353,9 +429,16 @@ over_posts fills (event.Mark x y) = post (event.Mark x y) tt
 over_posts fills (event.Point keys x0 y0 x1 y1) = post _ (itself (event.Point keys x0 y0 x1 y1))
 over_posts fills (event.File name bytes) = post (event.File name bytes) tt
 
-hand_posts : (over fills : Bool) (e : Event) → Posts (middle_click e) (posted over fills e)
+hand_posts : (over : Bool) (fills : Filling) (e : Event) → Posts (middle_click e) (posted over fills e)
 hand_posts true fills e = over_posts fills e
 hand_posts false fills e = posts_by (middle_click e) fills e (itself e)
+
+-- and of a second click
+or_word_posts : (e : Event) (again : Option (ℕ × ℕ)) (fills : Filling) (over : Bool) (replacement : Option TypingView)
+    (sight : Sight) → IfSome (task_or_word again fills over replacement sight (action.Post e)) (Posts (middle_click e))
+unfolding task_of
+or_word_posts e (Some cell) fills over replacement sight = word cell
+or_word_posts e None fills over replacement sight = hand_posts over fills e
 
 -- ---- what is wished of the caret
 
@@ -443,7 +526,9 @@ mark_wish_told d = marks (led_with d d.caret MarkWish) (mark_told d d.caret)
 
 pub clicks_told : ClicksAreTold
 unfolding accepted_as task_of click_made calling_wish plan_of plan_on
-clicks_told (action.Post e) seat is = all_told (middle_click e) most_plans _ (noted_at (action.Post e) seat) (hand_posts _ _ e)
+clicks_told (action.Post e) seat is = all_told (middle_click e) most_plans _ (noted_at (action.Post e) seat)
+    (or_word_posts e (cell_again (cell_clicked (action.Post e)) seat.sitting.clicked) (filling seat.sitting)
+    (selects seat.sitting.past) (replacement seat.sitting.replacing) seat.sitting.sight)
 clicks_told action.Search seat is = first_told _ most_plans _ (noted_at action.Search seat)
     (command_told seat.session.desktop caret.Search)
 clicks_told action.Store seat is = first_told _ most_plans _ (noted_at action.Store seat)

@@ -1,7 +1,9 @@
 """What presses come to, by another program: their events go as lines of a script to `oberon`. The rest of a sitting,
 which rows are in sight and what the line below says, is here once more (crates/desk_sitting/specs)."""
 import itertools
+import re
 import subprocess
+from urllib.parse import unquote
 
 import leading
 import scrolling
@@ -14,12 +16,12 @@ UNREAD = "The host's file can't be read, and nothing was typed."
 # What the line below says where nothing else is to be said.
 KEYS = 'F2 calls, F3 selects, F11 no mouse, Ctrl-S stores, Ctrl-Z undo, Ctrl-Q leaves'
 NO_KEY = 'That key means nothing here.'
-NO_TEXT = 'There is no text on that side of the caret, or no caret in sight.'
-NOTHING_AFTER = 'There is no character after the caret, or no caret in sight.'
-NO_LINE = 'There is no line to cut, or no caret in sight.'
+NO_CARET = 'No caret is set: click into a text first.'
+NOTHING_AFTER = 'No character after the caret is in sight.'
+NO_LINE = 'There is no line to cut.'
 PART_HIDDEN = 'An end of it is out of sight: make the viewer taller, or take less of the text.'
 NO_SCROLL = 'Nothing moves there: no viewer, no caret, or too few rows of a text.'
-NO_WORD = 'No caret, or no such word, is in sight: System.Tool shows the commands.'
+NO_WORD = 'No such word is in sight: System.Tool shows the commands.'
 NO_COMMAND = "No command's whole word is in sight: System.Tool shows the commands."
 NO_FIND = 'Ctrl-R puts what you typed after the last Ctrl-F: press Ctrl-F first'
 NO_REPLACEMENT = 'Nothing was typed after the last Ctrl-F'
@@ -38,7 +40,7 @@ ONE_SIDE = 'Alt-Left, Alt-Right: the other side. F11: no mouse. Ctrl-S stores, C
 NAME = frozenset('ABCDEFGHIJKLMNOPQRSTUVWXYZabcdefghijklmnopqrstuvwxyz0123456789.')
 # What it says of a refusal, by its code.
 REASONS = {
-    1: 'No caret is set: click into a text first.',
+    1: NO_CARET,
     2: 'Nothing is selected: drag over a text with the right button, or with F3.',
     3: 'Behind that word a name or a number is missing.',
     4: "That word isn't a command: System.Tool shows all of them.",
@@ -47,10 +49,21 @@ REASONS = {
     7: 'No viewer has the marker (F1 and a click set it), or none was closed.',
     8: 'There are 256 documents already: System.DeleteFiles makes room.',
     9: 'That lies outside the desktop.',
-    10: 'Not found from the caret on: click at the beginning, and search again.',
+    10: 'Not found from the caret on: Ctrl-F again goes to the beginning of the text.',
     11: 'Fonts are 0 to 4, colours 0 to 15, and offsets -64 to 63.',
     13: "A viewer of one row can't be parted.",
 }
+
+
+def poured(text, at, width):
+    """A text with the ends of lines that come into it, of which the first character stands in column at of a width."""
+    typed = ''
+    for part in re.findall('[^ \t\r]+|[ \t\r]', text):
+        if typed and part not in ' \t\r' and at > 0 and at + len(part) >= width:
+            typed, at = typed + '\r', 0
+        typed += part
+        at = 0 if part == '\r' else min(at // 4 * 4 + 4 if part == '\t' else at + len(part), width)
+    return typed + '\r' * (typed[-1] in ' \t' and at >= width)
 
 
 def is_draw(line):
@@ -176,7 +189,8 @@ class Model:
     def __init__(self, oberon, store, window, columns=COLUMNS):
         self.oberon, self.store = oberon, store
         self.pointer, self.put_away, self.points, self.has_entered = None, None, False, False
-        self.replacing, self.drew = Replacing(), False
+        self.replacing, self.drew, self.typed = Replacing(), False, 0
+        self.clicked, self.missed = None, False
         self.play = subprocess.Popen([oberon, 'play', store], stdin=subprocess.PIPE, stdout=subprocess.PIPE)
         self.top, self.rows = ROWS - 1, ROWS
         self.side = 50
@@ -264,10 +278,12 @@ class Model:
         reply = self.ask(line)
         if reply == 'ok':
             self.drew = is_draw(line)
+            self.typed += len(unquote(line[len('type '):])) if line.startswith('type ') else 0
             self.follows = True
             self.saying = KEYS
             return True
         code = int(reply.removeprefix('no '))
+        self.missed = code == 10
         self.saying = REASONS[code]
         if code == 5 and line.startswith('point m '):
             name = self.parameter(*map(int, line.split(' ')[2:4]))
@@ -294,18 +310,54 @@ class Model:
         after others."""
         if self.cut_selected():
             self.name_press('typed 0 characters')
+        self.typed = 0
         for text in texts:
             if looks:
                 self.look()
-            if not self.post('type ' + spelled(text)):
+            if not (self.pour(text) if self.fills else self.post('type ' + spelled(text))):
                 return False
         return True
 
+    def pour(self, text):
+        """A part of a paste is typed where lines are filled: an end of line comes before each word for which its line has no room."""
+        typed = self.typed
+        while True:
+            self.name_press(f'typed {typed} characters')
+            if self.break_line(min(len(re.match('[^ \t\r]*', text).group()), 255)) is False:
+                return False
+            self.name_press(f'typed {typed} characters')
+            viewer = self.viewer_of_caret()
+            if not viewer:
+                return self.post('type ' + spelled(text))
+            shown, org, position = self.seen_by(viewer)
+            if leading.org_for(shown, viewer[2] - viewer[1] - 1, org, position) == org:
+                break
+            if not self.post('type ' + spelled(text[0])):
+                return False
+            if not text[1:]:
+                return True
+            text, typed = text[1:], typed + 1
+        width = WIDTHS[viewer[0]] - 1
+        text = poured(text, min(leading.column(shown, position, org), width - 1), width)
+        return self.post_all(['type ' + spelled(part) for part in (text[:900], text[900:]) if part])
+
     def take(self, meaning):
         """A press, and what is noted of it for Ctrl-R, but where it posts nothing by itself."""
+        meaning = self.meant(meaning)
         is_done = self.taken(meaning)
         if is_done is not None:
             self.replacing.note(meaning, is_done)
+
+    def meant(self, meaning):
+        """What a press means by the one before it: a search behind one that found nothing goes to the beginning of the text. Where a
+        press comes to nothing that stays in force."""
+        kind, *rest = meaning
+        if kind in ('pointer', 'keyed', 'fit') or kind == 'point' and not self.shown(*rest[1:3]) or kind == 'wheel' and not self.shown(*rest[1:]):
+            return meaning
+        missed, self.missed = self.missed, False
+        if kind != 'point':
+            self.clicked = None
+        return ('text end', 'first') if missed and meaning == ('call', 'Edit.Search') else meaning
 
     def taken(self, meaning):
         """Whether it was done; None where it posts nothing by itself."""
@@ -374,16 +426,23 @@ class Model:
 
     def click(self, keys, start, end):
         if keys == 'mark':
+            self.clicked = None
             return self.post(f'mark {end[0]} {self.middle(*end)}')
         return self.point(keys, start, end)
 
     def point(self, keys, start, end):
         """A press of these buttons. Where the middle one is done the caret goes into a viewer that opened, or the line below
-        says the last line of the log, if that has more."""
+        says the last line of the log, if that has more, or the caret comes back where a change of looks took it away. A second left
+        click at a cell picks the word there."""
         event = 'point %s %d %d %d %d' % (keys, *start, *end)
+        is_again, self.clicked = keys == 'l' and start == end == self.clicked, start if keys == 'l' and start == end else None
+        if is_again:
+            self.clicked = None
+            return self.pick(start)
         if keys != 'm':
             return self.post(event)
         before, screen = Listing(self.lines('list')), self.screen()
+        seen, had = screen.caret(), self.viewer_of_caret()
         if not self.post(event):
             return False
         left = 0 if start[0] < 50 else 50
@@ -395,7 +454,32 @@ class Model:
         line = self.logged(before, after, end, word)
         if line:
             self.saying = line[:80]
+        elif seen and had and self.stays(had, before, after) and self.has_no_caret():
+            return self.post('point l %d %d %d %d' % (*seen, *seen))
         return True
+
+    @staticmethod
+    def stays(viewer, before, after):
+        """Whether a viewer is shown still."""
+        tracks = after.tracks[viewer[0]]
+        return viewer in tracks[-1] and len(tracks) == len(before.tracks[viewer[0]])
+
+    def has_no_caret(self):
+        return scrolling.played(self.oberon, self.store, ['type x'])[0] == 'no 1'
+
+    def pick(self, place):
+        """The word of a text at a cell is selected, and the caret goes before it; where there is none it goes to the cell."""
+        (x, y), screen = place, self.screen()
+        row, left = screen.rows[ROWS - 1 - y].ljust(COLUMNS), 0 if x < 50 else 50
+        end = next((at for at in range(x, left + WIDTHS[left]) if row[at] not in NAME), left + WIDTHS[left])
+        first = next((at + 1 for at in range(x - 1, left - 1, -1) if row[at] not in NAME), left)
+        while end > x and row[end - 1] == '.':
+            end -= 1
+        if end == x or not (screen.mark(x, y) == 'c' or self.is_text(screen, x, y)):
+            return self.post(f'point l {x} {y} {x} {y}')
+        is_done = self.post_all([f'point l {first} {y} {first} {y}', f'point r {first} {y} {end - 1} {y}'])
+        self.name_press('a selection')
+        return is_done
 
     def replaced(self, before, after, screen, word):
         """The viewer that opened over the whole place of another one, where the word of such a command was called."""
@@ -452,6 +536,7 @@ class Model:
             if kind == 'move':
                 at = min(max(at[0] + rest[0], 0), COLUMNS - 1), min(max(at[1] + rest[1], 0), ROWS - 1)
             elif kind == 'tab':
+                self.clicked, self.missed = None, False
                 at = self.next_command(at)
             elif kind == 'begin':
                 start = at
@@ -459,9 +544,11 @@ class Model:
                 start = None
             elif kind == 'escape':
                 if not self.points:
+                    self.clicked, self.missed = None, False
                     self.begin_press()
                     self.post('key escape')
             else:
+                self.missed = False
                 self.begin_press()
                 is_done = self.click(rest[0], start or at, at) and is_done is not False
                 start = None
@@ -497,7 +584,7 @@ class Model:
         """The line of the caret is broken that has no room for so many characters more of a word: behind the last blank before
         it. None where it isn't, and whether the events of it are done."""
         seen = self.screen().caret()
-        if seen and (count == 0 or seen[0] not in (COLUMNS - 1, WIDTHS[0] - 1)):
+        if seen and seen[0] + count < (COLUMNS if seen[0] >= WIDTHS[0] else WIDTHS[0]):
             return None
         viewer = self.viewer_of_caret()
         if not viewer:
@@ -539,7 +626,7 @@ class Model:
 
     def call(self, word):
         """A command is called on the viewer of the caret, by its word in the menu, or else in a text and by the marker."""
-        viewer = self.viewer_with_rows(NO_WORD)
+        viewer = self.viewer_with_rows()
         if not viewer:
             return False
         left, bottom, top, name = viewer
@@ -552,12 +639,12 @@ class Model:
         self.name_press('a command')
         return is_done
 
-    def viewer_with_rows(self, no_caret):
+    def viewer_with_rows(self):
         """The viewer of the caret. None where there is none, or it shows no row of its text; then it is said."""
         viewer = self.viewer_of_caret()
         if not viewer:
             has_caret = scrolling.played(self.oberon, self.store, ['type x'])[0] == 'ok'
-            self.saying = NO_SCROLL if has_caret else no_caret
+            self.saying = NO_SCROLL if has_caret else NO_CARET
         return viewer
 
     def word_in_texts(self, word):
@@ -576,7 +663,7 @@ class Model:
 
     def call_line(self):
         """The command is called whose word the caret stands in, or else the first of its line."""
-        viewer = self.viewer_with_rows(NO_WORD)
+        viewer = self.viewer_with_rows()
         if not viewer:
             return False
         left, bottom, top, _ = viewer
@@ -596,7 +683,7 @@ class Model:
 
     def mark_caret(self):
         """The marker goes to the caret, or to the middle of its viewer."""
-        viewer = self.viewer_with_rows(NO_TEXT)
+        viewer = self.viewer_with_rows()
         if not viewer:
             return False
         left, bottom, top, _ = viewer
@@ -661,7 +748,7 @@ class Model:
 
     def step(self, word):
         """The caret goes a step, with its line in sight."""
-        if self.lead(lambda text, width, position: leading.stepped(text, width, position, word), NO_TEXT):
+        if self.lead(lambda text, width, position: leading.stepped(text, width, position, word), NO_CARET):
             self.name_press('the caret, or a viewer that was dragged')
 
     # ---- stretches
@@ -704,7 +791,7 @@ class Model:
 
     def select(self, word):
         """The caret goes a step, and what it passes is selected, with what the press before this one selected up to it."""
-        viewer = self.viewer_with_rows(NO_TEXT)
+        viewer = self.viewer_with_rows()
         if not viewer:
             return False
         text, org, position = self.seen_by(viewer)
@@ -715,7 +802,7 @@ class Model:
         return self.stretch(viewer, text, org, goal, *sorted((anchor, goal)))
 
     def select_all(self):
-        viewer = self.viewer_with_rows(NO_TEXT)
+        viewer = self.viewer_with_rows()
         if not viewer:
             return False
         text, org, _ = self.seen_by(viewer)
@@ -738,7 +825,7 @@ class Model:
 
     def cut_line(self):
         """The line of the caret is cut, with its end."""
-        viewer = self.viewer_with_rows(NO_LINE)
+        viewer = self.viewer_with_rows()
         if not viewer:
             return False
         text, org, position = self.seen_by(viewer)
@@ -760,15 +847,15 @@ class Model:
         if self.lead(behind, NOTHING_AFTER) and self.post('key back'):
             self.name_press('a Backspace')
 
-    def lead(self, wish, no_caret):
+    def lead(self, wish, nothing):
         """Whether the caret goes to the position that is wished, as near as it has a cell."""
-        viewer = self.viewer_with_rows(no_caret)
+        viewer = self.viewer_with_rows()
         if not viewer:
             return False
         text, org, caret = self.seen_by(viewer)
         position = wish(text, WIDTHS[viewer[0]] - 1, caret)
         if position is None:
-            self.saying = no_caret
+            self.saying = nothing
             return False
         lines = self.way_to(viewer, text, org, position)
         return lines is not None and self.post_all(lines)
