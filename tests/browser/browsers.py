@@ -233,6 +233,10 @@ class Chromium(Page):
         self.ask('Emulation.setDeviceMetricsOverride', width=width, height=height, deviceScaleFactor=scale, mobile=mobile)
         self.ask('Emulation.setTouchEmulationEnabled', enabled=mobile)
 
+    def zoomed(self, times):
+        """A window of 1366 by 633 whose page is zoomed: so many of its pixels are one of the page's."""
+        self.sized(round(1366 / times), round(633 / times), times)
+
     def clear(self, url):
         """Clears the data of the site, as a person may."""
         self.ask('Storage.clearDataForOrigin', origin=url.rsplit('/', 1)[0], storageTypes='all')
@@ -387,6 +391,14 @@ class Firefox(Page):
     def sized(self, width, height, scale=1, mobile=False):
         """The window has about this size: Firefox has a least width, and counts its frame."""
         self.ask('WebDriver:SetWindowRect', width=width, height=height)
+
+    def zoomed(self, times):
+        """A window of 1366 by 760 whose page is zoomed: so many of its pixels are one of the page's."""
+        self.sized(1366, 760)
+        self.ask('Marionette:SetContext', value='chrome')
+        self.ask('WebDriver:ExecuteScript', args=[times], sandbox='system',
+                 script='Services.wm.getMostRecentWindow("navigator:browser").ZoomManager.zoom = arguments[0]')
+        self.ask('Marionette:SetContext', value='content')
 
     def clear(self, url):
         """Clears the data of the site, as a person may."""

@@ -32,8 +32,16 @@ def visits(page):
     page.until('Boolean(document.getElementById("command"))')
     same('a command is underlined', page.js('Boolean(document.getElementById("command"))'), True)
     page.double(x + 1, y)
-    page.wait(6)
+    page.wait(2)
     same('a double click calls it', any(row.startswith('System.Log') for row in page.text(50)), True)
+    page.type(', on')
+    same('and leaves the caret', 'typed at once, on' in page.text(1, 50), True)
+    x, y = page.find('System.Directory', 1, 50)
+    page.press(x + 1, y, 'left')
+    page.release(x + 1, y, 'left')
+    page.type('|')
+    page.wait(2)
+    same('one click sets it, before what is typed', any('S|ystem.Directory' in row for row in page.text(1, 50)), True)
     before = page.rows()
     page.js('document.getElementById("plug").click()')
     page.until('document.getElementById("note").textContent.includes("The plug was pulled")')
@@ -42,6 +50,32 @@ def visits(page):
     for held, taken in (('true', False), ('false', True)):
         page.js(f'void (window.wheel = {wheel % held}, document.getElementById("screen").dispatchEvent(wheel))')
         same(f'the wheel with Ctrl {held}', page.js('wheel.defaultPrevented'), taken)
+
+
+SIZE = '(box => box.width * devicePixelRatio)(document.getElementById("screen").getBoundingClientRect())'
+CARET = '''(box => 0 <= box.left && box.right <= innerWidth && 0 <= box.top && box.bottom <= innerHeight)(
+    document.querySelector('#screen rect[width="2"]').getBoundingClientRect())'''
+
+
+def zooms(page):
+    """The browser's zoom makes the screen as many times as large, also after a new start, and the caret stays in sight."""
+    page.zoomed(1)
+    page.until('devicePixelRatio === 1')
+    first = page.js(SIZE)
+    for times in (1.5, 2, 0.75, 1, 1.5):
+        page.zoomed(times)
+        page.until(f'Math.abs(devicePixelRatio / {times} - 1) < 0.03')
+        page.until(f'Math.abs({SIZE} / ({first} * devicePixelRatio) - 1) < 0.03')
+    same('the screen is as large as the browser zooms it', True, True)
+    page.type('\r' * 14 + 'far down')
+    page.until(CARET)
+    same('the caret stays in sight', page.js(CARET), True)
+    if PICTURES:
+        page.shot(f'{PICTURES}/{type(page).__name__}-zoom.png')
+    page.js('void location.reload()')
+    page.until(f'document.body.dataset.ready && Math.abs({SIZE} / ({first} * devicePixelRatio) - 1) < 0.03')
+    same('also after a new start', True, True)
+    page.zoomed(1)
 
 
 def looks(page):
@@ -87,6 +121,7 @@ for one in kinds:
     address = served()
     desk.begin(address, plain=False)
     visits(desk)
+    zooms(desk)
     desk.begin(address.replace('desk.html', 'desk.html?store=another'))
     looks(desk)
     desk.quit()

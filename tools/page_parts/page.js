@@ -25,6 +25,8 @@ async function opened({ kind, why, isNew, said = '' }) {
     document.title = 'Nealtsjom';
     document.body.dataset.ready = kind;
     keys.focus();
+    followed = String(caretCell());
+    follows = true;
 }
 async function open(how) {
     const answer = await ask(how, { store, module });
@@ -77,8 +79,8 @@ async function unpacked() {
     const stream = new Blob([packed]).stream().pipeThrough(new DecompressionStream('deflate-raw'));
     return new Uint8Array(await new Response(stream).arrayBuffer());
 }
-const TOO_OLD = 'This browser can\'t run the desktop: it lacks 64-bit WebAssembly memory, which Chrome and Edge from 133 ' +
-    'on and Firefox from 134 on have. The picture shows what it looks like.';
+const TOO_OLD = 'This browser can\'t run the desktop: it lacks what Chrome and Edge have from 108 on, Firefox from 113 on and ' +
+    'Safari from 16.4 on, or its WebAssembly is off. The picture shows what it looks like.';
 function showStill() {                                    // where it can't run
     screen_.append(...by('still').children);
     tell({ failed: TOO_OLD });
