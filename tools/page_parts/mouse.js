@@ -51,7 +51,9 @@ screen_.addEventListener('wheel', event => {
 }, { passive: false });
 
 // ---- A word that is a command is underlined under the pointer; a double click or a tap calls it.
+let pointed = null;                                       // the cell under the pointer, where there is none pressed
 function underline(cell) {
+    pointed = cell;
     const there = cell && commandAt(...cell);
     box('command', there && { x: there.first * WIDE, y: cell[1] * HIGH + 16, width: there.word.length * WIDE, height: 2 });
     screen_.style.cursor = there ? 'pointer' : '';
