@@ -87,7 +87,7 @@ function forgetClick() {
 }
 screen_.addEventListener('dblclick', event => {
     const cell = cellAt(event);
-    if (event.button !== LEFT || !commandAt(...cell)) return;
+    if (button(event) !== LEFT || !commandAt(...cell)) return;
     forgetClick();
     click(MIDDLE, cell);
 });
