@@ -1,6 +1,8 @@
-"""Chromium and Firefox without a window, driven over a pipe and over a socket of this machine: no library but Python's own."""
+"""Chromium, Firefox and WebKit without a window, driven over a pipe and over sockets of this machine: no library but Python's
+own."""
 import base64
 import functools
+import glob
 import http.server
 import json
 import os
@@ -11,6 +13,8 @@ import subprocess
 import tempfile
 import threading
 import time
+import urllib.error
+import urllib.request
 
 TOP = os.path.dirname(os.path.dirname(os.path.dirname(os.path.realpath(__file__))))
 BUTTONS = {'left': (0, 1), 'middle': (1, 4), 'right': (2, 2)}
@@ -233,6 +237,10 @@ class Chromium(Page):
         self.ask('Emulation.setDeviceMetricsOverride', width=width, height=height, deviceScaleFactor=scale, mobile=mobile)
         self.ask('Emulation.setTouchEmulationEnabled', enabled=mobile)
 
+    def zoomed(self, times):
+        """A window of 1366 by 633 whose page is zoomed: so many of its pixels are one of the page's."""
+        self.sized(round(1366 / times), round(633 / times), times)
+
     def clear(self, url):
         """Clears the data of the site, as a person may."""
         self.ask('Storage.clearDataForOrigin', origin=url.rsplit('/', 1)[0], storageTypes='all')
@@ -388,6 +396,14 @@ class Firefox(Page):
         """The window has about this size: Firefox has a least width, and counts its frame."""
         self.ask('WebDriver:SetWindowRect', width=width, height=height)
 
+    def zoomed(self, times):
+        """A window of 1366 by 760 whose page is zoomed: so many of its pixels are one of the page's."""
+        self.sized(1366, 760)
+        self.ask('Marionette:SetContext', value='chrome')
+        self.ask('WebDriver:ExecuteScript', args=[times], sandbox='system',
+                 script='Services.wm.getMostRecentWindow("navigator:browser").ZoomManager.zoom = arguments[0]')
+        self.ask('Marionette:SetContext', value='content')
+
     def clear(self, url):
         """Clears the data of the site, as a person may."""
         self.ask('Marionette:SetContext', value='chrome')
@@ -422,10 +438,77 @@ class Firefox(Page):
         self.ended()
 
 
+class WebKit(Firefox):
+    """What Safari is built on, in its form for GTK (webkit2gtk-driver and xvfb of Debian). It keeps a store in a table, until
+    it ends."""
+
+    def __init__(self, profile, *_):
+        with socket.socket() as free:
+            free.bind(('127.0.0.1', 0))
+            port = free.getsockname()[1]
+        where = {'HOME': profile, **{f'XDG_{it}_HOME': f'{profile}/{it}' for it in ('DATA', 'CACHE', 'CONFIG')}}
+        words = ['xvfb-run', '-a', '-s', '-screen 0 1920x1200x24', 'WebKitWebDriver', f'--port={port}']
+        safe = {'WEBKIT_DISABLE_SANDBOX_THIS_IS_DANGEROUS': '1', 'WEBKIT_DISABLE_COMPOSITING_MODE': '1'}
+        self.process = subprocess.Popen(words, env={**os.environ, **where, **safe}, **SILENT)
+        self.address, self.count = f'http://127.0.0.1:{port}', 0
+        for _ in range(600):
+            try:
+                self.over_http('GET', '/status')
+                break
+            except OSError:
+                time.sleep(0.1)
+        program = glob.glob('/usr/lib/*/webkit2gtk-4.*/MiniBrowser')[0]
+        wanted = {'webkitgtk:browserOptions': {'binary': program, 'args': ['--automation']}}
+        made = self.over_http('POST', '/session', {'capabilities': {'alwaysMatch': wanted}})
+        self.address += f'/session/{made["sessionId"]}'
+        self.over_http('POST', '/timeouts', {'script': 600000})
+
+    def over_http(self, method, path, body=None):
+        data = None if body is None else json.dumps(body).encode()
+        asked = urllib.request.Request(self.address + path, data, {'Content-Type': 'application/json'}, method=method)
+        try:
+            with urllib.request.urlopen(asked, timeout=600) as answer:
+                return json.load(answer)['value']
+        except urllib.error.HTTPError as error:
+            raise RuntimeError(error.read()) from None
+
+    def ask(self, name, **params):
+        path = {'WebDriver:PerformActions': '/actions', 'WebDriver:SetWindowRect': '/window/rect'}[name]
+        return self.over_http('POST', path, params)
+
+    def go(self, url):
+        self.over_http('POST', '/url', {'url': url})
+
+    def js(self, code, wait=False):
+        """The value of an expression (the page's own policy forbids what is evaluated)."""
+        if wait:
+            script = f'const done = arguments[0]; Promise.resolve({code}).then(done)'
+            return self.over_http('POST', '/execute/async', {'script': script, 'args': []})
+        try:
+            return self.over_http('POST', '/execute/sync', {'script': f'return ({code.strip().rstrip(";")}\n)', 'args': []})
+        except RuntimeError as error:
+            if 'find variable' in str(error) or 'null' in str(error):
+                return None
+            raise
+
+    def shot(self, path):
+        with open(path, 'wb') as file:
+            file.write(base64.b64decode(self.over_http('GET', '/screenshot')))
+
+    def quit(self):
+        try:
+            self.over_http('DELETE', '')
+        except (OSError, RuntimeError):
+            pass
+        os.killpg(self.process.pid, signal.SIGTERM)
+        self.process.wait()
+
+
 def browsers():
-    """Those that are on this machine, or the one that BROWSER in the environment names."""
-    there = [one for one, program in ((Chromium, 'chromium'), (Firefox, 'firefox-esr')) if shutil.which(program)]
-    return [one for one in there if os.environ.get('BROWSER', one.__name__) == one.__name__]
+    """Chromium and Firefox, where they are on this machine, or the one that BROWSER in the environment names, WebKit too."""
+    there = {Chromium: 'chromium', Firefox: 'firefox-esr', WebKit: 'WebKitWebDriver'}
+    asked = os.environ.get('BROWSER', 'Chromium Firefox').split()
+    return [one for one, program in there.items() if one.__name__ in asked and shutil.which(program)]
 
 
 # The file that is tried: that of docs, or the one that PAGE in the environment names.

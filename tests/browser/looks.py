@@ -1,10 +1,11 @@
 #!/usr/bin/env python3
 """looks.py [FOLDER]: what a visitor finds, dark surroundings, a phone with touch, the text that a screen reader is given, and
-that the keyboard leaves the screen by Shift-Tab, in each browser, with pictures in the folder."""
+that the keyboard leaves the screen by Shift-Tab, in each browser, with pictures in the folder. In WebKit the first of these."""
 import shutil
 import sys
+import time
 
-from browsers import browsers, room, served
+from browsers import WebKit, browsers, room, served
 
 PICTURES = sys.argv[1] if len(sys.argv) > 1 else None
 
@@ -32,8 +33,16 @@ def visits(page):
     page.until('Boolean(document.getElementById("command"))')
     same('a command is underlined', page.js('Boolean(document.getElementById("command"))'), True)
     page.double(x + 1, y)
-    page.wait(6)
+    page.wait(2)
     same('a double click calls it', any(row.startswith('System.Log') for row in page.text(50)), True)
+    page.type(', on')
+    same('and leaves the caret', 'typed at once, on' in page.text(1, 50), True)
+    x, y = page.find('System.Directory', 1, 50)
+    page.press(x + 1, y, 'left')
+    page.release(x + 1, y, 'left')
+    page.type('|')
+    page.wait(2)
+    same('one click sets it, before what is typed', any('S|ystem.Directory' in row for row in page.text(1, 50)), True)
     before = page.rows()
     page.js('document.getElementById("plug").click()')
     page.until('document.getElementById("note").textContent.includes("The plug was pulled")')
@@ -42,6 +51,33 @@ def visits(page):
     for held, taken in (('true', False), ('false', True)):
         page.js(f'void (window.wheel = {wheel % held}, document.getElementById("screen").dispatchEvent(wheel))')
         same(f'the wheel with Ctrl {held}', page.js('wheel.defaultPrevented'), taken)
+
+
+SIZE = '(box => box.width * devicePixelRatio)(document.getElementById("screen").getBoundingClientRect())'
+CARET = '''(box => 0 <= box.left && box.right <= innerWidth && 0 <= box.top && box.bottom <= innerHeight)(
+    document.querySelector('#screen rect[width="2"]').getBoundingClientRect())'''
+
+
+def zooms(page):
+    """The browser's zoom makes the screen as many times as large, also after a new start, and the caret stays in sight."""
+    page.zoomed(1)
+    page.until('devicePixelRatio === 1')
+    first = page.js(SIZE)
+    for times in (1.5, 2, 0.75, 1, 1.5):
+        page.zoomed(times)
+        page.until(f'Math.abs(devicePixelRatio / {times} - 1) < 0.03')
+        page.until(f'Math.abs({SIZE} / ({first} * devicePixelRatio) - 1) < 0.03')
+    same('the screen is as large as the browser zooms it', True, True)
+    page.type('\r' * 14 + 'far down')
+    page.until(CARET)
+    same('the caret stays in sight', page.js(CARET), True)
+    if PICTURES:
+        page.shot(f'{PICTURES}/{type(page).__name__}-zoom.png')
+    page.js('void setTimeout(() => location.reload(), 100)')
+    time.sleep(1)
+    page.until(f'document.body.dataset.ready && Math.abs({SIZE} / ({first} * devicePixelRatio) - 1) < 0.03')
+    same('also after a new start', True, True)
+    page.zoomed(1)
 
 
 def looks(page):
@@ -87,8 +123,10 @@ for one in kinds:
     address = served()
     desk.begin(address, plain=False)
     visits(desk)
-    desk.begin(address.replace('desk.html', 'desk.html?store=another'))
-    looks(desk)
+    if one is not WebKit:
+        zooms(desk)
+        desk.begin(address.replace('desk.html', 'desk.html?store=another'))
+        looks(desk)
     desk.quit()
     shutil.rmtree(profile, ignore_errors=True)
 print('done')

@@ -8,7 +8,7 @@ import shutil
 import sys
 import time
 
-from browsers import HARNESS, Chromium, browsers, copied, leaks, room, served
+from browsers import HARNESS, Chromium, Firefox, browsers, copied, leaks, room, served
 
 WRONG = []
 HEAD = '<script type="text/plain" id="worker">\n'
@@ -430,13 +430,24 @@ def causes(kind):
     for what, worker in (
             ('a lock that is refused for another reason', f'LockManager.prototype.request = () => {denied};'),
             ('a browser without getDirectory', 'delete StorageManager.prototype.getDirectory;'),
+            ('an early browser, whose files answer later', 'for (const name of ["getSize", "flush", "truncate"]) { '
+             'const early = FileSystemSyncAccessHandle.prototype[name]; '
+             'FileSystemSyncAccessHandle.prototype[name] = async function (...words) { return early.apply(this, words); }; }'),
             ('blocked data of sites', f'StorageManager.prototype.getDirectory = () => {denied}; '
              f'IDBFactory.prototype.open = () => {{ throw new DOMException("blocked", "SecurityError"); }};')):
         page = kind(room())
         kept = page.begin(changed(worker).replace('desk.html', 'changed.html'))
         check(kind, 'causes', f'{what}: a desktop', kept in ('memory', 'table'), kept)
         if kept == 'memory':
-            check(kind, 'causes', 'in memory, with the reason', 'blocked' in page.note(), page.note())
+            check(kind, 'causes', 'in memory, with the reason',
+                  'blocked' in page.note() and 'keep nothing' in page.note(), page.note())
+        if 'early' in what:
+            check(kind, 'causes', 'and it keeps the store in a table', kept == 'table', page.note())
+        page.quit()
+    if kind is Firefox:
+        page = kind(room(), '"javascript.options.wasm_memory64", false')
+        check(kind, 'causes', 'a browser that knows addresses of 32 bits alone has a desktop', page.begin(served()) == 'file',
+              page.note())
         page.quit()
     url = served()
     page = fresh(kind, url)

@@ -36,6 +36,10 @@ async function opened(folder, name) {
 }
 async function fileMedium(folder, name) {
     const names = [name, name + SECOND], files = [await opened(folder, names[0]), await opened(folder, names[1])];
+    if (typeof files[0].getSize() !== 'number') {         // an early browser answers later, out of order
+        files.forEach(file => file.close());
+        return null;
+    }
     const numbers = files.map(numberOf);
     let at = numbers[1] > numbers[0] ? 1 : 0;
     folder.removeEntry(name + '.part').catch(() => {});   // what is left of an earlier way to do this
@@ -155,11 +159,14 @@ async function chosenMedium(name, waits) {
     try {
         await locked(name, waits);
     } catch (error) {                                     // where the data of sites are blocked
-        return memoryMedium(error);
+        return memoryMedium(refusing(error));
     }
     const folder = await navigator.storage?.getDirectory?.().catch(() => null);
-    if (folder && self.FileSystemSyncAccessHandle) return withCopy(await fileMedium(folder, name));
-    return tableMedium(name).then(withCopy, memoryMedium);
+    const files = folder && self.FileSystemSyncAccessHandle && await fileMedium(folder, name);
+    return files ? withCopy(files) : tableMedium(name).then(withCopy, error => memoryMedium(refusing(error)));
+}
+function refusing(error) {
+    return `The browser lets this page keep nothing: ${told(error)}`;
 }
 async function repeat(calls, on) {
     const numbers = new DataView(calls.buffer, calls.byteOffset, calls.byteLength);

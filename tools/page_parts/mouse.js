@@ -1,6 +1,7 @@
 // ---- The mouse, as a terminal reports it: the button, the cell from 1, pressed or released.
 async function send(bytes) {
     if (!isOpen()) return;
+    letGo();
     state.changed = true;
     const { rings } = await ask('press', { press: spelled(bytes) });
     if (bytes === control('s') && !rings) askToKeep();
@@ -25,15 +26,15 @@ screen_.addEventListener('mousedown', event => {
     commit();
     keys.focus({ preventScroll: true });
     closeMenu();
-    // The second press of a double click that calls a command: a left click more would select its word first.
-    if (event.button === LEFT && event.detail === 2 && commandAt(...cellAt(event))) return;
-    if (event.button < 3) { down = true; report(button(event), cellAt(event), 'M'); }
+    if (event.button > 2) return;
+    down = true;
+    if (!isHeld(event)) report(button(event), cellAt(event), 'M');
 });
 addEventListener('mouseup', event => {
     if (!down || event.button > 2) return;
     event.preventDefault();
     down = event.buttons !== 0;
-    report(button(event), cellAt(event), 'm');
+    if (held) held.end = cellAt(event); else report(button(event), cellAt(event), 'm');
 });
 for (const kind of ['contextmenu', 'auxclick', 'dragstart']) screen_.addEventListener(kind, event => event.preventDefault());
 
@@ -50,16 +51,45 @@ screen_.addEventListener('wheel', event => {
 }, { passive: false });
 
 // ---- A word that is a command is underlined under the pointer; a double click or a tap calls it.
+let pointed = null;                                       // the cell under the pointer, where there is none pressed
 function underline(cell) {
+    pointed = cell;
     const there = cell && commandAt(...cell);
     box('command', there && { x: there.first * WIDE, y: cell[1] * HIGH + 16, width: there.word.length * WIDE, height: 2 });
     screen_.style.cursor = there ? 'pointer' : '';
 }
-screen_.addEventListener('mousemove', event => { if (!event.buttons) underline(cellAt(event)); });
+screen_.addEventListener('mousemove', event => {
+    if (!event.buttons) underline(cellAt(event)); else if (held && String(cellAt(event)) !== String(held.cell)) letGo();
+});
 screen_.addEventListener('mouseleave', () => underline(null));
+
+// The first click on a command waits for a second one, for a moment: that calls it and leaves the caret where it is, as the
+// middle button does. Whatever else is pressed comes after the click.
+let held = null;                                          // where the click that waits began, and ended
+const MOMENT = 400;                                       // milliseconds
+function isHeld(event) {
+    const cell = cellAt(event);
+    if (held && event.detail === 1) letGo();
+    if (button(event) !== LEFT || !commandAt(...cell)) return false;
+    clearTimeout(held?.timer);
+    held = { cell, end: null, timer: setTimeout(letGo, MOMENT) };
+    return true;
+}
+function letGo() {                                        // the click is done
+    const was = held;
+    forgetClick();
+    if (was) report(LEFT, was.cell, 'M');
+    if (was?.end) report(LEFT, was.end, 'm');
+}
+function forgetClick() {
+    clearTimeout(held?.timer);
+    held = null;
+}
 screen_.addEventListener('dblclick', event => {
     const cell = cellAt(event);
-    if (event.button === LEFT && commandAt(...cell)) click(MIDDLE, cell);
+    if (button(event) !== LEFT || !commandAt(...cell)) return;
+    forgetClick();
+    click(MIDDLE, cell);
 });
 
 // ---- A finger: a tap calls a command or sets the caret, a swipe is the wheel, a long press shows what else can be done.

@@ -1,20 +1,32 @@
 // ---- How the page begins, and begins again.
-const WELCOME = [
-    'Oberon\'s desktop, proved. Close this tab amid a',
-    'word: nothing you saw is lost. Five steps:', '',
+const BY_FINGER = [
+    '1 Tap here, and type. Each key is on the disk',
+    '  before you see it. "undo" undoes it.',
+    '2 Press "Pull the plug": all ends, and is there.',
+    '3 Tap a command: System.Directory',
+    '4 Hold a word, select it, and then tap',
+    '  Edit.ChangeColor 3',
+    '5 "store" stores this text under the name above.',
+];
+const BY_MOUSE = [
     '1 Type: the caret is below. Each key is on the',
     '  disk before you see it. Ctrl-Z undoes it.',
     '2 Press "Pull the plug": all ends, and is there.',
     '3 Double click a command: System.Directory',
     '4 Drag over words with the right button (or F3),',
     '  then double click Edit.ChangeColor 3',
-    '5 Ctrl-S stores this text under the name above.', '', '',
+    '5 Ctrl-S stores this text under the name above.',
 ];
+function greeting() {
+    const steps = matchMedia('(pointer: coarse)').matches ? BY_FINGER : BY_MOUSE;
+    const about = ['Oberon\'s desktop, proved. Close this tab amid a', 'word: nothing you saw is lost. Five steps:', ''];
+    return [...about, ...steps, '', ''].join('\n');
+}
 async function welcome() {                                // a new desktop opens a text with the caret in it
     const open = texts().find(text => text.x >= BORDER && text.words.startsWith('Edit.Open'));
     if (!open) return;
     await click(MIDDLE, [open.x, open.y]);
-    await send(`\x1b[200~${WELCOME.join('\n')}\x1b[201~`);
+    await send(`\x1b[200~${greeting()}\x1b[201~`);
     state.changed = false;
 }
 async function opened({ kind, why, isNew, said = '' }) {
@@ -25,6 +37,8 @@ async function opened({ kind, why, isNew, said = '' }) {
     document.title = 'Nealtsjom';
     document.body.dataset.ready = kind;
     keys.focus();
+    followed = String(caretCell());
+    follows = true;
 }
 async function open(how) {
     const answer = await ask(how, { store, module });
@@ -77,8 +91,8 @@ async function unpacked() {
     const stream = new Blob([packed]).stream().pipeThrough(new DecompressionStream('deflate-raw'));
     return new Uint8Array(await new Response(stream).arrayBuffer());
 }
-const TOO_OLD = 'This browser can\'t run the desktop: it lacks 64-bit WebAssembly memory, which Chrome and Edge from 133 ' +
-    'on and Firefox from 134 on have. The picture shows what it looks like.';
+const TOO_OLD = 'This browser can\'t run the desktop: it lacks what Chrome and Edge have from 108 on, Firefox from 113 on and ' +
+    'Safari from 16.4 on, or its WebAssembly is off. The picture shows what it looks like.';
 function showStill() {                                    // where it can't run
     screen_.append(...by('still').children);
     tell({ failed: TOO_OLD });

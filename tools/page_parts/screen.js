@@ -1,6 +1,6 @@
 // ---- What is shown. Each line of a drawing but the first and the last is an element: those that changed are replaced.
 const WIDE = 9, HIGH = 19, COLUMNS = 80, ROWS = 32, BORDER = 50;  // of a cell, the screen, and where the system's track begins
-const SELECTED = '#afd7ff';
+const SELECTED = '#afd7ff', CARET = 'rect[width="2"]';
 let drawn = [], lastRead = 0, selection = '';           // what is selected, all of it
 function draw(svg) {
     const lines = svg.split('\n').slice(1, -2), root = screen_.firstChild, least = Math.min(lines.length, drawn.length);
@@ -43,7 +43,35 @@ function show(scene) {
     lastRead = setTimeout(tellReaders, 150);              // a reader of the screen has time
     if (scene.rings || scene.status) ring();
     if (scene.left) tell({ left: true });
+    requestAnimationFrame(() => { follow(); if (by('command')) underline(pointed); });
 }
+let follows = false, followed = '';                       // whether the window follows the caret, and where that was last
+function follow() {                                       // where the window, or a phone, shows a part of the screen alone
+    const caret = screen_.querySelector(CARET), cell = String(caretCell());
+    if (follows && caret && cell !== followed) caret.scrollIntoView({ block: 'nearest', inline: 'nearest' });
+    followed = cell;
+}
+
+// ---- The browser's zoom. The screen fills the window as a visitor finds it; from there it is as many times as large as the
+// browser's pixels are. That it zooms is seen by that alone: the window has then as many of the machine's pixels as before.
+const OF_ZOOM = 'zoom';                                   // where it is kept, with the pixels for which it holds
+let pixel = devicePixelRatio, wide = innerWidth * pixel, zoom = 1;
+function setZoom(times) {
+    zoom = Math.min(Math.max(times, 0.25), 5);
+    document.documentElement.style.setProperty('--zoom', zoom);
+}
+addEventListener('resize', () => {
+    const now = innerWidth * devicePixelRatio, isZoomed = devicePixelRatio !== pixel && Math.abs(now - wide) < wide / 32;
+    if (isZoomed) setZoom(zoom * devicePixelRatio / pixel);
+    [pixel, wide] = [devicePixelRatio, now];
+    try {
+        if (isZoomed) localStorage.setItem(OF_ZOOM, JSON.stringify([zoom, pixel]));
+    } catch { /* it isn't kept where the browser keeps nothing */ }
+});
+try {
+    const [times, at] = JSON.parse(localStorage.getItem(OF_ZOOM)) || [];
+    if (at === pixel && times > 0) setZoom(times);
+} catch { /* nor where something else is kept there */ }
 
 // ---- What a row of the drawing says: its texts between two columns, each with the column where it begins.
 function texts() {
@@ -85,7 +113,7 @@ function titles(from, to) {                               // the rows in which v
     return bars.map(bar => bar.getAttribute('y') / HIGH).sort((a, b) => a - b);
 }
 function caretCell() {
-    const caret = screen_.querySelector('rect[width="2"]');
+    const caret = screen_.querySelector(CARET);
     return caret && [caret.getAttribute('x') / WIDE, caret.getAttribute('y') / HIGH];
 }
 function regionOf(all, from, to, low, high) {             // of the viewer in these rows

@@ -46,7 +46,7 @@ function isOpen() {                                       // or being opened: th
 function kept() {
     if (!isKept()) return KEPT[state.kind] + (state.why ? ` (${wordsOf(state.why)})` : '');
     const until = state.persisted ? 'It stays until you clear the data of this site.'
-        : `The browser may drop it for want of room, and a private window does when it closes. ${COPY}`;
+        : `The browser may drop it for want of room; a private window does when it closes or the machine fails. ${COPY}`;
     return `${KEPT[state.kind]} ${until}`;
 }
 function leaving() {

@@ -77,7 +77,7 @@ async function openDesk() {
     try {
         await medium.make(bytes);
     } catch (error) {                                     // a browser without room
-        medium = memoryMedium(error);
+        medium = memoryMedium(`The browser took no store: ${told(error)}`);
         medium.make(bytes);
     }
     desk = fresh;
