@@ -7,6 +7,8 @@
 #![tactic(auto)]
 
 mod beginning;
+mod going_on;
+mod halves;
 mod keeping;
 mod laws;
 mod page;
@@ -15,7 +17,9 @@ mod reading;
 mod sectors;
 
 pub use beginning::begin;
-pub use keeping::{EPOCH_EVENTS, end_epoch, post, undo};
+pub use going_on::{LEAST_ROOM, go_on};
+pub use halves::{HALVES, Half, half_at, has_halves};
+pub use keeping::{end_epoch, post, undo};
 pub use laws::{one_past_law, present_law};
 pub use page::{EVENTS_PAGE, PAGE_FRONT};
 pub use reading::moment;
