@@ -22,4 +22,5 @@ pub use halves::{HALVES, Half, half_at, has_halves};
 pub use keeping::{end_epoch, post, undo};
 pub use laws::{one_past_law, present_law};
 pub use page::{EVENTS_PAGE, PAGE_FRONT};
-pub use reading::moment;
+pub use pages::{PageRead, page_in};
+pub use reading::{moment, start_of};
