@@ -1,7 +1,7 @@
 -- An event that is posted behind what was done before it. `d` is what is known of a disk.
 use Rattle.std.proofs.Common.{◌≡◌, ◌≢◌, ◌⊎◌, inl, inr, ◌+◌, ◌<◌, ◌≤◌, ℕ, refl, sym, ◌∙◌, ap, subst, arith, true, false}
-use Rattle.std.specs.Prelude.{Result, Ok, Err, IfOk, OnOk, IsErrOf}
-use Rattle.std.proofs.lemmas.Bool.{false≢true}
+use Rattle.std.specs.Prelude.{Result, Ok, Err, IfErr, IfOk, OnOk, IsErrOf}
+use Rattle.std.proofs.lemmas.Bool.{cases_lt, false≢true}
 use Rattle.sector_disk.specs.declared.disk.Disk.{Ghosts}
 use Rattle.sector_disk.specs.Faults.{FailsAs}
 use Rattle.sector_disk.specs.Trail.{LeavesOnly}
@@ -14,16 +14,34 @@ use Rattle.desktop_definitions.specs.Unread.{StepsUnread}
 use Rattle.store_layout.specs.declared.layout.TheConstants.{JOURNAL_EVENTS, LAYOUT}
 use Rattle.store_layout.specs.Meaning.{Means, MeansEither}
 use Rattle.store_slots.specs.Device.{IsSameDevice}
-use Rattle.store_slots.specs.Errors.{OfDesktop, OfLook, OfPost}
+use Rattle.store_slots.specs.Errors.{OfCheckpoint, OfDesktop, OfLook, OfPost}
 use Rattle.store_slots.specs.declared.error.Error.{Error}
 use Rattle.store_slots.specs.declared.error.Error.TheVariants.{Fault, MustReopen, Worn}
 use Rattle.desk_journal.specs.Checkpointing.{IsRenewed, LeavesDesktop}
 use Rattle.desk_journal.specs.Posting.{AnswersMustReopen, AnswersWorn, HasJournalRoom, IsAcknowledged, IsDueBefore, IsLast}
 use Rattle.desk_journal.specs.Posting.{LeavesEither}
 use Rattle.desk_journal.specs.View.{StoreView}
-use Rattle.desk_journal.proofs.Between.{no_need}
 use Rattle.desk_past.specs.Beginning.{IsAside}
 use Rattle.desk_past.specs.Keeping.{CanTurn, IsTurned, IsUnturned, IsWayMade}
+
+-- a journal that has room needs no checkpoint
+pub no_need : {D : Type 0} (store : StoreView D) → HasJournalRoom store → IsDueBefore store → ⊥
+no_need store room need = elim need [
+  | inl full ↦ omega (arith, full, room.0)
+  | inr other ↦ other room.1
+]
+
+pub room_or_due : {D : Type 0} (store : StoreView D) → HasJournalRoom store ⊎ IsDueBefore store
+room_or_due store = elim (cases_lt store.events JOURNAL_EVENTS) [
+  | inl few ↦ elim (cases_lt store.layout LAYOUT) [
+    | inl less ↦ inr (inr (λ is. omega (arith, less, is)))
+    | inr least ↦ elim (cases_lt LAYOUT store.layout) [
+      | inl more ↦ inr (inr (λ is. omega (arith, more, is)))
+      | inr most ↦ inl (few, omega (arith, least, most))
+    ]
+  ]
+  | inr full ↦ inr (inl full)
+]
 
 module _ {D : Type 0} (d : Ghosts D) where
   -- ---- ways
@@ -67,8 +85,8 @@ module _ {D : Type 0} (d : Ghosts D) where
   room_anew : {old new : StoreView D} → IsTurned old new → HasJournalRoom new
   room_anew turned = (omega (arith, turned.events), turned.layout)
 
-  pub only_first : (event : Event) {old mid : StoreView D} → LeavesDesktop d old mid → LeavesEither d event old mid
-  only_first event first usable honest = weakened (first usable honest) (λ c means. inl means)
+  pub only_first : (event : Event) (old mid : StoreView D) → LeavesDesktop d old mid → LeavesEither d event old mid
+  only_first event old mid first usable honest = weakened (first usable honest) (λ c means. inl means)
 
   module _ {old mid : StoreView D} (new : StoreView D) (made : IsWayMade d old mid) where
     pub either_then : (event : Event) → IsSameDevice d old.disk mid.disk → LeavesDesktop d old mid
@@ -174,11 +192,42 @@ pub of_page : (e : Error) → OfDesktop e → OfPost e
 of_page e (inl memory) = inl memory
 of_page e (inr fault) = inr (inl fault)
 
+-- an error of a checkpoint of a store in use, whose epoch isn't the last one
+pub of_turn : (e : Error) → OfCheckpoint e → (e ≡ MustReopen → ⊥) → (e ≡ Worn → ⊥) → OfDesktop e
+of_turn e (inl fault) usable room = inr fault
+of_turn e (inr (inl reopen)) usable room = absurd (usable reopen)
+of_turn e (inr (inr worn)) usable room = absurd (room worn)
+
+-- an error of a checkpoint is one of a post
+pub of_checkpoint : (e : Error) → OfCheckpoint e → OfPost e
+of_checkpoint e (inl fault) = inr (inl fault)
+of_checkpoint e (inr (inl reopen)) = inr (inr (inl reopen))
+of_checkpoint e (inr (inr worn)) = inr (inr (inr worn))
+
+-- an error of a look is one of a post
+pub of_look : (e : Error) → OfLook e → OfPost e
+of_look e (inl memory) = inl memory
+of_look e (inr (inl fault)) = inr (inl fault)
+of_look e (inr (inr reopen)) = inr (inr (inl reopen))
+
 -- an error of a look at a store in use
 pub of_used : (e : Error) → OfLook e → (e ≡ MustReopen → ⊥) → OfDesktop e
 of_used e (inl memory) usable = inl memory
 of_used e (inr (inl fault)) usable = inr fault
 of_used e (inr (inr reopen)) usable = absurd (usable reopen)
+
+-- what a page's error isn't
+pub never : {T : Type 0} (answer : Result T Error) (x : Error) → IfErr answer OfDesktop → (OfDesktop x → ⊥)
+    → answer ≡ Err x → ⊥
+never answer x errors not is = not (subst (λ r. IfErr r OfDesktop) is errors)
+
+pub not_worn : OfDesktop Worn → ⊥
+not_worn (inl memory) = let wrong : ⊥ = cc memory in wrong
+not_worn (inr fault) = let wrong : ⊥ = cc fault in wrong
+
+pub not_reopen : OfDesktop MustReopen → ⊥
+not_reopen (inl memory) = let wrong : ⊥ = cc memory in wrong
+not_reopen (inr fault) = let wrong : ⊥ = cc fault in wrong
 
 -- ---- two facts of what was returned
 

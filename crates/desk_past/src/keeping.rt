@@ -1,5 +1,5 @@
 //! Events that stay.
-ghost use Rattle.std.specs.Prelude.{◌≡◌, ◌≢◌, ◌+◌, ◌-◌, ◌*◌, ◌^◌, ◌≤◌, ◌<◌, ◌++◌, ◌∷◌, [], List, true, false, length, IfErr, IfOk, IsErrOf, OnOk, IfSome, IfNone};
+ghost use Rattle.std.specs.Prelude.{◌≡◌, ◌≢◌, ◌+◌, ◌*◌, ◌^◌, ◌≤◌, ◌<◌, ◌++◌, ◌∷◌, [], List, true, false, length, IfErr, IfOk, IsErrOf, OnOk, IfSome, IfNone};
 ghost use Rattle.sector_disk.specs.declared.disk.TheConstants.{SECTOR_BYTES};
 ghost use Rattle.sector_disk.specs.Faults.{FailsAs};
 ghost use Rattle.sector_disk.specs.Stored.{last_sector};
@@ -11,7 +11,7 @@ ghost use Rattle.store_slots.specs.Errors.{OfDesktop, OfLook, OfPost};
 ghost use Rattle.desk_journal.specs.Checkpointing.{IsRenewed, LeavesDesktop};
 ghost use Rattle.desk_journal.specs.Device.{IsSameDevice};
 ghost use Rattle.desk_journal.specs.Posting.{AnswersMustReopen, AnswersWorn, HasJournalRoom, IsAcknowledged, IsDueBefore, LeavesEither};
-ghost use Rattle.desk_past.specs.Beginning.{IsAside, SparesAllBut};
+ghost use Rattle.desk_past.specs.Beginning.{IsAside};
 ghost use Rattle.desk_past.specs.Keeping.{CanKeep, CanTurn, HasKept, HasPageRoom, IsWayMade, KeepsOn};
 ghost use Rattle.desk_past.specs.Past.{HasNewPage, IsHeadTold, KeepsAll, KeepsOthers, LeavesAll, Start, UndoesSome};
 
@@ -73,7 +73,7 @@ fn write_page_at<D: Disk>(
         → (start : Start) (events : List Event) (desktop : Desktop)
         → (keeps : KeepsAll D.Disk start events desktop store.old) → IsHeadTold D.Disk told keeps
         → HasPageRoom D.Disk end keeps → ⊥)) }
-    ensures others { SparesAllBut D.Disk told.next (end - told.next) store.old store.new }
+    ensures moments { LeavesDesktop D.Disk store.old store.new }
     ensures aside { OnOk result (IsAside D.Disk store.old store.new) }
     ensures device { IsSameDevice D.Disk store.old.disk store.new.disk }
     ensures faults { FailsAs Error.Fault OfLook result (D.failures store.old.disk)
@@ -197,8 +197,23 @@ fn turn_over<D: Disk>(alloc: Global, store: &mut Store<D>) -> Result<(), Error>
     let Some(half) = half_at(store.sectors(), told.next) else {
         return Ok(());
     };
-    let _ended = end_epoch(alloc, store, half.end)?;
+    end_epoch(alloc, store, half.end)?;
     Ok(())
+}
+
+/// Whether a checkpoint is due before the next event, and can be made.
+fn can_turn<D: Disk>(store: &Store<D>) -> bool
+    ensures able { result ≡ true → CanTurn store.now × IsDueBefore store.now }
+    ensures free { result ≡ false → store.now.must_reopen ≡ false
+        → store.now.epoch ≢ LAST_EPOCH → HasJournalRoom store.now }
+{
+    let Ok(info) = store.info() else {
+        return false;
+    };
+    if info.epoch == LAST_EPOCH {
+        return false;
+    }
+    info.events >= JOURNAL_EVENTS || info.layout != LAYOUT
 }
 
 /// Makes way for an event: where a checkpoint is due, the epoch ends with its page, if there is room for that.
@@ -224,12 +239,8 @@ fn make_way<D: Disk>(alloc: Global, store: &mut Store<D>) -> Result<(), Error>
     ensures faults { FailsAs Error.Fault OfDesktop result (D.failures store.old.disk)
         (D.failures store.new.disk) }
 {
-    standing_law();
     store.shows_what_crashes_leave();
-    let Ok(info) = store.info() else {
-        return Ok(());
-    };
-    if info.layout == LAYOUT && info.events < JOURNAL_EVENTS || info.epoch == LAST_EPOCH {
+    if !can_turn(store) {
         return Ok(());
     }
     turn_over(alloc, store)

@@ -1,11 +1,13 @@
-use Rattle.std.proofs.lemmas.Result.{IfOk-weaker}
+use Rattle.std.proofs.lemmas.Result.{IfOk-weaker, err_from_is_err_and}
 use Rattle.desk_past.proofs.Remembering.{leaves_more, leaves_more_then, post_keeps, post_moments}
-use Rattle.desk_past.proofs.Ways.{acknowledged_then, either_then, only_first, reopen_then, starved_then}
-use Rattle.desk_past.proofs.Ways.{ok_with, worn_then}
+use Rattle.desk_past.proofs.Ways.{acknowledged_then, either_then, never, not_reopen, not_worn, only_first, reopen_none, reopen_then}
+use Rattle.desk_past.proofs.Ways.{ok_with, starved_then, worn_none, worn_then}
+use Rattle.store_slots.specs.declared.error.Error.TheVariants.{MustReopen, Worn}
 use Rattle.desk_past.proofs.keeping.post.Goals as goal
 
 pub returns-in_err-make_way-clause-any_moment : goal.returns-in_err-make_way-clause-any_moment
-returns-in_err-make_way-clause-any_moment g c = only_first g.D.Disk c.args.event.now c.make_way.ensures.moments
+returns-in_err-make_way-clause-any_moment g c = only_first g.D.Disk c.args.event.now
+    c.args.store.now c.make_way.new.store c.make_way.ensures.moments
 
 pub returns-in_err-make_way-clause-nothing_forgotten : goal.returns-in_err-make_way-clause-nothing_forgotten
 returns-in_err-make_way-clause-nothing_forgotten g c = λ honest start events desktop keeps can.
@@ -56,3 +58,16 @@ returns-clause-kept g c = ok_with c.post.result c.post.ensures.ok c.post.ensures
     c.args.event.now has
     c.post.ensures.behaves.within taken.usable
     (added.more second has mid.remembers.standing mid.remembers.past.stands))
+
+pub returns-in_err-make_way-clause-worn : goal.returns-in_err-make_way-clause-worn
+returns-in_err-make_way-clause-worn g c =
+    let p = err_from_is_err_and c.from_residual.result c.from_residual.ensures.1 in
+    worn_none g.D.Disk c.make_way.new.store c.from_residual.result c.in_err-make_way.ensures.able (λ is.
+    never c.make_way.result Worn c.make_way.ensures.faults.errors not_worn (cc (p.1, p.2, is, c.in_err-make_way.was)))
+
+pub returns-in_err-make_way-clause-reopen : goal.returns-in_err-make_way-clause-reopen
+returns-in_err-make_way-clause-reopen g c =
+    let p = err_from_is_err_and c.from_residual.result c.from_residual.ensures.1 in
+    reopen_none g.D.Disk c.make_way.new.store c.from_residual.result c.in_err-make_way.ensures.able (λ is.
+    never c.make_way.result MustReopen c.make_way.ensures.faults.errors not_reopen
+    (cc (p.1, p.2, is, c.in_err-make_way.was)))
