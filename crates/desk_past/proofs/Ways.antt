@@ -117,20 +117,20 @@ module _ {D : Type 0} (d : Ghosts D) where
       durable = second.durable;
       more = λ room. elim made.turn [
         | inl same ↦ let after = second.more (room_on same room) in (
-            after.0 ∙ same.epoch,
-            after.1 ∙ ap (λ n. n + 1) same.events,
-          )
+          after.0 ∙ same.epoch,
+          after.1 ∙ ap (λ n. n + 1) same.events,
+        )
         | inr turned ↦ absurd (no_need old room turned.due)
       ];
       anew = λ due. elim made.turn [
         | inl same ↦ let after = second.anew (due_on same due) in (
-            after.0 ∙ ap (λ n. n + 1) same.epoch,
-            after.1,
-          )
+          after.0 ∙ ap (λ n. n + 1) same.epoch,
+          after.1,
+        )
         | inr turned ↦ let after = second.more (room_anew turned) in (
-            after.0 ∙ turned.epoch,
-            after.1 ∙ ap (λ n. n + 1) turned.events,
-          )
+          after.0 ∙ turned.epoch,
+          after.1 ∙ ap (λ n. n + 1) turned.events,
+        )
       ];
       layout = second.layout;
       usable = second.usable;

@@ -1,8 +1,7 @@
 //! The two halves of the room behind a store. Each begins with a start, and pages stand behind that.
-ghost use Rattle.std.specs.Prelude.{◌≡◌, ◌+◌, ◌≤◌, ◌^◌, ℕ, true, IfSome, IsSomeAnd};
+ghost use Rattle.std.specs.Prelude.{◌≡◌, ◌+◌, ◌≤◌, ◌^◌, ℕ, IfSome, IsSomeAnd};
 ghost use Rattle.store_layout.specs.declared.layout.TheConstants.{STORE_SECTORS};
 ghost use Rattle.desk_past.specs.Halves.{IsHalf, half_sectors, middle};
-ghost use Rattle.desk_past.specs.declared.halves.TheConstants.{HALVES};
 
 use desk_journal::STORE_SECTORS;
 
@@ -25,18 +24,10 @@ fn half_sectors(sectors: u32) -> u32
 }
 
 /// Where the second half begins, on a disk of so many sectors.
-pub(crate) fn middle_of(sectors: u32) -> u32
+fn middle_of(sectors: u32) -> u32
     ensures { result ≡ middle sectors }
 {
     HALVES + half_sectors(sectors)
-}
-
-/// Whether each half of a disk of so many sectors has room for a start.
-pub fn has_halves(sectors: u32) -> bool
-    ensures { result ≡ true → (HALVES + STORE_SECTORS ≤ middle sectors)
-        × (middle sectors + STORE_SECTORS ≤ sectors) }
-{
-    half_sectors(sectors) >= STORE_SECTORS
 }
 
 /// The half in which pages go on in this sector. None where they can do so in no half.

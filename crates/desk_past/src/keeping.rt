@@ -251,11 +251,7 @@ fn make_way<D: Disk>(alloc: Global, store: &mut Store<D>) -> Result<(), Error>
 ///
 /// Errors: those of `Store::post`; but after a `NoMemory` or `Fault` of a page, which come before the event, the store may
 /// be in use.
-pub fn post<D: Disk>(
-    alloc: Global,
-    store: &mut Store<D>,
-    event: &Event,
-) -> Result<Reply, Error>
+pub fn post<D: Disk>(alloc: Global, store: &mut Store<D>, event: &Event) -> Result<Reply, Error>
     ensures any_moment { LeavesEither D.Disk event.now store.old store.new }
     ensures ok { IfOk result (λ reply. IsAcknowledged D.Disk event.now reply store.old
         store.new) }

@@ -7,7 +7,6 @@
 #![tactic(auto)]
 
 mod beginning;
-mod going_on;
 mod halves;
 mod keeping;
 mod laws;
@@ -17,8 +16,7 @@ mod reading;
 mod sectors;
 
 pub use beginning::begin;
-pub use going_on::{LEAST_ROOM, go_on};
-pub use halves::{HALVES, Half, half_at, has_halves};
+pub use halves::{HALVES, Half, half_at};
 pub use keeping::{end_epoch, post, undo};
 pub use laws::{one_past_law, present_law};
 pub use page::{EVENTS_PAGE, PAGE_FRONT};
