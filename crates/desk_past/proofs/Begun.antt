@@ -1,6 +1,6 @@
 -- A past that begins. `d` is what is known of a disk.
 use Rattle.std.proofs.Common.{◌≡◌, ◌⊎◌, inl, inr, ◌+◌, ◌<◌, ◌≤◌, ℕ, List, [], length, refl, sym, ◌∙◌, ap, subst, arith, false}
-use Rattle.std.specs.Prelude.{Bool, nat_lt, if◌then◌else◌}
+use Rattle.std.specs.Prelude.{Bool, Result, nat_lt, if◌then◌else◌}
 use Rattle.std.proofs.Common.{length-append}
 use Rattle.std.proofs.lemmas.Bool.{cases_lt, lt-ltb, le-ltb}
 use Rattle.sector_disk.specs.declared.disk.Disk.{Ghosts}
@@ -14,12 +14,14 @@ use Rattle.store_layout.specs.declared.head.PastEnd.{PastEnd}
 use Rattle.store_layout.specs.Filling.{InRange}
 use Rattle.store_layout.specs.Meaning.{Means, Standing, Stands, desktop_of}
 use Rattle.store_slots.specs.Device.{IsOnlyRead, IsSameDevice, StaysWithin}
+use Rattle.store_slots.specs.declared.error.Error.{Error}
 use Rattle.desk_journal.proofs.Aside.{stands_behind}
 use Rattle.desk_journal.specs.Behind.{IsWrittenBehind, KeepsStanding, LeavesNext, ShowsNext, renewed_from}
-use Rattle.desk_journal.specs.Checkpointing.{LeavesDesktop}
-use Rattle.desk_journal.specs.Undoing.{ShowsStanding}
+use Rattle.desk_journal.specs.Checkpointing.{IsRenewed, LeavesDesktop}
+use Rattle.desk_journal.specs.Looking.{OnlyLooks}
+use Rattle.desk_journal.specs.Undoing.{IsLeft, ShowsStanding}
 use Rattle.desk_journal.specs.View.{StoreView, IsDurable}
-use Rattle.desk_past.specs.Beginning.{GoesOnFrom, IsApart, IsAside, SparesOthers, begun_at, copied_back}
+use Rattle.desk_past.specs.Beginning.{GoesOnFrom, IsApart, IsAside, SparesAllBut, SparesOthers, begun_at, copied_back}
 use Rattle.desk_past.specs.Past.{HoldsPages, KeepsAll, Remembers, StandsFrom, Start, events_of}
 use Rattle.desk_past.specs.Reading.{IsOnlyReadFrom}
 use Rattle.desk_past.proofs.Carrying.{both_leave, written_stays}
@@ -38,35 +40,36 @@ pub device_of : {D : Type 0} (d : Ghosts D) {area : ℕ → Type 0} {old new : D
     → IsConfined d.size d.honest d.trail area old new → IsSameDevice d old new
 device_of d run = record { as_large = run.as_large; still = run.still; already = run.already }
 
-module _ {D : Type 0} (d : Ghosts D) (base : ℕ) where
+module _ {D : Type 0} (d : Ghosts D) (base limit : ℕ) where
   -- ---- what is spared
 
-  pub spares_none : {store : StoreView D} → (store.must_reopen ≡ false → d.honest store.disk → IsQuiet d store)
-      → SparesOthers d base store store
-  spares_none {store = store} quiet = record {
+  pub spared_none : {store : StoreView D} → (store.must_reopen ≡ false → d.honest store.disk → IsQuiet d store)
+      → SparesAllBut d base limit store store
+  spared_none {store = store} quiet = record {
     moments = λ usable honest. weakened (nothing_written (d.trail store.disk))
         (λ c image n out. image n (quiet usable honest n));
   }
 
-  pub spares_read : {old new : StoreView D} → IsOnlyRead d old.disk new.disk
-      → (old.must_reopen ≡ false → d.honest old.disk → IsQuiet d old) → SparesOthers d base old new
-  spares_read run quiet = record {
+  pub spared_read : {old new : StoreView D} → IsOnlyRead d old.disk new.disk
+      → (old.must_reopen ≡ false → d.honest old.disk → IsQuiet d old) → SparesAllBut d base limit old new
+  spared_read run quiet = record {
     moments = λ usable honest. weakened (run.unwritten honest) (λ c image n out. image n (quiet usable honest n));
   }
 
-  pub spares_write : {old new : StoreView D} (from limit : ℕ) → base ≤ from → from + limit ≤ base + STORE_SECTORS
-      → IsConfined d.size d.honest d.trail (InRange from limit) old.disk new.disk
-      → (old.must_reopen ≡ false → d.honest old.disk → IsQuiet d old) → SparesOthers d base old new
-  spares_write {old = old} from limit low high only quiet = record {
+  pub spared_write : {old new : StoreView D} (from count : ℕ) → base ≤ from → from + count ≤ base + limit
+      → IsConfined d.size d.honest d.trail (InRange from count) old.disk new.disk
+      → (old.must_reopen ≡ false → d.honest old.disk → IsQuiet d old) → SparesAllBut d base limit old new
+  spared_write {old = old} from count low high only quiet = record {
     moments = λ usable honest.
-        spared (λ c. (n : ℕ) → ¬ InRange base STORE_SECTORS n → c n ≡ (now (d.trail old.disk)).reads n)
+        spared (λ c. (n : ℕ) → ¬ InRange base limit n → c n ≡ (now (d.trail old.disk)).reads n)
         (quiet usable honest) (only.moments honest) (λ c same n out.
         same n (λ within. out (omega (arith, low, within.0), omega (arith, high, within.1))));
   }
 
-  pub spares_then : {old mid : StoreView D} (new : StoreView D) → IsSameDevice d old.disk mid.disk
-      → mid.must_reopen ≡ false → SparesOthers d base old mid → SparesOthers d base mid new → SparesOthers d base old new
-  spares_then {mid = mid} new device closed first second = record {
+  pub spared_then : {old mid : StoreView D} (new : StoreView D) → IsSameDevice d old.disk mid.disk
+      → mid.must_reopen ≡ false → SparesAllBut d base limit old mid → SparesAllBut d base limit mid new
+      → SparesAllBut d base limit old new
+  spared_then {mid = mid} new device closed first second = record {
     moments = λ usable honest.
         let before = first.moments usable honest in
         chained before (weakened (second.moments closed (device.still honest)) (λ c same n out. same n out
@@ -74,10 +77,41 @@ module _ {D : Type 0} (d : Ghosts D) (base : ℕ) where
   }
 
   -- what the store shows stays
-  pub spares_keeps : {old new : StoreView D} → STORE_SECTORS ≤ base → SparesOthers d base old new → KeepsStanding d old new
-  spares_keeps {old = old} behind spares usable honest s at = weakened (spares.moments usable honest) (λ c same.
+  pub spared_keeps : {old new : StoreView D} → STORE_SECTORS ≤ base → SparesAllBut d base limit old new
+      → KeepsStanding d old new
+  spared_keeps {old = old} behind spares usable honest s at = weakened (spares.moments usable honest) (λ c same.
       stands_behind (now (d.trail old.disk)).reads c s at
       (λ n low. same n (λ within. omega (arith, within.0, low, behind))))
+
+  pub desktop_spared : (old new : StoreView D) → STORE_SECTORS ≤ base
+      → (old.must_reopen ≡ false → IsDurable d old) → SparesAllBut d base limit old new → LeavesDesktop d old new
+  desktop_spared old new behind durable spares usable honest =
+      let shows = durable usable honest (now (d.trail old.disk)).reads (read_is_an_image (now (d.trail old.disk))) in
+      weakened (spared_keeps behind spares usable honest shows.standing shows.stands)
+      (λ c stands. (shows.standing, stands, shows.is))
+
+module _ {D : Type 0} (d : Ghosts D) (base : ℕ) where
+  -- ---- the same of a start
+
+  pub spares_none : {store : StoreView D} → (store.must_reopen ≡ false → d.honest store.disk → IsQuiet d store)
+      → SparesOthers d base store store
+  spares_none quiet = spared_none d base STORE_SECTORS quiet
+
+  pub spares_read : {old new : StoreView D} → IsOnlyRead d old.disk new.disk
+      → (old.must_reopen ≡ false → d.honest old.disk → IsQuiet d old) → SparesOthers d base old new
+  spares_read run quiet = spared_read d base STORE_SECTORS run quiet
+
+  pub spares_write : {old new : StoreView D} (from limit : ℕ) → base ≤ from → from + limit ≤ base + STORE_SECTORS
+      → IsConfined d.size d.honest d.trail (InRange from limit) old.disk new.disk
+      → (old.must_reopen ≡ false → d.honest old.disk → IsQuiet d old) → SparesOthers d base old new
+  spares_write from limit low high only quiet = spared_write d base STORE_SECTORS from limit low high only quiet
+
+  pub spares_then : {old mid : StoreView D} (new : StoreView D) → IsSameDevice d old.disk mid.disk
+      → mid.must_reopen ≡ false → SparesOthers d base old mid → SparesOthers d base mid new → SparesOthers d base old new
+  spares_then new device closed first second = spared_then d base STORE_SECTORS new device closed first second
+
+  pub spares_keeps : {old new : StoreView D} → STORE_SECTORS ≤ base → SparesOthers d base old new → KeepsStanding d old new
+  spares_keeps behind spares = spared_keeps d base STORE_SECTORS behind spares
 
   pub spares_shows : {old new : StoreView D} → STORE_SECTORS ≤ base → SparesOthers d base old new
       → IsSameDevice d old.disk new.disk → old.must_reopen ≡ false → d.honest old.disk → (s : Standing)
@@ -91,30 +125,79 @@ module _ {D : Type 0} (d : Ghosts D) where
   -- ---- calls one after another
 
   pub aside_none : (store : StoreView D) → store.must_reopen ≡ false → IsAside d store store
-  aside_none store usable = record { usable = usable; desktop = λ honest. refl }
+  aside_none store usable = record {
+    usable = usable;
+    desktop = λ honest. refl;
+    kept = refl;
+    layout = refl;
+    epoch = refl;
+    events = refl;
+  }
+
+  pub aside_left : {old new : StoreView D} → IsLeft d old new → new.must_reopen ≡ false → IsAside d old new
+  aside_left left usable = record {
+    usable = usable;
+    desktop = left.desktop;
+    kept = left.kept;
+    layout = left.layout;
+    epoch = left.epoch;
+    events = left.events;
+  }
 
   pub aside_read : {old new : StoreView D} → IsOnlyReadFrom d old new → IsAside d old new
-  aside_read still = record { usable = still.usable; desktop = still.left.desktop }
+  aside_read still = aside_left still.left still.usable
+
+  pub aside_looked : {T : Type 0} {old new : StoreView D} (result : Result T Error) → old.must_reopen ≡ false
+      → OnlyLooks d result old new → IsAside d old new
+  aside_looked result usable look = record {
+    usable = look.usable ∙ usable;
+    desktop = look.desktop;
+    kept = look.kept;
+    layout = look.layout;
+    epoch = look.epoch;
+    events = look.events;
+  }
 
   pub aside_written : {old new : StoreView D} {from : ℕ} {bytes : List ℕ} → IsWrittenBehind d from bytes old new
       → IsAside d old new
-  aside_written done = record { usable = done.usable; desktop = done.desktop }
+  aside_written done = record {
+    usable = done.usable;
+    desktop = done.desktop;
+    kept = done.kept;
+    layout = done.layout;
+    epoch = done.epoch;
+    events = done.events;
+  }
 
   pub aside_both : {old mid new : StoreView D} → IsSameDevice d old.disk mid.disk → IsAside d old mid → IsAside d mid new
       → IsAside d old new
   aside_both device first second = record {
     usable = second.usable;
     desktop = λ honest. second.desktop (device.still honest) ∙ first.desktop honest;
+    kept = second.kept ∙ first.kept;
+    layout = second.layout ∙ first.layout;
+    epoch = second.epoch ∙ first.epoch;
+    events = second.events ∙ first.events;
+  }
+
+  -- and then a checkpoint
+  pub renewed_aside : {old mid new : StoreView D} → IsSameDevice d old.disk mid.disk → IsAside d old mid
+      → IsRenewed d mid new → IsRenewed d old new
+  renewed_aside device first second = record {
+    desktop = λ honest. second.desktop (device.still honest) ∙ first.desktop honest;
+    kept = second.kept ∙ first.kept;
+    layout = second.layout;
+    epoch = second.epoch ∙ ap (λ n. n + 1) first.epoch;
+    events = second.events;
+    durable = second.durable;
+    usable = second.usable;
   }
 
   -- ---- the desktop
 
   pub desktop_kept : (base : ℕ) (old new : StoreView D) → STORE_SECTORS ≤ base
       → (old.must_reopen ≡ false → IsDurable d old) → SparesOthers d base old new → LeavesDesktop d old new
-  desktop_kept base old new behind durable spares usable honest =
-      let shows = durable usable honest (now (d.trail old.disk)).reads (read_is_an_image (now (d.trail old.disk))) in
-      weakened (spares_keeps d base behind spares usable honest shows.standing shows.stands)
-      (λ c stands. (shows.standing, stands, shows.is))
+  desktop_kept base old new behind durable spares = desktop_spared d base STORE_SECTORS old new behind durable spares
 
   pub desktop_then : {old mid : StoreView D} (new : StoreView D) → IsSameDevice d old.disk mid.disk → LeavesDesktop d old mid
       → IsAside d old mid → LeavesDesktop d mid new → LeavesDesktop d old new

@@ -9,3 +9,5 @@ pub mod PageReads
 pub mod Stepping
 pub mod Opened
 pub mod Begun
+pub mod Ways
+pub mod Rooms

@@ -20,6 +20,7 @@ use Rattle.desk_journal.specs.Posting.{HasJournalRoom}
 use Rattle.desk_journal.specs.Undoing.{ShowsStanding}
 use Rattle.desk_journal.specs.View.{StoreView}
 use Rattle.desk_past.specs.Page.{Page, page_bytes, page_sectors}
+use Rattle.desk_past.specs.Keeping.{HasPageRoom}
 use Rattle.desk_past.specs.Past.{HasNewPage, HoldsPast, IsHeadTold, HoldsPages, KeepsAll, LeavesAll, Remembers, Start, events_of}
 use Rattle.desk_past.specs.Past.{first_page, journal_of}
 use Rattle.desk_past.proofs.Carrying.{both_leave, end_on, good_journal, good_on, past_of, written_front, written_kept, written_on}
@@ -127,6 +128,27 @@ module _ {D : Type 0} (d : Ghosts D) {start : Start} {events : List Event} {desk
       → ((keeps : KeepsAll d start events desktop new) → IsHeadTold d told keeps → X) → X
   unfolding read_keeps
   told_still new run usable told is f = f (read_keeps {new = new} run usable) is
+
+  -- and the room for its page stays
+  pub room_still : {X : Type 0} (new : StoreView D) (run : IsOnlyRead d old.disk new.disk)
+      (usable : new.must_reopen ≡ false) (end : ℕ) → HasPageRoom d end was
+      → ((keeps : KeepsAll d start events desktop new) → HasPageRoom d end keeps → X) → X
+  unfolding read_keeps
+  room_still new run usable end room f = f (read_keeps {new = new} run usable) (record {
+    page = room.page;
+    inside = omega (arith, room.inside, run.device.as_large);
+    few = room.few;
+  })
+
+  pub told_room_still : {X : Type 0} (new : StoreView D) (run : IsOnlyRead d old.disk new.disk)
+      (usable : new.must_reopen ≡ false) (end : ℕ) (told : PastEnd) → IsHeadTold d told was → HasPageRoom d end was
+      → ((keeps : KeepsAll d start events desktop new) → IsHeadTold d told keeps → HasPageRoom d end keeps → X) → X
+  unfolding read_keeps
+  told_room_still new run usable end told is room f = f (read_keeps {new = new} run usable) is (record {
+    page = room.page;
+    inside = omega (arith, room.inside, run.device.as_large);
+    few = room.few;
+  })
 
   -- ---- a page is written
   module _ (new : StoreView D) (from limit : ℕ) (at : from ≡ was.remembers.standing.past.next)

@@ -21,17 +21,25 @@ pub record HasStartRoom (size base : ℕ) : Type 0 where
   pub numbered : base + STORE_SECTORS < 2 ^ 32
   pub room : base + STORE_SECTORS ≤ size
 
--- At every moment of the call a crash leaves each sector as it was, but those of a start from this one on.
-pub record SparesOthers {D : Type 0} (d : Ghosts D) (base : ℕ) (old new : StoreView D)
+-- At every moment of the call a crash leaves each sector as it was, but so many from this one on.
+pub record SparesAllBut {D : Type 0} (d : Ghosts D) (from limit : ℕ) (old new : StoreView D)
     : Type 0 where
   pub moments : old.must_reopen ≡ false → d.honest old.disk
       → LeavesOnly (d.trail old.disk) (d.trail new.disk)
-      (λ c. (n : ℕ) → ¬ InRange base STORE_SECTORS n → c n ≡ (now (d.trail old.disk)).reads n)
+      (λ c. (n : ℕ) → ¬ InRange from limit n → c n ≡ (now (d.trail old.disk)).reads n)
 
--- something was written behind a store, which is in use and shows what it showed
+-- but those of a start from this one on
+abbrev pub SparesOthers : {D : Type 0} → Ghosts D → ℕ → StoreView D → StoreView D → Type 0
+SparesOthers d base old new = SparesAllBut d base STORE_SECTORS old new
+
+-- Something was written behind a store, or nothing. It is in use, and shows what it showed, by the same journal.
 pub record IsAside {D : Type 0} (d : Ghosts D) (old new : StoreView D) : Type 0 where
   pub usable : new.must_reopen ≡ false
   pub desktop : d.honest old.disk → new.desktop ≡ old.desktop
+  pub kept : new.kept ≡ old.kept
+  pub layout : new.layout ≡ old.layout
+  pub epoch : new.epoch ≡ old.epoch
+  pub events : new.events ≡ old.events
 
 -- The start stands from this sector on: the sectors of the store were copied there. So many events came before it.
 pub record IsStarted {D : Type 0} (d : Ghosts D) (base before : ℕ) (old new : StoreView D)

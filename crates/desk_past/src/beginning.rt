@@ -87,6 +87,7 @@ fn make_start<D: Disk>(alloc: Global, store: &mut Store<D>, base: u32) -> Result
     ensures device { IsSameDevice D.Disk store.old.disk store.new.disk }
     ensures start { IfOk result (λ found. IfSome found (λ before. IsStarted D.Disk base before
         store.old store.new)) }
+    ensures usable { OnOk result (store.new.must_reopen ≡ false) }
 {
     store.shows_what_crashes_leave();
     let Some(before) = events_before(store)? else {
@@ -103,13 +104,12 @@ fn make_start<D: Disk>(alloc: Global, store: &mut Store<D>, base: u32) -> Result
 
 /// Begins a past, from what the store shows now: the store is copied to the sectors from `base` on and read back, and a
 /// checkpoint begins an epoch whose head tells of it. Where the store has a past already, apart from these sectors, that
-/// one stays, up to the new start. False where what is read isn't what was written: then the store is as it was.
+/// one stays, up to the new start. False where what is read isn't what was written, or where the events before it are too
+/// many to be counted: then the store shows what it showed, and its head tells what it told.
 ///
 /// Errors: those of `Store::read_behind`, `Store::write_behind` and `Store::checkpoint`.
 pub fn begin<D: Disk>(alloc: Global, store: &mut Store<D>, base: u32) -> Result<bool, Error>
-    requires behind { STORE_SECTORS ≤ base }
-    requires numbered { base + STORE_SECTORS < 2 ^ 32 }
-    requires room { base + STORE_SECTORS ≤ D.size store.old.disk }
+    requires { HasStartRoom (D.size store.old.disk) base }
     ensures any_moment { LeavesDesktop D.Disk store.old store.new }
     ensures none_forgotten { ForgetsNoneBefore D.Disk base store.old store.new }
     ensures begun { IfOk result (λ done. done ≡ true → D.honest store.old.disk
@@ -118,6 +118,7 @@ pub fn begin<D: Disk>(alloc: Global, store: &mut Store<D>, base: u32) -> Result<
     ensures goes_on { IfOk result (λ done. done ≡ true
         → BeginsBehind D.Disk base store.old store.new) }
     ensures device { IsSameDevice D.Disk store.old.disk store.new.disk }
+    ensures usable { OnOk result (store.new.must_reopen ≡ false) }
 {
     standing_law();
     store.shows_what_crashes_leave();

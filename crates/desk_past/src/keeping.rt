@@ -1,25 +1,28 @@
 //! Events that stay.
-ghost use Rattle.std.specs.Prelude.{◌≡◌, ◌+◌, ◌*◌, ◌^◌, ◌≤◌, ◌<◌, ◌++◌, ◌∷◌, [], List, true, false, length, IfOk, OnOk, OnSome, IfSome, IfNone};
+ghost use Rattle.std.specs.Prelude.{◌≡◌, ◌≢◌, ◌+◌, ◌*◌, ◌^◌, ◌≤◌, ◌<◌, ◌++◌, ◌∷◌, [], List, true, false, length, IfErr, IfOk, IsErrOf, OnOk, IfSome, IfNone};
 ghost use Rattle.sector_disk.specs.declared.disk.TheConstants.{SECTOR_BYTES};
+ghost use Rattle.sector_disk.specs.Faults.{FailsAs};
 ghost use Rattle.sector_disk.specs.Stored.{last_sector};
 ghost use Rattle.event_bytes.specs.declared.event.Event.{Event};
 ghost use Rattle.desktop_definitions.specs.Desktop.{Desktop};
 ghost use Rattle.desktop_definitions.specs.Step.{step};
 ghost use Rattle.store_layout.specs.declared.layout.TheConstants.{STORE_SECTORS};
+ghost use Rattle.store_slots.specs.Errors.{OfDesktop, OfLook, OfPost};
+ghost use Rattle.desk_journal.specs.Checkpointing.{IsRenewed, LeavesDesktop};
 ghost use Rattle.desk_journal.specs.Device.{IsSameDevice};
-ghost use Rattle.desk_journal.specs.Posting.{HasJournalRoom};
-ghost use Rattle.desk_past.specs.Past.{ForgetsNothing, HasNewPage, IsHeadTold, KeepsAll, KeepsOthers, LeavesAll, Start, UndoesSome};
+ghost use Rattle.desk_journal.specs.Posting.{AnswersMustReopen, AnswersWorn, HasJournalRoom, IsAcknowledged, IsDueBefore, LeavesEither};
+ghost use Rattle.desk_past.specs.Beginning.{IsAside};
+ghost use Rattle.desk_past.specs.Keeping.{CanKeep, CanTurn, HasKept, HasPageRoom, IsWayMade, KeepsOn};
+ghost use Rattle.desk_past.specs.Past.{HasNewPage, IsHeadTold, KeepsAll, KeepsOthers, LeavesAll, Start, UndoesSome};
 
-use crate::page::{journal_page, sectors_for};
+use crate::halves::half_at;
+use crate::page::{page_read, sectors_for};
 use desk_journal::{Error, STORE_SECTORS, Store};
 use desktop_definitions::Reply;
 use event_bytes::Event;
 use sector_disk::Disk;
 use std::alloc::Global;
-use store_layout::{LAYOUT, PastEnd, standing_law};
-
-/// How many events an epoch has: as many letters fill the sector of a page.
-pub const EPOCH_EVENTS: u32 = 252;
+use store_layout::{JOURNAL_EVENTS, LAST_EPOCH, LAYOUT, PastEnd, standing_law};
 
 /// The end behind a page of so many bytes and events at `told.next`, before sector `end`. None where it has no room.
 pub(crate) fn end_behind(told: PastEnd, bytes: usize, events: u32, end: u32) -> Option<PastEnd>
@@ -29,6 +32,8 @@ pub(crate) fn end_behind(told: PastEnd, bytes: usize, events: u32, end: u32) -> 
     ensures count { IfSome result (λ n. n.next ≡ told.next + (last_sector bytes + 1)) }
     ensures fits { IfSome result (λ n. bytes ≤ SECTOR_BYTES * (last_sector bytes + 1)) }
     ensures before { IfSome result (λ n. n.before ≡ told.before + events) }
+    ensures none { IfNone result (bytes < 2 ^ 32 → STORE_SECTORS ≤ told.next
+        → told.next + (last_sector bytes + 1) ≤ end → told.before + events < 2 ^ 64 → ⊥) }
 {
     let count = sectors_for(bytes)?;
     let before = told.before.checked_add(events as u64)?;
@@ -44,6 +49,8 @@ pub(crate) fn end_behind(told: PastEnd, bytes: usize, events: u32, end: u32) -> 
 
 /// Writes the page of the journal in use where `told` says, which is what the head in use tells, before sector `end`, and
 /// settles it. None where there is no room for it, and nothing is written.
+///
+/// Errors: those of `page_read` and `Store::write_behind`.
 fn write_page_at<D: Disk>(
     alloc: Global,
     store: &mut Store<D>,
@@ -62,12 +69,23 @@ fn write_page_at<D: Disk>(
         → (start : Start) (events : List Event) (desktop : Desktop)
         → KeepsAll D.Disk start events desktop store.old
         → KeepsAll D.Disk start events desktop store.new)) }
+    ensures full { IfOk result (λ found. IfNone found (D.honest store.old.disk
+        → (start : Start) (events : List Event) (desktop : Desktop)
+        → (keeps : KeepsAll D.Disk start events desktop store.old) → IsHeadTold D.Disk told keeps
+        → HasPageRoom D.Disk end keeps → ⊥)) }
+    ensures moments { LeavesDesktop D.Disk store.old store.new }
+    ensures aside { OnOk result (IsAside D.Disk store.old store.new) }
     ensures device { IsSameDevice D.Disk store.old.disk store.new.disk }
+    ensures faults { FailsAs Error.Fault OfLook result (D.failures store.old.disk)
+        (D.failures store.new.disk) }
+    ensures open { IsErrOf result Error.MustReopen → store.old.must_reopen ≡ true }
 {
     standing_law();
     store.shows_what_crashes_leave();
     let info = store.info()?;
-    let bytes = journal_page(alloc, store)?;
+    let Some(bytes) = page_read(alloc, store)? else {
+        return Ok(None);
+    };
     store.shows_what_crashes_leave();
     let end = end.min(store.sectors());
     let Some(next) = end_behind(told, bytes.len(), info.events, end) else {
@@ -79,6 +97,8 @@ fn write_page_at<D: Disk>(
 
 /// Writes the page of the journal in use where the head says, before sector `end`, and settles it. None where there is no room
 /// for it, and nothing is written.
+///
+/// Errors: those of `write_page_at`.
 fn write_page<D: Disk>(
     alloc: Global,
     store: &mut Store<D>,
@@ -96,17 +116,27 @@ fn write_page<D: Disk>(
         → (start : Start) (events : List Event) (desktop : Desktop)
         → KeepsAll D.Disk start events desktop store.old
         → KeepsAll D.Disk start events desktop store.new)) }
+    ensures full { IfOk result (λ found. IfNone found (D.honest store.old.disk
+        → (start : Start) (events : List Event) (desktop : Desktop)
+        → (keeps : KeepsAll D.Disk start events desktop store.old)
+        → HasPageRoom D.Disk end keeps → ⊥)) }
+    ensures moments { LeavesDesktop D.Disk store.old store.new }
+    ensures aside { OnOk result (IsAside D.Disk store.old store.new) }
     ensures device { IsSameDevice D.Disk store.old.disk store.new.disk }
+    ensures faults { FailsAs Error.Fault OfLook result (D.failures store.old.disk)
+        (D.failures store.new.disk) }
+    ensures open { IsErrOf result Error.MustReopen → store.old.must_reopen ≡ true }
 {
     store.shows_what_crashes_leave();
     let told = store.past()?;
+    store.shows_what_crashes_leave();
     write_page_at(alloc, store, told, end)
 }
 
 /// Ends the epoch in use: its page is written and settled, and then a checkpoint begins the next one. False where there
 /// is no room for the page before sector `end`, or where the slot in use has an older version: then nothing is written.
 ///
-/// Errors: those of `Store::journal` and `Store::checkpoint`.
+/// Errors: those of `write_page` and `Store::checkpoint`.
 pub fn end_epoch<D: Disk>(alloc: Global, store: &mut Store<D>, end: u32) -> Result<bool, Error>
     ensures any_moment { D.honest store.old.disk
         → (start : Start) (events : List Event) (desktop : Desktop)
@@ -116,8 +146,18 @@ pub fn end_epoch<D: Disk>(alloc: Global, store: &mut Store<D>, end: u32) -> Resu
         → (start : Start) (events : List Event) (desktop : Desktop)
         → KeepsAll D.Disk start events desktop store.old
         → KeepsAll D.Disk start events desktop store.new) }
+    ensures full { IfOk result (λ done. done ≡ false → D.honest store.old.disk
+        → (start : Start) (events : List Event) (desktop : Desktop)
+        → (keeps : KeepsAll D.Disk start events desktop store.old)
+        → HasPageRoom D.Disk end keeps → ⊥) }
+    ensures moments { LeavesDesktop D.Disk store.old store.new }
+    ensures renewed { IfOk result (λ done. done ≡ true → IsRenewed D.Disk store.old store.new) }
+    ensures aside { IfOk result (λ done. done ≡ false → IsAside D.Disk store.old store.new) }
     ensures empty { IfOk result (λ done. done ≡ true → HasJournalRoom store.new) }
     ensures device { IsSameDevice D.Disk store.old.disk store.new.disk }
+    ensures faults { FailsAs Error.Fault OfPost result (D.failures store.old.disk)
+        (D.failures store.new.disk) }
+    ensures errors { CanTurn store.old → IfErr result OfDesktop }
 {
     let Some(past) = write_page(alloc, store, end)? else {
         return Ok(false);
@@ -127,9 +167,13 @@ pub fn end_epoch<D: Disk>(alloc: Global, store: &mut Store<D>, end: u32) -> Resu
     Ok(true)
 }
 
-/// Makes room for an event: where the journal has as many as a page of letters has room for, the epoch ends. False where
-/// there is no room for its page, or where the slot in use has an older version.
-fn make_room<D: Disk>(alloc: Global, store: &mut Store<D>, end: u32) -> Result<bool, Error>
+/// Ends the epoch in use where the half in which its page goes has room for that.
+///
+/// Errors: those of `Store::past` and `end_epoch`.
+fn turn_over<D: Disk>(alloc: Global, store: &mut Store<D>) -> Result<(), Error>
+    requires usable { store.old.must_reopen ≡ false }
+    requires due { IsDueBefore store.old }
+    requires later { store.old.epoch ≢ LAST_EPOCH }
     ensures any_moment { D.honest store.old.disk
         → (start : Start) (events : List Event) (desktop : Desktop)
         → KeepsAll D.Disk start events desktop store.old
@@ -138,45 +182,91 @@ fn make_room<D: Disk>(alloc: Global, store: &mut Store<D>, end: u32) -> Result<b
         → (start : Start) (events : List Event) (desktop : Desktop)
         → KeepsAll D.Disk start events desktop store.old
         → KeepsAll D.Disk start events desktop store.new) }
-    ensures empty { IfOk result (λ done. done ≡ true → HasJournalRoom store.new) }
+    ensures empty { OnOk result (D.honest store.old.disk
+        → (start : Start) (events : List Event) (desktop : Desktop)
+        → (keeps : KeepsAll D.Disk start events desktop store.old) → CanKeep D.Disk keeps
+        → HasJournalRoom store.new) }
+    ensures moments { LeavesDesktop D.Disk store.old store.new }
+    ensures made { OnOk result (IsWayMade D.Disk store.old store.new) }
     ensures device { IsSameDevice D.Disk store.old.disk store.new.disk }
+    ensures faults { FailsAs Error.Fault OfDesktop result (D.failures store.old.disk)
+        (D.failures store.new.disk) }
 {
     store.shows_what_crashes_leave();
-    let info = store.info()?;
-    if info.layout != LAYOUT {
-        return Ok(false);
-    }
-    if info.events >= EPOCH_EVENTS {
-        return end_epoch(alloc, store, end);
-    }
-    Ok(true)
+    let told = store.past()?;
+    let Some(half) = half_at(store.sectors(), told.next) else {
+        return Ok(());
+    };
+    end_epoch(alloc, store, half.end)?;
+    Ok(())
 }
 
-/// Takes one event, and forgets none: as `Store::post`, but where a checkpoint is due the page of the epoch that ends is
-/// written and settled before it. None where there is no room for that page before sector `end`, or where the slot in use
-/// has an older version: then nothing is written, and a past must begin.
+/// Whether a checkpoint is due before the next event, and can be made.
+fn can_turn<D: Disk>(store: &Store<D>) -> bool
+    ensures able { result ≡ true → CanTurn store.now × IsDueBefore store.now }
+    ensures free { result ≡ false → store.now.must_reopen ≡ false
+        → store.now.epoch ≢ LAST_EPOCH → HasJournalRoom store.now }
+{
+    let Ok(info) = store.info() else {
+        return false;
+    };
+    if info.epoch == LAST_EPOCH {
+        return false;
+    }
+    info.events >= JOURNAL_EVENTS || info.layout != LAYOUT
+}
+
+/// Makes way for an event: where a checkpoint is due, the epoch ends with its page, if there is room for that.
 ///
-/// Errors: those of `Store::journal` and `Store::post`.
-pub fn post<D: Disk>(
-    alloc: Global,
-    store: &mut Store<D>,
-    end: u32,
-    event: &Event,
-) -> Result<Option<Reply>, Error>
-    ensures nothing_forgotten { ForgetsNothing D.Disk event.now store.old store.new }
-    ensures kept { IfOk result (λ reply. OnSome reply (D.honest store.old.disk
+/// Errors: `NoMemory` and `Fault`.
+fn make_way<D: Disk>(alloc: Global, store: &mut Store<D>) -> Result<(), Error>
+    ensures any_moment { D.honest store.old.disk
         → (start : Start) (events : List Event) (desktop : Desktop)
         → KeepsAll D.Disk start events desktop store.old
-        → KeepsAll D.Disk start (events ++ event.now ∷ []) (step desktop event.now).desktop
-        store.new)) }
+        → LeavesAll D.Disk start events desktop store.old store.new }
+    ensures ended { OnOk result (D.honest store.old.disk
+        → (start : Start) (events : List Event) (desktop : Desktop)
+        → KeepsAll D.Disk start events desktop store.old
+        → KeepsAll D.Disk start events desktop store.new) }
+    ensures empty { OnOk result (D.honest store.old.disk
+        → (start : Start) (events : List Event) (desktop : Desktop)
+        → (keeps : KeepsAll D.Disk start events desktop store.old)
+        → (IsDueBefore store.old → CanKeep D.Disk keeps) → HasJournalRoom store.new) }
+    ensures moments { LeavesDesktop D.Disk store.old store.new }
+    ensures made { OnOk result (IsWayMade D.Disk store.old store.new) }
+    ensures able { IfErr result (λ e. CanTurn store.old) }
+    ensures device { IsSameDevice D.Disk store.old.disk store.new.disk }
+    ensures faults { FailsAs Error.Fault OfDesktop result (D.failures store.old.disk)
+        (D.failures store.new.disk) }
 {
-    standing_law();
-    if !make_room(alloc, store, end)? {
-        return Ok(None);
-    }
     store.shows_what_crashes_leave();
-    let reply = store.post(alloc, event)?;
-    Ok(Some(reply))
+    if !can_turn(store) {
+        return Ok(());
+    }
+    turn_over(alloc, store)
+}
+
+/// Takes one event as `Store::post` does. Where a checkpoint is due the page of the epoch that ends is written and settled
+/// before it, if the past lies in a half that has room for it: then nothing is forgotten.
+///
+/// Errors: those of `Store::post`; but after a `NoMemory` or `Fault` of a page, which come before the event, the store may
+/// be in use.
+pub fn post<D: Disk>(alloc: Global, store: &mut Store<D>, event: &Event) -> Result<Reply, Error>
+    ensures any_moment { LeavesEither D.Disk event.now store.old store.new }
+    ensures ok { IfOk result (λ reply. IsAcknowledged D.Disk event.now reply store.old
+        store.new) }
+    ensures memory { IsErrOf result Error.NoMemory → LeavesDesktop D.Disk store.old store.new }
+    ensures worn { AnswersWorn result store.old store.new }
+    ensures reopen { AnswersMustReopen result store.old store.new }
+    ensures faults { FailsAs Error.Fault OfPost result (D.failures store.old.disk)
+        (D.failures store.new.disk) }
+    ensures device { IsSameDevice D.Disk store.old.disk store.new.disk }
+    ensures nothing_forgotten { KeepsOn D.Disk event.now store.old store.new }
+    ensures kept { OnOk result (HasKept D.Disk event.now store.old store.new) }
+{
+    make_way(alloc, store)?;
+    store.shows_what_crashes_leave();
+    store.post(alloc, event)
 }
 
 /// Takes the last events back, so many, of the journal in use. None where it has fewer: then nothing is written.

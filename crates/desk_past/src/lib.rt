@@ -7,6 +7,7 @@
 #![tactic(auto)]
 
 mod beginning;
+mod halves;
 mod keeping;
 mod laws;
 mod page;
@@ -15,7 +16,9 @@ mod reading;
 mod sectors;
 
 pub use beginning::begin;
-pub use keeping::{EPOCH_EVENTS, end_epoch, post, undo};
+pub use halves::{HALVES, Half, half_at};
+pub use keeping::{end_epoch, post, undo};
 pub use laws::{one_past_law, present_law};
 pub use page::{EVENTS_PAGE, PAGE_FRONT};
-pub use reading::moment;
+pub use pages::{PageRead, page_in};
+pub use reading::{moment, start_of};

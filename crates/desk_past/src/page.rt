@@ -1,9 +1,11 @@
 //! The bytes of a page.
-ghost use Rattle.std.specs.Prelude.{◌≡◌, ◌+◌, ◌*◌, ◌^◌, ◌<◌, ◌≤◌, ◌++◌, false, length, IfOk, IfNone, IfSome, OnOk};
+ghost use Rattle.std.specs.Prelude.{◌≡◌, ◌+◌, ◌*◌, ◌^◌, ◌<◌, ◌≤◌, ◌++◌, false, length, true, IfErr, IfOk, IfNone, IfSome, IsErrOf, OnOk};
 ghost use Rattle.sector_disk.specs.declared.disk.TheConstants.{SECTOR_BYTES};
 ghost use Rattle.sector_disk.specs.Stored.{last_sector};
 ghost use Rattle.store_layout.specs.Meaning.{Standing};
-ghost use Rattle.desk_journal.specs.Undoing.{IsLeft, ShowsStanding};
+ghost use Rattle.sector_disk.specs.Faults.{FailsAs};
+ghost use Rattle.store_slots.specs.Errors.{OfLook};
+ghost use Rattle.desk_journal.specs.Undoing.{IsLeft, OfUndo, ShowsStanding};
 ghost use Rattle.desk_past.specs.declared.page.TheConstants.{EVENTS_PAGE, MOST_SPELLED};
 ghost use Rattle.desk_past.specs.Page.{number, page_bytes};
 ghost use Rattle.desk_past.specs.Past.{journal_of};
@@ -51,11 +53,42 @@ pub fn journal_page<D: Disk>(alloc: Global, store: &mut Store<D>) -> Result<Vec<
     ensures looks { IsLeft D.Disk store.old store.new }
     ensures usable { store.new.must_reopen ≡ store.old.must_reopen }
     ensures in_use { OnOk result (store.old.must_reopen ≡ false) }
+    ensures stops { D.honest store.old.disk → IfErr result OfLook }
+    ensures faults { FailsAs Error.Fault OfUndo result (D.failures store.old.disk)
+        (D.failures store.new.disk) }
+    ensures open { IsErrOf result Error.MustReopen → store.old.must_reopen ≡ true }
 {
     standing_law();
     let info = store.info()?;
     let events = store.journal(alloc)?;
     Ok(page_of(alloc, info.layout, info.events, events.as_slice())?)
+}
+
+/// The same, or none where the journal can't be read, over a disk that isn't honest.
+///
+/// Errors: `MustReopen`; `NoMemory`; `Fault`.
+pub(crate) fn page_read<D: Disk>(
+    alloc: Global,
+    store: &mut Store<D>,
+) -> Result<Option<Vec<u8>>, Error>
+    ensures page { IfOk result (λ found. IfSome found (λ bytes. D.honest store.old.disk
+        → (s : Standing) → ShowsStanding D.Disk store.old s
+        → bytes.items ≡ page_bytes (journal_of s))) }
+    ensures short { IfOk result (λ found. IfSome found (λ bytes. length bytes.items < 2 ^ 32)) }
+    ensures none { IfOk result (λ found. IfNone found (¬ D.honest store.old.disk)) }
+    ensures looks { IsLeft D.Disk store.old store.new }
+    ensures usable { store.new.must_reopen ≡ store.old.must_reopen }
+    ensures faults { FailsAs Error.Fault OfLook result (D.failures store.old.disk)
+        (D.failures store.new.disk) }
+    ensures open { IsErrOf result Error.MustReopen → store.old.must_reopen ≡ true }
+{
+    match journal_page(alloc, store) {
+        Ok(bytes) => Ok(Some(bytes)),
+        Err(Error::MustReopen) => Err(Error::MustReopen),
+        Err(Error::NoMemory) => Err(Error::NoMemory),
+        Err(Error::Fault) => Err(Error::Fault),
+        Err(_) => Ok(None),
+    }
 }
 
 /// In how many sectors so many bytes stand. None where there are too many to be counted.

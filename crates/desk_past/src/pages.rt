@@ -1,5 +1,5 @@
 //! Pages that are read.
-ghost use Rattle.std.specs.Prelude.{◌≡◌, ◌+◌, ◌≤◌, ◌<◌, ◌++◌, ℕ, List, drop, false, length, take, IfNone, IfOk, IfSome, IsSomeAnd};
+ghost use Rattle.std.specs.Prelude.{◌≡◌, ◌+◌, ◌≤◌, ◌<◌, ◌++◌, ℕ, List, drop, false, length, take, IfNone, IfOk, IfSome, IsSomeAnd, OnOk};
 ghost use Rattle.std.specs.Int.{from_be_bytes, w32};
 ghost use Rattle.sector_disk.specs.Trail.{now};
 ghost use Rattle.event_bytes.specs.declared.event.Event.{Event};
@@ -21,9 +21,9 @@ use store_layout::LAYOUT;
 
 /// A page that was read: its events, and the sector behind it.
 #[derive(Drop)]
-pub(crate) struct PageRead {
-    pub(crate) events: Vec<Event>,
-    pub(crate) next: u32,
+pub struct PageRead {
+    pub events: Vec<Event>,
+    pub next: u32,
 }
 
 /// What stands before the events of a page: how many there are, and in how many bytes they are spelled.
@@ -113,4 +113,28 @@ pub(crate) fn page_at<D: Disk>(
         events,
         next: at + sectors,
     }))
+}
+
+/// The page in sector `at` of a past that ends before sector `end`. None where none stands there.
+///
+/// Errors: those of `Store::read_behind`; `NoMemory`.
+pub fn page_in<D: Disk>(
+    alloc: Global,
+    store: &mut Store<D>,
+    at: u32,
+    end: u32,
+) -> Result<Option<PageRead>, Error>
+    ensures found { IfOk result (λ found. D.honest store.old.disk → (p : Page)
+        → HasPage (now (D.trail store.old.disk)).reads at end p → end ≤ D.size store.old.disk
+        → IsSomeAnd found (λ x. (x.events.items ≡ p.events) × (x.next ≡ at + page_sectors p))) }
+    ensures later { IfOk result (λ found. IfSome found (λ x. (at < x.next) × (x.next ≤ end))) }
+    ensures still { OnOk result (IsOnlyReadFrom D.Disk store.old store.new) }
+{
+    if store.info().is_err() {
+        return Err(Error::MustReopen);
+    }
+    if end > store.sectors() {
+        return Ok(None);
+    }
+    page_at(alloc, store, at, end)
 }

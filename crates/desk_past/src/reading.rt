@@ -66,6 +66,34 @@ pub(crate) fn events_before<D: Disk>(store: &mut Store<D>) -> Result<Option<u64>
     Ok(told.before.checked_add(info.events as u64))
 }
 
+/// The start in sector `base` as a store on another disk, and how many events came before it. None where the disk is too
+/// short, or where they are too many to be counted.
+///
+/// Errors: those of `Store::read_behind` and `Store::open`: `NotAStore` and `Damaged` where none stands there.
+pub fn start_of<D: Disk, E: Disk + Drop>(
+    alloc: Global,
+    store: &mut Store<D>,
+    base: u32,
+    disk: E,
+) -> Result<Option<(Store<E>, u64)>, Error>
+    requires { STORE_SECTORS ≤ E.size disk }
+    ensures still { OnOk result (IsOnlyReadFrom D.Disk store.old store.new) }
+{
+    store.shows_what_crashes_leave();
+    if store.info().is_err() {
+        return Err(Error::MustReopen);
+    }
+    let sectors = store.sectors();
+    if sectors < STORE_SECTORS || base > sectors - STORE_SECTORS {
+        return Ok(None);
+    }
+    let mut shown = opened_at(alloc, store, base, disk)?;
+    match events_before(&mut shown)? {
+        None => Ok(None),
+        Some(before) => Ok(Some((shown, before))),
+    }
+}
+
 /// Posts the events, one after another.
 ///
 /// Errors: those of `Store::post`.

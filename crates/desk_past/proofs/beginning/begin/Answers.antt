@@ -7,11 +7,7 @@ use Rattle.desk_past.proofs.Begun.{spares_shows, still_remembered}
 use Rattle.desk_past.proofs.beginning.begin.Goals as goal
 
 pub make_start-requires : goal.make_start-requires
-make_start-requires g c = record {
-  behind = c.requires.behind;
-  numbered = c.requires.numbered;
-  room = c.requires.room;
-}
+make_start-requires g c = c.requires
 
 pub returns-in_err-before-clause-any_moment : goal.returns-in_err-before-clause-any_moment
 returns-in_err-before-clause-any_moment g c = desktop_kept g.D.Disk c.args.base c.args.store.now c.make_start.new.store

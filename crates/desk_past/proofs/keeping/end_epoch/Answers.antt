@@ -1,5 +1,5 @@
-use Rattle.std.proofs.Common.{refl}
 use Rattle.desk_past.proofs.Remembering.{leaves_then, turn_keeps, turn_moments}
+use Rattle.desk_past.proofs.Begun.{desktop_then, renewed_aside, same_both}
 use Rattle.desk_past.proofs.keeping.end_epoch.Goals as goal
 
 pub returns-in_err-checkpoint_with-clause-any_moment : goal.returns-in_err-checkpoint_with-clause-any_moment
@@ -32,3 +32,17 @@ returns-clause-ended g c = λ honest start events desktop keeps.
     let quiet = c.shows_what_crashes_leave.ensures.quiet fresh.keeps.usable second in
     turn_keeps d fresh second quiet c.checkpoint_with.new.self c.checkpoint_with.ensures.behaves.within
     c.in_ok-checkpoint_with.ensures.ok.usable c.in_ok-checkpoint_with.ensures.next.shows
+
+pub returns-in_err-checkpoint_with-clause-moments : goal.returns-in_err-checkpoint_with-clause-moments
+returns-in_err-checkpoint_with-clause-moments g c = desktop_then g.D.Disk c.checkpoint_with.new.self
+    c.write_page.ensures.device c.write_page.ensures.moments c.in_ok-past.ensures.aside
+    c.checkpoint_with.ensures.any_moment
+
+pub returns-clause-moments : goal.returns-clause-moments
+returns-clause-moments g c = desktop_then g.D.Disk c.checkpoint_with.new.self
+    c.write_page.ensures.device c.write_page.ensures.moments c.in_ok-past.ensures.aside
+    c.checkpoint_with.ensures.any_moment
+
+pub returns-clause-renewed : goal.returns-clause-renewed
+returns-clause-renewed g c = λ is. renewed_aside g.D.Disk c.write_page.ensures.device c.in_ok-past.ensures.aside
+    c.in_ok-checkpoint_with.ensures.ok

@@ -1,8 +1,10 @@
-use Rattle.std.proofs.Common.{◌∙◌}
+use Rattle.std.proofs.Common.{◌∙◌, arith}
+use Rattle.store_layout.specs.declared.layout.TheConstants.{STORE_SECTORS}
 use Rattle.std.proofs.lemmas.Option.{IfSome_then}
 use Rattle.std.proofs.lemmas.Result.{IfOk-weaker}
 use Rattle.desk_past.proofs.Told.{none_then}
-use Rattle.desk_past.proofs.Remembering.{leaves_then, read_keeps, read_moments, told_still}
+use Rattle.desk_past.proofs.Remembering.{leaves_then, read_keeps, read_moments, told_room_still, told_still}
+use Rattle.desk_past.proofs.Begun.{aside_looked, desktop_spared, desktop_then, spared_read}
 use Rattle.desk_past.proofs.keeping.write_page.Goals as goal
 
 pub returns-in_err-told-clause-any_moment : goal.returns-in_err-told-clause-any_moment
@@ -35,3 +37,27 @@ returns-clause-none g c = IfOk-weaker c.write_page_at.result _ _
     kept (c.past.ensures.looks.disk.device.still honest) start events desktop
     (read_keeps g.D.Disk keeps honest (c.shows_what_crashes_leave.ensures.quiet keeps.usable honest)
     c.past.ensures.looks.disk (c.past.ensures.looks.usable ∙ keeps.usable)))) c.write_page_at.ensures.none
+
+pub returns-clause-full : goal.returns-clause-full
+returns-clause-full g c = IfOk-weaker c.write_page_at.result _ _
+    (λ found fact. none_then found fact (λ full honest start events desktop keeps room.
+    told_room_still g.D.Disk keeps honest (c.shows_what_crashes_leave.ensures.quiet keeps.usable honest) c.past.new.self
+    c.past.ensures.looks.disk (c.past.ensures.looks.usable ∙ keeps.usable) c.args.end _
+    (c.in_ok-told.ensures.told honest keeps.remembers.standing keeps.remembers.past.stands) room
+    (full (c.past.ensures.looks.disk.device.still honest) start events desktop))) c.write_page_at.ensures.full
+
+pub returns-in_err-told-clause-moments : goal.returns-in_err-told-clause-moments
+returns-in_err-told-clause-moments g c = desktop_spared g.D.Disk STORE_SECTORS 0 c.args.store.now c.past.new.self
+    (omega arith) c.shows_what_crashes_leave.ensures.durable
+    (spared_read g.D.Disk STORE_SECTORS 0 c.past.ensures.looks.disk c.shows_what_crashes_leave.ensures.quiet)
+
+pub returns-clause-moments : goal.returns-clause-moments
+returns-clause-moments g c = λ usable honest.
+    let d = g.D.Disk in
+    let run = c.past.ensures.looks.disk in
+    desktop_then d c.write_page_at.new.store run.device
+    (desktop_spared d STORE_SECTORS 0 c.args.store.now c.past.new.self (omega arith)
+    c.shows_what_crashes_leave.ensures.durable
+    (spared_read d STORE_SECTORS 0 run c.shows_what_crashes_leave.ensures.quiet))
+    (aside_looked d c.past.result usable c.past.ensures.looks) c.write_page_at.ensures.moments
+    usable honest
