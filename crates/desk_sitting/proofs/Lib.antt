@@ -1,7 +1,6 @@
 pub mod Accepted
 pub mod Between
 pub mod Carrying
-pub mod Clipping
 pub mod Done
 pub mod Pressed
 pub mod Seen

@@ -56,6 +56,7 @@ use Rattle.press_plans.specs.Plans.{Plan, Aims, Events, PutsAway, Refused as Not
 use Rattle.desk_sitting.specs.Travelling.{IsBetween}
 use Rattle.desk_sitting.specs.Travels.{Travelled, did_again, goes_again, is_unmoved, none_again, settled, store_place, took_back}
 use Rattle.desk_sitting.specs.Travels.{none as not_asked, back, nothing, again}
+use Rattle.desk_sitting.specs.Twice.{is_missed}
 use Rattle.desk_sitting.specs.Clips.{clip_saying, clip_sent, clip_told, copied_text}
 use Rattle.desk_sitting.specs.TheDesk.{◌>>=◌, the_desk}
 
@@ -354,6 +355,7 @@ module _ (known : List (List Face)) (held : Option (List ℕ)) where
         rings = now.rings;
         forgets = now.forgets;
         asks = now.asks;
+        copies = now.copies;
       })) in
       subst (λ (t : Seat). IsSeen the_desk t.sitting (shown_screen t.session.desktop) known held) (sym same) (record {
         scene = before.scene;
@@ -366,6 +368,7 @@ module _ (known : List (List Face)) (held : Option (List ℕ)) where
         paints = before.paints;
         rings = before.rings;
         asks = before.asks;
+        clip = before.clip;
         after = before.after;
       })
 
@@ -427,7 +430,10 @@ replied_due : (event : Event) (reply : Reply) (s : Sitting) → IsDue (replied e
 unfolding replied
 replied_due event Done s = follows_due (replied event Done s) refl
 replied_due event (No code) s =
-    turned_due s.typed (refused_saying event code) (unplaced (record s { past = with_refused s.past }))
+    turned_due s.typed (refused_saying event code) (unplaced (record s {
+      past = with_refused s.past;
+      missed = is_missed (No code);
+    }))
 
 either_due : (b : Bool) (x y : Sitting) → IsDue x → IsDue y → IsDue (if b then x else y)
 either_due true x y one other = one

@@ -434,11 +434,11 @@ hand_posts true fills e = over_posts fills e
 hand_posts false fills e = posts_by (middle_click e) fills e (itself e)
 
 -- and of a second click
-or_word_posts : (e : Event) (again : Option (ℕ × ℕ)) (fills : Filling) (over : Bool) (replacement : Option TypingView)
-    (sight : Sight) → IfSome (task_or_word again fills over replacement sight (action.Post e)) (Posts (middle_click e))
+or_word_posts : (e : Event) (again : Option (ℕ × ℕ)) (fills : Filling) (selects : Bool) (typed : Option TypingView)
+    (sight : Sight) → IfSome (task_or_word again fills selects typed sight (action.Post e)) (Posts (middle_click e))
 unfolding task_of
-or_word_posts e (Some cell) fills over replacement sight = word cell
-or_word_posts e None fills over replacement sight = hand_posts over fills e
+or_word_posts e (Some cell) fills b typed sight = word cell
+or_word_posts e None fills b typed sight = hand_posts b fills e
 
 -- ---- what is wished of the caret
 

@@ -1,7 +1,7 @@
 -- What a turn comes to, outcome by outcome.
 use Rattle.std.proofs.Common.{◌≡◌, ◌≢◌, ◌∙◌, ℕ, ◌<◌, List, [], ◌++◌, Option, Ok, Err, ap, sym, subst, inl, inr}
 use Rattle.std.proofs.Common.{append-nil, refl, true, false}
-use Rattle.std.specs.Prelude.{Result, OnErr, OnOk, IfErr, length, ◌≤◌}
+use Rattle.std.specs.Prelude.{Result, OnErr, IfErr, length, ◌≤◌}
 use Rattle.byte_streams.specs.Counting.{CountsFault, RisesWhere}
 use Rattle.byte_streams.specs.Sent.{AppendsFront}
 use Rattle.sector_disk.specs.declared.disk.Disk.{Ghosts}
@@ -106,22 +106,6 @@ module _ (s s' : Sitting) (screen screen' : List (List Cell)) (clip : List ℕ) 
       subst (λ e. IsUnshown the_desk e s screen clip known held held') (sym is) (behind_it
       (subst (λ x. IsScenePainted the_desk (looked x s) x (known_by s.forgets known) known' held between) (shows h)
       (subst (λ t. IsScenePainted the_desk t screen' (known_by s.forgets known) known' held between) looks painted)) front)
-
--- what is said over what a look leaves, it says over what was there before
-module _ {H H' A B C : Type 0} (still : H → H') {a a' : A} {b b' : B} {c c' : C} (one : H → a' ≡ a) (two : H → b' ≡ b)
-    (three : H → c' ≡ c) where
-  moved : (P : A → B → C → Type 0) → H → P a' b' c' → P a b c
-  moved P h p = subst (λ z. P a b z) (three h) (subst (λ y. P a y c') (two h) (subst (λ x. P x b' c') (one h) p))
-
-  pub ok_before : {T : Type 0} (result : Result T SittingEnd) (P : A → B → C → Type 0) → OnOk result (H' → P a' b' c')
-      → OnOk result (H → P a b c)
-  ok_before (Ok value) P fact = λ h. moved P h (fact (still h))
-  ok_before (Err end) P fact = tt
-
-  pub err_before : {T : Type 0} (result : Result T SittingEnd) (P : SittingEnd → A → B → C → Type 0)
-      → IfErr result (λ end. H' → P end a' b' c') → IfErr result (λ end. H → P end a b c)
-  err_before (Ok value) P fact = tt
-  err_before (Err end) P fact = λ h. moved (P end) h (fact (still h))
 
 -- ---- failures
 

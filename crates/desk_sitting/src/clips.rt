@@ -1,5 +1,5 @@
 //! What the clipboard of the terminal is given of what is copied.
-ghost use Rattle.std.specs.Prelude.{◌≡◌, IfOk, IfErr, true, length};
+ghost use Rattle.std.specs.Prelude.{◌≡◌, IfOk, IfErr, true, false, length};
 ghost use Rattle.event_bytes.specs.Bytes.{lies_within};
 ghost use Rattle.desk_journal.specs.Errors.{NoMemory};
 ghost use Rattle.desk_journal.specs.Looking.{OnlyLooks};

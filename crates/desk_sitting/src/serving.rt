@@ -378,7 +378,8 @@ fn ring_and_ask<W: AnswerWriter>(writer: &mut W, rings: bool, asks: bool) -> Res
     ensures cause { CountsFault result (W.failures writer.old) (W.failures writer.new) }
 {
     ring_if(writer, rings)?;
-    ask_if(writer, asks)
+    ask_if(writer, asks)?;
+    Ok(())
 }
 
 /// Sends this to the clipboard of the terminal, where it is anything.

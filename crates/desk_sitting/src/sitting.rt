@@ -20,7 +20,7 @@ ghost use Rattle.desk_sitting.specs.Sittings.{meant_by, task_or_word, with_hand}
 ghost use Rattle.press_plans.specs.Plans.{seen_plan};
 
 use crate::clips::is_copying;
-use crate::twice::{action_meant, cell_again, cell_clicked, cell_kept, is_no_deed};
+use crate::twice::{cell_again, cell_clicked, cell_kept, hand_meant, still_missed};
 use desk_journal::{Error, Store};
 use desktop_definitions::Reply;
 use desktop_definitions::codes::NOT_FOUND;
@@ -332,8 +332,8 @@ impl Sitting {
             None
         };
         self.joins = pastes && self.joins;
-        let action = action_meant(self.missed, self.hand.take(self.sight, press));
-        self.missed = self.missed && is_no_deed(&action);
+        let action = hand_meant(&mut self.hand, self.missed, self.sight, press);
+        self.missed = still_missed(self.missed, &action);
         self.follows = self.hand.pointer().is_some() || self.follows;
         let is_still = is_nothing(&action) && is_unseen(&self.hand) && stays;
         self.changed = self.changed || !is_still;

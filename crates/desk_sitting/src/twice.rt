@@ -1,10 +1,11 @@
 //! What a press is by the one before it: a second click at a cell, and a search behind one that found nothing.
-ghost use Rattle.std.specs.Prelude.{◌≡◌};
+ghost use Rattle.std.specs.Prelude.{◌≡◌, ◌&&◌};
+ghost use Rattle.terminal_presses.specs.Hands.{handled};
 ghost use Rattle.desk_sitting.specs.Twice.{action_meant, cell_again, cell_clicked, cell_kept, cell_pointed, is_same_cell};
 ghost use Rattle.desk_sitting.specs.Twice.{is_no_deed};
 
 use event_bytes::{Event, Keys};
-use terminal_presses::{Action, Scroll};
+use terminal_presses::{Action, Hand, Press, Scroll, Sight};
 
 /// The cell of a left click, which goes down and up there.
 fn cell_pointed(event: &Event) -> Option<(u8, u8)>
@@ -50,7 +51,7 @@ pub(crate) fn cell_again(clicked: Option<(u8, u8)>, before: Option<(u8, u8)>) ->
 }
 
 /// Whether it is no press between two others: it comes to nothing yet, or is done to the terminal alone.
-pub(crate) fn is_no_deed(action: &Action) -> bool
+fn is_no_deed(action: &Action) -> bool
     ensures { result ≡ is_no_deed action.now }
 {
     matches!(
@@ -75,11 +76,26 @@ pub(crate) fn cell_kept(action: &Action, before: Option<(u8, u8)>) -> Option<(u8
 }
 
 /// What a press means: a search behind one that found nothing goes to the beginning of the text.
-pub(crate) fn action_meant(missed: bool, action: Action) -> Action
+fn action_meant(missed: bool, action: Action) -> Action
     ensures { result ≡ action_meant missed action }
 {
     match action {
         Action::Search if missed => Action::Scroll(None, Scroll::First),
         other => other,
     }
+}
+
+/// The hand takes a press, and says what it means behind a search that found nothing, or behind none.
+pub(crate) fn hand_meant(hand: &mut Hand, missed: bool, sight: Sight, press: Press) -> Action
+    ensures state { hand.new ≡ (handled sight press hand.old).0 }
+    ensures answer { result ≡ action_meant missed (handled sight press hand.old).1 }
+{
+    action_meant(missed, hand.take(sight, press))
+}
+
+/// Whether a search found nothing right before, after another press.
+pub(crate) fn still_missed(missed: bool, action: &Action) -> bool
+    ensures { result ≡ missed && is_no_deed action.now }
+{
+    missed && is_no_deed(action)
 }
