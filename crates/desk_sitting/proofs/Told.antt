@@ -1,6 +1,6 @@
 -- Each click of the middle button that a press posts was told.
-use Rattle.std.proofs.Common.{ℕ, zero, suc, Bool, true, false, List, [], ◌∷◌, ◌++◌, length, refl, sym, subst}
-use Rattle.std.specs.Prelude.{◌-◌, Option, Some, None, IfSome, All, if◌then◌else◌, option_map, nat_lt, ◌&&◌, ◌≡◌, ◌==◌, ok_or, Result, Ok, Err, IfOk}
+use Rattle.std.proofs.Common.{ℕ, zero, suc, Bool, true, false, List, [], ◌∷◌, ◌++◌, length, take, refl, sym, subst}
+use Rattle.std.specs.Prelude.{◌-◌, drop, min, Option, Some, None, IfSome, All, if◌then◌else◌, option_map, nat_lt, ◌&&◌, ◌≡◌, ◌==◌, ok_or, Result, Ok, Err, IfOk}
 use Rattle.std.proofs.lemmas.List.Elements.{All-append, All-cons, All-head, All-nil, All-tail}
 use Rattle.event_bytes.specs.declared.event.Event.{Event}
 use Rattle.event_bytes.specs.declared.event.Event.TheVariants as event
@@ -19,7 +19,8 @@ use Rattle.caret_moves.specs.declared.wish.CaretCommand.TheVariants as caret
 use Rattle.caret_moves.specs.declared.wish.KeyWish.{KeyWish}
 use Rattle.caret_moves.specs.declared.wish.KeyWish.TheVariants.{Call, CallLine, CutSelected, Mark as MarkWish, Break, Place}
 use Rattle.caret_moves.specs.declared.wish.WhyNot.{WhyNot}
-use Rattle.caret_moves.specs.declared.wish.WhyNot.TheVariants.{NoCaret, NoRow, NoWord, NotInSight, NothingThere, PastEdge}
+use Rattle.caret_moves.specs.declared.wish.WhyNot.TheVariants.{NoBreak, NoCaret, NoRow, NoWord, NothingBehind, NothingThere}
+use Rattle.caret_moves.specs.declared.wish.WhyNot.TheVariants.{NotInSight, PastEdge, TooFar}
 use Rattle.caret_moves.specs.Calling.{call_by, call_led, line_word, mark_cell, middle_press, word_cell}
 use Rattle.caret_moves.specs.Stretches.{drag_by, selected_up_to}
 use Rattle.caret_moves.proofs.NearLaws.{near_click}
@@ -33,6 +34,10 @@ use Rattle.status_line.specs.Deeds.{deed_of, is_middle}
 use Rattle.screen_reading.specs.Frames.{text_start}
 use Rattle.status_line.specs.declared.clicks.MiddleClick.{MiddleClick}
 use Rattle.status_line.specs.Clicks.{click_in, middle_click}
+use Rattle.press_plans.specs.declared.task.Filling.{Filling}
+use Rattle.press_plans.specs.declared.task.Filling.TheVariants.{Letters, Off, Pasted}
+use Rattle.press_plans.specs.declared.task.Stage.{Stage}
+use Rattle.press_plans.specs.declared.task.Stage.TheVariants.{First, Back, On}
 use Rattle.press_plans.specs.declared.task.Task.{Task}
 use Rattle.press_plans.specs.declared.task.Task.TheVariants as kind
 use Rattle.press_plans.specs.Listed.{event_meant, lacks_tool}
@@ -42,6 +47,8 @@ use Rattle.press_plans.specs.Plans.{click_of, enter_plan, is_call, opened_viewer
 use Rattle.press_plans.specs.Tasks.{calling_wish, posted, posting, posting_over, task_of, typed_task}
 use Rattle.desk_sitting.specs.Questions.{click_led, click_made}
 use Rattle.press_plans.specs.Plans.{posted_plan, type_plan, unbroken_plan, broken_plan, placed_plan}
+use Rattle.press_plans.specs.Plans.{column_clicked, from_column, front_plan, poured_plan, room_plan, standing, typable}
+use Rattle.press_plans.specs.Poured.{poured_at, word_length}
 use Rattle.press_plans.specs.Filling.{room_if, place_behind, is_place}
 use Rattle.press_plans.specs.Replacing.{TypingView, first_typed, first_byte_typed, rest_typed, typed_behind, nothing_typed}
 use Rattle.status_line.specs.declared.deed.Deed.{Deed}
@@ -61,7 +68,8 @@ module _ (told : Option MiddleClick) where
     reveal : (cell : ℕ × ℕ) → Posts (kind.Reveal cell)
     types : (t : TypingView) (fills : Bool) (deed : Deed) → Posts (kind.TypeOn t fills deed)
     goes_back : (place : ℕ) (t : TypingView) (fills : Bool) (deed : Deed) → Posts (kind.GoBack place t fills deed)
-    over : (e : Event) (fills : Bool) → Told e → Posts (kind.TypeOver e fills)
+    over : (e : Event) (fills : Filling) → Told e → Posts (kind.TypeOver e fills)
+    pours : (stage : Stage) (bytes : List ℕ) (typed : ℕ) → Posts (kind.Pour stage bytes typed)
     erase : Posts (kind.Erase false)
 
   abbrev next_of : Plan → Option Task
@@ -230,10 +238,48 @@ module _ (told : Option MiddleClick) where
   by_room (Some n) next t fills deed d told =
       breaking (led d (Break n)) (place_behind d) next t fills deed (broken_told d n) told
 
-  placing : (wish : KeyWish) (result : Result (List Event) WhyNot) (t : TypingView) (fills : Bool) (deed : Deed)
-      → IfOk result (λ events. All Told events) → IsTelling (placed_plan wish result (kind.TypeOn t fills deed))
-  placing wish (Ok events) t fills deed all = record { events = all; next = types t fills deed }
-  placing wish (Err why) t fills deed all = record { events = nothing; next = tt }
+  placing : (wish : KeyWish) (result : Result (List Event) WhyNot) (next : Task) → Posts next
+      → IfOk result (λ events. All Told events) → IsTelling (placed_plan wish result next)
+  placing wish (Ok events) next posts all = record { events = all; next = posts }
+  placing wish (Err why) next posts all = record { events = nothing; next = tt }
+
+  -- ---- what is pasted
+
+  rooming : (result : Result (List Event) WhyNot) (place : ℕ) (bytes : List ℕ) (typed : ℕ)
+      → IfOk result (λ events. All Told events) → IsTelling (room_plan result place bytes typed)
+  rooming (Ok events) place bytes typed all = record { events = all; next = pours (Back place) bytes typed }
+  rooming (Err why) place bytes typed all = record { events = nothing; next = pours On bytes typed }
+
+  fronting : (bytes : Option (List ℕ)) (next : Option Task) → IfSome next Posts → IsTelling (front_plan bytes next)
+  fronting None next posts = empty_telling
+  fronting (Some bytes) next posts = record { events = one (event.Typed bytes) tt; next = posts }
+
+  more_posts : (o : Option (List ℕ)) → IfSome (option_map (λ (more : List ℕ). kind.Post (event.Typed more)) o) Posts
+  more_posts None = tt
+  more_posts (Some more) = post (event.Typed more) tt
+
+  more_pours : (n : ℕ) (o : Option (List ℕ)) → IfSome (option_map (λ (more : List ℕ). kind.Pour First more n) o) Posts
+  more_pours n None = tt
+  more_pours n (Some more) = pours First more n
+
+  as_it_is : (bytes : List ℕ) → IsTelling (Events (event.Typed bytes ∷ []) None)
+  as_it_is bytes = record { events = one (event.Typed bytes) tt; next = tt }
+
+  columned : (column : Option ℕ) (bytes : List ℕ) → IsTelling (from_column column bytes)
+  columned None bytes = as_it_is bytes
+  columned (Some x) bytes = fronting (typable (take 900 (poured_at x bytes))) _ (more_posts (typable (drop 900 (poured_at x bytes))))
+
+  pouring : (r : Result (List Event) WhyNot) (bytes : List ℕ) (typed : ℕ) → IsTelling (poured_plan r bytes typed)
+  pouring (Ok events) bytes typed = columned (column_clicked events) bytes
+  pouring (Err NotInSight) bytes typed = fronting (typable (take 1 bytes)) _ (more_pours _ (typable (drop 1 bytes)))
+  pouring (Err NoCaret) bytes typed = as_it_is bytes
+  pouring (Err NoRow) bytes typed = as_it_is bytes
+  pouring (Err TooFar) bytes typed = as_it_is bytes
+  pouring (Err NothingBehind) bytes typed = as_it_is bytes
+  pouring (Err PastEdge) bytes typed = as_it_is bytes
+  pouring (Err NoWord) bytes typed = as_it_is bytes
+  pouring (Err NothingThere) bytes typed = as_it_is bytes
+  pouring (Err NoBreak) bytes typed = as_it_is bytes
 
   -- ---- what cuts what is selected up to the caret
 
@@ -268,8 +314,10 @@ module _ (told : Option MiddleClick) where
   erases (Ok events) all = record { events = all; next = tt }
   erases (Err why) all = record { events = nothing; next = post (event.Key key.Back) tt }
 
-  posts_by : (fills : Bool) (e : Event) → Told e → Posts (posting fills e)
-  posts_by fills (event.Typed bytes) t = by_count (fills && (length bytes == 1))
+  posts_by : (fills : Filling) (e : Event) → Told e → Posts (posting fills e)
+  posts_by Off (event.Typed bytes) t = post (event.Typed bytes) tt
+  posts_by (Pasted typed) (event.Typed bytes) t = pours First bytes typed
+  posts_by Letters (event.Typed bytes) t = by_count (length bytes == 1)
     where
       by_room_left : (t : Option TypingView) → Posts (typed_task t bytes)
       by_room_left None = post (event.Typed bytes) tt
@@ -299,7 +347,13 @@ module _ (told : Option MiddleClick) where
       by_room (room_if fills (first_typed t)) (first_typed t) t fills deed d (first_event_told t)
   telling _ d (goes_back place t fills deed) = chosen (is_place place (desk_info d).caret_position) _ _
       (record { events = nothing; next = types t fills deed })
-      (placing (Place place) (led d (Place place)) t fills deed (placed_told d place))
+      (placing (Place place) (led d (Place place)) (kind.TypeOn t fills deed) (types t fills deed) (placed_told d place))
+  telling _ d (pours First bytes typed) = let n : ℕ = min (word_length bytes) 255 in
+      rooming (led d (Break n)) (place_behind d) bytes typed (broken_told d n)
+  telling _ d (pours (Back place) bytes typed) = chosen (is_place place (desk_info d).caret_position) _ _
+      (record { events = nothing; next = pours On bytes typed })
+      (placing (Place place) (led d (Place place)) (kind.Pour On bytes typed) (pours On bytes typed) (placed_told d place))
+  telling _ d (pours On bytes typed) = pouring (led d (Place (standing d))) bytes typed
   telling _ d (over e fills t) = typing_over (posting fills e) (posts_by fills e t) (led d CutSelected) (cut_wish_told d)
   telling _ d erase = erases (led d CutSelected) (cut_wish_told d)
 
@@ -342,7 +396,7 @@ itself (event.Point keys.RightLeft x0 y0 x1 y1) = tt
 itself (event.Point keys.RightMiddle x0 y0 x1 y1) = tt
 itself (event.File name bytes) = tt
 
-over_posts : (fills : Bool) (e : Event) → Posts (middle_click e) (posting_over fills e)
+over_posts : (fills : Filling) (e : Event) → Posts (middle_click e) (posting_over fills e)
 over_posts fills (event.Typed bytes) = over (event.Typed bytes) fills tt
 over_posts fills (event.Key key.Back) = erase
 over_posts fills (event.Key key.Copy) = post (event.Key key.Copy) tt
@@ -353,7 +407,7 @@ over_posts fills (event.Mark x y) = post (event.Mark x y) tt
 over_posts fills (event.Point keys x0 y0 x1 y1) = post _ (itself (event.Point keys x0 y0 x1 y1))
 over_posts fills (event.File name bytes) = post (event.File name bytes) tt
 
-hand_posts : (over fills : Bool) (e : Event) → Posts (middle_click e) (posted over fills e)
+hand_posts : (over : Bool) (fills : Filling) (e : Event) → Posts (middle_click e) (posted over fills e)
 hand_posts true fills e = over_posts fills e
 hand_posts false fills e = posts_by (middle_click e) fills e (itself e)
 

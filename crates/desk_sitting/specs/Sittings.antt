@@ -36,6 +36,8 @@ use Rattle.status_line.specs.Question.{asks_to_leave, comes_first}
 use Rattle.status_line.specs.Choosing.{came_to, done_saying, first_saying, fitted_saying, fill_saying, refused_saying}
 use Rattle.status_line.specs.Sayings.{resting_of}
 use Rattle.screen_reading.specs.Aims.{caret_cell, or_else}
+use Rattle.press_plans.specs.declared.task.Filling.{Filling}
+use Rattle.press_plans.specs.declared.task.Filling.TheVariants.{Off, Letters, Pasted}
 use Rattle.press_plans.specs.declared.task.Task.{Task}
 use Rattle.press_plans.specs.declared.task.TheConstants.{MOST_PLANS}
 use Rattle.press_plans.specs.Tasks.{calling_wish, deed_of_task, keeps_sight, task_of}
@@ -280,14 +282,18 @@ abbrev pub done_so : Option Task → Action → Seat → Seat
 done_so None a seat = record seat { sitting = acted_alone a seat.sitting }
 done_so (Some task) a seat = after_task most_plans (Some task) seat
 
--- whether what is typed may break a line: a paste breaks none
-abbrev pub is_filling : Sitting → Bool
-is_filling s = s.fills && not (is_some s.typed)
+-- how what is typed breaks a line: a letter, or a paste of which so many characters are typed
+abbrev pub filled_by : Option ℕ → Filling
+filled_by None = Letters
+filled_by (Some typed) = Pasted typed
+
+abbrev pub filling : Sitting → Filling
+filling s = if s.fills then filled_by s.typed else Off
 
 -- the task of a press in a sitting
 abbrev pub task_in : Sitting → Action → Option Task
 task_in s a =
-    task_of (is_filling s) (selects s.past) (replacement s.replacing) s.sight a
+    task_of (filling s) (selects s.past) (replacement s.replacing) s.sight a
 
 -- what is typed where the pattern was found is kept
 abbrev pub noted_in : Action → Sitting → Sitting

@@ -8,7 +8,7 @@ ghost use Rattle.desk_sitting.specs.Questions.{is_nothing, is_of_terminal, quest
 ghost use Rattle.desk_journal.specs.View.{IsDurable};
 ghost use Rattle.desk_sitting.specs.Sittings.{followed_cell, acted, acted_alone, after_press, after_fetch, looked};
 ghost use Rattle.desk_sitting.specs.Sittings.{new_sitting};
-ghost use Rattle.desk_sitting.specs.Sittings.{after_post, is_done, is_filling, refused, replied, ring_reason};
+ghost use Rattle.desk_sitting.specs.Sittings.{after_post, filling, is_done, refused, replied, ring_reason};
 ghost use Rattle.desk_sitting.specs.Sittings.{turned_away};
 ghost use Rattle.desk_sitting.specs.Sittings.{accepted_by, accepted_of, accepted_unasked, after_posts, does_all};
 ghost use Rattle.desk_sitting.specs.Sittings.{went_on};
@@ -24,7 +24,7 @@ use desk_journal::{Error, Store};
 use desktop_definitions::Reply;
 use done_presses::{Again, Past};
 use event_bytes::Event;
-use press_plans::{MOST_PLANS, Plan, Replacing, Task};
+use press_plans::{Filling, MOST_PLANS, Plan, Replacing, Task};
 use screen_cells::Screen;
 use screen_reading::{
     caret_of, fitted, followed, height_told, is_low, is_narrow, moved, width_told,
@@ -373,11 +373,17 @@ impl Sitting {
         }
     }
 
-    /// Whether what is typed may break a line.
-    fn is_filling(&self) -> bool
-        ensures { result ≡ is_filling self.now }
+    /// How what is typed breaks a line.
+    fn filling(&self) -> Filling
+        ensures { result ≡ filling self.now }
     {
-        self.fills && self.typed.is_none()
+        if !self.fills {
+            return Filling::Off;
+        }
+        match self.typed {
+            None => Filling::Letters,
+            Some(typed) => Filling::Pasted(typed),
+        }
     }
 
     /// A press is to be done: what is typed where the pattern was found is kept.
@@ -404,7 +410,7 @@ impl Sitting {
         ensures { DoesAction D.Disk action result self.old self.new store.old store.new }
     {
         let replacement = self.replacing.replacement();
-        let fills = self.is_filling();
+        let fills = self.filling();
         let over = self.past.selects();
         let sight = self.sight;
         self.note(&action);

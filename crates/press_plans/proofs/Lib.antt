@@ -1,2 +1,3 @@
 mod Meant
 mod Planning
+mod Pours

@@ -1,7 +1,7 @@
 -- The plan of a task is made by one look at the store.
 use Rattle.std.proofs.Common.{◌≡◌, ◌≢◌, Bool, true, false, refl, sym, ◌∙◌, ap, Ok, Err, List, []}
 use Rattle.std.specs.Prelude.{Result}
-use Rattle.std.specs.Prelude.{ℕ, nat_lt, Option, Some, None}
+use Rattle.std.specs.Prelude.{ℕ, nat_lt, min, unwrap_or, Option, Some, None}
 use Rattle.std.proofs.lemmas.Bool.{cond-true, cond-false, false≢true}
 use Rattle.sector_disk.specs.declared.disk.Disk.{Ghosts}
 use Rattle.event_bytes.specs.declared.event.Event.{Event}
@@ -17,12 +17,17 @@ use Rattle.desk_journal.specs.View.{StoreView}
 use Rattle.desk_journal.specs.Views.{DeskInfo, ShownViewer, desk_info, last_log_line}
 use Rattle.terminal_presses.specs.Sights.{Sight}
 use Rattle.desk_journal.proofs.Passing.{at_start}
+use Rattle.press_plans.specs.declared.task.Filling.{Filling}
+use Rattle.press_plans.specs.declared.task.Stage.{Stage}
+use Rattle.press_plans.specs.declared.task.Stage.TheVariants.{First, Back, On}
 use Rattle.press_plans.specs.declared.task.Task.{Task}
 use Rattle.press_plans.specs.declared.task.Task.TheVariants as kind
 use Rattle.press_plans.specs.declared.plan.Plan.{Plan as MadePlan}
 use Rattle.press_plans.specs.Plans.{Plans}
 use Rattle.press_plans.specs.Plans.{Plan, Events, Says, answer_plan, lead_plan, opened_plan, opened_viewer, plan_of, plan_on}
 use Rattle.press_plans.specs.Plans.{seen_plan, unbroken_plan, broken_plan, type_plan, placed_plan, return_plan}
+use Rattle.press_plans.specs.Plans.{poured_plan, room_plan, standing}
+use Rattle.press_plans.specs.Poured.{word_length}
 use Rattle.press_plans.specs.Filling.{room_if, one_behind, place_behind, is_place}
 use Rattle.press_plans.specs.Replacing.{TypingView, first_typed}
 use Rattle.status_line.specs.declared.deed.Deed.{Deed}
@@ -35,28 +40,30 @@ pub by_screen : (task : Task) (d : Desktop) → ((event : Event) → task ≢ ki
     → ((before : DeskInfo) → task ≢ kind.After before)
     → ((cell : ℕ × ℕ) → task ≢ kind.Enter cell)
     → ((at : Option (ℕ × ℕ)) (is_up : Bool) (sight : Sight) → task ≢ kind.Page at is_up sight)
-    → ((at_end : Bool) → task ≢ kind.Show at_end)
+    → (task ≢ kind.Show)
     → ((t : TypingView) (fills : Bool) (deed : Deed) → task ≢ kind.TypeOn t fills deed)
     → ((place : ℕ) (t : TypingView) (fills : Bool) (deed : Deed) → task ≢ kind.GoBack place t fills deed)
-    → ((event : Event) (fills : Bool) → task ≢ kind.TypeOver event fills)
+    → ((event : Event) (fills : Filling) → task ≢ kind.TypeOver event fills)
     → ((behind : Bool) → task ≢ kind.Erase behind)
+    → ((stage : Stage) (bytes : List ℕ) (typed : ℕ) → task ≢ kind.Pour stage bytes typed)
     → plan_of task d ≡ plan_on task (shown_screen d)
 unfolding plan_of
-by_screen (kind.Post event) d post scroll lead after enter page show types back over erase = absurd (post event refl)
-by_screen (kind.Scroll at wish) d post scroll lead after enter page show types back over erase = absurd (scroll at wish refl)
-by_screen (kind.Lead wish) d post scroll lead after enter page show types back over erase = absurd (lead wish refl)
-by_screen (kind.Seek at) d post scroll lead after enter page show types back over erase = refl
-by_screen (kind.After before) d post scroll lead after enter page show types back over erase = absurd (after before refl)
-by_screen (kind.Enter cell) d post scroll lead after enter page show types back over erase = absurd (enter cell refl)
-by_screen (kind.Page at is_up sight) d post scroll lead after enter page show types back over erase = absurd (page at is_up sight refl)
-by_screen (kind.Show at_end) d post scroll lead after enter page show types back over erase = absurd (show at_end refl)
-by_screen (kind.TypeOn t fills deed) d post scroll lead after enter page show types back over erase = absurd (types t fills deed refl)
-by_screen (kind.GoBack place t fills deed) d post scroll lead after enter page show types back over erase =
+by_screen (kind.Post event) d post scroll lead after enter page show types back over erase pours = absurd (post event refl)
+by_screen (kind.Scroll at wish) d post scroll lead after enter page show types back over erase pours = absurd (scroll at wish refl)
+by_screen (kind.Lead wish) d post scroll lead after enter page show types back over erase pours = absurd (lead wish refl)
+by_screen (kind.Seek at) d post scroll lead after enter page show types back over erase pours = refl
+by_screen (kind.After before) d post scroll lead after enter page show types back over erase pours = absurd (after before refl)
+by_screen (kind.Enter cell) d post scroll lead after enter page show types back over erase pours = absurd (enter cell refl)
+by_screen (kind.Page at is_up sight) d post scroll lead after enter page show types back over erase pours = absurd (page at is_up sight refl)
+by_screen kind.Show d post scroll lead after enter page show types back over erase pours = absurd (show refl)
+by_screen (kind.TypeOn t fills deed) d post scroll lead after enter page show types back over erase pours = absurd (types t fills deed refl)
+by_screen (kind.GoBack place t fills deed) d post scroll lead after enter page show types back over erase pours =
     absurd (back place t fills deed refl)
-by_screen (kind.Last place) d post scroll lead after enter page show types back over erase = refl
-by_screen (kind.Reveal cell) d post scroll lead after enter page show types back over erase = refl
-by_screen (kind.TypeOver event fills) d post scroll lead after enter page show types back over erase = absurd (over event fills refl)
-by_screen (kind.Erase behind) d post scroll lead after enter page show types back over erase = absurd (erase behind refl)
+by_screen (kind.Reveal cell) d post scroll lead after enter page show types back over erase pours = refl
+by_screen (kind.TypeOver event fills) d post scroll lead after enter page show types back over erase pours = absurd (over event fills refl)
+by_screen (kind.Erase behind) d post scroll lead after enter page show types back over erase pours = absurd (erase behind refl)
+by_screen (kind.Pour stage bytes typed) d post scroll lead after enter page show types back over erase pours =
+    absurd (pours stage bytes typed refl)
 
 -- what is left of what is typed, and before it a line that is broken
 module _ (t : TypingView) (fills : Bool) (deed : Deed) (d : Desktop) where
@@ -74,23 +81,52 @@ module _ (t : TypingView) (fills : Bool) (deed : Deed) (d : Desktop) where
       (λ k. broken_plan (told_is k) (at k) (first_typed t) t fills deed)
       ∙ ap (λ (o : Option ℕ). type_plan o (first_typed t) t fills deed d) some
 
-  module _ (place : ℕ) (info : DeskInfo) (info_is : info ≡ desk_info d) where
-    stands_is : (b : Bool) → is_place place info.caret_position ≡ b
-        → return_plan b place (kind.TypeOn t fills deed) d ≡ plan_of (kind.GoBack place t fills deed) d
-    unfolding plan_of
-    stands_is b is = ap (λ (b : Bool). return_plan b place (kind.TypeOn t fills deed) d)
-        (sym is ∙ ap (λ (i : DeskInfo). is_place place i.caret_position) info_is)
+-- the caret goes to a position, and then a task goes on
+module _ (task next : Task) (d : Desktop) (place : ℕ) (info : DeskInfo) (info_is : info ≡ desk_info d)
+    (means : return_plan (is_place place (desk_info d).caret_position) place next d ≡ plan_of task d) where
+  stands_is : (b : Bool) → is_place place info.caret_position ≡ b → return_plan b place next d ≡ plan_of task d
+  stands_is b is = ap (λ (b : Bool). return_plan b place next d)
+      (sym is ∙ ap (λ (i : DeskInfo). is_place place i.caret_position) info_is) ∙ means
 
-    pub stands : is_place place info.caret_position ≡ true
-        → Events [] (Some (kind.TypeOn t fills deed)) ≡ plan_of (kind.GoBack place t fills deed) d
-    stands is = stands_is true is
+  pub stands : is_place place info.caret_position ≡ true → Events [] (Some next) ≡ plan_of task d
+  stands is = stands_is true is
 
-    pub goes_back : (told : Result (List Event) WhyNot) → is_place place info.caret_position ≡ false
-        → told ≡ led d (Place place)
-        → placed_plan (Place place) told (kind.TypeOn t fills deed) ≡ plan_of (kind.GoBack place t fills deed) d
-    goes_back told is told_is =
-        ap (λ (r : Result (List Event) WhyNot). placed_plan (Place place) r (kind.TypeOn t fills deed)) told_is
-        ∙ stands_is false is
+  pub goes_back : (told : Result (List Event) WhyNot) → is_place place info.caret_position ≡ false
+      → told ≡ led d (Place place) → placed_plan (Place place) told next ≡ plan_of task d
+  goes_back told is told_is =
+      ap (λ (r : Result (List Event) WhyNot). placed_plan (Place place) r next) told_is ∙ stands_is false is
+
+pub types_back : (place : ℕ) (t : TypingView) (fills : Bool) (deed : Deed) (d : Desktop)
+    → return_plan (is_place place (desk_info d).caret_position) place (kind.TypeOn t fills deed) d
+    ≡ plan_of (kind.GoBack place t fills deed) d
+unfolding plan_of
+types_back place t fills deed d = refl
+
+pub pours_back : (place : ℕ) (bytes : List ℕ) (typed : ℕ) (d : Desktop)
+    → return_plan (is_place place (desk_info d).caret_position) place (kind.Pour On bytes typed) d
+    ≡ plan_of (kind.Pour (Back place) bytes typed) d
+unfolding plan_of
+pours_back place bytes typed d = refl
+
+-- the first word of a part of a paste comes where it has room
+pub makes_room : (bytes : List ℕ) (typed n place : ℕ) (info : DeskInfo) (told : Result (List Event) WhyNot) (d : Desktop)
+    → n ≡ min (word_length bytes) 255 → place ≡ one_behind info.caret_position → info ≡ desk_info d → told ≡ led d (Break n)
+    → room_plan told place bytes typed ≡ plan_of (kind.Pour First bytes typed) d
+unfolding plan_of
+makes_room bytes typed n place info told d n_is place_is info_is told_is =
+    let at : place ≡ place_behind d = place_is ∙ ap (λ (i : DeskInfo). one_behind i.caret_position) info_is in
+    let by : told ≡ led d (Break (min (word_length bytes) 255)) = told_is ∙ ap (λ (m : ℕ). led d (Break m)) n_is in
+    λ k. room_plan (by k) (at k) bytes typed
+
+-- and the part is typed there
+pub pours : (bytes : List ℕ) (typed place : ℕ) (info : DeskInfo) (told : Result (List Event) WhyNot) (d : Desktop)
+    → place ≡ unwrap_or info.caret_position 0 → info ≡ desk_info d → told ≡ led d (Place place)
+    → poured_plan told bytes typed ≡ plan_of (kind.Pour On bytes typed) d
+unfolding plan_of
+pours bytes typed place info told d place_is info_is told_is =
+    let at : place ≡ standing d = place_is ∙ ap (λ (i : DeskInfo). unwrap_or i.caret_position 0) info_is in
+    let by : told ≡ led d (Place (standing d)) = told_is ∙ ap (λ (p : ℕ). led d (Place p)) at in
+    ap (λ (r : Result (List Event) WhyNot). poured_plan r bytes typed) by
 
 -- what is left to do once a word was called
 module _ (before : DeskInfo) (d : Desktop) where

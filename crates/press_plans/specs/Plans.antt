@@ -1,8 +1,9 @@
 -- What a task becomes over a desktop.
-use Rattle.std.specs.Prelude.{ℕ, ◌+◌, ◌-◌, Bool, true, false, ◌==◌, nat_lt, if◌then◌else◌, max, List, [], ◌∷◌, length, take, slice_get}
+use Rattle.std.specs.Prelude.{ℕ, ◌+◌, ◌-◌, ◌^◌, Bool, true, false, ◌==◌, nat_lt, if◌then◌else◌, max, List, [], ◌∷◌, length, take, drop, slice_get, min, unwrap_or}
 use Rattle.std.specs.Prelude.{◌≡◌, Option, Some, None, option_map, Result, Ok, Err, IfOk}
 use Rattle.std.specs.List.{list_any}
 use Rattle.sector_disk.specs.declared.disk.Disk.{Ghosts}
+use Rattle.event_bytes.specs.Bytes.{is_typed_bytes}
 use Rattle.event_bytes.specs.declared.event.Event.{Event}
 use Rattle.event_bytes.specs.declared.event.Event.TheVariants as event
 use Rattle.event_bytes.specs.declared.keys.Keys.TheVariants as keys
@@ -10,6 +11,7 @@ use Rattle.event_bytes.specs.declared.keys.Key.TheVariants as key
 use Rattle.screen_pictures.specs.declared.cell.Cell.{Cell}
 use Rattle.desktop_definitions.specs.Desktop.{Desktop}
 use Rattle.desktop_definitions.specs.declared.entry.Entry.{Entry}
+use Rattle.desktop_definitions.specs.Limits.{no_caret}
 use Rattle.desktop_definitions.specs.Shown.{shown_screen}
 use Rattle.desk_journal.specs.Errors.{Error}
 use Rattle.desk_journal.specs.Looking.{OnlyLooks}
@@ -29,21 +31,24 @@ use Rattle.screen_reading.specs.CommandWords.{next_command}
 use Rattle.status_line.specs.Deeds.{is_middle}
 use Rattle.press_plans.specs.Replacing.{TypingView, first_typed, rest_typed}
 use Rattle.screen_reading.specs.Aims.{or_else}
-use Rattle.screen_reading.specs.Frames.{text_end, text_rows_in_sight, text_start}
+use Rattle.screen_reading.specs.Frames.{text_rows_in_sight, text_start}
 pub use Rattle.event_bytes.specs.Parts.{◌>>=◌}
 use Rattle.status_line.specs.declared.saying.Saying.{Saying}
-use Rattle.status_line.specs.declared.saying.Saying.TheVariants.{NoText, NoScroll, NothingAfter, NoWord, NoCommand}
+use Rattle.status_line.specs.declared.saying.Saying.TheVariants.{Refused as TurnedAway, NoText, NoScroll, NothingAfter, NoWord, NoCommand}
 use Rattle.status_line.specs.declared.saying.Saying.TheVariants.{NoLine, PartHidden}
 use Rattle.press_plans.specs.declared.task.Task.{Task}
 use Rattle.press_plans.specs.declared.task.Task.TheVariants.{Post, Scroll, Lead}
 use Rattle.press_plans.specs.declared.task.Task.TheVariants.{TypeOn, GoBack, After, Seek}
-use Rattle.press_plans.specs.declared.task.Task.TheVariants.{TypeOver, Erase}
-use Rattle.press_plans.specs.declared.task.Task.TheVariants.{Page, Show, Last, Reveal, Enter}
+use Rattle.press_plans.specs.declared.task.Task.TheVariants.{TypeOver, Erase, Pour}
+use Rattle.press_plans.specs.declared.task.Stage.{Stage}
+use Rattle.press_plans.specs.declared.task.Stage.TheVariants.{First, Back, On}
+use Rattle.press_plans.specs.declared.task.Task.TheVariants.{Page, Show, Reveal, Enter}
 use Rattle.press_plans.specs.declared.plan.Plan.{Plan as MadePlan}
 use Rattle.press_plans.specs.declared.plan.Plan.TheVariants as made
 use Rattle.status_line.specs.declared.deed.Deed.{Deed}
 use Rattle.press_plans.specs.Filling.{room_if, place_behind, is_place}
 use Rattle.press_plans.specs.Listed.{event_meant, is_tool}
+use Rattle.press_plans.specs.Poured.{poured_at, word_length}
 use Rattle.press_plans.specs.Tasks.{posting}
 
 -- What a task becomes over a desktop: it can't be done, for a reason; or it has these events, and then this is left to
@@ -92,7 +97,7 @@ part_hidden wish = nothing_there wish
 unfoldable pub why_not : KeyWish → WhyNot → Saying
 why_not wish why.NoRow = NoScroll
 why_not wish why.TooFar = NoScroll
-why_not wish why.NoCaret = nothing_there wish
+why_not wish why.NoCaret = TurnedAway no_caret
 why_not wish why.NothingBehind = nothing_there wish
 why_not wish why.PastEdge = part_hidden wish
 why_not wish why.NotInSight = part_hidden wish
@@ -135,10 +140,9 @@ abbrev pub erase_plan : Bool → Result (List Event) WhyNot → Plan
 erase_plan behind (Ok events) = Events events None
 erase_plan behind (Err why) = Events [] (Some (erasing behind))
 
--- where a viewer was to show a line by its number, the caret goes there, and its last one comes into sight
+-- where a viewer was to show a line by its number, the caret goes there
 abbrev pub shown_then : Wish → Option Task
-shown_then (wish.Line n) = Some (Show false)
-shown_then wish.End = Some (Show true)
+shown_then (wish.Line n) = Some Show
 shown_then _ = None
 
 -- the presses that scroll, where there is a way
@@ -164,22 +168,15 @@ unfoldable pub page_plan : Option (ℕ × ℕ) → Bool → Sight → Desktop �
 page_plan at is_up sight d = let rows = text_rows_in_sight sight (place_meant at d) in
     Events [] (Some (Scroll at (page_wish is_up rows)))
 
--- a cell comes into sight, where there is one
-abbrev pub show_plan : Option (ℕ × ℕ) → Plan
-show_plan None = Events [] None
-show_plan (Some cell) = Shows cell
-
 -- the caret goes to a cell, where there is one
 abbrev pub go_plan : Option (ℕ × ℕ) → Plan
 go_plan None = Events [] None
 go_plan (Some cell) = Events (click_of cell ∷ []) None
 
--- The caret goes to the first cell of the text of a viewer that stands there, or the last row in which something stands comes
--- into sight.
-abbrev pub shown_plan : Bool → Option ViewerPlace → Plan
-shown_plan at_end None = Events [] None
-shown_plan at_end (Some place) =
-    if at_end then Events [] (Some (Last place)) else go_plan (text_start place)
+-- the caret goes to the first cell of the text of a viewer that stands there
+abbrev pub shown_plan : Option ViewerPlace → Plan
+shown_plan None = Events [] None
+shown_plan (Some place) = go_plan (text_start place)
 
 -- What is left of what a press types: this event comes first, if any is left.
 abbrev pub unbroken_plan : Option Event → TypingView → Bool → Deed → Plan
@@ -207,6 +204,58 @@ placed_plan wish (Err reason) next = Refused (why_not wish reason)
 abbrev pub return_plan : Bool → ℕ → Task → Desktop → Plan
 return_plan stands place next d = if stands then Events [] (Some next)
     else placed_plan (Place place) (led d (Place place)) next
+
+-- Of a paste that is typed where lines are filled its first word comes where it has room: the line is broken before it, and the
+-- caret goes back behind the same character.
+abbrev pub room_plan : Result (List Event) WhyNot → ℕ → List ℕ → ℕ → Plan
+room_plan (Ok events) place bytes typed =
+    Events events (Some (Pour (Back place) bytes typed))
+room_plan (Err reason) place bytes typed = Events [] (Some (Pour On bytes typed))
+
+-- as many bytes as one event types
+abbrev pub typable : List ℕ → Option (List ℕ)
+typable bytes = if is_typed_bytes bytes then Some bytes else None
+
+-- these bytes are typed, and then this is left to do
+abbrev pub front_plan : Option (List ℕ) → Option Task → Plan
+front_plan None next = Events [] None
+front_plan (Some bytes) next = Events (event.Typed bytes ∷ []) next
+
+-- by one event, and by another one where these are too many
+abbrev pub typed_plan : List ℕ → Plan
+typed_plan bytes = front_plan (typable (take 900 bytes))
+    (option_map (λ more. Post (event.Typed more)) (typable (drop 900 bytes)))
+
+-- the first of them alone, and then what is left
+abbrev pub first_plan : List ℕ → ℕ → Plan
+first_plan bytes typed = front_plan (typable (take 1 bytes))
+    (option_map (λ more. Pour First more (min (typed + 1) (2 ^ 32 - 1))) (typable (drop 1 bytes)))
+
+-- the column that is clicked
+abbrev pub column_clicked : List Event → Option ℕ
+column_clicked (event.Point keys x y x1 y1 ∷ []) = Some x
+column_clicked _ = None
+
+abbrev pub from_column : Option ℕ → List ℕ → Plan
+from_column None bytes = Events (event.Typed bytes ∷ []) None
+from_column (Some x) bytes = typed_plan (poured_at x bytes)
+
+-- The click for the caret's own place tells its column. Where its line isn't in sight the first character brings it there.
+abbrev pub poured_plan : Result (List Event) WhyNot → List ℕ → ℕ → Plan
+poured_plan (Ok events) bytes typed = from_column (column_clicked events) bytes
+poured_plan (Err why.NotInSight) bytes typed = first_plan bytes typed
+poured_plan (Err reason) bytes typed = Events (event.Typed bytes ∷ []) None
+
+-- where the caret stands
+abbrev pub standing : Desktop → ℕ
+standing d = unwrap_or (desk_info d).caret_position 0
+
+abbrev pub pour_plan : Stage → List ℕ → ℕ → Desktop → Plan
+pour_plan First bytes typed d =
+    room_plan (led d (Break (min (word_length bytes) 255))) (place_behind d) bytes typed
+pour_plan (Back place) bytes typed d =
+    return_plan (is_place place (desk_info d).caret_position) place (Pour On bytes typed) d
+pour_plan On bytes typed d = poured_plan (led d (Place (standing d))) bytes typed
 
 -- the pointer that keys move goes to a cell, where there is one to go to
 abbrev pub seek_plan : Option (ℕ × ℕ) → Plan
@@ -261,7 +310,6 @@ answer_plan None before d = if nat_lt before.log_length (desk_info d).log_length
 -- what a task becomes by what the screen shows
 unfoldable pub plan_on : Task → List (List Cell) → Plan
 plan_on (Seek at) screen = seek_plan (next_command at screen)
-plan_on (Last place) screen = show_plan (text_end place screen)
 plan_on (Reveal cell) screen = Shows cell
 plan_on _ screen = Events [] None
 
@@ -271,7 +319,7 @@ plan_of (After before) d = answer_plan (opened_viewer before d) before d
 plan_of (Enter cell) d = entry_plan (desk_info d).is_marked cell
 plan_of (Scroll at wish) d = scroll_plan wish (presses_to d at wish)
 plan_of (Page at is_up sight) d = page_plan at is_up sight d
-plan_of (Show at_end) d = shown_plan at_end (caret_place d)
+plan_of Show d = shown_plan (caret_place d)
 plan_of (Lead wish) d = lead_plan wish (led d wish)
 plan_of (TypeOver event fills) d = over_plan (posting fills event) (led d CutSelected)
 plan_of (Erase behind) d = erase_plan behind (led d CutSelected)
@@ -279,6 +327,7 @@ plan_of (TypeOn t fills deed) d =
     type_plan (room_if fills (first_typed t)) (first_typed t) t fills deed d
 plan_of (GoBack place t fills deed) d =
     return_plan (is_place place (desk_info d).caret_position) place (TypeOn t fills deed) d
+plan_of (Pour stage bytes typed) d = pour_plan stage bytes typed d
 plan_of task d = plan_on task (shown_screen d)
 
 module _ {D : Type 0} (d : Ghosts D) where

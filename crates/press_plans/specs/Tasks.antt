@@ -1,5 +1,5 @@
 -- Presses that post events: the task of each.
-use Rattle.std.specs.Prelude.{ℕ, ◌-◌, ◌==◌, ◌&&◌, Bool, true, false, if◌then◌else◌, List, length}
+use Rattle.std.specs.Prelude.{ℕ, ◌-◌, ◌==◌, Bool, true, false, if◌then◌else◌, List, length}
 use Rattle.std.specs.Prelude.{Option, Some, None, option_map}
 use Rattle.event_bytes.specs.declared.event.Event.{Event}
 use Rattle.event_bytes.specs.declared.event.Event.TheVariants as event
@@ -18,17 +18,26 @@ use Rattle.terminal_presses.specs.declared.action.Action.TheVariants as action
 use Rattle.terminal_presses.specs.declared.press.Arrow.{Arrow}
 use Rattle.terminal_presses.specs.declared.press.Arrow.TheVariants as arrow
 use Rattle.terminal_presses.specs.declared.press.Scroll.{Scroll as ScrollKey}
-use Rattle.terminal_presses.specs.declared.press.Scroll.TheVariants.{WheelUp, WheelDown, PageUp, PageDown, First, Last}
+use Rattle.terminal_presses.specs.declared.press.Scroll.TheVariants.{WheelUp, WheelDown, PageUp, PageDown, First as ToFirst, Last as ToLast}
 use Rattle.terminal_presses.specs.declared.spot.Spot.{Spot}
 use Rattle.status_line.specs.declared.deed.Deed.{Deed}
 use Rattle.status_line.specs.declared.deed.Deed.TheVariants as deed
 use Rattle.status_line.specs.Deeds.{deed_of}
 use Rattle.press_plans.specs.Replacing.{TypingView, typed_behind, nothing_typed}
+use Rattle.press_plans.specs.declared.task.Filling.{Filling}
+use Rattle.press_plans.specs.declared.task.Filling.TheVariants.{Off, Letters, Pasted}
+use Rattle.press_plans.specs.declared.task.Stage.{Stage}
+use Rattle.press_plans.specs.declared.task.Stage.TheVariants.{First, On}
 use Rattle.press_plans.specs.declared.task.Task.{Task}
 use Rattle.press_plans.specs.declared.task.Task.TheVariants.{Post, Scroll, Lead}
 use Rattle.press_plans.specs.declared.task.Task.TheVariants.{TypeOn, GoBack, After, Seek}
-use Rattle.press_plans.specs.declared.task.Task.TheVariants.{TypeOver, Erase}
-use Rattle.press_plans.specs.declared.task.Task.TheVariants.{Page, Show, Last, Reveal, Enter}
+use Rattle.press_plans.specs.declared.task.Task.TheVariants.{TypeOver, Erase, Pour}
+use Rattle.press_plans.specs.declared.task.Task.TheVariants.{Page, Show, Reveal, Enter}
+
+-- whether lines are broken
+abbrev pub fills_lines : Filling → Bool
+fills_lines Off = false
+fills_lines _ = true
 
 -- the wheel moves a text by three lines, and a page is as long as what is in sight of it; to an end of it goes the caret
 abbrev pub scroll_task : Option (ℕ × ℕ) → ScrollKey → Sight → Task
@@ -36,8 +45,8 @@ scroll_task at WheelUp sight = Scroll at (wish.Up 3)
 scroll_task at WheelDown sight = Scroll at (wish.Down 3)
 scroll_task at PageUp sight = Page at true sight
 scroll_task at PageDown sight = Page at false sight
-scroll_task at First sight = Lead (Step step.TextStart)
-scroll_task at Last sight = Lead (Step step.TextEnd)
+scroll_task at ToFirst sight = Lead (Step step.TextStart)
+scroll_task at ToLast sight = Lead (Step step.TextEnd)
 
 -- the step of an arrow
 unfoldable pub step_meant : Arrow → AStep
@@ -53,24 +62,32 @@ step_meant arrow.WordLeft = step.WordLeft
 abbrev pub cell_meant : Option Spot → Option (ℕ × ℕ)
 cell_meant at = option_map (λ spot. (spot.x, spot.y)) at
 
--- an event of the hand: a character that is typed may break a line, where lines are filled
+-- an event of the hand: what is typed or pasted may break a line, where lines are filled
 abbrev pub typed_task : Option TypingView → List ℕ → Task
 typed_task None bytes = Post (event.Typed bytes)
 typed_task (Some t) bytes = TypeOn t true (deed_of (event.Typed bytes))
 
-abbrev pub posting : Bool → Event → Task
-posting fills (event.Typed bytes) = if fills && (length bytes == 1)
+abbrev pub letter_task : List ℕ → Task
+letter_task bytes = if length bytes == 1
     then typed_task (typed_behind bytes nothing_typed) bytes else Post (event.Typed bytes)
+
+abbrev pub bytes_task : Filling → List ℕ → Task
+bytes_task Off bytes = Post (event.Typed bytes)
+bytes_task Letters bytes = letter_task bytes
+bytes_task (Pasted typed) bytes = Pour First bytes typed
+
+abbrev pub posting : Filling → Event → Task
+posting fills (event.Typed bytes) = bytes_task fills bytes
 posting fills event = Post event
 
 -- the same; what is typed, and Backspace, act on what is selected up to the caret
-abbrev pub posting_over : Bool → Event → Task
+abbrev pub posting_over : Filling → Event → Task
 posting_over fills (event.Typed bytes) = TypeOver (event.Typed bytes) fills
 posting_over fills (event.Key key.Back) = Erase false
 posting_over fills event = Post event
 
 -- behind a press that selected something, and elsewhere
-abbrev pub posted : Bool → Bool → Event → Task
+abbrev pub posted : Bool → Filling → Event → Task
 posted over fills event = if over then posting_over fills event else posting fills event
 
 abbrev pub deleting : Bool → Task
@@ -82,7 +99,7 @@ selecting over step = if over then SelectOn step else Select step
 -- Of what posts no event there is none, but of the pointer's way to the next command. Before it what is typed may break lines
 -- or not, the press before it selected something or didn't, this replacement is to be typed, if any is, and this part of the
 -- display is in sight.
-unfoldable pub task_of : Bool → Bool → Option TypingView → Sight → Action → Option Task
+unfoldable pub task_of : Filling → Bool → Option TypingView → Sight → Action → Option Task
 task_of fills over replacement sight (action.Post event) = Some (posted over fills event)
 task_of fills over replacement sight (action.Scroll at scroll) =
     Some (scroll_task (cell_meant at) scroll sight)
@@ -99,7 +116,7 @@ task_of fills over replacement sight action.Store = Some (Lead (Call caret.Store
 task_of fills over replacement sight action.CallLine = Some (Lead CallLine)
 task_of fills over replacement sight action.Mark = Some (Lead Mark)
 task_of fills over replacement sight action.Replace =
-    option_map (λ t. TypeOn t fills deed.Replacement) replacement
+    option_map (λ t. TypeOn t (fills_lines fills) deed.Replacement) replacement
 task_of fills over replacement sight _ = None
 
 -- what is wished of the caret by a press that calls a command
@@ -124,17 +141,22 @@ lead_deed CutLine = Some (deed.Click keys.RightLeft)
 lead_deed (Break n) = None
 lead_deed (Place n) = None
 
+-- what is typed of a paste comes to what was typed before, and breaks before it don't count
+abbrev pub pour_deed : Stage → ℕ → Option Deed
+pour_deed On typed = None
+pour_deed stage typed = Some (deed.Typed typed)
+
 -- what a press did by a task; of what the hand posts, what the event did
 abbrev pub deed_of_task : Task → Option Deed
 deed_of_task (Post event) = None
 deed_of_task (TypeOn t fills deed) = Some deed
 deed_of_task (GoBack place t fills deed) = Some deed
 deed_of_task (TypeOver event fills) = Some (deed.Typed 0)
+deed_of_task (Pour stage bytes typed) = pour_deed stage typed
 deed_of_task (Erase behind) = Some (deed.Key key.Back)
 deed_of_task (Scroll at wish) = Some deed.Scroll
 deed_of_task (Page at is_up sight) = Some deed.Scroll
-deed_of_task (Show at_end) = None
-deed_of_task (Last place) = None
+deed_of_task Show = None
 deed_of_task (Reveal cell) = None
 deed_of_task (Enter cell) = None
 deed_of_task (After before) = None

@@ -1,12 +1,12 @@
 //! What a task becomes by what the screen shows.
 ghost use Rattle.std.specs.Prelude.{◌≡◌};
-ghost use Rattle.press_plans.specs.Plans.{click_of, go_plan, plan_on, seek_plan, seen_plan, show_plan};
+ghost use Rattle.press_plans.specs.Plans.{click_of, go_plan, plan_on, seek_plan, seen_plan};
 
 use crate::plan::Plan;
 use crate::task::{CellPlace, Task};
 use event_bytes::{Event, Keys};
 use screen_cells::Screen;
-use screen_reading::{next_command, text_end};
+use screen_reading::next_command;
 use status_line::Saying;
 
 /// What a task becomes where this is the screen.
@@ -16,17 +16,17 @@ pub(crate) fn plan_on(task: Task, screen: &Screen) -> Plan
 {
     match task {
         Task::Seek(at) => seek_plan(next_command(at, screen)),
-        Task::Last(place) => show_plan(text_end(place, screen)),
         Task::Reveal(cell) => Plan::Shows(cell),
         Task::Post(_)
         | Task::After(_)
         | Task::Enter(_)
         | Task::Scroll(_, _)
         | Task::Page { .. }
-        | Task::Show { .. }
+        | Task::Show
         | Task::TypeOn(_, _, _)
         | Task::GoBack(_, _, _, _)
         | Task::TypeOver(_, _)
+        | Task::Pour(_, _, _)
         | Task::Erase { .. }
         | Task::Lead(_) => Plan::Next(None),
     }
@@ -63,15 +63,5 @@ pub(crate) fn go_plan(cell: Option<CellPlace>) -> Plan
     match cell {
         None => Plan::Next(None),
         Some(cell) => Plan::Event(click(cell), None),
-    }
-}
-
-/// A cell comes into sight, where there is one.
-fn show_plan(cell: Option<CellPlace>) -> Plan
-    ensures { seen_plan result ≡ show_plan cell }
-{
-    match cell {
-        None => Plan::Next(None),
-        Some(cell) => Plan::Shows(cell),
     }
 }

@@ -19,7 +19,7 @@ use std::alloc::Global;
 use std::vec::Vec;
 
 /// Whether a byte is a blank.
-fn is_gap(byte: u8) -> bool
+pub(crate) fn is_gap(byte: u8) -> bool
     ensures { result ≡ is_gap byte }
 {
     byte == b' ' || byte == TABULATOR
@@ -61,7 +61,7 @@ fn room_if(fills: bool, next: &Option<Event>) -> Option<u8>
 }
 
 /// The position of the caret once there is a character more before it.
-fn one_behind(place: Option<u32>) -> u32
+pub(crate) fn one_behind(place: Option<u32>) -> u32
     ensures { result ≡ one_behind place }
 {
     match place {
@@ -71,7 +71,7 @@ fn one_behind(place: Option<u32>) -> u32
 }
 
 /// Whether this is the place.
-fn is_place(place: u32, at: Option<u32>) -> bool
+pub(crate) fn is_place(place: u32, at: Option<u32>) -> bool
     ensures { result ≡ is_place place at }
 {
     match at {
@@ -131,7 +131,7 @@ pub(crate) fn type_plan<D: Disk>(
 }
 
 /// The caret goes to a position by these events, and then this is left to do; or why there are none.
-fn placed_plan(wish: KeyWish, told: Result<Vec<Event>, WhyNot>, next: Task) -> Plan
+pub(crate) fn placed_plan(wish: KeyWish, told: Result<Vec<Event>, WhyNot>, next: Task) -> Plan
     ensures { seen_plan result
         ≡ placed_plan wish (result_map_both (λ events. events.items) (λ why. why) told) next }
 {

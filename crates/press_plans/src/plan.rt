@@ -13,9 +13,11 @@ use crate::by_screen::{click, go_plan, plan_on};
 use crate::filling::{return_plan, type_plan};
 use crate::listed::{begins_in_viewer, has_tool, place_at, uncalled_event};
 use crate::over::{erase_plan, over_plan};
+use crate::pouring::pour_plan;
 use crate::task::{CellPlace, Task, posting};
 use desk_journal::{DeskInfo, Error, KeyWish, ShownViewer, Store, WhyNot, Wish};
 use desktop_definitions::Entry;
+use desktop_definitions::codes::NO_CARET;
 use done_presses::take_last;
 use event_bytes::{Event, Key, Keys};
 use screen_cells::Screen;
@@ -62,7 +64,7 @@ impl Task {
             Task::After(before) => after_plan(before, store),
             Task::Enter(cell) => Ok(entry_plan(info_of(store).is_marked, cell)),
             Task::Page { at, is_up, sight } => Ok(page_plan(at, is_up, sight, store)),
-            Task::Show { at_end } => Ok(shown_plan(at_end, caret_place(store))),
+            Task::Show => Ok(shown_plan(caret_place(store))),
             Task::Scroll(at, wish) => {
                 let presses = store.scroll(alloc, at, wish)?;
                 Ok(scroll_plan(wish, presses))
@@ -79,6 +81,7 @@ impl Task {
                 let told = store.lead(alloc, KeyWish::CutSelected)?;
                 Ok(erase_plan(behind, told))
             }
+            Task::Pour(stage, bytes, typed) => pour_plan(alloc, stage, bytes, typed, store),
             Task::TypeOn(typing, fills, deed) => type_plan(alloc, typing, fills, deed, store),
             Task::GoBack(place, typing, fills, deed) => return_plan(
                 alloc, place, typing, fills, deed, store,
@@ -220,14 +223,12 @@ fn page_wish(is_up: bool, rows: u8) -> Wish
     }
 }
 
-/// The caret goes to the first cell of the text of a viewer that stands there, or the last row in which something stands comes
-/// into sight.
-fn shown_plan(at_end: bool, place: Option<viewer_tracks::Place>) -> Plan
-    ensures { seen_plan result ≡ shown_plan at_end place }
+/// The caret goes to the first cell of the text of a viewer that stands there.
+fn shown_plan(place: Option<viewer_tracks::Place>) -> Plan
+    ensures { seen_plan result ≡ shown_plan place }
 {
     match place {
         None => Plan::Next(None),
-        Some(place) if at_end => Plan::Next(Some(Task::Last(place))),
         Some(place) => go_plan(text_start(place)),
     }
 }
@@ -301,15 +302,13 @@ fn scroll_plan(wish: Wish, presses: Option<Vec<Event>>) -> Plan
     }
 }
 
-/// What is left to do after the presses for a wish: where it is a line by its number, the caret goes there, and the last one
-/// comes into sight.
+/// What is left to do after the presses for a wish: where it is a line by its number, the caret goes there.
 fn shown_then(wish: Wish) -> Option<Task>
     ensures { result ≡ shown_then wish }
 {
     match wish {
-        Wish::Line(_) => Some(Task::Show { at_end: false }),
-        Wish::End => Some(Task::Show { at_end: true }),
-        Wish::Up(_) | Wish::Down(_) | Wish::PageUp | Wish::PageDown => None,
+        Wish::Line(_) => Some(Task::Show),
+        Wish::Up(_) | Wish::Down(_) | Wish::PageUp | Wish::PageDown | Wish::End => None,
     }
 }
 
@@ -391,7 +390,7 @@ pub(crate) fn why_not(wish: KeyWish, why: WhyNot) -> Saying
     match why {
         WhyNot::NoRow => Saying::NoScroll,
         WhyNot::TooFar => Saying::NoScroll,
-        WhyNot::NoCaret => nothing_there(wish),
+        WhyNot::NoCaret => Saying::Refused(NO_CARET),
         WhyNot::NothingBehind => nothing_there(wish),
         WhyNot::PastEdge => part_hidden(wish),
         WhyNot::NotInSight => part_hidden(wish),

@@ -5,9 +5,9 @@
 //! `plan_of` in `specs/Plans.antt`, and what does it here; each plan is made by one look at the store.
 ghost use Rattle.std.specs.Prelude.{◌≡◌, Some, None, IfOk, IfErr};
 ghost use Rattle.press_plans.specs.Tasks.{calling_wish, cell_meant as cell_of_spot, deed_of_task, keeps_sight, lead_deed};
-ghost use Rattle.press_plans.specs.Tasks.{deleting, posted, posting, posting_over, scroll_task, selecting, typed_task};
+ghost use Rattle.press_plans.specs.Tasks.{bytes_task, deleting, fills_lines, letter_task, posted, posting, pour_deed};
+ghost use Rattle.press_plans.specs.Tasks.{posting_over, scroll_task, selecting, typed_task};
 ghost use Rattle.press_plans.specs.Replacing.{nothing_typed, typed_behind};
-ghost use Rattle.event_bytes.specs.declared.event.Event.TheVariants as Event;
 ghost use Rattle.press_plans.specs.Tasks.{step_meant as step_of_arrow, task_of};
 
 use crate::replacing::Typing;
@@ -21,6 +21,28 @@ pub(crate) type CellPlace = (u8, u8);
 
 /// How many plans a press has at most: a replacement one for each Backspace and three for each byte, and three where it ends.
 pub const MOST_PLANS: u16 = 321;
+
+/// How what is typed breaks lines.
+#[derive(Clone, Copy, Debug, PartialEq, Eq)]
+pub enum Filling {
+    /// It breaks none.
+    Off,
+    /// A letter breaks a line that has no room for it.
+    Letters,
+    /// So does each word of a paste, of which so many characters are typed.
+    Pasted(u32),
+}
+
+/// How far a part of a paste is that is typed where lines are filled.
+#[derive(Clone, Copy, Debug, PartialEq, Eq)]
+pub enum Stage {
+    /// It isn't known whether its first word has room.
+    First,
+    /// The line is broken before that word, and the caret goes to this position of its text.
+    Back(u32),
+    /// The caret stands where the word comes.
+    On,
+}
 
 /// What is left to do of a press that posts events.
 #[derive(Drop)]
@@ -46,18 +68,16 @@ pub enum Task {
         is_up: bool,
         sight: Sight,
     },
-    /// The caret goes to the first cell of its viewer's text, or the last row of that comes into sight.
-    Show {
-        at_end: bool,
-    },
-    /// The last row of the text of a viewer that stands there comes into sight.
-    Last(viewer_tracks::Place),
+    /// The caret goes to the first cell of its viewer's text.
+    Show,
     /// A cell comes into sight.
     Reveal(CellPlace),
     /// What is wished of the caret by a key.
     Lead(KeyWish),
     /// An event is typed, in the place of what is selected up to the caret, and may break lines or not.
-    TypeOver(Event, bool),
+    TypeOver(Event, Filling),
+    /// A part of a paste is typed where lines are filled, behind so many characters of it.
+    Pour(Stage, TypedBytes, u32),
     /// What is selected up to the caret is deleted, or where nothing is the character behind the caret, or the one before
     /// it.
     Erase {
@@ -72,7 +92,7 @@ impl Task {
     #[tactic(auto, unfolding(crate::specs::Tasks::task_of))]
     pub fn of(
         action: Action,
-        fills: bool,
+        fills: Filling,
         over: bool,
         replacement: Option<Typing>,
         sight: Sight,
@@ -97,7 +117,7 @@ impl Task {
             Action::Mark => Ok(Task::Lead(KeyWish::Mark)),
             Action::Seek(at) => Ok(Task::Seek((at.x, at.y))),
             Action::Replace => match replacement {
-                Some(typing) => Ok(Task::TypeOn(typing, fills, Deed::Replacement)),
+                Some(typing) => Ok(Task::TypeOn(typing, fills_lines(fills), Deed::Replacement)),
                 None => Err(Action::Replace),
             },
             alone => Err(alone),
@@ -113,12 +133,12 @@ impl Task {
             | Task::After(_)
             | Task::Enter(_)
             | Task::Seek(_)
-            | Task::Show { .. }
-            | Task::Last(_)
+            | Task::Show
             | Task::Reveal(_) => None,
             Task::TypeOn(_, _, deed) | Task::GoBack(_, _, _, deed) => Some(*deed),
             Task::Scroll(_, _) | Task::Page { .. } => Some(Deed::Scroll),
             Task::TypeOver(_, _) => Some(Deed::Typed(0)),
+            Task::Pour(stage, _, typed) => pour_deed(*stage, *typed),
             Task::Erase { .. } => Some(Deed::Key(Key::Back)),
             Task::Lead(wish) => lead_deed(*wish),
         }
@@ -145,8 +165,18 @@ pub fn calling_wish(action: &Action) -> Option<KeyWish>
     }
 }
 
-/// An event of the hand. A character that is typed may break a line, where lines are filled.
-pub(crate) fn posting(fills: bool, event: Event) -> Task
+/// Whether lines are broken.
+fn fills_lines(fills: Filling) -> bool
+    ensures { result ≡ fills_lines fills }
+{
+    match fills {
+        Filling::Off => false,
+        Filling::Letters | Filling::Pasted(_) => true,
+    }
+}
+
+/// An event of the hand. What is typed or pasted may break a line, where lines are filled.
+pub(crate) fn posting(fills: Filling, event: Event) -> Task
     ensures { result ≡ posting fills event }
 {
     match event {
@@ -156,17 +186,28 @@ pub(crate) fn posting(fills: bool, event: Event) -> Task
 }
 
 /// What is typed by the hand.
-fn typed_posting(fills: bool, bytes: TypedBytes) -> Task
-    ensures { result ≡ posting fills (Event.Typed bytes) }
+fn typed_posting(fills: Filling, bytes: TypedBytes) -> Task
+    ensures { result ≡ bytes_task fills bytes }
 {
-    if fills && bytes.as_bytes().len() == 1 {
+    match fills {
+        Filling::Off => Task::Post(Event::Typed(bytes)),
+        Filling::Letters => letter_task(bytes),
+        Filling::Pasted(typed) => Task::Pour(Stage::First, bytes, typed),
+    }
+}
+
+/// What is typed by the hand where lines are filled: of several bytes none breaks a line.
+fn letter_task(bytes: TypedBytes) -> Task
+    ensures { result ≡ letter_task bytes }
+{
+    if bytes.as_bytes().len() == 1 {
         typed_task(bytes)
     } else {
         Task::Post(Event::Typed(bytes))
     }
 }
 
-/// What is typed by the hand where lines are filled.
+/// A letter that is typed by the hand where lines are filled.
 fn typed_task(bytes: TypedBytes) -> Task
     ensures { result ≡ typed_task (typed_behind bytes nothing_typed) bytes }
 {
@@ -177,7 +218,7 @@ fn typed_task(bytes: TypedBytes) -> Task
 }
 
 /// An event of the hand, which takes the place of what the press before it selected, or doesn't.
-fn posted(over: bool, fills: bool, event: Event) -> Task
+fn posted(over: bool, fills: Filling, event: Event) -> Task
     ensures { result ≡ posted over fills event }
 {
     if over {
@@ -210,13 +251,23 @@ fn selecting(over: bool, step: Step) -> KeyWish
 }
 
 /// What is typed, and Backspace, act on what is selected up to the caret.
-fn posting_over(fills: bool, event: Event) -> Task
+fn posting_over(fills: Filling, event: Event) -> Task
     ensures { result ≡ posting_over fills event }
 {
     match event {
         Event::Typed(bytes) => Task::TypeOver(Event::Typed(bytes), fills),
         Event::Key(Key::Back) => Task::Erase { behind: false },
         event => Task::Post(event),
+    }
+}
+
+/// What a press did by a part of a paste: what was typed before, to which comes what is typed.
+fn pour_deed(stage: Stage, typed: u32) -> Option<Deed>
+    ensures { result ≡ pour_deed stage typed }
+{
+    match stage {
+        Stage::First | Stage::Back(_) => Some(Deed::Typed(typed)),
+        Stage::On => None,
     }
 }
 

@@ -1,7 +1,9 @@
 """What presses come to, by another program: their events go as lines of a script to `oberon`. The rest of a sitting,
 which rows are in sight and what the line below says, is here once more (crates/desk_sitting/specs)."""
 import itertools
+import re
 import subprocess
+from urllib.parse import unquote
 
 import leading
 import scrolling
@@ -14,7 +16,7 @@ UNREAD = "The host's file can't be read, and nothing was typed."
 # What the line below says where nothing else is to be said.
 KEYS = 'F2 calls, F3 selects, F11 no mouse, Ctrl-S stores, Ctrl-Z undo, Ctrl-Q leaves'
 NO_KEY = 'That key means nothing here.'
-NO_TEXT = 'There is no text on that side of the caret, or no caret in sight.'
+NO_CARET = 'No caret is set: click into a text first.'
 NOTHING_AFTER = 'There is no character after the caret, or no caret in sight.'
 NO_LINE = 'There is no line to cut, or no caret in sight.'
 PART_HIDDEN = 'An end of it is out of sight: make the viewer taller, or take less of the text.'
@@ -38,7 +40,7 @@ ONE_SIDE = 'Alt-Left, Alt-Right: the other side. F11: no mouse. Ctrl-S stores, C
 NAME = frozenset('ABCDEFGHIJKLMNOPQRSTUVWXYZabcdefghijklmnopqrstuvwxyz0123456789.')
 # What it says of a refusal, by its code.
 REASONS = {
-    1: 'No caret is set: click into a text first.',
+    1: NO_CARET,
     2: 'Nothing is selected: drag over a text with the right button, or with F3.',
     3: 'Behind that word a name or a number is missing.',
     4: "That word isn't a command: System.Tool shows all of them.",
@@ -51,6 +53,17 @@ REASONS = {
     11: 'Fonts are 0 to 4, colours 0 to 15, and offsets -64 to 63.',
     13: "A viewer of one row can't be parted.",
 }
+
+
+def poured(text, at, width):
+    """A text with the ends of lines that come into it, of which the first character stands in column at of a width."""
+    typed = ''
+    for part in re.findall('[^ \t\r]+|[ \t\r]', text):
+        if typed and part not in ' \t\r' and at > 0 and at + len(part) >= width:
+            typed, at = typed + '\r', 0
+        typed += part
+        at = 0 if part == '\r' else min(at // 4 * 4 + 4 if part == '\t' else at + len(part), width)
+    return typed + '\r' * (typed[-1] in ' \t' and at >= width)
 
 
 def is_draw(line):
@@ -176,7 +189,7 @@ class Model:
     def __init__(self, oberon, store, window, columns=COLUMNS):
         self.oberon, self.store = oberon, store
         self.pointer, self.put_away, self.points, self.has_entered = None, None, False, False
-        self.replacing, self.drew = Replacing(), False
+        self.replacing, self.drew, self.typed = Replacing(), False, 0
         self.play = subprocess.Popen([oberon, 'play', store], stdin=subprocess.PIPE, stdout=subprocess.PIPE)
         self.top, self.rows = ROWS - 1, ROWS
         self.side = 50
@@ -264,6 +277,7 @@ class Model:
         reply = self.ask(line)
         if reply == 'ok':
             self.drew = is_draw(line)
+            self.typed += len(unquote(line[len('type '):])) if line.startswith('type ') else 0
             self.follows = True
             self.saying = KEYS
             return True
@@ -294,12 +308,36 @@ class Model:
         after others."""
         if self.cut_selected():
             self.name_press('typed 0 characters')
+        self.typed = 0
         for text in texts:
             if looks:
                 self.look()
-            if not self.post('type ' + spelled(text)):
+            if not (self.pour(text) if self.fills else self.post('type ' + spelled(text))):
                 return False
         return True
+
+    def pour(self, text):
+        """A part of a paste is typed where lines are filled: an end of line comes before each word for which its line has no room."""
+        typed = self.typed
+        while True:
+            self.name_press(f'typed {typed} characters')
+            if self.break_line(min(len(re.match('[^ \t\r]*', text).group()), 255)) is False:
+                return False
+            self.name_press(f'typed {typed} characters')
+            viewer = self.viewer_of_caret()
+            if not viewer:
+                return self.post('type ' + spelled(text))
+            shown, org, position = self.seen_by(viewer)
+            if leading.org_for(shown, viewer[2] - viewer[1] - 1, org, position) == org:
+                break
+            if not self.post('type ' + spelled(text[0])):
+                return False
+            if not text[1:]:
+                return True
+            text, typed = text[1:], typed + 1
+        width = WIDTHS[viewer[0]] - 1
+        text = poured(text, min(leading.column(shown, position, org), width - 1), width)
+        return self.post_all(['type ' + spelled(part) for part in (text[:900], text[900:]) if part])
 
     def take(self, meaning):
         """A press, and what is noted of it for Ctrl-R, but where it posts nothing by itself."""
@@ -497,7 +535,7 @@ class Model:
         """The line of the caret is broken that has no room for so many characters more of a word: behind the last blank before
         it. None where it isn't, and whether the events of it are done."""
         seen = self.screen().caret()
-        if seen and (count == 0 or seen[0] not in (COLUMNS - 1, WIDTHS[0] - 1)):
+        if seen and seen[0] + count < (COLUMNS if seen[0] >= WIDTHS[0] else WIDTHS[0]):
             return None
         viewer = self.viewer_of_caret()
         if not viewer:
@@ -539,7 +577,7 @@ class Model:
 
     def call(self, word):
         """A command is called on the viewer of the caret, by its word in the menu, or else in a text and by the marker."""
-        viewer = self.viewer_with_rows(NO_WORD)
+        viewer = self.viewer_with_rows()
         if not viewer:
             return False
         left, bottom, top, name = viewer
@@ -552,12 +590,12 @@ class Model:
         self.name_press('a command')
         return is_done
 
-    def viewer_with_rows(self, no_caret):
+    def viewer_with_rows(self):
         """The viewer of the caret. None where there is none, or it shows no row of its text; then it is said."""
         viewer = self.viewer_of_caret()
         if not viewer:
             has_caret = scrolling.played(self.oberon, self.store, ['type x'])[0] == 'ok'
-            self.saying = NO_SCROLL if has_caret else no_caret
+            self.saying = NO_SCROLL if has_caret else NO_CARET
         return viewer
 
     def word_in_texts(self, word):
@@ -576,7 +614,7 @@ class Model:
 
     def call_line(self):
         """The command is called whose word the caret stands in, or else the first of its line."""
-        viewer = self.viewer_with_rows(NO_WORD)
+        viewer = self.viewer_with_rows()
         if not viewer:
             return False
         left, bottom, top, _ = viewer
@@ -596,7 +634,7 @@ class Model:
 
     def mark_caret(self):
         """The marker goes to the caret, or to the middle of its viewer."""
-        viewer = self.viewer_with_rows(NO_TEXT)
+        viewer = self.viewer_with_rows()
         if not viewer:
             return False
         left, bottom, top, _ = viewer
@@ -661,7 +699,7 @@ class Model:
 
     def step(self, word):
         """The caret goes a step, with its line in sight."""
-        if self.lead(lambda text, width, position: leading.stepped(text, width, position, word), NO_TEXT):
+        if self.lead(lambda text, width, position: leading.stepped(text, width, position, word), NO_CARET):
             self.name_press('the caret, or a viewer that was dragged')
 
     # ---- stretches
@@ -704,7 +742,7 @@ class Model:
 
     def select(self, word):
         """The caret goes a step, and what it passes is selected, with what the press before this one selected up to it."""
-        viewer = self.viewer_with_rows(NO_TEXT)
+        viewer = self.viewer_with_rows()
         if not viewer:
             return False
         text, org, position = self.seen_by(viewer)
@@ -715,7 +753,7 @@ class Model:
         return self.stretch(viewer, text, org, goal, *sorted((anchor, goal)))
 
     def select_all(self):
-        viewer = self.viewer_with_rows(NO_TEXT)
+        viewer = self.viewer_with_rows()
         if not viewer:
             return False
         text, org, _ = self.seen_by(viewer)
@@ -738,7 +776,7 @@ class Model:
 
     def cut_line(self):
         """The line of the caret is cut, with its end."""
-        viewer = self.viewer_with_rows(NO_LINE)
+        viewer = self.viewer_with_rows()
         if not viewer:
             return False
         text, org, position = self.seen_by(viewer)
@@ -760,15 +798,15 @@ class Model:
         if self.lead(behind, NOTHING_AFTER) and self.post('key back'):
             self.name_press('a Backspace')
 
-    def lead(self, wish, no_caret):
+    def lead(self, wish, nothing):
         """Whether the caret goes to the position that is wished, as near as it has a cell."""
-        viewer = self.viewer_with_rows(no_caret)
+        viewer = self.viewer_with_rows()
         if not viewer:
             return False
         text, org, caret = self.seen_by(viewer)
         position = wish(text, WIDTHS[viewer[0]] - 1, caret)
         if position is None:
-            self.saying = no_caret
+            self.saying = nothing
             return False
         lines = self.way_to(viewer, text, org, position)
         return lines is not None and self.post_all(lines)

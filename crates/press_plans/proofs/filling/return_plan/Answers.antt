@@ -1,11 +1,12 @@
 use Rattle.std.proofs.Common.{◌∙◌, sym}
 use Rattle.std.proofs.lemmas.Result.{err_from_is_err_and}
-use Rattle.press_plans.proofs.Planning.{goes_back, plans_at_once, plans_seen, plans_unseen, stands}
+use Rattle.press_plans.proofs.Planning.{goes_back, plans_at_once, plans_seen, plans_unseen, stands, types_back}
 use Rattle.press_plans.proofs.filling.return_plan.Goals as goal
 
 pub returns-then-is_place : goal.returns-then-is_place
 returns-then-is_place g c = plans_at_once g.D.Disk _ c.args.store.now c.requires (λ honest.
-    stands c.args.typing c.args.fills c.args.deed c.args.store.now.desktop c.args.place c.info_of.result c.info_of.ensures
+    stands _ _ c.args.store.now.desktop c.args.place c.info_of.result c.info_of.ensures
+    (types_back c.args.place c.args.typing c.args.fills c.args.deed c.args.store.now.desktop)
     (sym c.is_place.ensures ∙ c.if-is_place.true))
 
 pub returns-in_err-told : goal.returns-in_err-told
@@ -16,5 +17,5 @@ returns-in_err-told g c =
 pub returns : goal.returns
 returns g c = plans_seen g.D.Disk c.in_ok-told.told _ c.in_ok-told.ensures.looks (λ honest.
     c.placed_plan.ensures
-    ∙ goes_back c.args.typing c.args.fills c.args.deed c.args.store.now.desktop c.args.place c.info_of.result
-    c.info_of.ensures _ (sym c.is_place.ensures ∙ c.if-is_place.false) (c.in_ok-told.ensures.leads honest).exact)
+    ∙ goes_back _ _ c.args.store.now.desktop c.args.place c.info_of.result c.info_of.ensures
+    (types_back c.args.place c.args.typing c.args.fills c.args.deed c.args.store.now.desktop) _ (sym c.is_place.ensures ∙ c.if-is_place.false) (c.in_ok-told.ensures.leads honest).exact)

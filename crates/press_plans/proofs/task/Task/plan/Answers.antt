@@ -25,7 +25,7 @@ returns-in-Page g c = rw c.in-Page.is (plans_at_once g.D.Disk c.page_plan.result
 pub returns-in-Show : goal.returns-in-Show
 unfolding plan_of
 returns-in-Show g c = rw c.in-Show.is (plans_at_once g.D.Disk c.shown_plan.result c.args.store.now c.requires
-    (λ honest. c.shown_plan.ensures ∙ ap (λ (place : Option Place). shown_plan c.in-Show.at_end place) c.caret_place.ensures))
+    (λ honest. c.shown_plan.ensures ∙ ap (λ (place : Option Place). shown_plan place) c.caret_place.ensures))
 
 pub returns-in_ok-presses-in-Scroll : goal.returns-in_ok-presses-in-Scroll
 unfolding plan_of
@@ -83,3 +83,4 @@ pub plan_seen-requires-clause-seen : goal.plan_seen-requires-clause-seen
 plan_seen-requires-clause-seen g c = by_screen _ c.args.store.now.desktop c.in_default.not-Post c.in_default.not-Scroll
     c.in_default.not-Lead c.in_default.not-After c.in_default.not-Enter c.in_default.not-Page
     c.in_default.not-Show c.in_default.not-TypeOn c.in_default.not-GoBack c.in_default.not-TypeOver c.in_default.not-Erase
+    c.in_default.not-Pour
