@@ -25,6 +25,8 @@ screen_.addEventListener('mousedown', event => {
     commit();
     keys.focus({ preventScroll: true });
     closeMenu();
+    // The second press of a double click that calls a command: a left click more would select its word first.
+    if (event.button === LEFT && event.detail === 2 && commandAt(...cellAt(event))) return;
     if (event.button < 3) { down = true; report(button(event), cellAt(event), 'M'); }
 });
 addEventListener('mouseup', event => {

@@ -12,7 +12,7 @@ use Rattle.desk_journal.proofs.Prefixes.{steps_both}
 use Rattle.terminal_presses.specs.declared.press.Press.{Press}
 use Rattle.terminal_presses.specs.declared.action.Action.{Action}
 use Rattle.terminal_presses.specs.declared.hand.Hand.{Hand}
-use Rattle.terminal_presses.specs.Hands.{handled}
+use Rattle.desk_sitting.specs.Sittings.{meant_by}
 use Rattle.press_plans.specs.declared.task.Task.{Task}
 use Rattle.desk_sitting.specs.Sittings.{most_plans}
 use Rattle.desk_sitting.specs.Questions.{unasked}
@@ -198,7 +198,7 @@ press_steps : (press : Press) (d : Seat)
     → (after_press press d).session.desktop ≡ steps d.session.desktop (accepted_of press d)
 unfolding after_press
 press_steps press d =
-    let made = handled d.sitting.sight press d.sitting.hand in
+    let made = meant_by press d.sitting in
     let held = record d { sitting = with_hand made d.sitting } in
     let events = accepted_unasked made.1 held in
     elim (true_or_false d.sitting.leaves) [

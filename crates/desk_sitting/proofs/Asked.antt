@@ -7,7 +7,7 @@ use Rattle.desk_journal.specs.Errors.{Error}
 use Rattle.desk_journal.specs.View.{StoreView}
 use Rattle.terminal_presses.specs.declared.action.Action.{Action}
 use Rattle.terminal_presses.specs.declared.press.Press.{Press}
-use Rattle.terminal_presses.specs.Hands.{handled}
+use Rattle.desk_sitting.specs.Sittings.{meant_by}
 use Rattle.desk_sitting.specs.declared.sitting.Sitting.{Sitting}
 use Rattle.press_plans.specs.declared.task.Task.{Task}
 use Rattle.desk_sitting.specs.Sittings.{most_plans}
@@ -31,12 +31,12 @@ module _ {D : Type 0} (d : Ghosts D) where
 
   -- before that the hand says what it comes to
   pub hand_press : {T : Type 0} (press : Press) (a : Action) (result : Result T Error) (s mid s' : Sitting)
-      (old new : StoreView D) → s.leaves ≡ false → mid ≡ with_hand (handled s.sight press s.hand) s
-      → a ≡ (handled s.sight press s.hand).1
+      (old new : StoreView D) → s.leaves ≡ false → mid ≡ with_hand (meant_by press s) s
+      → a ≡ (meant_by press s).1
       → DoesPress d (accepted_unasked a (seat_of mid old)) (acted a (seat_of mid old)) result s' old new
       → DoesPress d (accepted_of press (seat_of s old)) (after_press press (seat_of s old)) result s' old new
   hand_press press a result s mid s' old new stays is is_a does =
-      let made = handled s.sight press s.hand in
+      let made = meant_by press s in
       press_same d result (λ honest durable. (
         ap (λ one. accepted_unasked one (seat_of mid old)) is_a
             ∙ ap (λ t. accepted_unasked made.1 (seat_of t old)) is

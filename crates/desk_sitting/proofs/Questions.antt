@@ -6,7 +6,7 @@ use Rattle.desktop_definitions.specs.Desktop.{Desktop}
 use Rattle.event_bytes.specs.declared.event.Event.{Event}
 use Rattle.terminal_presses.specs.declared.action.Action.{Action}
 use Rattle.terminal_presses.specs.declared.hand.Hand.{Hand}
-use Rattle.terminal_presses.specs.Hands.{handled}
+use Rattle.desk_sitting.specs.Sittings.{meant_by}
 use Rattle.status_line.specs.declared.question.Question.{Question}
 use Rattle.status_line.specs.declared.question.Question.TheVariants.{Leaving, Closing, Taking, Rivalled, Deleting, Misnamed}
 use Rattle.desk_sitting.specs.declared.sitting.Sitting.{Sitting}
@@ -41,7 +41,7 @@ asked_is a d next asks =
 pub posts_nothing : QuestionsPostNothing
 unfolding after_press
 posts_nothing press d is =
-    let made = handled d.sitting.sight press d.sitting.hand in
+    let made = meant_by press d.sitting in
     let (here, asks) = both d.sitting.leaves (asks_first made.1 d) is in
     let held = record d { sitting = with_hand made d.sitting } in
     let next = cond-false d.sitting.leaves d (acted made.1 held) here ∙ asked_is made.1 d made asks in (

@@ -18,7 +18,7 @@ use Rattle.terminal_presses.specs.declared.action.Action.{Action}
 use Rattle.terminal_presses.specs.declared.action.Action.TheVariants as action
 use Rattle.terminal_presses.specs.declared.hand.Hand.{Hand}
 use Rattle.terminal_presses.specs.declared.press.Press.{Press}
-use Rattle.terminal_presses.specs.Hands.{handled}
+use Rattle.desk_sitting.specs.Sittings.{meant_by}
 use Rattle.terminal_presses.specs.Pointers.{pointer_cell}
 use Rattle.terminal_presses.specs.Sights.{terminal_place}
 use Rattle.screen_reading.specs.Windows.{following_sight}
@@ -56,6 +56,8 @@ use Rattle.press_plans.specs.Plans.{Plan, Aims, Events, PutsAway, Refused as Not
 use Rattle.desk_sitting.specs.Travelling.{IsBetween}
 use Rattle.desk_sitting.specs.Travels.{Travelled, did_again, goes_again, is_unmoved, none_again, settled, store_place, took_back}
 use Rattle.desk_sitting.specs.Travels.{none as not_asked, back, nothing, again}
+use Rattle.desk_sitting.specs.Twice.{is_missed}
+use Rattle.desk_sitting.specs.Clips.{clip_saying, clip_sent, clip_told, copied_text}
 use Rattle.desk_sitting.specs.TheDesk.{◌>>=◌, the_desk}
 
 -- ---- a scene that isn't due
@@ -66,51 +68,57 @@ record IsQuiet (s : Sitting) : Type 0 where
   pub rings : s.rings ≡ false
   pub forgets : s.forgets ≡ false
   pub asks : s.asks ≡ false
+  pub copies : s.copies ≡ false
 
 quiet : (s : Sitting) → is_scene_due s ≡ false → IsQuiet s
 quiet s is =
-    let four = or_parts (s.changed || s.follows || s.rings || s.forgets) s.asks is in
+    let five = or_parts (s.changed || s.follows || s.rings || s.forgets || s.asks) s.copies is in
+    let four = or_parts (s.changed || s.follows || s.rings || s.forgets) s.asks five.0 in
     let three = or_parts (s.changed || s.follows || s.rings) s.forgets four.0 in
     let two = or_parts (s.changed || s.follows) s.rings three.0 in
     let one = or_parts s.changed s.follows two.0 in
-    record { changed = one.0; follows = one.1; rings = two.1; forgets = three.1; asks = four.1 }
+    record { changed = one.0; follows = one.1; rings = two.1; forgets = three.1; asks = four.1; copies = five.1 }
 
 not_due : (s : Sitting) → IsQuiet s → is_scene_due s ≡ false
 not_due s is =
-    or_from _ _ (or_from _ _ (or_from _ _ (or_from _ _ is.changed is.follows) is.rings) is.forgets) is.asks
+    or_from _ _ (or_from _ _ (or_from _ _ (or_from _ _ (or_from _ _ is.changed is.follows) is.rings) is.forgets) is.asks)
+    is.copies
 
 record IsDue (s : Sitting) : Type 0 where
   pub is : is_scene_due s ≡ true
 
 rings_due : (s : Sitting) → s.rings ≡ true → IsDue s
-rings_due s rings = record { is = or_left _ _ (or_left _ _ (or_right _ _ rings)) }
+rings_due s rings = record { is = or_left _ _ (or_left _ _ (or_left _ _ (or_right _ _ rings))) }
 
 follows_due : (s : Sitting) → s.follows ≡ true → IsDue s
-follows_due s follows = record { is = or_left _ _ (or_left _ _ (or_left _ _ (or_right _ _ follows))) }
+follows_due s follows = record { is = or_left _ _ (or_left _ _ (or_left _ _ (or_left _ _ (or_right _ _ follows)))) }
 
 changed_due : (s : Sitting) → s.changed ≡ true → IsDue s
-changed_due s changed = record { is = or_left _ _ (or_left _ _ (or_left _ _ (or_left _ _ changed))) }
+changed_due s changed = record { is = or_left _ _ (or_left _ _ (or_left _ _ (or_left _ _ (or_left _ _ changed)))) }
 
--- nothing is to be done at a look then
-pub looks_same : (screen : List (List Cell)) (s : Sitting) → is_scene_due s ≡ false → looked screen s ≡ s
+-- nothing is to be done at a look then, and nothing to be told of the clipboard
+pub looks_same : (d : Desktop) (s : Sitting) → is_scene_due s ≡ false → looked (shown_screen d) (clip_told d s) ≡ s
 unfolding looked
-looks_same screen s due =
+looks_same d s due =
     let is = quiet s due in
+    let screen = shown_screen d in
     λ k. record s {
       sight = cond-false s.follows (following_sight (followed_cell screen s.hand) s.sight) s.sight is.follows k;
       follows = sym is.follows k;
       rings = sym is.rings k;
       forgets = sym is.forgets k;
       asks = sym is.asks k;
+      copies = sym is.copies k;
       changed = sym is.changed k;
+      saying = clip_saying (is.copies k) (copied_text d) s.saying;
     }
 
 -- before anything is heard
 pub seen_so : {D : Type 0} {s : Sitting} {old mid : StoreView D} {known known' : List (List Face)}
     {held held' : Option (List ℕ)} {waiting waiting' : ℕ} → IsShownIfDue the_desk s old mid known known' held held' waiting waiting'
     → (is_scene_due s ≡ false → IsSeen the_desk s (store_screen old) known held × (waiting ≡ 0))
-    → IsSeen the_desk (looked (store_screen old) s) (store_screen old) known' held'
-seen_so {s = s} {known = known} {held = held} (anew due shown) seen = record {
+    → IsSeen the_desk (looked (store_screen old) (clip_told old.desktop s)) (store_screen old) known' held'
+seen_so {s = s} {old = old} {known = known} {held = held} (anew due shown) seen = record {
   scene = shown.painted.scene;
   is = shown.painted.is;
   rows = shown.painted.rows;
@@ -120,11 +128,12 @@ seen_so {s = s} {known = known} {held = held} (anew due shown) seen = record {
   paints = shown.painted.paints;
   rings = s.rings;
   asks = s.asks;
+  clip = clip_sent old.desktop s;
   after = shown.after;
 }
 seen_so {s = s} {old = old} {known = known} {known' = known'} {held' = held'}
     (still due same_store same_known same_held same_waiting) seen =
-    subst (λ t. IsSeen the_desk t (store_screen old) known' held') (sym (looks_same (store_screen old) s due))
+    subst (λ t. IsSeen the_desk t (store_screen old) known' held') (sym (looks_same old.desktop s due))
     (subst (λ k. IsSeen the_desk s (store_screen old) k held') (sym same_known)
     (subst (λ h. IsSeen the_desk s (store_screen old) known h) (sym same_held) (seen due).0))
 
@@ -346,6 +355,7 @@ module _ (known : List (List Face)) (held : Option (List ℕ)) where
         rings = now.rings;
         forgets = now.forgets;
         asks = now.asks;
+        copies = now.copies;
       })) in
       subst (λ (t : Seat). IsSeen the_desk t.sitting (shown_screen t.session.desktop) known held) (sym same) (record {
         scene = before.scene;
@@ -358,6 +368,7 @@ module _ (known : List (List Face)) (held : Option (List ℕ)) where
         paints = before.paints;
         rings = before.rings;
         asks = before.asks;
+        clip = before.clip;
         after = before.after;
       })
 
@@ -365,7 +376,7 @@ module _ (known : List (List Face)) (held : Option (List ℕ)) where
       → Stands (after_press press seat).sitting (after_press press seat).session.desktop
   unfolding after_press
   press_stands press seat stands =
-      let next : Hand × Action = handled seat.sitting.sight press seat.sitting.hand in
+      let next : Hand × Action = meant_by press seat.sitting in
       let after : Seat = acted next.1 (record seat { sitting = with_hand next seat.sitting }) in
       elim (true_or_false seat.sitting.leaves) [
         | inl left ↦ subst (λ (t : Seat). Stands t.sitting t.session.desktop)
@@ -419,7 +430,10 @@ replied_due : (event : Event) (reply : Reply) (s : Sitting) → IsDue (replied e
 unfolding replied
 replied_due event Done s = follows_due (replied event Done s) refl
 replied_due event (No code) s =
-    turned_due s.typed (refused_saying event code) (unplaced (record s { past = with_refused s.past }))
+    turned_due s.typed (refused_saying event code) (unplaced (record s {
+      past = with_refused s.past;
+      missed = is_missed (No code);
+    }))
 
 either_due : (b : Bool) (x y : Sitting) → IsDue x → IsDue y → IsDue (if b then x else y)
 either_due true x y one other = one

@@ -22,7 +22,7 @@ use Rattle.desk_journal.specs.View.{StoreView, IsDurable}
 use Rattle.desk_journal.proofs.Passing.{at_start, shows_means}
 use Rattle.terminal_presses.specs.declared.action.Action.{Action}
 use Rattle.terminal_presses.specs.declared.press.Press.{Press}
-use Rattle.terminal_presses.specs.Hands.{handled}
+use Rattle.desk_sitting.specs.Sittings.{meant_by}
 use Rattle.status_line.specs.declared.saying.Saying.TheVariants as saying
 use Rattle.desk_sitting.specs.declared.sitting.Sitting.{Sitting}
 use Rattle.desk_sitting.specs.Doing.{OfPresses, ComesToSeat, seat_of}
@@ -305,13 +305,13 @@ left_seat press d leaves = sym (cond-true d.sitting.leaves d _ leaves)
 
 -- before that the hand says what a press comes to
 pub pressed_seat : (press : Press) (d : Seat) (s : Sitting) (act : Action) → d.sitting.leaves ≡ false
-    → s ≡ with_hand (handled d.sitting.sight press d.sitting.hand) d.sitting
-    → act ≡ (handled d.sitting.sight press d.sitting.hand).1
+    → s ≡ with_hand (meant_by press d.sitting) d.sitting
+    → act ≡ (meant_by press d.sitting).1
     → acted act (record d { sitting = s }) ≡ after_press press d
 unfolding after_press
 pressed_seat press d s act stays is is_act =
     ap (λ t. acted act (record d { sitting = t })) is
     ∙ ap (λ a. acted a (record d {
-      sitting = with_hand (handled d.sitting.sight press d.sitting.hand) d.sitting;
+      sitting = with_hand (meant_by press d.sitting) d.sitting;
     })) is_act
     ∙ sym (cond-false d.sitting.leaves d _ stays)

@@ -42,6 +42,8 @@ use Rattle.press_plans.specs.declared.task.Task.{Task}
 use Rattle.press_plans.specs.declared.task.Task.TheVariants as kind
 use Rattle.press_plans.specs.Listed.{event_meant, lacks_tool}
 use Rattle.press_plans.specs.Plans.{Plan, Aims, Events, PutsAway, Refused as NotDone, Says, Shows, answer_plan}
+use Rattle.screen_reading.specs.Picked.{picked_word}
+use Rattle.press_plans.specs.Plans.{caret_seen, comeback_plan, go_plan, has_lost_caret, word_plan}
 use Rattle.press_plans.specs.Plans.{call_plan, erase_plan, erasing, lead_plan, over_plan}
 use Rattle.press_plans.specs.Plans.{click_of, enter_plan, is_call, opened_viewer, plan_of, plan_on}
 use Rattle.press_plans.specs.Tasks.{calling_wish, posted, posting, posting_over, task_of, typed_task}
@@ -51,9 +53,13 @@ use Rattle.press_plans.specs.Plans.{column_clicked, from_column, front_plan, pou
 use Rattle.press_plans.specs.Poured.{poured_at, word_length}
 use Rattle.press_plans.specs.Filling.{room_if, place_behind, is_place}
 use Rattle.press_plans.specs.Replacing.{TypingView, first_typed, first_byte_typed, rest_typed, typed_behind, nothing_typed}
+use Rattle.press_plans.specs.Replacing.{replacement}
+use Rattle.done_presses.specs.Past.{selects}
+use Rattle.terminal_presses.specs.Sights.{Sight}
 use Rattle.status_line.specs.declared.deed.Deed.{Deed}
 use Rattle.desk_sitting.specs.Sittings.{Seat, ClicksAreTold, IsClickTold, accepted_as, accepted_by, accepted_in}
-use Rattle.desk_sitting.specs.Sittings.{accepted_stage, after_stage}
+use Rattle.desk_sitting.specs.Sittings.{accepted_stage, after_stage, filling, task_or_word}
+use Rattle.desk_sitting.specs.Twice.{cell_again, cell_clicked}
 use Rattle.desk_sitting.specs.Sittings.{does, does_all, left_by, most_plans, noted_at, planned, task_left}
 
 module _ (told : Option MiddleClick) where
@@ -63,7 +69,8 @@ module _ (told : Option MiddleClick) where
   -- tasks that post what was told, and nothing else of that button
   data Posts : Task → Type 0 where
     post : (e : Event) → Told e → Posts (kind.Post e)
-    after : (before : DeskInfo) → Posts (kind.After before)
+    after : (before : DeskInfo) (cell : Option (ℕ × ℕ)) → Posts (kind.After before cell)
+    word : (at : ℕ × ℕ) → Posts (kind.Word at)
     enter : (cell : ℕ × ℕ) → Posts (kind.Enter cell)
     reveal : (cell : ℕ × ℕ) → Posts (kind.Reveal cell)
     types : (t : TypingView) (fills : Bool) (deed : Deed) → Posts (kind.TypeOn t fills deed)
@@ -141,19 +148,33 @@ module _ (told : Option MiddleClick) where
   meant_told d (event.Point keys x0 y0 x1 y1) t = event_if (is_middle keys && lacks_tool d (x0, y0)) tool_event _ tt t
   meant_told d (event.File name bytes) t = t
 
-  after_if : (b : Bool) (before : DeskInfo) → IfSome (if b then Some (kind.After before) else None) Posts
-  after_if true before = after before
-  after_if false before = tt
+  after_if : (b : Bool) (before : DeskInfo) (cell : Option (ℕ × ℕ))
+      → IfSome (if b then Some (kind.After before cell) else None) Posts
+  after_if true before cell = after before cell
+  after_if false before cell = tt
+
+  coming_back : (cell : Option (ℕ × ℕ)) → IsTelling (go_plan cell)
+  coming_back None = empty_telling
+  coming_back (Some cell) = record { events = one (click_of cell) tt; next = tt }
+
+  picking : (at : ℕ × ℕ) (word : Option (ℕ × ℕ)) → IsTelling (word_plan at word)
+  picking at None = record { events = one (click_of at) tt; next = tt }
+  picking at (Some ends) = record {
+    events = one (click_of (ends.0, at.1)) tt;
+    next = post (event.Point keys.Right ends.0 at.1 ends.1 at.1) tt;
+  }
 
   entering : (is_log : Bool) (cell : Option (ℕ × ℕ)) → IsTelling (enter_plan is_log cell)
   entering is_log None = empty_telling
   entering true (Some cell) = record { events = nothing; next = reveal cell }
   entering false (Some cell) = record { events = nothing; next = enter cell }
 
-  answering : (viewer : Option ShownViewer) (before : DeskInfo) (d : Desktop) → IsTelling (answer_plan viewer before d)
-  answering (Some viewer) before d = entering viewer.is_log (text_start viewer.place)
-  answering None before d = chosen (nat_lt before.log_length (desk_info d).log_length) (Says (last_log_line d)) (Events [] None)
-      (record { events = nothing; next = tt }) empty_telling
+  answering : (viewer : Option ShownViewer) (before : DeskInfo) (cell : Option (ℕ × ℕ)) (d : Desktop)
+      → IsTelling (answer_plan viewer before cell d)
+  answering (Some viewer) before cell d = entering viewer.is_log (text_start viewer.place)
+  answering None before cell d = chosen (nat_lt before.log_length (desk_info d).log_length) (Says (last_log_line d))
+      (comeback_plan before cell d) (record { events = nothing; next = tt })
+      (chosen (has_lost_caret before d) (go_plan cell) (Events [] None) (coming_back cell) empty_telling)
 
   -- what is typed, before which a line may be broken
   byte_told : (bytes : List ℕ) → IfSome (first_byte_typed bytes) Told
@@ -336,9 +357,10 @@ module _ (told : Option MiddleClick) where
   unfolding plan_of plan_on posted_plan
   telling _ d (post e t) = record {
     events = one (event_meant d e) (meant_told d e t);
-    next = after_if (is_call (event_meant d e)) (desk_info d);
+    next = after_if (is_call (event_meant d e)) (desk_info d) (caret_seen d e);
   }
-  telling _ d (after before) = answering (opened_viewer before d) before d
+  telling _ d (after before cell) = answering (opened_viewer before d) before cell d
+  telling _ d (word at) = picking at (picked_word (shown_screen d) at)
   telling _ d (enter cell) = chosen (desk_info d).is_marked _ _
       (record { events = one (event.Key key.Escape) tt; next = post (click_of cell) tt })
       (record { events = one (click_of cell) tt; next = tt })
@@ -410,6 +432,13 @@ over_posts fills (event.File name bytes) = post (event.File name bytes) tt
 hand_posts : (over : Bool) (fills : Filling) (e : Event) → Posts (middle_click e) (posted over fills e)
 hand_posts true fills e = over_posts fills e
 hand_posts false fills e = posts_by (middle_click e) fills e (itself e)
+
+-- and of a second click
+or_word_posts : (e : Event) (again : Option (ℕ × ℕ)) (fills : Filling) (selects : Bool) (typed : Option TypingView)
+    (sight : Sight) → IfSome (task_or_word again fills selects typed sight (action.Post e)) (Posts (middle_click e))
+unfolding task_of
+or_word_posts e (Some cell) fills b typed sight = word cell
+or_word_posts e None fills b typed sight = hand_posts b fills e
 
 -- ---- what is wished of the caret
 
@@ -497,7 +526,9 @@ mark_wish_told d = marks (led_with d d.caret MarkWish) (mark_told d d.caret)
 
 pub clicks_told : ClicksAreTold
 unfolding accepted_as task_of click_made calling_wish plan_of plan_on
-clicks_told (action.Post e) seat is = all_told (middle_click e) most_plans _ (noted_at (action.Post e) seat) (hand_posts _ _ e)
+clicks_told (action.Post e) seat is = all_told (middle_click e) most_plans _ (noted_at (action.Post e) seat)
+    (or_word_posts e (cell_again (cell_clicked (action.Post e)) seat.sitting.clicked) (filling seat.sitting)
+    (selects seat.sitting.past) (replacement seat.sitting.replacing) seat.sitting.sight)
 clicks_told action.Search seat is = first_told _ most_plans _ (noted_at action.Search seat)
     (command_told seat.session.desktop caret.Search)
 clicks_told action.Store seat is = first_told _ most_plans _ (noted_at action.Store seat)

@@ -23,6 +23,7 @@ use Rattle.desk_journal.specs.Looking.{OnlyLooks}
 use Rattle.desk_journal.specs.Session.{Session, session_of}
 use Rattle.desk_journal.specs.View.{StoreView, IsDurable}
 use Rattle.desk_journal.proofs.Passing.{at_start}
+use Rattle.store_documents.proofs.Looks.{read_twice}
 use Rattle.desk_sitting.specs.declared.sitting.Sitting.{Sitting}
 use Rattle.desk_sitting.specs.Doing.{Breaks, DoesPresses, OfPresses, seat_of}
 use Rattle.desk_sitting.specs.Sittings.{is_scene_due, looked}
@@ -30,13 +31,14 @@ use Rattle.desk_sitting.specs.declared.ending.SittingEnd.{SittingEnd}
 use Rattle.desk_sitting.specs.declared.ending.SittingEnd.TheVariants.{Left, Closed, Input, TooLong, Output, Fault}
 use Rattle.desk_sitting.specs.declared.ending.SittingEnd.TheVariants.{Memory}
 use Rattle.desk_sitting.specs.Endings.{EndsBy, IsOfNoKeyboard, sitting_end_of, end_of_keyboard}
-use Rattle.desk_sitting.specs.Scenes.{IsScenePainted, IsUnshown, after_scene, behind_it, known_by}
+use Rattle.desk_sitting.specs.Scenes.{IsScenePainted, IsUnshown, after_scene, behind_it, clip_bytes, known_by}
 use Rattle.desk_sitting.specs.Serving.{TurnState, IsFetched, IsLookedAt, HearsAfterScene, IsDeaf, Broke}
 use Rattle.desk_sitting.specs.Serving.{HasTurned, HasStopped, TakesTurn, CountsEnding, IsUsableAt, store_screen}
 use Rattle.desk_sitting.specs.Serving.{sitting_shown}
 use Rattle.desk_sitting.specs.Serving.{CountsOutput, left, closed}
 use Rattle.desk_sitting.specs.Serving.{unheard, unseen, faulty, starved, faulty_press, starved_press}
 use Rattle.desk_sitting.specs.Serving.{IsSeenUnlessDue, IsShownIfDue, StaysInUse}
+use Rattle.desk_sitting.specs.Clips.{clip_sent, clip_told}
 use Rattle.desk_sitting.proofs.Seen.{handed_so, seen_so}
 use Rattle.desk_sitting.specs.Desk.{accepted_events}
 use Rattle.desk_sitting.specs.TheDesk.{the_desk}
@@ -67,6 +69,14 @@ module _ {D : Type 0} (d : Ghosts D) where
         durable = still_durable old new looks.disk same durable;
       }
 
+  -- one look after another
+  pub looked_on : (old mid new : StoreView D) → IsLookedAt d old mid → IsLookedAt d mid new → IsLookedAt d old new
+  looked_on old mid new first second = record {
+    session = second.session ∙ first.session;
+    disk = read_twice d first.disk second.disk;
+    durable = second.durable;
+  }
+
   -- nobody looks
   same_disk : (disk : D) → IsSameDevice d disk disk
   same_disk disk = record { as_large = refl; still = λ honest. honest; already = λ honest. honest }
@@ -85,15 +95,15 @@ module _ {D : Type 0} (d : Ghosts D) where
   unused store usable = record { usable = usable; device = same_disk store.disk }
 
 -- the output fails behind the scene
-module _ (s s' : Sitting) (screen screen' : List (List Cell)) (known known' : List (List Face))
+module _ (s s' : Sitting) (screen screen' : List (List Cell)) (clip : List ℕ) (known known' : List (List Face))
     (held between held' : Option (List ℕ)) {H : Type 0} where
   pub cut_behind : {T : Type 0} (result : Result T SittingEnd) → s' ≡ looked screen' s → (H → screen' ≡ screen)
       → IsScenePainted the_desk s' screen' (known_by s.forgets known) known' held between
-      → OnErr result (AppendsFront between held' (after_scene s.rings s.asks))
-      → IfErr result (λ end. end ≡ Output) → IfErr result (λ end. H → IsUnshown the_desk end s screen known held held')
+      → OnErr result (AppendsFront between held' (after_scene s.rings s.asks clip))
+      → IfErr result (λ end. end ≡ Output) → IfErr result (λ end. H → IsUnshown the_desk end s screen clip known held held')
   cut_behind (Ok value) looks shows painted front is = tt
   cut_behind (Err end) looks shows painted front is = λ h.
-      subst (λ e. IsUnshown the_desk e s screen known held held') (sym is) (behind_it
+      subst (λ e. IsUnshown the_desk e s screen clip known held held') (sym is) (behind_it
       (subst (λ x. IsScenePainted the_desk (looked x s) x (known_by s.forgets known) known' held between) (shows h)
       (subst (λ t. IsScenePainted the_desk t screen' (known_by s.forgets known) known' held between) looks painted)) front)
 
@@ -235,7 +245,8 @@ module _ {D : Type 0} (d : Ghosts D) where
   -- the scene isn't shown
   unshown_stops : (end : SittingEnd) (old new : TurnState D) → is_scene_due old.sitting ≡ true
       → IsLookedAt d old.store new.store → new.heard ≡ old.heard → new.asked ≡ old.asked
-      → IsUnshown the_desk end old.sitting (store_screen old.store) old.known old.held new.held
+      → IsUnshown the_desk end (clip_told old.store.desktop old.sitting) (store_screen old.store)
+      (clip_bytes (clip_sent old.store.desktop old.sitting)) old.known old.held new.held
       → HasStopped the_desk d end old new
   unshown_stops Left old new due looks heard unasked why = absurd why
   unshown_stops Closed old new due looks heard unasked why = absurd why
@@ -251,7 +262,8 @@ module _ {D : Type 0} (d : Ghosts D) where
   pub unshown_ends : {T : Type 0} {old new : TurnState D} (result : Result T SittingEnd) (end : SittingEnd)
       → result ≡ Err end → (d.honest old.store.disk → IsDurable d old.store → IsLookedAt d old.store new.store)
       → (is_scene_due old.sitting ≡ true)
-      × (d.honest old.store.disk → IsUnshown the_desk end old.sitting (store_screen old.store) old.known old.held new.held)
+      × (d.honest old.store.disk → IsUnshown the_desk end (clip_told old.store.desktop old.sitting) (store_screen old.store)
+      (clip_bytes (clip_sent old.store.desktop old.sitting)) old.known old.held new.held)
       → new.heard ≡ old.heard → new.asked ≡ old.asked → new.store.must_reopen ≡ false
       → CountsEnding end (d.failures old.store.disk) (d.failures new.store.disk)
       → IsSameDevice d old.store.disk new.store.disk → TakesTurn the_desk d result old new

@@ -3,6 +3,7 @@
 use Rattle.std.specs.Prelude.{ℕ, Bool, List, [], ◌∷◌, ◌++◌, Option}
 use Rattle.event_bytes.specs.declared.event.Event.{Event}
 use Rattle.screen_pictures.specs.declared.cell.Cell.{Cell}
+use Rattle.desktop_definitions.specs.Desktop.{Desktop}
 use Rattle.terminal_keyboard.specs.declared.parser.Parser.{Parser}
 use Rattle.terminal_presses.specs.declared.press.Heard.{Heard}
 use Rattle.terminal_presses.specs.declared.press.Press.{Press}
@@ -31,6 +32,10 @@ pub record Desk : Type 0 where
   pub looks : List (List Cell) → Sitting → Sitting
   pub points : Sitting → Option (ℕ × ℕ)
   pub says : List (List Cell) → Sitting → List ℕ
+  -- the text that the clipboard of the terminal is given with a scene of this desktop, and the sitting that says where a text
+  -- can't be given
+  pub gives : Desktop → Sitting → Option (List ℕ)
+  pub tells : Desktop → Sitting → Sitting
   -- after the keyboard was asked for the text of a host file, which will be heard or not
   pub fetches : Bool → Sitting → Sitting
   -- how many events are taken back, and the sitting after these were, from one place of the store to another

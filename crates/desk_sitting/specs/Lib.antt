@@ -1,3 +1,4 @@
+pub mod Clips
 pub mod Desk
 pub mod Doing
 pub mod Endings
@@ -11,3 +12,4 @@ pub mod Surviving
 pub mod TheDesk
 pub mod Travelling
 pub mod Travels
+pub mod Twice

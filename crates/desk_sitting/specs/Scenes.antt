@@ -1,5 +1,7 @@
 -- What a terminal is sent in a turn of a sitting.
-use Rattle.std.specs.Prelude.{◌≡◌, ◌+◌, ℕ, Bool, if◌then◌else◌, List, [], ◌∷◌, ◌++◌, Option}
+use Rattle.std.specs.Prelude.{◌≡◌, ◌+◌, ℕ, Bool, if◌then◌else◌, List, [], ◌∷◌, ◌++◌, Option, Some, None, codes}
+use Rattle.base64.specs.Engines.{standard}
+use Rattle.base64.specs.GeneralPurpose.{encode_of}
 use Rattle.std.specs.Io.KnownBytes.{Appends}
 use Rattle.byte_streams.specs.Sent.{AppendsFront}
 use Rattle.viewer_tracks.specs.declared.display.TheConstants.{ROWS}
@@ -25,15 +27,25 @@ known_by forgets known = if forgets then [] else known
 abbrev pub size_request : List ℕ
 size_request = 27 ∷ 91 ∷ 49 ∷ 56 ∷ 116 ∷ []
 
--- what the terminal is sent after the scene, which changes nothing of what it shows
+-- An escape byte and ]52;c;, then a text in base64, and a bell byte. A terminal takes the text into its clipboard by them,
+-- and shows nothing.
+abbrev pub clip_order : List ℕ → List ℕ
+clip_order text = (27 ∷ codes "]52;c;") ++ encode_of standard text ++ 7 ∷ []
+
+abbrev pub clip_bytes : Option (List ℕ) → List ℕ
+clip_bytes None = []
+clip_bytes (Some text) = clip_order text
+
+-- what the terminal is sent after the scene, which changes nothing of what it shows: a bell, the request for its size, and
+-- what gives its clipboard a text
 abbrev pub bell_bytes : Bool → List ℕ
 bell_bytes rings = if rings then operation_bytes Ring else []
 
 abbrev pub request : Bool → List ℕ
 request asks = if asks then size_request else []
 
-abbrev pub after_scene : Bool → Bool → List ℕ
-after_scene rings asks = bell_bytes rings ++ request asks
+abbrev pub after_scene : Bool → Bool → List ℕ → List ℕ
+after_scene rings asks clip = (bell_bytes rings ++ request asks) ++ clip
 
 module _ (desk : Desk) where
   -- the part of the screen that is in sight, the pointer, and the line below
@@ -64,13 +76,13 @@ module _ (desk : Desk) where
     pub front : PaintsFront held held' known scene
 
   -- A writer took the scene, and what is sent after it, and handed all of it on: no write waits for a flush.
-  pub record IsSceneShown (s : Sitting) (screen : List (List Cell))
+  pub record IsSceneShown (s : Sitting) (screen : List (List Cell)) (clip : List ℕ)
       (known known' : List (List Face)) (held held' : Option (List ℕ)) (waiting' : ℕ)
       : Type 0 where
     pub between : Option (List ℕ)
     pub painted : IsScenePainted (desk.looks screen s) screen (known_by s.forgets known) known' held
         between
-    pub after : Appends between held' (after_scene s.rings s.asks)
+    pub after : Appends between held' (after_scene s.rings s.asks clip)
     pub handed : waiting' ≡ 0
 
   -- What was sent last has the terminal show this scene. What is sent after a scene changes nothing of that.
@@ -85,25 +97,26 @@ module _ (desk : Desk) where
     pub paints : Paints before between was_known scene
     pub rings : Bool
     pub asks : Bool
-    pub after : Appends between held (after_scene rings asks)
+    pub clip : Option (List ℕ)
+    pub after : Appends between held (after_scene rings asks (clip_bytes clip))
 
   -- It took a front of that.
-  pub data IsSceneCutShort (s : Sitting) (screen : List (List Cell)) (known : List (List Face))
-      (held held' : Option (List ℕ)) : Type 0 where
+  pub data IsSceneCutShort (s : Sitting) (screen : List (List Cell)) (clip : List ℕ)
+      (known : List (List Face)) (held held' : Option (List ℕ)) : Type 0 where
     in_scene : IsHalfPainted (desk.looks screen s) screen (known_by s.forgets known) held held'
-        → IsSceneCutShort s screen known held held'
+        → IsSceneCutShort s screen clip known held held'
     behind_it : {known' : List (List Face)} {between : Option (List ℕ)}
         → IsScenePainted (desk.looks screen s) screen (known_by s.forgets known) known' held between
-        → AppendsFront between held' (after_scene s.rings s.asks)
-        → IsSceneCutShort s screen known held held'
+        → AppendsFront between held' (after_scene s.rings s.asks clip)
+        → IsSceneCutShort s screen clip known held held'
 
   -- Why the scene isn't shown. Where the screen can't be worked out, nothing is sent.
-  abbrev pub IsUnshown : SittingEnd → Sitting → List (List Cell) → List (List Face)
-      → Option (List ℕ) → Option (List ℕ) → Type 0
-  IsUnshown Left s screen known held held' = ⊥
-  IsUnshown Closed s screen known held held' = ⊥
-  IsUnshown Input s screen known held held' = ⊥
-  IsUnshown TooLong s screen known held held' = ⊥
-  IsUnshown Output s screen known held held' = IsSceneCutShort s screen known held held'
-  IsUnshown Fault s screen known held held' = held' ≡ held
-  IsUnshown Memory s screen known held held' = held' ≡ held
+  abbrev pub IsUnshown : SittingEnd → Sitting → List (List Cell) → List ℕ
+      → List (List Face) → Option (List ℕ) → Option (List ℕ) → Type 0
+  IsUnshown Left s screen clip known held held' = ⊥
+  IsUnshown Closed s screen clip known held held' = ⊥
+  IsUnshown Input s screen clip known held held' = ⊥
+  IsUnshown TooLong s screen clip known held held' = ⊥
+  IsUnshown Output s screen clip known held held' = IsSceneCutShort s screen clip known held held'
+  IsUnshown Fault s screen clip known held held' = held' ≡ held
+  IsUnshown Memory s screen clip known held held' = held' ≡ held

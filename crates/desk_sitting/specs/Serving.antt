@@ -24,7 +24,7 @@ use Rattle.desk_sitting.specs.Sittings.{is_scene_due}
 use Rattle.desk_sitting.specs.declared.ending.SittingEnd.{SittingEnd}
 use Rattle.desk_sitting.specs.declared.ending.SittingEnd.TheVariants.{Left, Closed, Input, TooLong, Output, Fault}
 use Rattle.desk_sitting.specs.declared.ending.SittingEnd.TheVariants.{Memory}
-use Rattle.desk_sitting.specs.Scenes.{IsSceneShown, IsSceneCutShort, IsSeen}
+use Rattle.desk_sitting.specs.Scenes.{IsSceneShown, IsSceneCutShort, IsSeen, clip_bytes}
 
 -- where a sitting stands between two turns: the parser, the sitting, the store, all that was heard so far, what the
 -- keyboard was asked for, what is known of the terminal, what the writer holds, and how many of its writes wait for a
@@ -126,9 +126,10 @@ module _ {D : Type 0} (d : Ghosts D) where
 -- ---- a turn
 
 module _ (desk : Desk) where
-  -- the sitting after the scene was shown; where none is due it is as before
+  -- the sitting after the scene was shown, which says where a text was too long for the clipboard; where none is due it is
+  -- as before
   abbrev pub sitting_shown : {D : Type 0} → TurnState D → Sitting
-  sitting_shown p = desk.looks (store_screen p.store) p.sitting
+  sitting_shown p = desk.looks (store_screen p.store) (desk.tells p.store.desktop p.sitting)
 
   -- Unless a scene is due, what was sent last has the terminal show the scene of the desktop that stands, and all of it
   -- was handed on.
@@ -142,7 +143,8 @@ module _ (desk : Desk) where
       (known known' : List (List Face)) (held held' : Option (List ℕ)) (waiting waiting' : ℕ)
       : Type 0 where
     anew : is_scene_due s ≡ true
-        → IsSceneShown desk s (store_screen old) known known' held held' waiting'
+        → IsSceneShown desk (desk.tells old.desktop s) (store_screen old)
+        (clip_bytes (desk.gives old.desktop s)) known known' held held' waiting'
         → IsShownIfDue s old mid known known' held held' waiting waiting'
     still : is_scene_due s ≡ false → mid ≡ old → known' ≡ known → held' ≡ held → waiting' ≡ waiting
         → IsShownIfDue s old mid known known' held held' waiting waiting'
@@ -207,7 +209,9 @@ module _ (desk : Desk) {D : Type 0} (d : Ghosts D) where
   pub record IsUnseen (old new : TurnState D) : Type 0 where
     pub due : is_scene_due old.sitting ≡ true
     pub looked : IsLookedAt d old.store new.store
-    pub cut : IsSceneCutShort desk old.sitting (store_screen old.store) old.known old.held new.held
+    pub cut : IsSceneCutShort desk (desk.tells old.store.desktop old.sitting)
+        (store_screen old.store) (clip_bytes (desk.gives old.store.desktop old.sitting))
+        old.known old.held new.held
     pub heard : new.heard ≡ old.heard
     pub unasked : new.asked ≡ old.asked
 

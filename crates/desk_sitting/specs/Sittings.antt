@@ -29,8 +29,10 @@ use Rattle.desk_sitting.specs.declared.sitting.Travel.TheVariants.{Back, Again}
 use Rattle.done_presses.specs.Again.{no_again}
 use Rattle.status_line.specs.declared.deed.Deed.{Deed}
 use Rattle.status_line.specs.Deeds.{typed_more}
-use Rattle.press_plans.specs.Replacing.{ReplacingView, is_untouched, left_place, no_replacing, noted, replacement}
+use Rattle.press_plans.specs.Replacing.{TypingView, ReplacingView, is_untouched, left_place, no_replacing, noted, replacement}
 use Rattle.done_presses.specs.Past.{PastView, past_after, named, no_past, selects, with_refused}
+use Rattle.desk_sitting.specs.Clips.{is_copying}
+use Rattle.desk_sitting.specs.Twice.{action_meant, cell_again, cell_clicked, cell_kept, is_missed, is_no_deed}
 use Rattle.desk_sitting.specs.Questions.{click_made, is_nothing, questioned, question_of, unasked}
 use Rattle.status_line.specs.Question.{asks_to_leave, comes_first}
 use Rattle.status_line.specs.Choosing.{came_to, done_saying, first_saying, fitted_saying, fill_saying, refused_saying}
@@ -39,6 +41,7 @@ use Rattle.screen_reading.specs.Aims.{caret_cell, or_else}
 use Rattle.press_plans.specs.declared.task.Filling.{Filling}
 use Rattle.press_plans.specs.declared.task.Filling.TheVariants.{Off, Letters, Pasted}
 use Rattle.press_plans.specs.declared.task.Task.{Task}
+use Rattle.press_plans.specs.declared.task.Task.TheVariants.{Word}
 use Rattle.press_plans.specs.declared.task.TheConstants.{MOST_PLANS}
 use Rattle.press_plans.specs.Tasks.{calling_wish, deed_of_task, keeps_sight, task_of}
 use Rattle.press_plans.specs.Plans.{Plan, plan_of}
@@ -77,6 +80,9 @@ new_sitting height width greeting questions = record {
   fills = true;
   logged = record { items = [] };
   replacing = no_replacing;
+  copies = false;
+  clicked = None;
+  missed = false;
   changed = true;
 }
 
@@ -105,9 +111,13 @@ replied event Done s = record s {
   typed = option_map (typed_more event) s.typed;
   past = past_after s.joins (is_some s.typed) event s.past;
   joins = true;
+  copies = s.copies || is_copying event;
 }
 replied event (No code) s =
-    turned_away (refused_saying event code) (record s { past = with_refused s.past })
+    turned_away (refused_saying event code) (record s {
+      past = with_refused s.past;
+      missed = is_missed (No code);
+    })
 
 -- what the rows in sight follow: the pointer that keys move, where it is shown, and else the caret
 abbrev pub followed_cell : List (List Cell) → Hand → Option (ℕ × ℕ)
@@ -121,13 +131,14 @@ looked screen s = record s {
   rings = false;
   forgets = false;
   asks = false;
+  copies = false;
   changed = false;
 }
 
 -- whether a scene is due: what is seen may have changed since the last one, or it is to be followed, or there is
 -- something to be done with a scene
 abbrev pub is_scene_due : Sitting → Bool
-is_scene_due s = s.changed || s.follows || s.rings || s.forgets || s.asks
+is_scene_due s = s.changed || s.follows || s.rings || s.forgets || s.asks || s.copies
 
 -- after the keyboard was asked for the text of a host file, where one is wanted: it will be heard, or it can't be read
 abbrev pub fetched : Bool → Sitting → Sitting
@@ -290,14 +301,19 @@ filled_by (Some typed) = Pasted typed
 abbrev pub filling : Sitting → Filling
 filling s = if s.fills then filled_by s.typed else Off
 
--- the task of a press in a sitting
-abbrev pub task_in : Sitting → Action → Option Task
-task_in s a =
-    task_of (filling s) (selects s.past) (replacement s.replacing) s.sight a
+-- the task of a press in a sitting: a second click at a cell selects the word there
+abbrev pub task_or_word : Option (ℕ × ℕ) → Filling → Bool → Option TypingView → Sight → Action
+    → Option Task
+task_or_word (Some cell) fills over replacement sight a = Some (Word cell)
+task_or_word None fills over replacement sight a = task_of fills over replacement sight a
 
--- what is typed where the pattern was found is kept
+abbrev pub task_in : Sitting → Action → Option Task
+task_in s a = task_or_word (cell_again (cell_clicked a) s.clicked) (filling s)
+    (selects s.past) (replacement s.replacing) s.sight a
+
+-- what is typed where the pattern was found is kept, and where something was clicked
 abbrev pub noted_in : Action → Sitting → Sitting
-noted_in a s = record s { replacing = noted a s.replacing }
+noted_in a s = record s { replacing = noted a s.replacing; clicked = cell_kept a s.clicked }
 
 abbrev pub noted_at : Action → Seat → Seat
 noted_at a seat = record seat { sitting = noted_in a seat.sitting }
@@ -342,13 +358,19 @@ with_hand next s = record s {
   typed = if pastes_text s.hand then Some (unwrap_or s.typed 0) else None;
   joins = pastes_text s.hand && s.joins;
   follows = is_some (pointer_cell next.0.pointer) || s.follows;
+  missed = s.missed && is_no_deed next.1;
   changed = s.changed || not (is_still next s);
 }
+
+-- what the hand makes of a press is a way to the beginning of the text, where it is a search behind one that found nothing
+abbrev pub meant_by : Press → Sitting → Hand × Action
+meant_by press s =
+    let next = handled s.sight press s.hand in (next.0, action_meant s.missed next.1)
 
 -- nothing is done after the person has left
 unfoldable pub after_press : Press → Seat → Seat
 after_press press seat = if seat.sitting.leaves then seat else
-    (let next = handled seat.sitting.sight press seat.sitting.hand in
+    (let next = meant_by press seat.sitting in
     acted next.1 (record seat { sitting = with_hand next seat.sitting }))
 
 -- ---- its events
@@ -393,7 +415,7 @@ accepted_unasked a seat = if asks_first a seat then []
 -- the events of a press that are accepted
 abbrev pub accepted_of : Press → Seat → List Event
 accepted_of press seat = if seat.sitting.leaves then [] else
-    (let next = handled seat.sitting.sight press seat.sitting.hand in
+    (let next = meant_by press seat.sitting in
     accepted_unasked next.1 (record seat { sitting = with_hand next seat.sitting }))
 
 -- ---- questions
@@ -401,7 +423,7 @@ accepted_of press seat = if seat.sitting.leaves then [] else
 -- a press asks a question
 abbrev pub asks_by : Press → Seat → Bool
 asks_by press seat = not seat.sitting.leaves
-    && asks_first (handled seat.sitting.sight press seat.sitting.hand).1 seat
+    && asks_first (meant_by press seat.sitting).1 seat
 
 -- A press that asks posts nothing, and leaves what it is asked about as it is.
 abbrev pub QuestionsPostNothing : Type 0

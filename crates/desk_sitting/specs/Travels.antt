@@ -20,7 +20,7 @@ use Rattle.desk_sitting.specs.declared.sitting.Travel.{Travel}
 use Rattle.done_presses.specs.Again.{kept_at, next_event, rest_at, taken_press}
 use Rattle.done_presses.specs.Past.{back_count, back_deed, gathered, left_past, named}
 use Rattle.desk_sitting.specs.Doing.{IsUndone, OfPresses}
-use Rattle.desk_journal.specs.Session.{Session, session_of, taken as taken_by}
+use Rattle.desk_journal.specs.Session.{Session, session_of, taken as meant_by}
 use Rattle.desk_sitting.specs.Desk.{Desk}
 use Rattle.desk_sitting.specs.Sittings.{after_post, refused}
 
@@ -106,7 +106,7 @@ module _ (desk : Desk) {D : Type 0} (d : Ghosts D) where
     -- the next event of the press that was taken back last was done again
     again : (event : NextEvent) → s.travels ≡ Some Again
         → desk.follows (store_place old) s ≡ Some event
-        → session_of new ≡ taken_by (session_of old) event.event
+        → session_of new ≡ meant_by (session_of old) event.event
         → s' ≡ desk.repeats event (session_of old) (store_place old) (store_place new) s
         → Travelled s s' old new
 
@@ -123,7 +123,7 @@ module _ (desk : Desk) {D : Type 0} (d : Ghosts D) where
         → IsStuck error s old new
     again : (event : NextEvent) → s.travels ≡ Some Again
         → desk.follows (store_place old) s ≡ Some event
-        → IsUndone d error (taken_by (session_of old) event.event).desktop old new
+        → IsUndone d error (meant_by (session_of old) event.event).desktop old new
         → IsStuck error s old new
 
   -- All that a call promises that is to do what was asked for.

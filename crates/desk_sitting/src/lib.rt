@@ -14,6 +14,7 @@
 #![tactic(auto)]
 
 mod asking;
+mod clips;
 mod doing;
 mod ending;
 mod laws;
@@ -21,7 +22,9 @@ mod serving;
 mod serving_laws;
 mod sitting;
 mod travels;
+mod twice;
 
+pub use clips::MOST_CLIPPED;
 pub use doing::do_presses;
 pub use done_presses::Past;
 pub use ending::SittingEnd;

@@ -1,18 +1,18 @@
 //! A sitting over a store, turn by turn.
-ghost use Rattle.std.specs.Prelude.{◌≡◌, ◌≢◌, ℕ, Bool, true, false, OnOk, OnErr, IfErr, IfSome, List};
+ghost use Rattle.std.specs.Prelude.{◌≡◌, ◌≢◌, ◌++◌, ℕ, Bool, true, false, OnOk, OnErr, IfErr, IfSome, List};
 ghost use Rattle.terminal_keyboard.specs.declared.parser.Parser.{Parser as AParser};
 ghost use Rattle.screen_drawing.specs.declared.face.Face.{Face};
 ghost use Rattle.byte_streams.specs.Counting.{CountsFault, RisesWhere};
 ghost use Rattle.byte_streams.specs.Sent.{Sends};
 ghost use Rattle.desk_journal.specs.Device.{IsSameDevice};
 ghost use Rattle.desk_journal.specs.View.{IsDurable};
+ghost use Rattle.desk_sitting.specs.Clips.{clip_sent, clip_told};
 ghost use Rattle.desk_sitting.specs.Sittings.{after_fetch, is_scene_due, looked};
 ghost use Rattle.desk_sitting.specs.declared.ending.SittingEnd.TheVariants.{Output as TakesNoMore};
 ghost use Rattle.screen_drawing.specs.Scene.{IsInSight};
 ghost use Rattle.desk_sitting.specs.Scenes.{IsSceneOf, IsHalfPainted, IsScenePainted, IsSceneShown, IsUnshown};
 ghost use Rattle.desk_sitting.specs.Endings.{EndsBy, IsOfNoKeyboard};
-ghost use Rattle.desk_sitting.specs.Scenes.{after_scene, bell_bytes, known_by, request};
-ghost use Rattle.desk_sitting.specs.Scenes.{size_request};
+ghost use Rattle.desk_sitting.specs.Scenes.{after_scene, bell_bytes, clip_bytes, known_by, request};
 ghost use Rattle.desk_sitting.specs.Serving.{CountsEnding, CountsOutput, CountsTurn, Exchange, IsFetched, IsLookedAt, exchange};
 ghost use Rattle.desk_sitting.specs.Serving.{IsShownIfDue, IsUsableAt};
 ghost use Rattle.desk_sitting.specs.Serving.{StaysInUse, TakesTurn, first_place, turn_state_of, store_screen};
@@ -20,6 +20,7 @@ ghost use Rattle.desk_sitting.specs.Sitting.{Sits, TakesEitherTurn};
 ghost use Rattle.desk_sitting.specs.Travelling.{TakesBetween};
 ghost use Rattle.desk_sitting.specs.TheDesk.{pointer_of as pointer_at, sitting_line, the_desk};
 
+use crate::clips::clip;
 use crate::ending::SittingEnd;
 use crate::serving_laws::sittings_survive;
 use crate::{Past, Saying, Sitting, do_presses, travel};
@@ -208,12 +209,14 @@ fn show_if_due<W: AnswerWriter, D: Disk>(
     ensures looks { D.honest store.old.disk → IsDurable D.Disk store.old
         → IsLookedAt D.Disk store.old store.new }
     ensures shown { OnOk result (D.honest store.old.disk
-        → (sitting.new ≡ looked (store_screen store.old) sitting.old)
+        → (sitting.new ≡ looked (store_screen store.old) (clip_told store.old.desktop sitting.old))
         × IsShownIfDue the_desk sitting.old store.old store.new
         painter.old painter.new (W.contents writer.old) (W.contents writer.new)
         (W.unflushed writer.old) (W.unflushed writer.new)) }
     ensures unshown { IfErr result (λ end. (is_scene_due sitting.old ≡ true)
-        × (D.honest store.old.disk → IsUnshown the_desk end sitting.old (store_screen store.old)
+        × (D.honest store.old.disk
+        → IsUnshown the_desk end (clip_told store.old.desktop sitting.old) (store_screen store.old)
+        (clip_bytes (clip_sent store.old.desktop sitting.old))
         painter.old (W.contents writer.old) (W.contents writer.new))) }
     ensures cause { IfErr result IsOfNoKeyboard }
     ensures output { CountsOutput result (W.failures writer.old) (W.failures writer.new) }
@@ -227,7 +230,7 @@ fn show_if_due<W: AnswerWriter, D: Disk>(
     }
 }
 
-/// Shows the desktop, all events of which are acknowledged.
+/// Shows the desktop, all events of which are acknowledged, and gives the clipboard of the terminal what was copied.
 ///
 /// Errors: `Fault` and `Memory`, and nothing was sent; `Output`, and a front may have been sent.
 fn show<W: AnswerWriter, D: Disk>(
@@ -241,12 +244,45 @@ fn show<W: AnswerWriter, D: Disk>(
     ensures looks { D.honest store.old.disk → IsDurable D.Disk store.old
         → IsLookedAt D.Disk store.old store.new }
     ensures shown { OnOk result (D.honest store.old.disk
-        → (sitting.new ≡ looked (store_screen store.old) sitting.old)
-        × IsSceneShown the_desk sitting.old (store_screen store.old)
+        → (sitting.new ≡ looked (store_screen store.old) (clip_told store.old.desktop sitting.old))
+        × IsSceneShown the_desk (clip_told store.old.desktop sitting.old) (store_screen store.old)
+        (clip_bytes (clip_sent store.old.desktop sitting.old))
         painter.old painter.new (W.contents writer.old) (W.contents writer.new)
         (W.unflushed writer.new)) }
     ensures unshown { IfErr result (λ end. D.honest store.old.disk
-        → IsUnshown the_desk end sitting.old (store_screen store.old)
+        → IsUnshown the_desk end (clip_told store.old.desktop sitting.old) (store_screen store.old)
+        (clip_bytes (clip_sent store.old.desktop sitting.old))
+        painter.old (W.contents writer.old) (W.contents writer.new)) }
+    ensures cause { IfErr result IsOfNoKeyboard }
+    ensures output { CountsOutput result (W.failures writer.old) (W.failures writer.new) }
+    ensures counts { CountsTurn result (D.failures store.old.disk) (D.failures store.new.disk) }
+    ensures store { StaysInUse D.Disk store.old store.new }
+{
+    let clip = clip(alloc, sitting, store)?;
+    show_with(alloc, clip.as_slice(), store, sitting, painter, writer)
+}
+
+/// Shows the desktop, and gives this to the clipboard of the terminal.
+///
+/// Errors: as those of `show`.
+fn show_with<W: AnswerWriter, D: Disk>(
+    alloc: Global,
+    clip: &[u8],
+    store: &mut Store<D>,
+    sitting: &mut Sitting,
+    painter: &mut Painter,
+    writer: &mut W,
+) -> Result<(), SittingEnd>
+    requires { store.old.must_reopen ≡ false }
+    ensures looks { D.honest store.old.disk → IsDurable D.Disk store.old
+        → IsLookedAt D.Disk store.old store.new }
+    ensures shown { OnOk result (D.honest store.old.disk
+        → (sitting.new ≡ looked (store_screen store.old) sitting.old)
+        × IsSceneShown the_desk sitting.old (store_screen store.old) clip.now
+        painter.old painter.new (W.contents writer.old) (W.contents writer.new)
+        (W.unflushed writer.new)) }
+    ensures unshown { IfErr result (λ end. D.honest store.old.disk
+        → IsUnshown the_desk end sitting.old (store_screen store.old) clip.now
         painter.old (W.contents writer.old) (W.contents writer.new)) }
     ensures cause { IfErr result IsOfNoKeyboard }
     ensures output { CountsOutput result (W.failures writer.old) (W.failures writer.new) }
@@ -258,7 +294,7 @@ fn show<W: AnswerWriter, D: Disk>(
     let (rings, asks, forgets) = (sitting.rings, sitting.asks, sitting.forgets);
     sitting.look(&screen);
     paint(sitting, forgets, painter, writer, &screen)?;
-    follow(writer, rings, asks)
+    follow(writer, rings, asks, clip)
 }
 
 /// Paints the scene. Where it forgets, nothing is known of the terminal.
@@ -318,15 +354,45 @@ fn scene_of<'a>(sitting: &Sitting, screen: &'a Screen, line: &'a [u8]) -> Scene<
 /// Sends what comes after the scene.
 ///
 /// Error: `Output`, and a front may have been sent.
-fn follow<W: AnswerWriter>(writer: &mut W, rings: bool, asks: bool) -> Result<(), SittingEnd>
+fn follow<W: AnswerWriter>(
+    writer: &mut W,
+    rings: bool,
+    asks: bool,
+    clip: &[u8],
+) -> Result<(), SittingEnd>
     ensures sent { Sends result (W.contents writer.old) (W.contents writer.new)
-        (after_scene rings asks) }
+        (after_scene rings asks clip.now) }
     ensures handed { OnOk result (W.unflushed writer.old ≡ 0 → W.unflushed writer.new ≡ 0) }
     ensures end { IfErr result (λ end. end ≡ TakesNoMore) }
     ensures cause { CountsFault result (W.failures writer.old) (W.failures writer.new) }
 {
+    ring_and_ask(writer, rings, asks)?;
+    Ok(clip_if(writer, clip)?)
+}
+
+/// Rings the bell, and asks the terminal for its size, where that is to be.
+fn ring_and_ask<W: AnswerWriter>(writer: &mut W, rings: bool, asks: bool) -> Result<(), OutputFault>
+    ensures sent { Sends result (W.contents writer.old) (W.contents writer.new)
+        (bell_bytes rings ++ request asks) }
+    ensures handed { OnOk result (W.unflushed writer.old ≡ 0 → W.unflushed writer.new ≡ 0) }
+    ensures cause { CountsFault result (W.failures writer.old) (W.failures writer.new) }
+{
     ring_if(writer, rings)?;
-    Ok(ask_if(writer, asks)?)
+    ask_if(writer, asks)?;
+    Ok(())
+}
+
+/// Sends this to the clipboard of the terminal, where it is anything.
+fn clip_if<W: AnswerWriter>(writer: &mut W, clip: &[u8]) -> Result<(), OutputFault>
+    ensures sent { Sends result (W.contents writer.old) (W.contents writer.new) clip.now }
+    ensures handed { OnOk result (W.unflushed writer.old ≡ 0 → W.unflushed writer.new ≡ 0) }
+    ensures cause { CountsFault result (W.failures writer.old) (W.failures writer.new) }
+{
+    if clip.is_empty() {
+        Ok(())
+    } else {
+        send(writer, clip)
+    }
 }
 
 /// Rings the bell where that is to be.
@@ -344,15 +410,19 @@ fn ask_if<W: AnswerWriter>(writer: &mut W, asks: bool) -> Result<(), OutputFault
     ensures handed { OnOk result (W.unflushed writer.old ≡ 0 → W.unflushed writer.new ≡ 0) }
     ensures cause { CountsFault result (W.failures writer.old) (W.failures writer.new) }
 {
-    if asks { ask(writer) } else { Ok(()) }
+    if asks {
+        send(writer, &SIZE_REQUEST)
+    } else {
+        Ok(())
+    }
 }
 
-/// Asks the terminal for its size.
-fn ask<W: AnswerWriter>(writer: &mut W) -> Result<(), OutputFault>
-    ensures sent { Sends result (W.contents writer.old) (W.contents writer.new) size_request }
+/// Sends bytes, and hands them on.
+fn send<W: AnswerWriter>(writer: &mut W, bytes: &[u8]) -> Result<(), OutputFault>
+    ensures sent { Sends result (W.contents writer.old) (W.contents writer.new) bytes.now }
     ensures handed { OnOk result (W.unflushed writer.new ≡ 0) }
     ensures cause { CountsFault result (W.failures writer.old) (W.failures writer.new) }
 {
-    send_bytes(writer, &SIZE_REQUEST)?;
+    send_bytes(writer, bytes)?;
     writer.flush()
 }

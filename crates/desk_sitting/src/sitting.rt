@@ -1,6 +1,5 @@
 //! A person at a terminal, before a store.
 ghost use Rattle.std.specs.Prelude.{◌≡◌, ◌≢◌, [], false, Some, None, if◌then◌else◌, OnOk, IfOk, IfErr, IfSome, ◌<◌};
-ghost use Rattle.terminal_presses.specs.Hands.{handled};
 ghost use Rattle.desk_journal.specs.Session.{session_of};
 ghost use Rattle.desk_sitting.specs.Doing.{ComesToSeat, DoesAction, DoesPress, TellsDone, seat_of};
 ghost use Rattle.desk_sitting.specs.TheDesk.{sitting_line};
@@ -17,14 +16,17 @@ ghost use Rattle.desk_sitting.specs.Sittings.{kept_follows, left_by};
 ghost use Rattle.desk_sitting.specs.Sittings.{aimed_at, most_plans, noted_in, task_left, unplaced, why_unreplaced};
 ghost use Rattle.desk_sitting.specs.Sittings.{with_log_line};
 ghost use Rattle.desk_sitting.specs.Sittings.{brought_in_sight, is_scene_due, is_unseen, planned, pointed_no_more};
-ghost use Rattle.desk_sitting.specs.Sittings.{with_hand};
+ghost use Rattle.desk_sitting.specs.Sittings.{meant_by, task_or_word, with_hand};
 ghost use Rattle.press_plans.specs.Plans.{seen_plan};
 
+use crate::clips::is_copying;
+use crate::twice::{cell_again, cell_clicked, cell_kept, hand_meant, still_missed};
 use desk_journal::{Error, Store};
 use desktop_definitions::Reply;
+use desktop_definitions::codes::NOT_FOUND;
 use done_presses::{Again, Past};
 use event_bytes::Event;
-use press_plans::{Filling, MOST_PLANS, Plan, Replacing, Task};
+use press_plans::{Filling, MOST_PLANS, Plan, Replacing, Task, Typing};
 use screen_cells::Screen;
 use screen_reading::{
     caret_of, fitted, followed, height_told, is_low, is_narrow, moved, width_told,
@@ -93,6 +95,13 @@ pub struct Sitting {
     pub logged: SayingLine,
     /// What is typed where the pattern was found, and typed again in another such place.
     pub replacing: Replacing,
+    /// Something was copied since the last scene: the clipboard of the terminal is to be given it.
+    pub copies: bool,
+    /// The cell at which the left button was clicked last, where nothing else was done since: the next click there selects the
+    /// word.
+    pub clicked: Option<(u8, u8)>,
+    /// A search found nothing right before.
+    pub missed: bool,
     /// What is seen may have changed since the last scene.
     pub changed: bool,
 }
@@ -125,6 +134,9 @@ impl Sitting {
             fills: true,
             logged: SayingLine::new(),
             replacing: Replacing::none(),
+            copies: false,
+            clicked: None,
+            missed: false,
             changed: true,
         }
     }
@@ -216,6 +228,7 @@ impl Sitting {
         self.rings = false;
         self.forgets = false;
         self.asks = false;
+        self.copies = false;
         self.changed = false;
     }
 
@@ -223,7 +236,7 @@ impl Sitting {
     pub fn is_scene_due(&self) -> bool
         ensures { result ≡ is_scene_due self.now }
     {
-        self.changed || self.follows || self.rings || self.forgets || self.asks
+        self.changed || self.follows || self.rings || self.forgets || self.asks || self.copies
     }
 
     /// The keyboard was asked for the text of the host file that is wanted, and says whether it will be heard.
@@ -269,6 +282,7 @@ impl Sitting {
                 self.follows = true;
                 self.past.add(event, self.joins, self.typed.is_some());
                 self.joins = true;
+                self.copies = self.copies || is_copying(event);
                 if let Some(typed) = self.typed {
                     self.typed = Some(typed_more(event, typed));
                 }
@@ -276,6 +290,7 @@ impl Sitting {
             }
             Reply::No(code) => {
                 self.past.add_refused();
+                self.missed = code == NOT_FOUND;
                 self.turn_away(refused_saying(event, code));
                 false
             }
@@ -306,9 +321,8 @@ impl Sitting {
     /// The hand takes a press. Amid a text that is pasted it is counted how many of its characters are typed, and its
     /// events are those of one press.
     fn take(&mut self, press: Press) -> Action
-        ensures state { self.new ≡ with_hand (handled self.old.sight press self.old.hand)
-            self.old }
-        ensures answer { result ≡ (handled self.old.sight press self.old.hand).1 }
+        ensures state { self.new ≡ with_hand (meant_by press self.old) self.old }
+        ensures answer { result ≡ (meant_by press self.old).1 }
     {
         let stays = is_unseen(&self.hand) && !asks_to_leave(self.question);
         let pastes = self.hand.pastes_text();
@@ -318,7 +332,8 @@ impl Sitting {
             None
         };
         self.joins = pastes && self.joins;
-        let action = self.hand.take(self.sight, press);
+        let action = hand_meant(&mut self.hand, self.missed, self.sight, press);
+        self.missed = still_missed(self.missed, &action);
         self.follows = self.hand.pointer().is_some() || self.follows;
         let is_still = is_nothing(&action) && is_unseen(&self.hand) && stays;
         self.changed = self.changed || !is_still;
@@ -391,6 +406,7 @@ impl Sitting {
         ensures { self.new ≡ noted_in action.now self.old }
     {
         self.replacing.note(action);
+        self.clicked = cell_kept(action, self.clicked);
     }
 
     /// Why there is nothing to be typed in the place of what was found.
@@ -413,8 +429,9 @@ impl Sitting {
         let fills = self.filling();
         let over = self.past.selects();
         let sight = self.sight;
+        let again = cell_again(cell_clicked(&action), self.clicked);
         self.note(&action);
-        match Task::of(action, fills, over, replacement, sight) {
+        match task_of(again, action, fills, over, replacement, sight) {
             Ok(task) => self.carry_out(alloc, task, store),
             Err(alone) => {
                 self.act_alone(alone);
@@ -671,6 +688,26 @@ impl Sitting {
             }
             other => Err(other),
         }
+    }
+}
+
+/// The task of a press: a second click at a cell selects the word there.
+fn task_of(
+    again: Option<(u8, u8)>,
+    action: Action,
+    fills: Filling,
+    over: bool,
+    replacement: Option<Typing>,
+    sight: Sight,
+) -> Result<Task, Action>
+    ensures task { IfOk result (λ task. task_or_word again fills over replacement sight action
+        ≡ Some task) }
+    ensures none { IfErr result (λ alone. (alone ≡ action)
+        × (task_or_word again fills over replacement sight action ≡ None)) }
+{
+    match again {
+        Some(cell) => Ok(Task::Word(cell)),
+        None => Task::of(action, fills, over, replacement, sight),
     }
 }
 

@@ -23,7 +23,7 @@ use Rattle.press_plans.specs.declared.task.Stage.TheVariants.{First, Back, On}
 use Rattle.press_plans.specs.declared.task.Task.{Task}
 use Rattle.press_plans.specs.declared.task.Task.TheVariants as kind
 use Rattle.press_plans.specs.declared.plan.Plan.{Plan as MadePlan}
-use Rattle.press_plans.specs.Plans.{Plans}
+use Rattle.press_plans.specs.Plans.{Plans, comeback_plan}
 use Rattle.press_plans.specs.Plans.{Plan, Events, Says, answer_plan, lead_plan, opened_plan, opened_viewer, plan_of, plan_on}
 use Rattle.press_plans.specs.Plans.{seen_plan, unbroken_plan, broken_plan, type_plan, placed_plan, return_plan}
 use Rattle.press_plans.specs.Plans.{poured_plan, room_plan, standing}
@@ -37,7 +37,7 @@ use Rattle.caret_moves.specs.declared.wish.KeyWish.TheVariants.{Break, Place}
 pub by_screen : (task : Task) (d : Desktop) → ((event : Event) → task ≢ kind.Post event)
     → ((at : Option (ℕ × ℕ)) (wish : Wish) → task ≢ kind.Scroll at wish)
     → ((wish : KeyWish) → task ≢ kind.Lead wish)
-    → ((before : DeskInfo) → task ≢ kind.After before)
+    → ((before : DeskInfo) (cell : Option (ℕ × ℕ)) → task ≢ kind.After before cell)
     → ((cell : ℕ × ℕ) → task ≢ kind.Enter cell)
     → ((at : Option (ℕ × ℕ)) (is_up : Bool) (sight : Sight) → task ≢ kind.Page at is_up sight)
     → (task ≢ kind.Show)
@@ -52,13 +52,15 @@ by_screen (kind.Post event) d post scroll lead after enter page show types back 
 by_screen (kind.Scroll at wish) d post scroll lead after enter page show types back over erase pours = absurd (scroll at wish refl)
 by_screen (kind.Lead wish) d post scroll lead after enter page show types back over erase pours = absurd (lead wish refl)
 by_screen (kind.Seek at) d post scroll lead after enter page show types back over erase pours = refl
-by_screen (kind.After before) d post scroll lead after enter page show types back over erase pours = absurd (after before refl)
+by_screen (kind.After before cell) d post scroll lead after enter page show types back over erase pours =
+    absurd (after before cell refl)
 by_screen (kind.Enter cell) d post scroll lead after enter page show types back over erase pours = absurd (enter cell refl)
 by_screen (kind.Page at is_up sight) d post scroll lead after enter page show types back over erase pours = absurd (page at is_up sight refl)
 by_screen kind.Show d post scroll lead after enter page show types back over erase pours = absurd (show refl)
 by_screen (kind.TypeOn t fills deed) d post scroll lead after enter page show types back over erase pours = absurd (types t fills deed refl)
 by_screen (kind.GoBack place t fills deed) d post scroll lead after enter page show types back over erase pours =
     absurd (back place t fills deed refl)
+by_screen (kind.Word at) d post scroll lead after enter page show types back over erase pours = refl
 by_screen (kind.Reveal cell) d post scroll lead after enter page show types back over erase pours = refl
 by_screen (kind.TypeOver event fills) d post scroll lead after enter page show types back over erase pours = absurd (over event fills refl)
 by_screen (kind.Erase behind) d post scroll lead after enter page show types back over erase pours = absurd (erase behind refl)
@@ -129,11 +131,11 @@ pours bytes typed place info told d place_is info_is told_is =
     ap (λ (r : Result (List Event) WhyNot). poured_plan r bytes typed) by
 
 -- what is left to do once a word was called
-module _ (before : DeskInfo) (d : Desktop) where
+module _ (before : DeskInfo) (cell : Option (ℕ × ℕ)) (d : Desktop) where
   pub opened_answer : (viewer : ShownViewer) → opened_viewer before d ≡ Some viewer
-      → opened_plan viewer ≡ plan_of (kind.After before) d
+      → opened_plan viewer ≡ plan_of (kind.After before cell) d
   unfolding plan_of
-  opened_answer viewer some = sym (ap (λ p. answer_plan p before d) some)
+  opened_answer viewer some = sym (ap (λ p. answer_plan p before cell d) some)
 
   module _ (none : opened_viewer before d ≡ None) (info : DeskInfo) (is : info ≡ desk_info d) where
     abbrev longer : Bool
@@ -142,16 +144,16 @@ module _ (before : DeskInfo) (d : Desktop) where
     told : nat_lt before.log_length info.log_length ≡ longer
     told = ap (λ (i : DeskInfo). nat_lt before.log_length i.log_length) is
 
-    pub no_answer : nat_lt before.log_length info.log_length ≡ false → Events [] None ≡ plan_of (kind.After before) d
+    pub no_answer : nat_lt before.log_length info.log_length ≡ false → comeback_plan before cell d ≡ plan_of (kind.After before cell) d
     unfolding plan_of
-    no_answer short = sym (ap (λ p. answer_plan p before d) none
-        ∙ cond-false longer (Says (last_log_line d)) (Events [] None) (sym told ∙ short))
+    no_answer short = sym (ap (λ p. answer_plan p before cell d) none
+        ∙ cond-false longer (Says (last_log_line d)) (comeback_plan before cell d) (sym told ∙ short))
 
     pub log_answer : (line : List ℕ) → nat_lt before.log_length info.log_length ≡ true → line ≡ last_log_line d
-        → Says line ≡ plan_of (kind.After before) d
+        → Says line ≡ plan_of (kind.After before cell) d
     unfolding plan_of
-    log_answer line long said = ap Says said ∙ sym (ap (λ p. answer_plan p before d) none
-        ∙ cond-true longer (Says (last_log_line d)) (Events [] None) (sym told ∙ long))
+    log_answer line long said = ap Says said ∙ sym (ap (λ p. answer_plan p before cell d) none
+        ∙ cond-true longer (Says (last_log_line d)) (comeback_plan before cell d) (sym told ∙ long))
 
 module _ {D : Type 0} (d : Ghosts D) where
   -- something is made of what was seen

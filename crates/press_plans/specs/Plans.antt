@@ -1,6 +1,6 @@
 -- What a task becomes over a desktop.
 use Rattle.std.specs.Prelude.{ℕ, ◌+◌, ◌-◌, ◌^◌, Bool, true, false, ◌==◌, nat_lt, if◌then◌else◌, max, List, [], ◌∷◌, length, take, drop, slice_get, min, unwrap_or}
-use Rattle.std.specs.Prelude.{◌≡◌, Option, Some, None, option_map, Result, Ok, Err, IfOk}
+use Rattle.std.specs.Prelude.{◌≡◌, ◌&&◌, Option, Some, None, is_none, is_some, option_map, Result, Ok, Err, IfOk}
 use Rattle.std.specs.List.{list_any}
 use Rattle.sector_disk.specs.declared.disk.Disk.{Ghosts}
 use Rattle.event_bytes.specs.Bytes.{is_typed_bytes}
@@ -11,7 +11,6 @@ use Rattle.event_bytes.specs.declared.keys.Key.TheVariants as key
 use Rattle.screen_pictures.specs.declared.cell.Cell.{Cell}
 use Rattle.desktop_definitions.specs.Desktop.{Desktop}
 use Rattle.desktop_definitions.specs.declared.entry.Entry.{Entry}
-use Rattle.desktop_definitions.specs.Limits.{no_caret}
 use Rattle.desktop_definitions.specs.Shown.{shown_screen}
 use Rattle.desk_journal.specs.Errors.{Error}
 use Rattle.desk_journal.specs.Looking.{OnlyLooks}
@@ -30,16 +29,17 @@ use Rattle.terminal_presses.specs.Sights.{Sight}
 use Rattle.screen_reading.specs.CommandWords.{next_command}
 use Rattle.status_line.specs.Deeds.{is_middle}
 use Rattle.press_plans.specs.Replacing.{TypingView, first_typed, rest_typed}
-use Rattle.screen_reading.specs.Aims.{or_else}
+use Rattle.screen_reading.specs.Aims.{caret_cell, or_else}
+use Rattle.screen_reading.specs.Picked.{picked_word}
 use Rattle.screen_reading.specs.Frames.{text_rows_in_sight, text_start}
 pub use Rattle.event_bytes.specs.Parts.{◌>>=◌}
 use Rattle.status_line.specs.declared.saying.Saying.{Saying}
-use Rattle.status_line.specs.declared.saying.Saying.TheVariants.{Refused as TurnedAway, NoText, NoScroll, NothingAfter, NoWord, NoCommand}
+use Rattle.status_line.specs.declared.saying.Saying.TheVariants.{NoCaret, NoText, NoScroll, NothingAfter, NoWord, NoCommand}
 use Rattle.status_line.specs.declared.saying.Saying.TheVariants.{NoLine, PartHidden}
 use Rattle.press_plans.specs.declared.task.Task.{Task}
 use Rattle.press_plans.specs.declared.task.Task.TheVariants.{Post, Scroll, Lead}
 use Rattle.press_plans.specs.declared.task.Task.TheVariants.{TypeOn, GoBack, After, Seek}
-use Rattle.press_plans.specs.declared.task.Task.TheVariants.{TypeOver, Erase, Pour}
+use Rattle.press_plans.specs.declared.task.Task.TheVariants.{TypeOver, Erase, Pour, Word}
 use Rattle.press_plans.specs.declared.task.Stage.{Stage}
 use Rattle.press_plans.specs.declared.task.Stage.TheVariants.{First, Back, On}
 use Rattle.press_plans.specs.declared.task.Task.TheVariants.{Page, Show, Reveal, Enter}
@@ -47,7 +47,7 @@ use Rattle.press_plans.specs.declared.plan.Plan.{Plan as MadePlan}
 use Rattle.press_plans.specs.declared.plan.Plan.TheVariants as made
 use Rattle.status_line.specs.declared.deed.Deed.{Deed}
 use Rattle.press_plans.specs.Filling.{room_if, place_behind, is_place}
-use Rattle.press_plans.specs.Listed.{event_meant, is_tool}
+use Rattle.press_plans.specs.Listed.{begins_in_viewer, event_meant, is_tool}
 use Rattle.press_plans.specs.Poured.{poured_at, word_length}
 use Rattle.press_plans.specs.Tasks.{posting}
 
@@ -97,7 +97,7 @@ part_hidden wish = nothing_there wish
 unfoldable pub why_not : KeyWish → WhyNot → Saying
 why_not wish why.NoRow = NoScroll
 why_not wish why.TooFar = NoScroll
-why_not wish why.NoCaret = TurnedAway no_caret
+why_not wish why.NoCaret = NoCaret
 why_not wish why.NothingBehind = nothing_there wish
 why_not wish why.PastEdge = part_hidden wish
 why_not wish why.NotInSight = part_hidden wish
@@ -262,6 +262,13 @@ abbrev pub seek_plan : Option (ℕ × ℕ) → Plan
 seek_plan None = Refused NoCommand
 seek_plan (Some cell) = Aims cell
 
+-- A word in these columns of a cell's row is selected, and the caret goes before it. Where there is none the caret goes to
+-- the cell.
+abbrev pub word_plan : ℕ × ℕ → Option (ℕ × ℕ) → Plan
+word_plan at None = Events (click_of at ∷ []) None
+word_plan at (Some word) = Events (click_of (word.0, at.1) ∷ [])
+    (Some (Post (event.Point keys.Right word.0 at.1 word.1 at.1)))
+
 -- ---- what is left to do once a word was called
 
 -- whether an event is a click of the middle button
@@ -269,14 +276,19 @@ abbrev pub is_call : Event → Bool
 is_call (event.Point keys x0 y0 x1 y1) = is_middle keys
 is_call _ = false
 
--- an event, of a desktop that said this of itself before it
-unfoldable pub posted_plan : Event → DeskInfo → Plan
-posted_plan e before = Events (e ∷ []) (if is_call e then Some (After before) else None)
+-- an event, of a desktop that said this of itself before it, and on which the caret was seen at this cell
+unfoldable pub posted_plan : Event → DeskInfo → Option (ℕ × ℕ) → Plan
+posted_plan e before cell =
+    Events (e ∷ []) (if is_call e then Some (After before cell) else None)
+
+-- where the caret is seen as a click begins at a viewer
+abbrev pub caret_seen : Desktop → Event → Option (ℕ × ℕ)
+caret_seen d e = if begins_in_viewer d e then caret_cell (shown_screen d) else None
 
 -- a click of that button on the empty display, by the list
 abbrev pub empty_plan : Event → DeskInfo → List Entry → Plan
 empty_plan e before entries = if list_any is_tool entries
-    then Events (e ∷ []) (Some (After before)) else Events (tool_event ∷ []) None
+    then Events (e ∷ []) (Some (After before None)) else Events (tool_event ∷ []) None
 
 -- the viewer that was opened since then: a new one, or the one that was closed last
 unfoldable pub opened_viewer : DeskInfo → Desktop → Option ShownViewer
@@ -298,12 +310,21 @@ enter_plan is_log (Some cell) = PutsAway (if is_log then Reveal cell else Enter 
 abbrev pub opened_plan : ShownViewer → Plan
 opened_plan viewer = enter_plan viewer.is_log (text_start viewer.place)
 
+-- whether no viewer has the caret any more, though the one is shown that had it
+abbrev pub has_lost_caret : DeskInfo → Desktop → Bool
+has_lost_caret before d = is_some (before.caret_viewer >>= shown_viewer d)
+    && is_none (desk_info d).caret_viewer
+
+-- the caret comes back then to the cell at which it was seen, if it was
+abbrev pub comeback_plan : DeskInfo → Option (ℕ × ℕ) → Desktop → Plan
+comeback_plan before cell d = if has_lost_caret before d then go_plan cell else Events [] None
+
 -- The caret goes into the viewer that was opened. Where none was, the line below says what was added to the log, if
--- anything was.
-abbrev pub answer_plan : Option ShownViewer → DeskInfo → Desktop → Plan
-answer_plan (Some viewer) before d = opened_plan viewer
-answer_plan None before d = if nat_lt before.log_length (desk_info d).log_length
-    then Says (last_log_line d) else Events [] None
+-- anything was, or the caret comes back.
+abbrev pub answer_plan : Option ShownViewer → DeskInfo → Option (ℕ × ℕ) → Desktop → Plan
+answer_plan (Some viewer) before cell d = opened_plan viewer
+answer_plan None before cell d = if nat_lt before.log_length (desk_info d).log_length
+    then Says (last_log_line d) else comeback_plan before cell d
 
 -- ---- by the screen, and by the desktop
 
@@ -311,11 +332,12 @@ answer_plan None before d = if nat_lt before.log_length (desk_info d).log_length
 unfoldable pub plan_on : Task → List (List Cell) → Plan
 plan_on (Seek at) screen = seek_plan (next_command at screen)
 plan_on (Reveal cell) screen = Shows cell
+plan_on (Word at) screen = word_plan at (picked_word screen at)
 plan_on _ screen = Events [] None
 
 unfoldable pub plan_of : Task → Desktop → Plan
-plan_of (Post event) d = posted_plan (event_meant d event) (desk_info d)
-plan_of (After before) d = answer_plan (opened_viewer before d) before d
+plan_of (Post event) d = posted_plan (event_meant d event) (desk_info d) (caret_seen d event)
+plan_of (After before cell) d = answer_plan (opened_viewer before d) before cell d
 plan_of (Enter cell) d = entry_plan (desk_info d).is_marked cell
 plan_of (Scroll at wish) d = scroll_plan wish (presses_to d at wish)
 plan_of (Page at is_up sight) d = page_plan at is_up sight d

@@ -31,7 +31,7 @@ use Rattle.press_plans.specs.declared.task.Stage.TheVariants.{First, On}
 use Rattle.press_plans.specs.declared.task.Task.{Task}
 use Rattle.press_plans.specs.declared.task.Task.TheVariants.{Post, Scroll, Lead}
 use Rattle.press_plans.specs.declared.task.Task.TheVariants.{TypeOn, GoBack, After, Seek}
-use Rattle.press_plans.specs.declared.task.Task.TheVariants.{TypeOver, Erase, Pour}
+use Rattle.press_plans.specs.declared.task.Task.TheVariants.{TypeOver, Erase, Pour, Word}
 use Rattle.press_plans.specs.declared.task.Task.TheVariants.{Page, Show, Reveal, Enter}
 
 -- whether lines are broken
@@ -159,7 +159,8 @@ deed_of_task (Page at is_up sight) = Some deed.Scroll
 deed_of_task Show = None
 deed_of_task (Reveal cell) = None
 deed_of_task (Enter cell) = None
-deed_of_task (After before) = None
+deed_of_task (After before cell) = None
+deed_of_task (Word cell) = Some (deed.Click keys.Right)
 deed_of_task (Seek at) = None
 deed_of_task (Lead wish) = lead_deed wish
 

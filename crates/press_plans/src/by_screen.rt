@@ -1,12 +1,12 @@
 //! What a task becomes by what the screen shows.
 ghost use Rattle.std.specs.Prelude.{◌≡◌};
-ghost use Rattle.press_plans.specs.Plans.{click_of, go_plan, plan_on, seek_plan, seen_plan};
+ghost use Rattle.press_plans.specs.Plans.{click_of, go_plan, plan_on, seek_plan, seen_plan, word_plan};
 
 use crate::plan::Plan;
 use crate::task::{CellPlace, Task};
 use event_bytes::{Event, Keys};
 use screen_cells::Screen;
-use screen_reading::next_command;
+use screen_reading::{next_command, picked_word};
 use status_line::Saying;
 
 /// What a task becomes where this is the screen.
@@ -17,8 +17,9 @@ pub(crate) fn plan_on(task: Task, screen: &Screen) -> Plan
     match task {
         Task::Seek(at) => seek_plan(next_command(at, screen)),
         Task::Reveal(cell) => Plan::Shows(cell),
+        Task::Word(at) => word_plan(at, picked_word(screen, at)),
         Task::Post(_)
-        | Task::After(_)
+        | Task::After(_, _)
         | Task::Enter(_)
         | Task::Scroll(_, _)
         | Task::Page { .. }
@@ -63,5 +64,25 @@ pub(crate) fn go_plan(cell: Option<CellPlace>) -> Plan
     match cell {
         None => Plan::Next(None),
         Some(cell) => Plan::Event(click(cell), None),
+    }
+}
+
+/// A word that stands in these columns of a cell's row is selected, and the caret goes before it. Where there is none the caret
+/// goes to the cell.
+fn word_plan(at: CellPlace, word: Option<(u8, u8)>) -> Plan
+    ensures { seen_plan result ≡ word_plan at word }
+{
+    match word {
+        None => Plan::Event(click(at), None),
+        Some((first, last)) => Plan::Event(
+            click((first, at.1)),
+            Some(Task::Post(Event::Point {
+                keys: Keys::Right,
+                x0: first,
+                y0: at.1,
+                x1: last,
+                y1: at.1,
+            })),
+        ),
     }
 }

@@ -2,7 +2,7 @@
 ghost use Rattle.std.specs.Prelude.{◌≡◌, true, false, None, if◌then◌else◌, option_map};
 ghost use Rattle.std.specs.Result.{result_map_both};
 ghost use Rattle.press_plans.specs.Plans.{Plans, caret_place, empty_plan, entry_plan, is_call, lead_plan, nothing_there};
-ghost use Rattle.press_plans.specs.Plans.{Events, call_plan, is_calling, part_hidden};
+ghost use Rattle.press_plans.specs.Plans.{Events, call_plan, comeback_plan, has_lost_caret, is_calling, part_hidden};
 ghost use Rattle.press_plans.specs.Plans.{opened_plan, opened_viewer, page_plan, page_wish, place_meant, plan_of};
 ghost use Rattle.press_plans.specs.Plans.{plan_on, scroll_plan, seen_plan, shown_plan, shown_then, why_not};
 ghost use Rattle.desk_journal.specs.Views.{desk_info};
@@ -17,11 +17,10 @@ use crate::pouring::pour_plan;
 use crate::task::{CellPlace, Task, posting};
 use desk_journal::{DeskInfo, Error, KeyWish, ShownViewer, Store, WhyNot, Wish};
 use desktop_definitions::Entry;
-use desktop_definitions::codes::NO_CARET;
 use done_presses::take_last;
 use event_bytes::{Event, Key, Keys};
 use screen_cells::Screen;
-use screen_reading::{text_rows_in_sight, text_start};
+use screen_reading::{caret_of, text_rows_in_sight, text_start};
 use sector_disk::Disk;
 use starter_desktop::tool_event;
 use status_line::{Saying, SayingLine};
@@ -61,7 +60,7 @@ impl Task {
     {
         match self {
             Task::Post(event) => post_plan(alloc, event, store),
-            Task::After(before) => after_plan(before, store),
+            Task::After(before, cell) => after_plan(before, cell, store),
             Task::Enter(cell) => Ok(entry_plan(info_of(store).is_marked, cell)),
             Task::Page { at, is_up, sight } => Ok(page_plan(at, is_up, sight, store)),
             Task::Show => Ok(shown_plan(caret_place(store))),
@@ -111,7 +110,9 @@ fn calling_plan<D: Disk>(alloc: Global, event: Event, store: &mut Store<D>) -> R
 {
     let before = info_of(store);
     if begins_in_viewer(&event, store) {
-        return Ok(Plan::Event(event, Some(Task::After(before))));
+        let mut screen = Screen::new();
+        store.screen(alloc, &mut screen)?;
+        return Ok(Plan::Event(event, Some(Task::After(before, caret_of(&screen)))));
     }
     let entries = store.list(alloc)?;
     Ok(empty_plan(event, before, entries.as_slice()))
@@ -122,7 +123,7 @@ fn empty_plan(event: Event, before: DeskInfo, entries: &[Entry]) -> Plan
     ensures { seen_plan result ≡ empty_plan event before entries.now }
 {
     if has_tool(entries) {
-        Plan::Event(event, Some(Task::After(before)))
+        Plan::Event(event, Some(Task::After(before, None)))
     } else {
         Plan::Event(tool_event(), None)
     }
@@ -233,14 +234,42 @@ fn shown_plan(place: Option<viewer_tracks::Place>) -> Plan
     }
 }
 
-/// What is left to do once a word was called, over a desktop that said this of itself before.
-fn after_plan<D: Disk>(before: DeskInfo, store: &mut Store<D>) -> Result<Plan, Error>
+/// What is left to do once a word was called, over a desktop that said this of itself before, on which the caret was seen at
+/// this cell.
+fn after_plan<D: Disk>(
+    before: DeskInfo,
+    cell: Option<CellPlace>,
+    store: &mut Store<D>,
+) -> Result<Plan, Error>
     requires { store.old.must_reopen ≡ false }
-    ensures { Plans D.Disk (Task.After before) result store.old store.new }
+    ensures { Plans D.Disk (Task.After before cell) result store.old store.new }
 {
     match opened_viewer(before, store) {
         Some(viewer) => Ok(opened_plan(viewer)),
-        None => log_plan(before, store),
+        None => log_plan(before, cell, store),
+    }
+}
+
+/// Whether no viewer has the caret any more, though the one is shown that had it.
+fn has_lost_caret<D: Disk>(before: DeskInfo, store: &Store<D>) -> bool
+    requires { store.now.must_reopen ≡ false }
+    ensures { result ≡ has_lost_caret before store.now.desktop }
+{
+    match before.caret_viewer {
+        None => false,
+        Some(id) => viewer_of(id, store).is_some() && info_of(store).caret_viewer.is_none(),
+    }
+}
+
+/// The caret comes back to the cell at which it was seen, if it has gone from a viewer that is shown.
+fn comeback_plan<D: Disk>(before: DeskInfo, cell: Option<CellPlace>, store: &Store<D>) -> Plan
+    requires { store.now.must_reopen ≡ false }
+    ensures { seen_plan result ≡ comeback_plan before cell store.now.desktop }
+{
+    if has_lost_caret(before, store) {
+        go_plan(cell)
+    } else {
+        Plan::Next(None)
     }
 }
 
@@ -267,15 +296,19 @@ fn entry_plan(is_marked: bool, cell: CellPlace) -> Plan
     }
 }
 
-/// The line below says what was added to the log, if anything was, where no viewer was opened.
-fn log_plan<D: Disk>(before: DeskInfo, store: &mut Store<D>) -> Result<Plan, Error>
+/// The line below says what was added to the log, if anything was, where no viewer was opened. Else the caret comes back.
+fn log_plan<D: Disk>(
+    before: DeskInfo,
+    cell: Option<CellPlace>,
+    store: &mut Store<D>,
+) -> Result<Plan, Error>
     requires usable { store.old.must_reopen ≡ false }
     requires none { opened_viewer before store.old.desktop ≡ None }
-    ensures { Plans D.Disk (Task.After before) result store.old store.new }
+    ensures { Plans D.Disk (Task.After before cell) result store.old store.new }
 {
     let is_longer = before.log_length < info_of(store).log_length;
     if !is_longer {
-        return Ok(Plan::Next(None));
+        return Ok(comeback_plan(before, cell, store));
     }
     let line = store.last_log_line()?;
     Ok(Plan::Says(line))
@@ -390,7 +423,7 @@ pub(crate) fn why_not(wish: KeyWish, why: WhyNot) -> Saying
     match why {
         WhyNot::NoRow => Saying::NoScroll,
         WhyNot::TooFar => Saying::NoScroll,
-        WhyNot::NoCaret => Saying::Refused(NO_CARET),
+        WhyNot::NoCaret => Saying::NoCaret,
         WhyNot::NothingBehind => nothing_there(wish),
         WhyNot::PastEdge => part_hidden(wish),
         WhyNot::NotInSight => part_hidden(wish),

@@ -49,9 +49,11 @@ pub enum Stage {
 pub enum Task {
     /// An event of the hand happens, as it is meant at the desk.
     Post(Event),
-    /// A word was called, over a desktop that said this of itself: the caret goes into the viewer that it opened, or the
-    /// line below says what it added to the log.
-    After(DeskInfo),
+    /// A word was called, over a desktop that said this of itself, and where the caret was seen at this cell: the caret goes
+    /// into the viewer that it opened, the line below says what it added to the log, or the caret comes back.
+    After(DeskInfo, Option<CellPlace>),
+    /// The word at a cell is selected, and the caret goes before it.
+    Word(CellPlace),
     /// The caret goes to a cell of a viewer that opened, and the marker goes away before it, if it is set.
     Enter(CellPlace),
     /// What is left of what the press types, and its lines are filled or not: this is what it did.
@@ -130,7 +132,7 @@ impl Task {
     {
         match self {
             Task::Post(_)
-            | Task::After(_)
+            | Task::After(_, _)
             | Task::Enter(_)
             | Task::Seek(_)
             | Task::Show
@@ -140,6 +142,7 @@ impl Task {
             Task::TypeOver(_, _) => Some(Deed::Typed(0)),
             Task::Pour(stage, _, typed) => pour_deed(*stage, *typed),
             Task::Erase { .. } => Some(Deed::Key(Key::Back)),
+            Task::Word(_) => Some(Deed::Click(Keys::Right)),
             Task::Lead(wish) => lead_deed(*wish),
         }
     }

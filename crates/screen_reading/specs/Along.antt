@@ -7,7 +7,7 @@ use Rattle.screen_pictures.specs.declared.cell.Mark.{Mark}
 use Rattle.screen_pictures.specs.declared.cell.Mark.TheVariants.{Caret, Marker, Selected, Text as TextMark}
 use Rattle.screen_pictures.specs.Screen.{column_at}
 use Rattle.screen_reading.specs.declared.along.Kind.{Kind}
-use Rattle.screen_reading.specs.declared.along.Kind.TheVariants.{Text, Letter, Blank, Name}
+use Rattle.screen_reading.specs.declared.along.Kind.TheVariants.{Text, Blank, Name, Period}
 
 -- where a text is shown that has no caret there
 abbrev pub is_text : Mark → Bool
@@ -21,12 +21,12 @@ abbrev pub shows_text : Mark → Bool
 shows_text Caret = true
 shows_text mark = is_text mark
 
--- whether a cell shows a text, a character of a word, a blank, or a byte of a name
+-- whether a cell shows a text, a blank, a byte of a name, or a period
 unfoldable pub is_of : Kind → Cell → Bool
 is_of Text cell = shows_text cell.mark
-is_of Letter cell = not (cell.ch == 32)
 is_of Blank cell = cell.ch == 32
 is_of Name cell = is_name_byte cell.ch
+is_of Period cell = cell.ch == 46
 
 -- how many cells from the first on are of a kind
 abbrev pub kind_run : Kind → List Cell → ℕ

@@ -3,4 +3,5 @@ pub mod Along
 pub mod Called
 pub mod CommandWords
 pub mod Frames
+pub mod Picked
 pub mod Windows

@@ -17,12 +17,12 @@ pub(crate) type Row = [Cell; COLUMNS as usize];
 pub(crate) enum Kind {
     /// A text is shown there.
     Text,
-    /// A character of a word is there.
-    Letter,
     /// A blank is there.
     Blank,
     /// A byte of a name is there.
     Name,
+    /// A period is there.
+    Period,
 }
 
 /// Whether a cell is of a kind.
@@ -32,9 +32,9 @@ pub(crate) fn is_of(kind: Kind, cell: Cell) -> bool
 {
     match kind {
         Kind::Text => shows_text(cell.mark),
-        Kind::Letter => cell.ch != b' ',
         Kind::Blank => cell.ch == b' ',
         Kind::Name => is_name_byte(cell.ch),
+        Kind::Period => cell.ch == b'.',
     }
 }
 

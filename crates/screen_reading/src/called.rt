@@ -29,7 +29,7 @@ pub fn called_word(screen: &Screen, x: u8, y: u8) -> ArrayVec<u8, MOST_WORD>
 }
 
 /// The first column of the word around a column, or of the one that ends right before it, in the track of the column.
-fn begin_in_track(row: &Row, x: usize) -> usize
+pub(crate) fn begin_in_track(row: &Row, x: usize) -> usize
     requires { x < COLUMNS }
     ensures value { result ≡ begin_in_track row.now x }
     ensures within { result ≤ x }
@@ -39,7 +39,7 @@ fn begin_in_track(row: &Row, x: usize) -> usize
 }
 
 /// The column behind the word that stands from a column on, in the track of the column.
-fn end_in_track(row: &Row, x: usize) -> usize
+pub(crate) fn end_in_track(row: &Row, x: usize) -> usize
     requires { x < COLUMNS }
     ensures value { result ≡ end_in_track row.now x }
     ensures behind { x ≤ result }

@@ -11,12 +11,14 @@ mod along;
 mod called;
 mod command_words;
 mod frames;
+mod picked;
 mod window;
 
 pub use aim::caret_of;
 pub use called::{MOST_WORD, called_word, parameter_word, word_from};
 pub use command_words::next_command;
-pub use frames::{text_end, text_rows_in_sight, text_start};
+pub use frames::{text_rows_in_sight, text_start};
+pub use picked::picked_word;
 pub use window::{
     LEAST_HEIGHT, LEAST_WIDTH, fitted, followed, height_told, is_low, is_narrow, moved, width_told,
 };

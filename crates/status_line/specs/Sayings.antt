@@ -1,7 +1,7 @@
 -- What the line below the screen says.
 use Rattle.std.specs.Prelude.{ℕ, ◌-◌, ◌==◌, if◌then◌else◌, List, [], ◌∷◌, ◌++◌, Option, Some, None, codes, drop}
 use Rattle.std.specs.Prelude.{length, slice_get}
-use Rattle.desktop_definitions.specs.Limits.{no_file}
+use Rattle.desktop_definitions.specs.Limits.{no_caret, no_file}
 use Rattle.std.specs.Prelude.{Bool, true, false, unwrap_or}
 use Rattle.std.specs.Fmt.{decimal}
 use Rattle.event_bytes.specs.declared.keys.Keys.{Keys as MouseKeys}
@@ -11,7 +11,7 @@ use Rattle.terminal_presses.specs.declared.action.Click.{Click}
 use Rattle.terminal_presses.specs.declared.action.Click.TheVariants.{Mark, Keys}
 use Rattle.status_line.specs.declared.saying.Saying.{Saying}
 use Rattle.status_line.specs.declared.saying.Saying.TheVariants.{Greeting, Unproved, InMemory, Keys as ForKeys}
-use Rattle.status_line.specs.declared.saying.Saying.TheVariants.{Pointing, Asks, NoKey, NoText, NoScroll}
+use Rattle.status_line.specs.declared.saying.Saying.TheVariants.{Pointing, Asks, NoKey, NoCaret, NoText, NoScroll}
 use Rattle.status_line.specs.declared.saying.Saying.TheVariants.{NothingAfter, NoWord, NoCommand, NoSearch}
 use Rattle.status_line.specs.declared.saying.Saying.TheVariants.{NoLine, PartHidden}
 use Rattle.status_line.specs.declared.saying.Saying.TheVariants.{NothingTyped, Fills, FillsNot, ToolFiled, Refused}
@@ -19,7 +19,7 @@ use Rattle.status_line.specs.declared.saying.Saying.TheVariants.{CutShort, OneSi
 use Rattle.status_line.specs.declared.saying.Saying.TheVariants.{Worn, Unread, Unfinished, TooNarrow, TooLow}
 use Rattle.status_line.specs.declared.saying.Saying.TheVariants.{TookBack, DidAgain}
 use Rattle.status_line.specs.declared.saying.Saying.TheVariants.{NothingBack, NothingAgain, NotBack, Logged}
-use Rattle.status_line.specs.declared.saying.Saying.TheVariants.{FirstFailed, TwinFailed, WithoutTwin}
+use Rattle.status_line.specs.declared.saying.Saying.TheVariants.{FirstFailed, TwinFailed, WithoutTwin, NotClipped}
 use Rattle.status_line.specs.declared.question.Question.{Question}
 use Rattle.status_line.specs.declared.question.Question.TheVariants.{Leaving, Closing, Taking, Rivalled, Deleting, Misnamed}
 use Rattle.status_line.specs.declared.deed.Deed.{Deed}
@@ -42,7 +42,7 @@ reasons =
     codes "No viewer has the marker (F1 and a click set it), or none was closed." ∷
     codes "There are 256 documents already: System.DeleteFiles makes room." ∷
     codes "That lies outside the desktop." ∷
-    codes "Not found from the caret on: click at the beginning, and search again." ∷
+    codes "Not found from the caret on: Ctrl-F again goes to the beginning of the text." ∷
     codes "Fonts are 0 to 4, colours 0 to 15, and offsets -64 to 63." ∷
     codes "Eight viewers lie over one another there: close one first." ∷
     codes "A viewer of one row can't be parted." ∷ []
@@ -146,16 +146,16 @@ words screen log Pointing =
     codes "Arrows move the pointer, Return clicks, F2 calls, F3 selects, Escape ends it"
 words screen log (Asks question) = question_words screen question
 words screen log NoKey = codes "That key means nothing here."
-words screen log NoText = codes "There is no text on that side of the caret, or no caret in sight."
-words screen log NothingAfter = codes "There is no character after the caret, or no caret in sight."
-words screen log NoLine =
-    codes "There is no line to cut, or no caret in sight."
+words screen log NoCaret = reason no_caret
+words screen log NoText = codes "There is no text on that side of the caret."
+words screen log NothingAfter = codes "No character after the caret is in sight."
+words screen log NoLine = codes "There is no line to cut."
 words screen log PartHidden =
     codes "An end of it is out of sight: make the viewer taller, or take less of the text."
 words screen log NoScroll =
     codes "Nothing moves there: no viewer, no caret, or too few rows of a text."
 words screen log NoWord =
-    codes "No caret, or no such word, is in sight: System.Tool shows the commands."
+    codes "No such word is in sight: System.Tool shows the commands."
 words screen log NoCommand =
     codes "No command's whole word is in sight: System.Tool shows the commands."
 words screen log NoSearch =
@@ -186,6 +186,8 @@ words screen log TwinFailed =
     codes "The twin failed, the first file has all: mend it, then start again with both."
 words screen log WithoutTwin =
     codes "This store has a twin, which gets nothing now: start with --twin to pair them."
+words screen log NotClipped =
+    codes "Copied here, but too long for the terminal's clipboard: it takes 74,994 bytes."
 
 -- the name of a host file or the number of a line, as far as it is typed, of which the end is seen
 abbrev pub asked_words : Bool → List ℕ

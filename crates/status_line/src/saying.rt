@@ -12,7 +12,7 @@ use crate::deed::Deed;
 use crate::named::{behind_call, deleting_words, misnamed_words};
 use crate::question::Question;
 use arrayvec::ArrayVec;
-use desktop_definitions::codes::NO_FILE;
+use desktop_definitions::codes::{NO_CARET, NO_FILE};
 use event_bytes::Keys;
 use screen_cells::Screen;
 use screen_reading::{called_word, parameter_word, word_from};
@@ -37,9 +37,11 @@ pub enum Saying {
     Asks(Question),
     /// A key that means nothing.
     NoKey,
+    /// A key for the caret, where none is set.
+    NoCaret,
     /// An arrow that leads to no text.
     NoText,
-    /// No character after the caret is in sight, or no caret is.
+    /// No character after the caret is in sight.
     NothingAfter,
     /// No line to cut.
     NoLine,
@@ -47,7 +49,7 @@ pub enum Saying {
     PartHidden,
     /// A scroll where no text can move.
     NoScroll,
-    /// No word of a command is in sight, or no caret.
+    /// No word of a command is in sight.
     NoWord,
     /// No word of a command is in sight whole.
     NoCommand,
@@ -104,6 +106,8 @@ pub enum Saying {
     TwinFailed,
     /// The store has a twin, which isn't written.
     WithoutTwin,
+    /// What was copied is too long for the clipboard of the terminal.
+    NotClipped,
 }
 
 /// Why an event was refused, by the code of the refusal.
@@ -118,7 +122,7 @@ const REASONS: [&[u8]; 14] = [
     b"No viewer has the marker (F1 and a click set it), or none was closed.",
     b"There are 256 documents already: System.DeleteFiles makes room.",
     b"That lies outside the desktop.",
-    b"Not found from the caret on: click at the beginning, and search again.",
+    b"Not found from the caret on: Ctrl-F again goes to the beginning of the text.",
     b"Fonts are 0 to 4, colours 0 to 15, and offsets -64 to 63.",
     b"Eight viewers lie over one another there: close one first.",
     b"A viewer of one row can't be parted.",
@@ -338,22 +342,17 @@ impl Saying {
             ),
             Saying::Asks(question) => question_words(screen, question),
             Saying::NoKey => line(b"That key means nothing here."),
-            Saying::NoText => line(
-                b"There is no text on that side of the caret, or no caret in sight.",
-            ),
-            Saying::NothingAfter => line(
-                b"There is no character after the caret, or no caret in sight.",
-            ),
-            Saying::NoLine => line(b"There is no line to cut, or no caret in sight."),
+            Saying::NoCaret => line(reason(NO_CARET)),
+            Saying::NoText => line(b"There is no text on that side of the caret."),
+            Saying::NothingAfter => line(b"No character after the caret is in sight."),
+            Saying::NoLine => line(b"There is no line to cut."),
             Saying::PartHidden => line(
                 b"An end of it is out of sight: make the viewer taller, or take less of the text.",
             ),
             Saying::NoScroll => line(
                 b"Nothing moves there: no viewer, no caret, or too few rows of a text.",
             ),
-            Saying::NoWord => line(
-                b"No caret, or no such word, is in sight: System.Tool shows the commands.",
-            ),
+            Saying::NoWord => line(b"No such word is in sight: System.Tool shows the commands."),
             Saying::NoCommand => line(
                 b"No command's whole word is in sight: System.Tool shows the commands.",
             ),
@@ -392,6 +391,9 @@ impl Saying {
             ),
             Saying::WithoutTwin => line(
                 b"This store has a twin, which gets nothing now: start with --twin to pair them.",
+            ),
+            Saying::NotClipped => line(
+                b"Copied here, but too long for the terminal's clipboard: it takes 74,994 bytes.",
             ),
         }
     }

@@ -17,11 +17,11 @@ UNREAD = "The host's file can't be read, and nothing was typed."
 KEYS = 'F2 calls, F3 selects, F11 no mouse, Ctrl-S stores, Ctrl-Z undo, Ctrl-Q leaves'
 NO_KEY = 'That key means nothing here.'
 NO_CARET = 'No caret is set: click into a text first.'
-NOTHING_AFTER = 'There is no character after the caret, or no caret in sight.'
-NO_LINE = 'There is no line to cut, or no caret in sight.'
+NOTHING_AFTER = 'No character after the caret is in sight.'
+NO_LINE = 'There is no line to cut.'
 PART_HIDDEN = 'An end of it is out of sight: make the viewer taller, or take less of the text.'
 NO_SCROLL = 'Nothing moves there: no viewer, no caret, or too few rows of a text.'
-NO_WORD = 'No caret, or no such word, is in sight: System.Tool shows the commands.'
+NO_WORD = 'No such word is in sight: System.Tool shows the commands.'
 NO_COMMAND = "No command's whole word is in sight: System.Tool shows the commands."
 NO_FIND = 'Ctrl-R puts what you typed after the last Ctrl-F: press Ctrl-F first'
 NO_REPLACEMENT = 'Nothing was typed after the last Ctrl-F'
@@ -49,7 +49,7 @@ REASONS = {
     7: 'No viewer has the marker (F1 and a click set it), or none was closed.',
     8: 'There are 256 documents already: System.DeleteFiles makes room.',
     9: 'That lies outside the desktop.',
-    10: 'Not found from the caret on: click at the beginning, and search again.',
+    10: 'Not found from the caret on: Ctrl-F again goes to the beginning of the text.',
     11: 'Fonts are 0 to 4, colours 0 to 15, and offsets -64 to 63.',
     13: "A viewer of one row can't be parted.",
 }
@@ -190,6 +190,7 @@ class Model:
         self.oberon, self.store = oberon, store
         self.pointer, self.put_away, self.points, self.has_entered = None, None, False, False
         self.replacing, self.drew, self.typed = Replacing(), False, 0
+        self.clicked, self.missed = None, False
         self.play = subprocess.Popen([oberon, 'play', store], stdin=subprocess.PIPE, stdout=subprocess.PIPE)
         self.top, self.rows = ROWS - 1, ROWS
         self.side = 50
@@ -282,6 +283,7 @@ class Model:
             self.saying = KEYS
             return True
         code = int(reply.removeprefix('no '))
+        self.missed = code == 10
         self.saying = REASONS[code]
         if code == 5 and line.startswith('point m '):
             name = self.parameter(*map(int, line.split(' ')[2:4]))
@@ -341,9 +343,21 @@ class Model:
 
     def take(self, meaning):
         """A press, and what is noted of it for Ctrl-R, but where it posts nothing by itself."""
+        meaning = self.meant(meaning)
         is_done = self.taken(meaning)
         if is_done is not None:
             self.replacing.note(meaning, is_done)
+
+    def meant(self, meaning):
+        """What a press means by the one before it: a search behind one that found nothing goes to the beginning of the text. Where a
+        press comes to nothing that stays in force."""
+        kind, *rest = meaning
+        if kind in ('pointer', 'keyed', 'fit') or kind == 'point' and not self.shown(*rest[1:3]) or kind == 'wheel' and not self.shown(*rest[1:]):
+            return meaning
+        missed, self.missed = self.missed, False
+        if kind != 'point':
+            self.clicked = None
+        return ('text end', 'first') if missed and meaning == ('call', 'Edit.Search') else meaning
 
     def taken(self, meaning):
         """Whether it was done; None where it posts nothing by itself."""
@@ -412,16 +426,23 @@ class Model:
 
     def click(self, keys, start, end):
         if keys == 'mark':
+            self.clicked = None
             return self.post(f'mark {end[0]} {self.middle(*end)}')
         return self.point(keys, start, end)
 
     def point(self, keys, start, end):
         """A press of these buttons. Where the middle one is done the caret goes into a viewer that opened, or the line below
-        says the last line of the log, if that has more."""
+        says the last line of the log, if that has more, or the caret comes back where a change of looks took it away. A second left
+        click at a cell picks the word there."""
         event = 'point %s %d %d %d %d' % (keys, *start, *end)
+        is_again, self.clicked = keys == 'l' and start == end == self.clicked, start if keys == 'l' and start == end else None
+        if is_again:
+            self.clicked = None
+            return self.pick(start)
         if keys != 'm':
             return self.post(event)
         before, screen = Listing(self.lines('list')), self.screen()
+        seen, had = screen.caret(), self.viewer_of_caret()
         if not self.post(event):
             return False
         left = 0 if start[0] < 50 else 50
@@ -433,7 +454,32 @@ class Model:
         line = self.logged(before, after, end, word)
         if line:
             self.saying = line[:80]
+        elif seen and had and self.stays(had, before, after) and self.has_no_caret():
+            return self.post('point l %d %d %d %d' % (*seen, *seen))
         return True
+
+    @staticmethod
+    def stays(viewer, before, after):
+        """Whether a viewer is shown still."""
+        tracks = after.tracks[viewer[0]]
+        return viewer in tracks[-1] and len(tracks) == len(before.tracks[viewer[0]])
+
+    def has_no_caret(self):
+        return scrolling.played(self.oberon, self.store, ['type x'])[0] == 'no 1'
+
+    def pick(self, place):
+        """The word of a text at a cell is selected, and the caret goes before it; where there is none it goes to the cell."""
+        (x, y), screen = place, self.screen()
+        row, left = screen.rows[ROWS - 1 - y].ljust(COLUMNS), 0 if x < 50 else 50
+        end = next((at for at in range(x, left + WIDTHS[left]) if row[at] not in NAME), left + WIDTHS[left])
+        first = next((at + 1 for at in range(x - 1, left - 1, -1) if row[at] not in NAME), left)
+        while end > x and row[end - 1] == '.':
+            end -= 1
+        if end == x or not (screen.mark(x, y) == 'c' or self.is_text(screen, x, y)):
+            return self.post(f'point l {x} {y} {x} {y}')
+        is_done = self.post_all([f'point l {first} {y} {first} {y}', f'point r {first} {y} {end - 1} {y}'])
+        self.name_press('a selection')
+        return is_done
 
     def replaced(self, before, after, screen, word):
         """The viewer that opened over the whole place of another one, where the word of such a command was called."""
@@ -490,6 +536,7 @@ class Model:
             if kind == 'move':
                 at = min(max(at[0] + rest[0], 0), COLUMNS - 1), min(max(at[1] + rest[1], 0), ROWS - 1)
             elif kind == 'tab':
+                self.clicked, self.missed = None, False
                 at = self.next_command(at)
             elif kind == 'begin':
                 start = at
@@ -497,9 +544,11 @@ class Model:
                 start = None
             elif kind == 'escape':
                 if not self.points:
+                    self.clicked, self.missed = None, False
                     self.begin_press()
                     self.post('key escape')
             else:
+                self.missed = False
                 self.begin_press()
                 is_done = self.click(rest[0], start or at, at) and is_done is not False
                 start = None

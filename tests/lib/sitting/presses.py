@@ -268,7 +268,8 @@ def mouse(random, rows, is_whole):
         start = (min(start[0], 80 if is_whole else 30), min(start[1], 32) if is_whole else 1)
     if kind < 2:
         place = (random.choice([2, 3, 5, 52, 55]), random.randrange(2, min(rows, 12)))
-        return drag(random, 'l', place, place), [('point', 'l', *place, *place)]
+        times = random.choice([1, 1, 2, 2, 3])
+        return drag(random, 'l', place, place) * times, [('point', 'l', *place, *place)] * times
     if kind == 2:
         return random.choice(MARK) + drag(random, 'l', start, end), [('mark', *start)]
     if kind == 3:

@@ -3,8 +3,10 @@ else comes is noted in `mistakes`, and so is a byte that would pass the right ed
 
 `before` is what was shown before the screen was wiped the last time, and `left` what the alternate screen showed when
 it was left. What it is to answer stands in `answers`, and `asked` is how often it was asked."""
+import base64
 import re
 
+CLIP = re.compile(rb'\x1b\]52;c;([A-Za-z0-9+/]*=*)\x07')
 SEQUENCE = re.compile(rb'\x1b\[([?]?)([0-9;]*)( ?[A-Za-z])')
 # (an ink, a paper, the numbers of the styles)
 PLAIN = (None, None, frozenset())
@@ -19,6 +21,7 @@ class Terminal:
         self.kept = 0, 0
         self.bells = self.scenes = self.wipes = self.wiped_in = self.asked = 0
         self.answers = []
+        self.clips = []  # what the clipboard was given
         self.tells_size = True
         self.mistakes = []
         self.rest = b''
@@ -46,6 +49,15 @@ class Terminal:
             if data[at:at + 2] in (b'\x1b7', b'\x1b8'):
                 self.keep_cursor(data[at + 1] == 55)
                 at += 2
+            elif data[at:at + 2] == b'\x1b]':
+                found = CLIP.match(data, at)
+                if not found and b'\x07' not in data[at:]:
+                    break
+                if found:
+                    self.clips.append(base64.b64decode(found[1], validate=True))
+                else:
+                    self.mistakes.append(data[at:at + 12])
+                at = found.end() if found else at + 2
             elif data[at] == 27:
                 found = SEQUENCE.match(data, at)
                 if not found and len(data) - at < 48 and re.fullmatch(rb'\x1b(\[[?]?[0-9;]* ?)?', data[at:]):
