@@ -1,7 +1,7 @@
 //! Documents on their way in: all that an order names come together, or none.
-ghost use Rattle.std.specs.Prelude.{◌≡◌, true, Err, OnOk};
+ghost use Rattle.std.specs.Prelude.{◌≡◌, ◌⊎◌, true, Err, OnOk};
 ghost use Rattle.desktop_definitions.specs.declared.codes.TheConstants.{TOO_MANY_FILES};
-ghost use Rattle.desktop_definitions.specs.declared.reply.Reply.TheVariants.{No};
+ghost use Rattle.desktop_definitions.specs.declared.reply.Reply.TheVariants.{Done, No};
 ghost use Rattle.cli_documents.specs.declared.sentences.Stop.TheVariants.{Refused};
 
 use crate::collecting::collect;
@@ -238,6 +238,7 @@ fn answer<D: Disk>(
     manner: Manner,
 ) -> Result<(), Stop>
     ensures number { reply ≡ No TOO_MANY_FILES → result ≡ Err Refused }
+    ensures done { OnOk result ((reply ≡ Done) ⊎ (manner.collect ≡ true)) }
 {
     match reply {
         Reply::Done => tell(rt, &coming, coming.same.as_slice()),
@@ -254,7 +255,9 @@ fn bring_behind<D: Disk>(
     path: &str,
     coming: Coming,
     manner: Manner,
-) -> Result<(), Stop> {
+) -> Result<(), Stop>
+    ensures asked { OnOk result (manner.collect ≡ true) }
+{
     let room = make_room(rt, store, path, coming.documents.as_slice(), manner);
     match room {
         Ok(()) => bring_again(rt, store, path, coming, manner),
