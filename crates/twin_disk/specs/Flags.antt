@@ -12,8 +12,8 @@ abbrev pub says_closed : List ℕ → Bool
 says_closed bytes = get_or bytes 0 0 == CLOSED
 
 -- the name of the pair in a sector, and none, which is zeros
-abbrev pub name_in : List ℕ → List ℕ
-name_in bytes = take NAME_BYTES (drop 1 bytes)
+abbrev pub pair_name : List ℕ → List ℕ
+pair_name bytes = take NAME_BYTES (drop 1 bytes)
 
 abbrev pub IsNameless : List ℕ → Type 0
 IsNameless name = name ≡ replicate NAME_BYTES 0

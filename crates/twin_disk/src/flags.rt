@@ -2,7 +2,7 @@
 ghost use Rattle.std.specs.Prelude.{◌≡◌, ◌<◌, ℕ, true, false, OnOk};
 ghost use Rattle.sector_disk.specs.Trail.{now, Only, CountsFault};
 ghost use Rattle.sector_disk.specs.Confined.{IsConfined};
-ghost use Rattle.twin_disk.specs.Flags.{IsNameless, ShowsFlag, name_in, says_alone, says_closed};
+ghost use Rattle.twin_disk.specs.Flags.{IsNameless, ShowsFlag, pair_name, says_alone, says_closed};
 
 use sector_disk::{Disk, Fault, SECTOR_BYTES, Sector};
 
@@ -37,7 +37,7 @@ impl Flag {
     pub fn of(sector: &Sector) -> Flag
         ensures alone { result.alone ≡ says_alone sector.now }
         ensures closed { result.closed ≡ says_closed sector.now }
-        ensures name { result.name ≡ name_in sector.now }
+        ensures name { result.name ≡ pair_name sector.now }
     {
         Flag {
             alone: sector[0] == ALONE,
@@ -66,7 +66,7 @@ pub fn has_name(flag: &Flag) -> bool
 
 /// The name in a flag's sector.
 fn name_of(sector: &Sector) -> Name
-    ensures { result ≡ name_in sector.now }
+    ensures { result ≡ pair_name sector.now }
 {
     let mut name = [0; NAME_BYTES];
     name.copy_from_slice(&sector[1..1 + NAME_BYTES]);

@@ -2,7 +2,7 @@
 ghost use Rattle.std.specs.Prelude.{◌≡◌, ◌<◌, ◌⊎◌, true, false, IfOk, OnOk};
 ghost use Rattle.sector_disk.specs.Trail.{now, Only};
 ghost use Rattle.sector_disk.specs.Confined.{IsConfined};
-ghost use Rattle.twin_disk.specs.Flags.{IsNameless, ShowsFlag, name_in, says_alone};
+ghost use Rattle.twin_disk.specs.Flags.{IsNameless, ShowsFlag, pair_name, says_alone};
 
 use crate::copying::flag_at;
 use crate::flags::{Flag, Name, has_name, put_flag};
@@ -19,7 +19,7 @@ pub fn leave_twin<D: Disk>(leg: &mut D, at: u32) -> Result<bool, Fault>
         → ShowsFlag at true (now (D.trail leg.new))) }
     ensures stays { IfOk result (λ left. left ≡ false → D.honest leg.old
         → (says_alone ((now (D.trail leg.old)).reads at) ≡ true)
-        ⊎ IsNameless (name_in ((now (D.trail leg.old)).reads at))) }
+        ⊎ IsNameless (pair_name ((now (D.trail leg.old)).reads at))) }
 {
     let flag = flag_at(leg, at)?;
     if flag.alone || !has_name(&flag) {

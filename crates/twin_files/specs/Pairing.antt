@@ -35,6 +35,6 @@ module _ {D : Type 0} (d : Ghosts D) (sectors : ℕ) where
       → (leg_flag first ≡ true) × (leg_flag second ≡ true)
 
   -- a leg has failed: the other one says *alone*
-  abbrev pub HasFailed : D → D → Leg → Type 0
-  HasFailed first second First = d.honest second → leg_flag second ≡ true
-  HasFailed first second Second = d.honest first → leg_flag first ≡ true
+  abbrev pub HasLegFailed : D → D → Leg → Type 0
+  HasLegFailed first second First = d.honest second → leg_flag second ≡ true
+  HasLegFailed first second Second = d.honest first → leg_flag first ≡ true

@@ -14,4 +14,4 @@ pub use legs::{LEG_SECTORS, LegDisk, PairDisk};
 pub use opening::{OpenedPair, open_pair};
 pub use pairing::{Pair, Unpaired, pair_both, pair_from};
 pub use trouble::PairTrouble;
-pub use watching::{PairWatch, WatchedKeyboard};
+pub use watching::{PairWatch, Watch, WatchedKeyboard};

@@ -2,7 +2,7 @@
 ghost use Rattle.std.specs.Prelude.{◌≡◌, ◌<◌, ◌⊎◌, true, false, is_some, IfOk, IfErr, IfSome, OnErr};
 ghost use Rattle.sector_disk.specs.declared.file.TheConstants.{FILE_SECTORS};
 ghost use Rattle.terminal_keyboard.specs.declared.keyboard.KeyboardEnd.TheVariants.{Closed};
-ghost use Rattle.twin_files.specs.Pairing.{HasFailed, leg_flag};
+ghost use Rattle.twin_files.specs.Pairing.{HasLegFailed, leg_flag};
 
 use crate::legs::LEG_SECTORS;
 use host_files::{HostFault, open_regular};
@@ -12,27 +12,31 @@ use terminal_keyboard::{Hearing, Keyboard, KeyboardEnd};
 use terminal_presses::Heard;
 use twin_disk::{Leg, flag_at};
 
-/// Both files of a store, to be looked at beside the disk over them: the one that says *alone* is the one that is left.
+/// Both legs of a store, to be looked at beside the disk over them: the one that says *alone* is the one that is left.
 #[derive(Drop)]
-pub struct PairWatch {
-    first: FileDisk<File>,
-    second: FileDisk<File>,
-    ghost first_size: { FILE_SECTORS < ⟦<FileDisk<File> as Disk>⟧.size first },
-    ghost second_size: { FILE_SECTORS < ⟦<FileDisk<File> as Disk>⟧.size second },
+pub struct Watch<D: Disk> {
+    first: D,
+    second: D,
+    ghost first_size: { FILE_SECTORS < D.Disk.size first },
+    ghost second_size: { FILE_SECTORS < D.Disk.size second },
 }
 
-impl PairWatch {
+/// The same of files of the host.
+pub type PairWatch = Watch<FileDisk<File>>;
+
+impl Watch<FileDisk<File>> {
     /// A look at the files at these paths.
     pub fn new(rt: &HostRuntime, path: &str, twin: &str) -> Result<PairWatch, HostFault> {
         let first = FileDisk::with_sectors(open_regular(rt, path, u64::MAX)?, LEG_SECTORS);
         let second = FileDisk::with_sectors(open_regular(rt, twin, u64::MAX)?, LEG_SECTORS);
-        Ok(PairWatch { first, second })
+        Ok(Watch { first, second })
     }
+}
 
-    /// Which file failed, as the flag of the other one says.
+impl<D: Disk> Watch<D> {
+    /// Which leg failed, as the flag of the other one says.
     pub fn failed(&mut self) -> Option<Leg>
-        ensures { IfSome result (HasFailed ⟦<FileDisk<File> as Disk>⟧ FILE_SECTORS
-            self.old.first self.old.second) }
+        ensures { IfSome result (HasLegFailed D.Disk FILE_SECTORS self.old.first self.old.second) }
     {
         if says_alone(&mut self.first) {
             Some(Leg::Second)
@@ -44,13 +48,11 @@ impl PairWatch {
     }
 }
 
-/// Whether the leg in a file says *alone*, as far as it can be read.
-fn says_alone(leg: &mut FileDisk<File>) -> bool
-    requires { FILE_SECTORS < ⟦<FileDisk<File> as Disk>⟧.size leg.old }
-    ensures size { ⟦<FileDisk<File> as Disk>⟧.size leg.new
-        ≡ ⟦<FileDisk<File> as Disk>⟧.size leg.old }
-    ensures told { result ≡ true → ⟦<FileDisk<File> as Disk>⟧.honest leg.old
-        → leg_flag ⟦<FileDisk<File> as Disk>⟧ FILE_SECTORS leg.old ≡ true }
+/// Whether a leg says *alone*, as far as it can be read.
+fn says_alone<D: Disk>(leg: &mut D) -> bool
+    requires { FILE_SECTORS < D.size leg.old }
+    ensures size { D.size leg.new ≡ D.size leg.old }
+    ensures told { result ≡ true → D.honest leg.old → leg_flag D.Disk FILE_SECTORS leg.old ≡ true }
 {
     match flag_at(leg, FILE_SECTORS) {
         Ok(flag) => flag.alone,
@@ -61,16 +63,16 @@ fn says_alone(leg: &mut FileDisk<File>) -> bool
 /// A keyboard that tells what another one does. After a quiet while in which one of the files has failed it says that
 /// nothing more comes, once, and then tells which one.
 #[derive(Drop)]
-pub struct WatchedKeyboard<K> {
+pub struct WatchedKeyboard<K, D: Disk> {
     keyboard: K,
-    watch: Option<PairWatch>,
+    watch: Option<Watch<D>>,
     was_quiet: bool,
     failed: Option<Leg>,
 }
 
-impl<K: Keyboard> WatchedKeyboard<K> {
+impl<K: Keyboard, D: Disk + Drop> WatchedKeyboard<K, D> {
     /// The keyboard. Without a watch it tells all that the other one does.
-    pub fn new(keyboard: K, watch: Option<PairWatch>) -> WatchedKeyboard<K>
+    pub fn new(keyboard: K, watch: Option<Watch<D>>) -> WatchedKeyboard<K, D>
         ensures { result.keyboard ≡ keyboard }
     {
         WatchedKeyboard {
@@ -94,7 +96,7 @@ impl<K: Keyboard> WatchedKeyboard<K> {
         ensures told { result ≡ true → is_some self.new.failed ≡ true }
         ensures watched { result ≡ true → is_some self.old.watch ≡ true }
         ensures right { IfSome self.old.watch (λ watch. result ≡ true → IfSome self.new.failed
-            (HasFailed ⟦<FileDisk<File> as Disk>⟧ FILE_SECTORS watch.first watch.second)) }
+            (HasLegFailed D.Disk FILE_SECTORS watch.first watch.second)) }
     {
         if !self.was_quiet {
             return false;
@@ -110,7 +112,7 @@ impl<K: Keyboard> WatchedKeyboard<K> {
     }
 }
 
-impl<K: Keyboard> Keyboard for WatchedKeyboard<K> {
+impl<K: Keyboard, D: Disk + Drop> Keyboard for WatchedKeyboard<K, D> {
     ghost heard = { λ k. K.heard k.keyboard };
 
     ghost left = { λ k. K.left k.keyboard };
