@@ -85,6 +85,9 @@ module _ {D : Type 0} (d : Ghosts D) where
   room_anew : {old new : StoreView D} → IsTurned old new → HasJournalRoom new
   room_anew turned = (omega (arith, turned.events), turned.layout)
 
+  pub room_renewed : {old new : StoreView D} → IsRenewed d old new → HasJournalRoom new
+  room_renewed renewed = (omega (arith, renewed.events), renewed.layout)
+
   pub only_first : (event : Event) (old mid : StoreView D) → LeavesDesktop d old mid → LeavesEither d event old mid
   only_first event old mid first usable honest = weakened (first usable honest) (λ c means. inl means)
 

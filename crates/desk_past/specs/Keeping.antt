@@ -1,11 +1,15 @@
 -- A post that keeps a past where there is one. `d` is what is known of a disk.
-use Rattle.std.specs.Prelude.{◌≡◌, ◌⊎◌, ◌+◌, ◌<◌, ◌≤◌, ◌^◌, ◌++◌, ◌∷◌, [], ℕ, List, length, true, false}
+use Rattle.std.specs.Prelude.{◌≡◌, ◌⊎◌, ◌+◌, ◌<◌, ◌≤◌, ◌^◌, ◌++◌, ◌∷◌, [], ℕ, List, Result, length, true, false}
 use Rattle.sector_disk.specs.declared.disk.Disk.{Ghosts}
+use Rattle.sector_disk.specs.Faults.{FailsAs}
 use Rattle.sector_disk.specs.Trail.{LeavesOnly}
 use Rattle.event_bytes.specs.declared.event.Event.{Event}
 use Rattle.desktop_definitions.specs.Desktop.{Desktop}
 use Rattle.desktop_definitions.specs.Step.{step}
 use Rattle.store_layout.specs.declared.layout.TheConstants.{LAST_EPOCH, LAYOUT}
+use Rattle.store_slots.specs.declared.error.Error.{Error}
+use Rattle.store_slots.specs.declared.error.Error.TheVariants.{Fault}
+use Rattle.desk_journal.specs.Device.{IsSameDevice}
 use Rattle.desk_journal.specs.Posting.{IsDueBefore}
 use Rattle.desk_journal.specs.View.{StoreView}
 use Rattle.desk_past.specs.Halves.{IsHalf}
@@ -30,6 +34,14 @@ pub record IsTurned {D : Type 0} (old new : StoreView D) : Type 0 where
   pub events : new.events ≡ 0
 
 module _ {D : Type 0} (d : Ghosts D) where
+  -- A call on a store, whatever it returns: the device is the same one, Fault comes exactly where a failure of it was
+  -- counted, and each error is one of the call's.
+  pub record UsesDevice {T : Type 0} (OfCall : Error → Type 0) (answer : Result T Error)
+      (old new : StoreView D)
+      : Type 0 where
+    pub same : IsSameDevice d old.disk new.disk
+    pub faults : FailsAs Fault OfCall answer (d.failures old.disk) (d.failures new.disk)
+
   -- Before an event: what the store shows stays. Either nothing was done, or a checkpoint was made that was due, or there
   -- was no room for the page before it, and the journal is the same one.
   pub record IsWayMade (old new : StoreView D) : Type 0 where

@@ -6,7 +6,7 @@ use Rattle.sector_disk.specs.declared.disk.Disk.{Ghosts}
 use Rattle.event_bytes.specs.declared.event.Event.{Event}
 use Rattle.event_bytes.specs.Spelling.{IsEvent}
 use Rattle.desktop_definitions.specs.Desktop.{Desktop}
-use Rattle.desktop_definitions.specs.Step.{step, steps}
+use Rattle.desktop_definitions.specs.Step.{steps}
 use Rattle.store_layout.specs.declared.head.PastEnd.{PastEnd}
 use Rattle.store_layout.specs.declared.layout.TheConstants.{LAYOUT, STORE_SECTORS}
 use Rattle.store_layout.specs.Meaning.{Standing, Stands, desktop_of}
@@ -137,15 +137,6 @@ abbrev pub LeavesAll : {D : Type 0} → Ghosts D → Start → List Event → De
     → StoreView D → Type 0
 LeavesAll d start events desktop old new = LeavesOnly (d.trail old.disk) (d.trail new.disk)
     (Remembers (d.size old.disk) start events desktop)
-
--- Nothing is forgotten: at every moment of the call a crash leaves all events from before it, and the desktop to which
--- they led, or these and the one that is posted, and the desktop after that.
-abbrev pub ForgetsNothing : {D : Type 0} → Ghosts D → Event → StoreView D → StoreView D → Type 0
-ForgetsNothing d event old new = d.honest old.disk → (start : Start) (events : List Event)
-    (desktop : Desktop) → KeepsAll d start events desktop old
-    → LeavesOnly (d.trail old.disk) (d.trail new.disk)
-    (λ c. Remembers (d.size old.disk) start events desktop c
-    ⊎ Remembers (d.size old.disk) start (events ++ event ∷ []) (step desktop event).desktop c)
 
 -- Some of the last events are taken back, at most so many: at every moment of the call a crash leaves the others, or all.
 abbrev pub UndoesSome : {D : Type 0} → Ghosts D → ℕ → StoreView D → StoreView D → Type 0

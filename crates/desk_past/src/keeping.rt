@@ -1,18 +1,15 @@
 //! Events that stay.
-ghost use Rattle.std.specs.Prelude.{◌≡◌, ◌≢◌, ◌+◌, ◌*◌, ◌^◌, ◌≤◌, ◌<◌, ◌++◌, ◌∷◌, [], List, true, false, length, IfErr, IfOk, IsErrOf, OnOk, IfSome, IfNone};
+ghost use Rattle.std.specs.Prelude.{◌≡◌, ◌≢◌, ◌+◌, ◌*◌, ◌^◌, ◌≤◌, ◌<◌, List, true, false, IfErr, IfOk, IsErrOf, OnOk, IfSome, IfNone};
 ghost use Rattle.sector_disk.specs.declared.disk.TheConstants.{SECTOR_BYTES};
-ghost use Rattle.sector_disk.specs.Faults.{FailsAs};
 ghost use Rattle.sector_disk.specs.Stored.{last_sector};
 ghost use Rattle.event_bytes.specs.declared.event.Event.{Event};
 ghost use Rattle.desktop_definitions.specs.Desktop.{Desktop};
-ghost use Rattle.desktop_definitions.specs.Step.{step};
 ghost use Rattle.store_layout.specs.declared.layout.TheConstants.{STORE_SECTORS};
 ghost use Rattle.store_slots.specs.Errors.{OfDesktop, OfLook, OfPost};
 ghost use Rattle.desk_journal.specs.Checkpointing.{IsRenewed, LeavesDesktop};
-ghost use Rattle.desk_journal.specs.Device.{IsSameDevice};
 ghost use Rattle.desk_journal.specs.Posting.{AnswersMustReopen, AnswersWorn, HasJournalRoom, IsAcknowledged, IsDueBefore, LeavesEither};
 ghost use Rattle.desk_past.specs.Beginning.{IsAside};
-ghost use Rattle.desk_past.specs.Keeping.{CanKeep, CanTurn, HasKept, HasPageRoom, IsWayMade, KeepsOn};
+ghost use Rattle.desk_past.specs.Keeping.{CanKeep, CanTurn, HasKept, HasPageRoom, IsWayMade, KeepsOn, UsesDevice};
 ghost use Rattle.desk_past.specs.Past.{HasNewPage, IsHeadTold, KeepsAll, KeepsOthers, LeavesAll, Start, UndoesSome};
 
 use crate::halves::half_at;
@@ -75,9 +72,7 @@ fn write_page_at<D: Disk>(
         → HasPageRoom D.Disk end keeps → ⊥)) }
     ensures moments { LeavesDesktop D.Disk store.old store.new }
     ensures aside { OnOk result (IsAside D.Disk store.old store.new) }
-    ensures device { IsSameDevice D.Disk store.old.disk store.new.disk }
-    ensures faults { FailsAs Error.Fault OfLook result (D.failures store.old.disk)
-        (D.failures store.new.disk) }
+    ensures device { UsesDevice D.Disk OfLook result store.old store.new }
     ensures open { IsErrOf result Error.MustReopen → store.old.must_reopen ≡ true }
 {
     standing_law();
@@ -122,9 +117,7 @@ fn write_page<D: Disk>(
         → HasPageRoom D.Disk end keeps → ⊥)) }
     ensures moments { LeavesDesktop D.Disk store.old store.new }
     ensures aside { OnOk result (IsAside D.Disk store.old store.new) }
-    ensures device { IsSameDevice D.Disk store.old.disk store.new.disk }
-    ensures faults { FailsAs Error.Fault OfLook result (D.failures store.old.disk)
-        (D.failures store.new.disk) }
+    ensures device { UsesDevice D.Disk OfLook result store.old store.new }
     ensures open { IsErrOf result Error.MustReopen → store.old.must_reopen ≡ true }
 {
     store.shows_what_crashes_leave();
@@ -153,10 +146,7 @@ pub fn end_epoch<D: Disk>(alloc: Global, store: &mut Store<D>, end: u32) -> Resu
     ensures moments { LeavesDesktop D.Disk store.old store.new }
     ensures renewed { IfOk result (λ done. done ≡ true → IsRenewed D.Disk store.old store.new) }
     ensures aside { IfOk result (λ done. done ≡ false → IsAside D.Disk store.old store.new) }
-    ensures empty { IfOk result (λ done. done ≡ true → HasJournalRoom store.new) }
-    ensures device { IsSameDevice D.Disk store.old.disk store.new.disk }
-    ensures faults { FailsAs Error.Fault OfPost result (D.failures store.old.disk)
-        (D.failures store.new.disk) }
+    ensures device { UsesDevice D.Disk OfPost result store.old store.new }
     ensures errors { CanTurn store.old → IfErr result OfDesktop }
 {
     let Some(past) = write_page(alloc, store, end)? else {
@@ -171,9 +161,8 @@ pub fn end_epoch<D: Disk>(alloc: Global, store: &mut Store<D>, end: u32) -> Resu
 ///
 /// Errors: those of `Store::past` and `end_epoch`.
 fn turn_over<D: Disk>(alloc: Global, store: &mut Store<D>) -> Result<(), Error>
-    requires usable { store.old.must_reopen ≡ false }
+    requires able { CanTurn store.old }
     requires due { IsDueBefore store.old }
-    requires later { store.old.epoch ≢ LAST_EPOCH }
     ensures any_moment { D.honest store.old.disk
         → (start : Start) (events : List Event) (desktop : Desktop)
         → KeepsAll D.Disk start events desktop store.old
@@ -188,9 +177,7 @@ fn turn_over<D: Disk>(alloc: Global, store: &mut Store<D>) -> Result<(), Error>
         → HasJournalRoom store.new) }
     ensures moments { LeavesDesktop D.Disk store.old store.new }
     ensures made { OnOk result (IsWayMade D.Disk store.old store.new) }
-    ensures device { IsSameDevice D.Disk store.old.disk store.new.disk }
-    ensures faults { FailsAs Error.Fault OfDesktop result (D.failures store.old.disk)
-        (D.failures store.new.disk) }
+    ensures device { UsesDevice D.Disk OfDesktop result store.old store.new }
 {
     store.shows_what_crashes_leave();
     let told = store.past()?;
@@ -235,9 +222,7 @@ fn make_way<D: Disk>(alloc: Global, store: &mut Store<D>) -> Result<(), Error>
     ensures moments { LeavesDesktop D.Disk store.old store.new }
     ensures made { OnOk result (IsWayMade D.Disk store.old store.new) }
     ensures able { IfErr result (λ e. CanTurn store.old) }
-    ensures device { IsSameDevice D.Disk store.old.disk store.new.disk }
-    ensures faults { FailsAs Error.Fault OfDesktop result (D.failures store.old.disk)
-        (D.failures store.new.disk) }
+    ensures device { UsesDevice D.Disk OfDesktop result store.old store.new }
 {
     store.shows_what_crashes_leave();
     if !can_turn(store) {
@@ -258,9 +243,7 @@ pub fn post<D: Disk>(alloc: Global, store: &mut Store<D>, event: &Event) -> Resu
     ensures memory { IsErrOf result Error.NoMemory → LeavesDesktop D.Disk store.old store.new }
     ensures worn { AnswersWorn result store.old store.new }
     ensures reopen { AnswersMustReopen result store.old store.new }
-    ensures faults { FailsAs Error.Fault OfPost result (D.failures store.old.disk)
-        (D.failures store.new.disk) }
-    ensures device { IsSameDevice D.Disk store.old.disk store.new.disk }
+    ensures device { UsesDevice D.Disk OfPost result store.old store.new }
     ensures nothing_forgotten { KeepsOn D.Disk event.now store.old store.new }
     ensures kept { OnOk result (HasKept D.Disk event.now store.old store.new) }
 {

@@ -6,9 +6,9 @@ pub returns-in_err-checkpoint_with-clause-any_moment : goal.returns-in_err-check
 returns-in_err-checkpoint_with-clause-any_moment g c = λ honest start events desktop keeps.
     let d = g.D.Disk in
     let fresh = (rw c.in-Some.is at c.in_ok-past.ensures.written) honest start events desktop keeps in
-    let second = c.write_page.ensures.device.still honest in
+    let second = c.write_page.ensures.device.same.still honest in
     let quiet = c.shows_what_crashes_leave.ensures.quiet fresh.keeps.usable second in
-    leaves_then d c.args.store.now c.write_page.new.store c.checkpoint_with.new.self c.write_page.ensures.device
+    leaves_then d c.args.store.now c.write_page.new.store c.checkpoint_with.new.self c.write_page.ensures.device.same
     (c.write_page.ensures.any_moment honest start events desktop keeps)
     (turn_moments d fresh second quiet c.checkpoint_with.new.self c.checkpoint_with.ensures.behaves.within
     c.checkpoint_with.ensures.standings)
@@ -17,9 +17,9 @@ pub returns-clause-any_moment : goal.returns-clause-any_moment
 returns-clause-any_moment g c = λ honest start events desktop keeps.
     let d = g.D.Disk in
     let fresh = (rw c.in-Some.is at c.in_ok-past.ensures.written) honest start events desktop keeps in
-    let second = c.write_page.ensures.device.still honest in
+    let second = c.write_page.ensures.device.same.still honest in
     let quiet = c.shows_what_crashes_leave.ensures.quiet fresh.keeps.usable second in
-    leaves_then d c.args.store.now c.write_page.new.store c.checkpoint_with.new.self c.write_page.ensures.device
+    leaves_then d c.args.store.now c.write_page.new.store c.checkpoint_with.new.self c.write_page.ensures.device.same
     (c.write_page.ensures.any_moment honest start events desktop keeps)
     (turn_moments d fresh second quiet c.checkpoint_with.new.self c.checkpoint_with.ensures.behaves.within
     c.checkpoint_with.ensures.standings)
@@ -28,21 +28,21 @@ pub returns-clause-ended : goal.returns-clause-ended
 returns-clause-ended g c = λ honest start events desktop keeps.
     let d = g.D.Disk in
     let fresh = (rw c.in-Some.is at c.in_ok-past.ensures.written) honest start events desktop keeps in
-    let second = c.write_page.ensures.device.still honest in
+    let second = c.write_page.ensures.device.same.still honest in
     let quiet = c.shows_what_crashes_leave.ensures.quiet fresh.keeps.usable second in
     turn_keeps d fresh second quiet c.checkpoint_with.new.self c.checkpoint_with.ensures.behaves.within
     c.in_ok-checkpoint_with.ensures.ok.usable c.in_ok-checkpoint_with.ensures.next.shows
 
 pub returns-in_err-checkpoint_with-clause-moments : goal.returns-in_err-checkpoint_with-clause-moments
 returns-in_err-checkpoint_with-clause-moments g c = desktop_then g.D.Disk c.checkpoint_with.new.self
-    c.write_page.ensures.device c.write_page.ensures.moments c.in_ok-past.ensures.aside
+    c.write_page.ensures.device.same c.write_page.ensures.moments c.in_ok-past.ensures.aside
     c.checkpoint_with.ensures.any_moment
 
 pub returns-clause-moments : goal.returns-clause-moments
 returns-clause-moments g c = desktop_then g.D.Disk c.checkpoint_with.new.self
-    c.write_page.ensures.device c.write_page.ensures.moments c.in_ok-past.ensures.aside
+    c.write_page.ensures.device.same c.write_page.ensures.moments c.in_ok-past.ensures.aside
     c.checkpoint_with.ensures.any_moment
 
 pub returns-clause-renewed : goal.returns-clause-renewed
-returns-clause-renewed g c = λ is. renewed_aside g.D.Disk c.write_page.ensures.device c.in_ok-past.ensures.aside
+returns-clause-renewed g c = λ is. renewed_aside g.D.Disk c.write_page.ensures.device.same c.in_ok-past.ensures.aside
     c.in_ok-checkpoint_with.ensures.ok

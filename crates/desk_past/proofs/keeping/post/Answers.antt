@@ -16,16 +16,16 @@ returns-in_err-make_way-clause-nothing_forgotten g c = λ honest start events de
 
 pub returns-clause-any_moment : goal.returns-clause-any_moment
 returns-clause-any_moment g c = either_then g.D.Disk c.post.new.self c.in_ok-make_way.ensures.made c.args.event.now
-    c.make_way.ensures.device c.make_way.ensures.moments c.post.ensures.any_moment
+    c.make_way.ensures.device.same c.make_way.ensures.moments c.post.ensures.any_moment
 
 pub returns-clause-ok : goal.returns-clause-ok
 returns-clause-ok g c = IfOk-weaker c.post.result _ _ (λ reply taken.
     acknowledged_then g.D.Disk c.post.new.self c.in_ok-make_way.ensures.made c.args.event.now reply
-    c.make_way.ensures.device taken) c.post.ensures.ok
+    c.make_way.ensures.device.same taken) c.post.ensures.ok
 
 pub returns-clause-memory : goal.returns-clause-memory
 returns-clause-memory g c = λ refused. starved_then g.D.Disk c.post.new.self c.in_ok-make_way.ensures.made
-    c.make_way.ensures.device c.make_way.ensures.moments (c.post.ensures.memory refused).unrecorded
+    c.make_way.ensures.device.same c.make_way.ensures.moments (c.post.ensures.memory refused).unrecorded
 
 pub returns-clause-worn : goal.returns-clause-worn
 returns-clause-worn g c = worn_then g.D.Disk c.post.new.self c.in_ok-make_way.ensures.made c.post.result
@@ -39,9 +39,9 @@ pub returns-clause-nothing_forgotten : goal.returns-clause-nothing_forgotten
 returns-clause-nothing_forgotten g c = λ honest start events desktop keeps can.
     let d = g.D.Disk in
     let mid = c.in_ok-make_way.ensures.ended honest start events desktop keeps in
-    let second = c.make_way.ensures.device.still honest in
+    let second = c.make_way.ensures.device.same.still honest in
     let has = c.in_ok-make_way.ensures.empty honest start events desktop keeps can in
-    leaves_more_then d c.args.store.now c.make_way.new.store c.post.new.self c.args.event.now c.make_way.ensures.device
+    leaves_more_then d c.args.store.now c.make_way.new.store c.post.new.self c.args.event.now c.make_way.ensures.device.same
     (c.make_way.ensures.any_moment honest start events desktop keeps)
     (post_moments d mid second (c.shows_what_crashes_leave.ensures.quiet mid.usable second) c.post.new.self
     c.args.event.now has
@@ -52,7 +52,7 @@ returns-clause-kept g c = ok_with c.post.result c.post.ensures.ok c.post.ensures
     (λ reply taken added honest start events desktop keeps can.
     let d = g.D.Disk in
     let mid = c.in_ok-make_way.ensures.ended honest start events desktop keeps in
-    let second = c.make_way.ensures.device.still honest in
+    let second = c.make_way.ensures.device.same.still honest in
     let has = c.in_ok-make_way.ensures.empty honest start events desktop keeps can in
     post_keeps d mid second (c.shows_what_crashes_leave.ensures.quiet mid.usable second) c.post.new.self
     c.args.event.now has
@@ -63,11 +63,11 @@ pub returns-in_err-make_way-clause-worn : goal.returns-in_err-make_way-clause-wo
 returns-in_err-make_way-clause-worn g c =
     let p = err_from_is_err_and c.from_residual.result c.from_residual.ensures.1 in
     worn_none g.D.Disk c.make_way.new.store c.from_residual.result c.in_err-make_way.ensures.able (λ is.
-    never c.make_way.result Worn c.make_way.ensures.faults.errors not_worn (cc (p.1, p.2, is, c.in_err-make_way.was)))
+    never c.make_way.result Worn c.make_way.ensures.device.faults.errors not_worn (cc (p.1, p.2, is, c.in_err-make_way.was)))
 
 pub returns-in_err-make_way-clause-reopen : goal.returns-in_err-make_way-clause-reopen
 returns-in_err-make_way-clause-reopen g c =
     let p = err_from_is_err_and c.from_residual.result c.from_residual.ensures.1 in
     reopen_none g.D.Disk c.make_way.new.store c.from_residual.result c.in_err-make_way.ensures.able (λ is.
-    never c.make_way.result MustReopen c.make_way.ensures.faults.errors not_reopen
+    never c.make_way.result MustReopen c.make_way.ensures.device.faults.errors not_reopen
     (cc (p.1, p.2, is, c.in_err-make_way.was)))

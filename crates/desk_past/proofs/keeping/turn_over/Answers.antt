@@ -7,7 +7,7 @@ use Rattle.desk_past.specs.Keeping.{HasPageRoom}
 use Rattle.desk_past.proofs.Begun.{aside_both, aside_looked, desktop_spared, desktop_then, renewed_aside, same_both, spared_read}
 use Rattle.desk_past.proofs.Remembering.{leaves_then, read_keeps, read_moments, room_still}
 use Rattle.desk_past.proofs.Rooms.{behind_start}
-use Rattle.desk_past.proofs.Ways.{way_aside, way_renewed}
+use Rattle.desk_past.proofs.Ways.{room_renewed, way_aside, way_renewed}
 use Rattle.desk_past.proofs.keeping.turn_over.Goals as goal
 
 pub returns-in_err-told-clause-any_moment : goal.returns-in_err-told-clause-any_moment
@@ -36,8 +36,8 @@ returns-in_default-clause-ended g c = λ honest start events desktop keeps.
     c.past.ensures.looks.disk (c.past.ensures.looks.usable ∙ keeps.usable)
 
 pub returns-in_default-clause-made : goal.returns-in_default-clause-made
-returns-in_default-clause-made g c = way_aside g.D.Disk (c.requires.usable, c.requires.later)
-    (aside_looked g.D.Disk c.past.result c.requires.usable c.past.ensures.looks)
+returns-in_default-clause-made g c = way_aside g.D.Disk c.requires.able
+    (aside_looked g.D.Disk c.past.result c.requires.able.0 c.past.ensures.looks)
 
 pub returns-in_err-end_epoch-clause-any_moment : goal.returns-in_err-end_epoch-clause-any_moment
 returns-in_err-end_epoch-clause-any_moment g c = λ honest start events desktop keeps.
@@ -66,7 +66,7 @@ returns-in_err-end_epoch-clause-moments g c =
     (desktop_spared d STORE_SECTORS 0 c.args.store.now c.past.new.self (omega arith)
     c.shows_what_crashes_leave.ensures.durable
     (spared_read d STORE_SECTORS 0 c.past.ensures.looks.disk c.shows_what_crashes_leave.ensures.quiet))
-    (aside_looked d c.past.result c.requires.usable c.past.ensures.looks) c.end_epoch.ensures.moments
+    (aside_looked d c.past.result c.requires.able.0 c.past.ensures.looks) c.end_epoch.ensures.moments
 
 pub returns-clause-moments : goal.returns-clause-moments
 returns-clause-moments g c =
@@ -75,7 +75,7 @@ returns-clause-moments g c =
     (desktop_spared d STORE_SECTORS 0 c.args.store.now c.past.new.self (omega arith)
     c.shows_what_crashes_leave.ensures.durable
     (spared_read d STORE_SECTORS 0 c.past.ensures.looks.disk c.shows_what_crashes_leave.ensures.quiet))
-    (aside_looked d c.past.result c.requires.usable c.past.ensures.looks) c.end_epoch.ensures.moments
+    (aside_looked d c.past.result c.requires.able.0 c.past.ensures.looks) c.end_epoch.ensures.moments
 
 pub returns-clause-ended : goal.returns-clause-ended
 returns-clause-ended g c = λ honest start events desktop keeps.
@@ -88,11 +88,11 @@ pub returns-clause-made : goal.returns-clause-made
 returns-clause-made g c =
     let d = g.D.Disk in
     let device = c.past.ensures.looks.disk.device in
-    let read = aside_looked d c.past.result c.requires.usable c.past.ensures.looks in
+    let read = aside_looked d c.past.result c.requires.able.0 c.past.ensures.looks in
     elim (true_or_false c.in_ok-end_epoch.field-0) [
-      | inl done ↦ way_renewed d (c.requires.usable, c.requires.later) c.requires.due
+      | inl done ↦ way_renewed d c.requires.able c.requires.due
           (renewed_aside d device read (c.in_ok-end_epoch.ensures.renewed done))
-      | inr not ↦ way_aside d (c.requires.usable, c.requires.later)
+      | inr not ↦ way_aside d c.requires.able
           (aside_both d device read (c.in_ok-end_epoch.ensures.aside not))
     ]
 
@@ -107,7 +107,7 @@ returns-clause-empty g c = λ honest start events desktop keeps can.
     let found = c.in-Some.ensures.all start.base can.end half
     (omega (arith, behind_start d keeps, next)) (omega (arith, can.room.page, next)) in
     elim (true_or_false c.in_ok-end_epoch.field-0) [
-      | inl done ↦ c.in_ok-end_epoch.ensures.empty done
+      | inl done ↦ room_renewed d (c.in_ok-end_epoch.ensures.renewed done)
       | inr not ↦ absurd (room_still d keeps honest quiet c.past.new.self run (c.past.ensures.looks.usable ∙ keeps.usable)
           can.end can.room (λ mid room. c.in_ok-end_epoch.ensures.full not (run.device.still honest) start events desktop mid
           (subst (λ n. HasPageRoom d n mid) (sym found.1) room)))
