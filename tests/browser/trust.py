@@ -183,6 +183,8 @@ def copying(kind):
     mail = 'Dear reader,\n\n   this is a line that goes on behind the edge of its viewer.   \n\n\nYours  \nA writer\n'
     page = fresh(kind, served())
     typing(page)
+    page.js('document.querySelector("#bar [data-key=w]").click()')  # lines are not broken at the edge
+    page.wait(1)
     page.js(PASTE % json.dumps(mail))
     page.wait(1)
     select(page, (1, 1), (49, 7))
