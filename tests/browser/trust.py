@@ -564,7 +564,7 @@ def errors(kind):
         page = kind(room())
         page.go(changed(worker).replace('desk.html', 'changed.html'))
         try:
-            page.until("!document.getElementById('note').textContent.includes('being opened')", 15)
+            page.until("(said => said && !said.includes('being opened'))(document.getElementById('note').textContent)", 15)
         except TimeoutError:
             pass
         said = page.note()
