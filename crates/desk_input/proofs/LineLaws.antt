@@ -17,7 +17,7 @@ use Rattle.text_frames.proofs.Greatest.{is_greatest, greatest_within, starts}
 use Rattle.text_frames.proofs.Placing.{further}
 use Rattle.desk_core.proofs.PositionLemmas.{share_within}
 use Rattle.desk_input.specs.declared.wish.Wish.{Wish}
-use Rattle.desk_input.specs.declared.wish.Wish.TheVariants.{Up, Down, PageUp, PageDown, Line, End}
+use Rattle.desk_input.specs.declared.wish.Wish.TheVariants.{Up, Down, PageUp, PageDown, Line}
 use Rattle.desk_input.specs.Lines.{start_below, line_below, wished, share_start, share_row}
 
 -- a place where a line begins is where its line starts
@@ -175,7 +175,6 @@ wished_begins bs h org (Down n) = below_begins bs n org
 wished_begins bs h org PageUp = above_begins bs (h - 1) org
 wished_begins bs h org PageDown = below_begins bs (h - 1) org
 wished_begins bs h org (Line n) = below_begins bs n 0
-wished_begins bs h org End = above_begins bs (h - 1) (length bs)
 
 up_within : (bs : List ℕ) (n p : ℕ) → p ≤ length bs → line_above bs n p ≤ length bs
 up_within bs n p within = let low = above_low bs n p in omega (arith, low, within)
@@ -187,7 +186,6 @@ wished_within bs h org (Down n) within = below_within bs n org within
 wished_within bs h org PageUp within = up_within bs (h - 1) org within
 wished_within bs h org PageDown within = below_within bs (h - 1) org within
 wished_within bs h org (Line n) within = below_within bs n 0 (omega arith)
-wished_within bs h org End within = up_within bs (h - 1) (length bs) (omega arith)
 
 -- ---- where the middle button comes to
 

@@ -4,7 +4,7 @@ use Rattle.text_frames.specs.Lines.{line_start, line_above, ends_between, greate
 use Rattle.text_frames.specs.Cells.{position_at}
 use Rattle.text_frames.specs.Rules.{is_in_rows}
 use Rattle.desk_input.specs.declared.wish.Wish.{Wish}
-use Rattle.desk_input.specs.declared.wish.Wish.TheVariants.{Up, Down, PageUp, PageDown, Line, End}
+use Rattle.desk_input.specs.declared.wish.Wish.TheVariants.{Up, Down, PageUp, PageDown, Line}
 use Rattle.desk_input.specs.declared.way.Way.{Way}
 
 -- ---- the wish
@@ -18,10 +18,6 @@ abbrev pub line_below : List ℕ → ℕ → ℕ → ℕ
 line_below bs zero p = line_start bs p
 line_below bs (suc n) p = line_below bs n (start_below bs p)
 
--- where the line starts that stands n lines above the last one, 0 where there are fewer
-abbrev pub last_page : List ℕ → ℕ → ℕ
-last_page bs n = line_above bs n (length bs)
-
 -- where the wished line starts
 unfoldable pub wished : List ℕ → ℕ → ℕ → Wish → ℕ
 wished bs h org (Up n) = line_above bs n org
@@ -29,7 +25,6 @@ wished bs h org (Down n) = line_below bs n org
 wished bs h org PageUp = line_above bs (h - 1) org
 wished bs h org PageDown = line_below bs (h - 1) org
 wished bs h org (Line n) = line_below bs n 0
-wished bs h org End = last_page bs (h - 1)
 
 -- ---- the way
 

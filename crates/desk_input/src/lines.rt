@@ -3,7 +3,7 @@ ghost use Rattle.std.specs.Prelude.{◌≡◌, ◌*◌, ◌/◌, ◌<◌, ◌≤
 ghost use Rattle.readers_scanners.specs.Words.{ReadsOrFails, flat, AreWithin, bytes_of_text};
 ghost use Rattle.text_frames.specs.Walks.{CanWalk};
 ghost use Rattle.text_frames.specs.Lines.{line_above, ends_between};
-ghost use Rattle.desk_input.specs.Lines.{start_below, line_below, last_page, wished, share_start};
+ghost use Rattle.desk_input.specs.Lines.{start_below, line_below, wished, share_start};
 ghost use Rattle.desk_input.specs.Lines.{share_row};
 ghost use Rattle.desk_input.specs.Lines.{lines_in_sight, way_by_share, way_to};
 
@@ -113,19 +113,6 @@ fn ends_between<S: CharSource>(
     Ok(ends)
 }
 
-/// Where the line starts that stands `lines` lines above the text's last one, 0 where there are fewer. `Fault`: the
-/// source failed in this call.
-fn last_page<S: CharSource>(text: &Text, lines: u32, source: &mut S) -> Result<u32, Fault>
-    requires { AreWithin (length (S.characters source.old)) (flat text.now) }
-    ensures start { IfOk result (λ start. S.honest source.old
-        → start ≡ last_page (bytes_of_text (S.characters source.old) (flat text.now)) lines) }
-    ensures within { IfOk result (λ start. start ≤ length (flat text.now)) }
-    ensures source { ReadsOrFails S.CharSource result source.old source.new }
-{
-    let start = line_above(text, lines, text.len(), source)?;
-    Ok(start)
-}
-
 /// Where the line starts that is wished of a text shown from `org` on in `h` rows. `Fault`: the source failed in this
 /// call.
 #[tactic(auto, unfolding(crate::specs::Lines::wished))]
@@ -149,7 +136,6 @@ pub(crate) fn wished<S: CharSource>(
         Wish::PageUp => line_above(text, page, org, source),
         Wish::PageDown => line_below(text, page, org, source),
         Wish::Line(lines) => line_below(text, lines, 0, source),
-        Wish::End => last_page(text, page, source),
     }
 }
 

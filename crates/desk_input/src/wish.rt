@@ -14,6 +14,4 @@ pub enum Wish {
     PageDown,
     /// The line with so many lines above it.
     Line(u32),
-    /// The one with which the text's last line stands in the viewer's lowest row.
-    End,
 }

@@ -58,8 +58,9 @@ pub struct Info {
 /// A desktop on a disk. The characters that fill sectors of an area of the disk stay there, but for 64 sectors that
 /// were read last; the others are in memory.
 ///
-/// After `NoMemory` or `Fault` of a post, or `Fault` of a checkpoint, the store isn't used again: each call but `close`
-/// returns `MustReopen`, and what is on the disk is found by opening it.
+/// After `NoMemory` or `Fault` of a post or of `bring`, after `Fault` of a checkpoint, and after one that came in the write
+/// of an undo, the store isn't used again: each call but `close` returns `MustReopen`, and what is on the disk is found by
+/// opening it.
 #[derive(Drop)]
 pub struct Store<D: Disk> {
     disk: D,

@@ -11,3 +11,4 @@ pub mod Opened
 pub mod Begun
 pub mod Ways
 pub mod Rooms
+pub mod GoingOn

@@ -19,6 +19,7 @@ use Rattle.desk_journal.specs.Behind.{IsWrittenBehind, KeepsStanding, LeavesPost
 use Rattle.desk_journal.specs.Posting.{HasJournalRoom}
 use Rattle.desk_journal.specs.Undoing.{ShowsStanding}
 use Rattle.desk_journal.specs.View.{StoreView}
+use Rattle.desk_past.specs.Beginning.{IsApart}
 use Rattle.desk_past.specs.Page.{Page, page_bytes, page_sectors}
 use Rattle.desk_past.specs.Keeping.{HasPageRoom}
 use Rattle.desk_past.specs.Past.{HasNewPage, HoldsPast, IsHeadTold, HoldsPages, KeepsAll, LeavesAll, Remembers, Start, events_of}
@@ -139,6 +140,13 @@ module _ {D : Type 0} (d : Ghosts D) {start : Start} {events : List Event} {desk
     inside = omega (arith, room.inside, run.device.as_large);
     few = room.few;
   })
+
+  -- and a start that is apart from it
+  pub apart_still : {X : Type 0} (new : StoreView D) (run : IsOnlyRead d old.disk new.disk)
+      (usable : new.must_reopen ≡ false) (base : ℕ) → IsApart d base was
+      → ((keeps : KeepsAll d start events desktop new) → IsApart d base keeps → X) → X
+  unfolding read_keeps
+  apart_still new run usable base apart f = f (read_keeps {new = new} run usable) apart
 
   pub told_room_still : {X : Type 0} (new : StoreView D) (run : IsOnlyRead d old.disk new.disk)
       (usable : new.must_reopen ≡ false) (end : ℕ) (told : PastEnd) → IsHeadTold d told was → HasPageRoom d end was

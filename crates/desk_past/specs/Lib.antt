@@ -2,5 +2,6 @@ pub mod Page
 pub mod Past
 pub mod Reading
 pub mod Beginning
+pub mod Going
 pub mod Halves
 pub mod Keeping

@@ -1,12 +1,12 @@
 //! The two halves of the room behind a store. Each begins with a start, and pages stand behind that.
-ghost use Rattle.std.specs.Prelude.{◌≡◌, ◌+◌, ◌≤◌, ◌^◌, ℕ, IfSome, IsSomeAnd};
+ghost use Rattle.std.specs.Prelude.{◌≡◌, ◌+◌, ◌≤◌, ◌^◌, ℕ, true, IfSome, IsSomeAnd};
 ghost use Rattle.store_layout.specs.declared.layout.TheConstants.{STORE_SECTORS};
-ghost use Rattle.desk_past.specs.Halves.{IsHalf, half_sectors, middle};
+ghost use Rattle.desk_past.specs.Halves.{HasHalves, IsHalf, half_sectors, middle};
 
 use desk_journal::STORE_SECTORS;
 
-/// The first sector of the first half. The one before it is kept free.
-pub const HALVES: u32 = STORE_SECTORS + 1;
+/// The first sector of the first half. The two before it are kept for what a disk of a pair says of itself.
+pub const HALVES: u32 = STORE_SECTORS + 2;
 
 /// A half, from sector `base` up to sector `end`, which isn't of it.
 #[derive(Clone, Copy, Debug, PartialEq, Eq)]
@@ -24,10 +24,18 @@ fn half_sectors(sectors: u32) -> u32
 }
 
 /// Where the second half begins, on a disk of so many sectors.
-fn middle_of(sectors: u32) -> u32
+pub(crate) fn middle_of(sectors: u32) -> u32
     ensures { result ≡ middle sectors }
 {
     HALVES + half_sectors(sectors)
+}
+
+/// Whether a disk of so many sectors has two halves, each with room for a start.
+pub(crate) fn has_halves(sectors: u32) -> bool
+    ensures { result ≡ true → HasHalves sectors }
+{
+    let middle = middle_of(sectors);
+    middle >= HALVES + STORE_SECTORS && middle <= sectors.saturating_sub(STORE_SECTORS)
 }
 
 /// The half in which pages go on in this sector. None where they can do so in no half.

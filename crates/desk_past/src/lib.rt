@@ -7,6 +7,7 @@
 #![tactic(auto)]
 
 mod beginning;
+mod going_on;
 mod halves;
 mod keeping;
 mod laws;
@@ -16,6 +17,7 @@ mod reading;
 mod sectors;
 
 pub use beginning::begin;
+pub use going_on::{LEAST_ROOM, Outset, go_on};
 pub use halves::{HALVES, Half, half_at};
 pub use keeping::{end_epoch, post, undo};
 pub use laws::{one_past_law, present_law};

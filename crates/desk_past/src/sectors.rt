@@ -20,7 +20,7 @@ fn blank_sector() -> Sector {
 /// What sector `n` of the store's disk holds.
 ///
 /// Errors: those of `Store::read_behind`.
-fn sector_at<D: Disk>(store: &mut Store<D>, n: u32) -> Result<Sector, Error>
+pub(crate) fn sector_at<D: Disk>(store: &mut Store<D>, n: u32) -> Result<Sector, Error>
     requires { n < D.size store.old.disk }
     ensures bytes { IfOk result (λ bytes. D.honest store.old.disk
         → bytes ≡ (now (D.trail store.old.disk)).reads n) }

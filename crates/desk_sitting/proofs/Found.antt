@@ -1,6 +1,6 @@
 -- What is found by looking at a store before a press is done.
 use Rattle.std.proofs.Common.{◌≡◌, [], Ok, Err, refl, sym, ◌∙◌, ap}
-use Rattle.std.specs.Prelude.{Bool, true, false, Option, Some, None, Result}
+use Rattle.std.specs.Prelude.{ℕ, List, Bool, true, false, Option, Some, None, Result}
 use Rattle.std.proofs.lemmas.Bool.{cond-true, cond-false}
 use Rattle.std.proofs.lemmas.Result.{IfOk-weaker}
 use Rattle.sector_disk.specs.declared.disk.Disk.{Ghosts}
@@ -14,7 +14,12 @@ use Rattle.status_line.specs.declared.question.Question.{Question}
 use Rattle.desk_sitting.specs.declared.sitting.Sitting.{Sitting}
 use Rattle.desk_sitting.specs.Doing.{DoesAction, DoesPress, Finds, seat_of}
 use Rattle.status_line.specs.declared.clicks.MiddleClick.{MiddleClick}
-use Rattle.desk_sitting.specs.Questions.{asked_at, click_made, is_leave, click_question}
+use Rattle.screen_pictures.specs.declared.cell.Cell.{Cell}
+use Rattle.desktop_definitions.specs.Shown.{shown_screen}
+use Rattle.status_line.specs.Named.{named_question}
+use Rattle.status_line.specs.Opened.{menu_reopened}
+use Rattle.desk_sitting.specs.Questions.{asked_at, click_made, is_leave, click_question, named_at, or_asked}
+use Rattle.desk_sitting.specs.Stored.{open_question, reopening}
 use Rattle.status_line.specs.Question.{left_behind}
 use Rattle.status_line.specs.Question.{comes_first}
 use Rattle.status_line.specs.Sayings.{is_in_memory}
@@ -160,6 +165,32 @@ module _ (made : Option MiddleClick) (desktop : Desktop) (found : Option MiddleC
   pub lost_so : (click : MiddleClick) → found ≡ Some click
       → asked_at click desktop ≡ click_question made desktop
   lost_so click some = sym (ap (λ o. click_question o desktop) (sym is ∙ some))
+
+-- what is asked about a word, by a screen that shows the desktop
+module _ (to : ℕ × ℕ) (d : Desktop) (screen : List (List Cell)) (is : screen ≡ shown_screen d) where
+  seen_named : named_question (shown_screen d) to.0 to.1 ≡ named_question screen to.0 to.1
+  seen_named = ap (λ (seen : List (List Cell)). named_question seen to.0 to.1) (sym is)
+
+  pub unnamed : named_question screen to.0 to.1 ≡ None → reopening screen to d ≡ named_at to d
+  unfolding named_at
+  unnamed none = ap (λ (seen : List (List Cell)). reopening seen to d) is
+      ∙ sym (ap (λ (o : Option Question). or_asked o (reopening (shown_screen d) to d)) (seen_named ∙ none))
+
+  pub named_so : (question : Question) → named_question screen to.0 to.1 ≡ Some question → Some question ≡ named_at to d
+  unfolding named_at
+  named_so question some =
+      sym (ap (λ (o : Option Question). or_asked o (reopening (shown_screen d) to d)) (seen_named ∙ some))
+
+-- and by the menu of a viewer that is open
+module _ (to : ℕ × ℕ) (screen : List (List Cell)) (d : Desktop) (found : Option (ℕ × ℕ))
+    (is : found ≡ menu_reopened screen to.0 to.1) where
+  pub reopens_none : found ≡ None → None ≡ reopening screen to d
+  unfolding reopening
+  reopens_none none = sym (ap (λ (o : Option (ℕ × ℕ)). open_question o screen d) (sym is ∙ none))
+
+  pub reopens_so : (at : ℕ × ℕ) → found ≡ Some at → open_question (Some at) screen d ≡ reopening screen to d
+  unfolding reopening
+  reopens_so at some = sym (ap (λ (o : Option (ℕ × ℕ)). open_question o screen d) (sym is ∙ some))
 
 -- ---- what a press comes to
 

@@ -1,16 +1,16 @@
 pub mod Accepted
+mod Asked
 pub mod Between
 pub mod Carrying
 pub mod Done
+mod Found
 pub mod Pressed
+mod Questions
 pub mod Seen
 pub mod Sessions
 pub mod Surviving
 pub mod Taking
-pub mod Turning
-pub mod Whole
-mod Found
-mod Asked
-mod Questions
 mod Told
 mod Travelling
+pub mod Turning
+pub mod Whole

@@ -8,7 +8,7 @@ use Rattle.terminal_presses.specs.declared.action.Action.{Action}
 use Rattle.terminal_presses.specs.declared.hand.Hand.{Hand}
 use Rattle.desk_sitting.specs.Sittings.{meant_by}
 use Rattle.status_line.specs.declared.question.Question.{Question}
-use Rattle.status_line.specs.declared.question.Question.TheVariants.{Leaving, Closing, Taking, Rivalled, Deleting, Misnamed}
+use Rattle.status_line.specs.declared.question.Question.TheVariants.{Leaving, Closing, Taking, Rivalled, Deleting, Misnamed, Reopening}
 use Rattle.desk_sitting.specs.declared.sitting.Sitting.{Sitting}
 use Rattle.desk_sitting.specs.Questions.{questioned, question_of}
 use Rattle.status_line.specs.Question.{comes_first, is_same_question}
@@ -58,6 +58,7 @@ itself (Taking x y) = λ k. eq-eqb x x refl k && eq-eqb y y refl k
 itself (Rivalled x y) = λ k. eq-eqb x x refl k && eq-eqb y y refl k
 itself (Deleting x y) = λ k. eq-eqb x x refl k && eq-eqb y y refl k
 itself (Misnamed x y) = λ k. eq-eqb x x refl k && eq-eqb y y refl k
+itself (Reopening x y) = λ k. eq-eqb x x refl k && eq-eqb y y refl k
 
 once : (s : Sitting) (o : Option Question) → comes_first s.question o ≡ true
     → comes_first (questioned o s).question o ≡ false

@@ -50,7 +50,7 @@ use Rattle.press_plans.specs.Tasks.{calling_wish, posted, posting, posting_over,
 use Rattle.desk_sitting.specs.Questions.{click_led, click_made}
 use Rattle.press_plans.specs.Plans.{posted_plan, type_plan, unbroken_plan, broken_plan, placed_plan}
 use Rattle.press_plans.specs.Plans.{column_clicked, from_column, front_plan, poured_plan, room_plan, standing, typable}
-use Rattle.press_plans.specs.Poured.{poured_at, word_length}
+use Rattle.filled_pastes.specs.Poured.{poured_at, word_length}
 use Rattle.press_plans.specs.Filling.{room_if, place_behind, is_place}
 use Rattle.press_plans.specs.Replacing.{TypingView, first_typed, first_byte_typed, rest_typed, typed_behind, nothing_typed}
 use Rattle.press_plans.specs.Replacing.{replacement}

@@ -8,6 +8,7 @@ pub mod Scenes
 pub mod Serving
 pub mod Sitting
 pub mod Sittings
+pub mod Stored
 pub mod Surviving
 pub mod TheDesk
 pub mod Travelling

@@ -1,5 +1,5 @@
 -- Questions. A press that would lose something posts nothing and asks; the same press right after it does it.
-use Rattle.std.specs.Prelude.{Bool, true, false, not, ◌&&◌, if◌then◌else◌, List, Option, Some, None, Result, Ok, Err}
+use Rattle.std.specs.Prelude.{ℕ, Bool, true, false, not, ◌&&◌, if◌then◌else◌, List, Option, Some, None, Result, Ok, Err}
 use Rattle.event_bytes.specs.declared.event.Event.{Event}
 use Rattle.desktop_definitions.specs.Desktop.{Desktop}
 use Rattle.desktop_definitions.specs.Shown.{shown_screen}
@@ -18,6 +18,7 @@ use Rattle.status_line.specs.Clicks.{click_in, click_posted}
 use Rattle.press_plans.specs.Tasks.{calling_wish}
 use Rattle.status_line.specs.Named.{named_question}
 use Rattle.desk_sitting.specs.declared.sitting.Sitting.{Sitting}
+use Rattle.desk_sitting.specs.Stored.{reopening}
 
 -- what is asked about what a command would lose
 abbrev pub loss_question : Option Loss → Option Question
@@ -31,10 +32,16 @@ abbrev pub or_asked : Option Question → Option Question → Option Question
 or_asked None other = other
 or_asked (Some question) other = Some question
 
--- about a click: what the command would lose that it calls, and where it loses nothing what it takes as names
+-- about the word at a cell: what it takes as names, and where nothing is asked about that, a document that it opens once
+-- more while its text is open and isn't stored
+unfoldable pub named_at : ℕ × ℕ → Desktop → Option Question
+named_at to d = or_asked (named_question (shown_screen d) to.0 to.1)
+    (reopening (shown_screen d) to d)
+
+-- about a click: what the command would lose that it calls, and where it loses nothing, its word
 abbrev pub asked_at : MiddleClick → Desktop → Option Question
 asked_at click d = or_asked (loss_question (loss_at d click.marker click.from click.to))
-    (named_question (shown_screen d) click.to.0 click.to.1)
+    (named_at click.to d)
 
 -- the click among the events for what is wished of the caret
 abbrev pub click_led : Result (List Event) WhyNot → Option MiddleClick

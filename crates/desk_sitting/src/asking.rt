@@ -1,22 +1,24 @@
 //! What is asked about a press before it is done.
-ghost use Rattle.std.specs.Prelude.{◌≡◌, false};
+ghost use Rattle.std.specs.Prelude.{◌≡◌, false, Some, None, if◌then◌else◌};
 ghost use Rattle.std.specs.Result.{result_map_both};
 ghost use Rattle.desk_journal.specs.Losses.{loss_at};
-ghost use Rattle.desktop_definitions.specs.Shown.{shown_screen};
 ghost use Rattle.desk_sitting.specs.Doing.{Finds};
 ghost use Rattle.desk_journal.specs.Leading.{led};
-ghost use Rattle.status_line.specs.Named.{named_question};
+ghost use Rattle.status_line.specs.declared.question.Question.TheVariants.{Reopening};
 ghost use Rattle.desk_sitting.specs.Questions.{asked_at, click_led, click_made, click_question, is_leave, loss_question};
-ghost use Rattle.desk_sitting.specs.Questions.{question_of};
+ghost use Rattle.desk_sitting.specs.Questions.{named_at, question_of};
+ghost use Rattle.desk_sitting.specs.Stored.{open_question, reopening};
 
 use crate::sitting::Sitting;
+use crate::unstored::names_unstored;
 use desk_journal::{Error, KeyWish, Loss, Store, WhyNot};
 use event_bytes::Event;
 use press_plans::calling_wish;
 use screen_cells::Screen;
 use sector_disk::Disk;
 use status_line::{
-    MiddleClick, Question, click_in, click_posted, is_in_memory, left_behind, named_question,
+    MiddleClick, Question, click_in, click_posted, is_in_memory, left_behind, menu_reopened,
+    named_question,
 };
 use std::alloc::Global;
 use std::vec::Vec;
@@ -78,17 +80,45 @@ impl Sitting {
         }
     }
 
-    /// What is asked about the names that the word at a cell takes. It only looks at the store.
+    /// What is asked about the names that the word at a cell takes, and where nothing is, about a document that it opens once
+    /// more. It only looks at the store.
     ///
     /// Errors: `NoMemory`; `Fault`.
     fn named_at<D: Disk>(&self, alloc: Global, to: (u8, u8), store: &mut Store<D>) -> Asking
         requires { store.old.must_reopen ≡ false }
-        ensures { Finds D.Disk result (λ d. named_question (shown_screen d) to.0 to.1) self.now
-            store.old store.new }
+        ensures { Finds D.Disk result (named_at to) self.now store.old store.new }
     {
         let mut screen = Screen::new();
         store.screen(alloc, &mut screen)?;
-        Ok(named_question(&screen, to.0, to.1))
+        match named_question(&screen, to.0, to.1) {
+            None => self.reopened_at(&screen, to, store),
+            Some(question) => Ok(Some(question)),
+        }
+    }
+
+    /// What is asked about a document that the word at a cell opens once more. It only looks at the store.
+    ///
+    /// Errors: `Fault`.
+    fn reopened_at<D: Disk>(&self, screen: &Screen, to: (u8, u8), store: &mut Store<D>) -> Asking
+        requires { store.old.must_reopen ≡ false }
+        ensures { Finds D.Disk result (reopening screen.now to) self.now store.old store.new }
+    {
+        match menu_reopened(screen, to.0, to.1) {
+            None => Ok(None),
+            Some(at) => self.unstored_open(screen, at, store),
+        }
+    }
+
+    /// What is asked where the menu of a viewer of that document begins at a cell. It only looks at the store.
+    ///
+    /// Errors: `Fault`.
+    fn unstored_open<D: Disk>(&self, screen: &Screen, at: (u8, u8), store: &mut Store<D>) -> Asking
+        requires { store.old.must_reopen ≡ false }
+        ensures { Finds D.Disk result (open_question (Some at) screen.now) self.now store.old
+            store.new }
+    {
+        let found = names_unstored(screen, at, store)?;
+        Ok(reopening_if(found, at))
     }
 
     /// The click of the middle button that a press makes. It only looks at the store.
@@ -148,6 +178,18 @@ fn loss_question(loss: Option<Loss>) -> Option<Question>
         Some(Loss::Closed((x, y))) => Some(Question::Closing { x, y }),
         Some(Loss::Taken((x, y))) => Some(Question::Taking { x, y }),
         Some(Loss::Rivalled((x, y))) => Some(Question::Rivalled { x, y }),
+    }
+}
+
+/// What is asked where a viewer is open of a document that is opened, and its menu begins at a cell: whether its text isn't
+/// stored is told.
+fn reopening_if(is_so: bool, at: (u8, u8)) -> Option<Question>
+    ensures { result ≡ (if is_so then Some (Reopening at.0 at.1) else None) }
+{
+    if is_so {
+        Some(Question::Reopening { x: at.0, y: at.1 })
+    } else {
+        None
     }
 }
 

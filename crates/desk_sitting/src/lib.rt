@@ -23,6 +23,7 @@ mod serving_laws;
 mod sitting;
 mod travels;
 mod twice;
+mod unstored;
 
 pub use clips::MOST_CLIPPED;
 pub use doing::do_presses;

@@ -4,7 +4,7 @@
 //! locked before it is opened, and until the store is gone.
 #![tactic(auto)]
 
-ghost use Rattle.std.specs.Prelude.{◌≡◌, ◌<◌, ◌≤◌, IfErr, IfOk, OnOk, false, true};
+ghost use Rattle.std.specs.Prelude.{◌≡◌, ◌<◌, ◌≤◌, ◌+◌, ◌⊎◌, IfErr, IfOk, OnOk, false, true};
 ghost use Rattle.sector_disk.specs.Confined.{IsConfined};
 ghost use Rattle.sector_disk.specs.Trail.{Leaves, Nowhere, now};
 ghost use Rattle.desktop_definitions.specs.Desktop.{empty_desktop};
@@ -13,7 +13,7 @@ ghost use Rattle.store_layout.specs.declared.layout.TheConstants.{LAYOUT, STORE_
 ghost use Rattle.desk_journal.specs.Errors.{OfFormat, OfOpen};
 ghost use Rattle.desk_journal.specs.Opening.{IsOpened, IsNoStore};
 ghost use Rattle.host_stores.specs.Found.{IsFoundIn, IsNoneIn, IsScreenOf};
-ghost use Rattle.host_stores.specs.Leaving.{SaysAlone};
+ghost use Rattle.twin_disk.specs.Flags.{IsNameless, ShowsFlag, pair_name, says_alone, says_closed};
 
 pub use desk_journal::{Error, Store};
 use host_files::{HostFault, LockedFile, empty};
@@ -97,13 +97,13 @@ pub fn without_twin(
 {
     left_alone(
         rt,
-        FileDisk::with_sectors(file, FILE_SECTORS + 1),
+        FileDisk::with_sectors(file, FILE_SECTORS + 2),
         FILE_SECTORS,
     )
 }
 
 /// The store on a leg whose flag stands in sector `at`, and whether the leg was in a pair: then it says *alone* there, for
-/// good.
+/// good. If not, it said so before, or has no name. It doesn't say *closed* in the sector behind that.
 ///
 /// Errors: those of `Store::open`.
 pub fn left_alone<D: Disk + Drop>(
@@ -111,16 +111,21 @@ pub fn left_alone<D: Disk + Drop>(
     leg: D,
     at: u32,
 ) -> Result<(Store<D>, bool), Error>
-    requires within { at < D.size leg }
+    requires within { at + 1 < D.size leg }
     requires behind { STORE_SECTORS ≤ at }
     ensures usable { IfOk result (λ found. found.0.must_reopen ≡ false) }
     ensures alone { IfOk result (λ found. found.1 ≡ true → D.honest leg
-        → SaysAlone at (now (D.trail found.0.disk))) }
+        → ShowsFlag at true (now (D.trail found.0.disk))) }
+    ensures stays { IfOk result (λ found. found.1 ≡ false → D.honest leg
+        → (says_alone ((now (D.trail leg)).reads at) ≡ true)
+        ⊎ IsNameless (pair_name ((now (D.trail leg)).reads at))) }
+    ensures in_use { IfOk result (λ found. D.honest leg
+        → says_closed ((now (D.trail found.0.disk)).reads (at + 1)) ≡ false) }
     ensures errors { IfErr result OfOpen }
 {
     let mut leg = leg;
     let flag = flag_at(&mut leg, at)?;
-    if flag.alone || !has_name(&flag) {
+    if !flag.closed && (flag.alone || !has_name(&flag)) {
         return Ok((opened(rt, leg)?, false));
     }
     let mut leg = opened(rt, leg)?.close();

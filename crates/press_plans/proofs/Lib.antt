@@ -1,3 +1,3 @@
 mod Meant
 mod Planning
-mod Pours
+mod Pastes

@@ -27,7 +27,7 @@ use Rattle.press_plans.specs.Plans.{Plans, comeback_plan}
 use Rattle.press_plans.specs.Plans.{Plan, Events, Says, answer_plan, lead_plan, opened_plan, opened_viewer, plan_of, plan_on}
 use Rattle.press_plans.specs.Plans.{seen_plan, unbroken_plan, broken_plan, type_plan, placed_plan, return_plan}
 use Rattle.press_plans.specs.Plans.{poured_plan, room_plan, standing}
-use Rattle.press_plans.specs.Poured.{word_length}
+use Rattle.filled_pastes.specs.Poured.{word_length}
 use Rattle.press_plans.specs.Filling.{room_if, one_behind, place_behind, is_place}
 use Rattle.press_plans.specs.Replacing.{TypingView, first_typed}
 use Rattle.status_line.specs.declared.deed.Deed.{Deed}

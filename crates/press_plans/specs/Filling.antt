@@ -1,14 +1,11 @@
 -- What is typed by a press where lines are filled, so that it stays in sight.
-use Rattle.std.specs.Prelude.{ℕ, ◌+◌, ◌-◌, ◌^◌, Bool, false, ◌==◌, ◌||◌, if◌then◌else◌, [], ◌∷◌, min, Option, Some, None}
-use Rattle.event_bytes.specs.Bytes.{tabulator, carriage_return}
+use Rattle.std.specs.Prelude.{ℕ, ◌+◌, ◌-◌, ◌^◌, Bool, false, ◌==◌, if◌then◌else◌, [], ◌∷◌, min, Option, Some, None}
+use Rattle.event_bytes.specs.Bytes.{carriage_return}
 use Rattle.event_bytes.specs.declared.event.Event.{Event}
 use Rattle.event_bytes.specs.declared.event.Event.TheVariants.{Typed}
-use Rattle.screen_pictures.specs.Bytes.{space}
 use Rattle.desktop_definitions.specs.Desktop.{Desktop}
 use Rattle.desk_journal.specs.Views.{desk_info}
-
-abbrev pub is_gap : ℕ → Bool
-is_gap b = (b == space) || (b == tabulator)
+use Rattle.filled_pastes.specs.Poured.{is_gap}
 
 -- For a word of how many characters the line is to have room: for a letter that is typed next, and for none where it is a
 -- blank, or where nothing is left. Before an end of line, and before another event, it isn't looked at.

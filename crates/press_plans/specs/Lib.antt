@@ -1,6 +1,6 @@
 pub mod Filling
 pub mod Listed
+pub mod Pastes
 pub mod Plans
-pub mod Poured
 pub mod Replacing
 pub mod Tasks

@@ -48,7 +48,7 @@ use Rattle.press_plans.specs.declared.plan.Plan.TheVariants as made
 use Rattle.status_line.specs.declared.deed.Deed.{Deed}
 use Rattle.press_plans.specs.Filling.{room_if, place_behind, is_place}
 use Rattle.press_plans.specs.Listed.{begins_in_viewer, event_meant, is_tool}
-use Rattle.press_plans.specs.Poured.{poured_at, word_length}
+use Rattle.filled_pastes.specs.Poured.{poured_at, word_length}
 use Rattle.press_plans.specs.Tasks.{posting}
 
 -- What a task becomes over a desktop: it can't be done, for a reason; or it has these events, and then this is left to

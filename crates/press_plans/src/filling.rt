@@ -4,7 +4,7 @@
 //! the line has no room, it is broken, and the caret goes back behind the same character.
 ghost use Rattle.std.specs.Prelude.{◌≡◌, false};
 ghost use Rattle.std.specs.Result.{result_map_both};
-ghost use Rattle.press_plans.specs.Filling.{is_gap, is_place, one_behind, room_for, room_for_byte, room_if};
+ghost use Rattle.press_plans.specs.Filling.{is_place, one_behind, room_for, room_for_byte, room_if};
 ghost use Rattle.press_plans.specs.Plans.{Plans, broken_plan, placed_plan, seen_plan, unbroken_plan};
 ghost use Rattle.press_plans.specs.declared.task.Task.TheVariants as Task;
 
@@ -12,18 +12,12 @@ use crate::plan::{Plan, info_of, why_not};
 use crate::replacing::Typing;
 use crate::task::Task;
 use desk_journal::{Error, KeyWish, Store, WhyNot};
-use event_bytes::{CARRIAGE_RETURN, Event, TABULATOR};
+use event_bytes::{CARRIAGE_RETURN, Event};
+use filled_pastes::is_gap;
 use sector_disk::Disk;
 use status_line::Deed;
 use std::alloc::Global;
 use std::vec::Vec;
-
-/// Whether a byte is a blank.
-pub(crate) fn is_gap(byte: u8) -> bool
-    ensures { result ≡ is_gap byte }
-{
-    byte == b' ' || byte == TABULATOR
-}
 
 /// For a word of how many characters the line is to have room where this byte is typed next. None: it isn't looked at.
 fn room_for_byte(byte: u8) -> Option<u8>

@@ -2,8 +2,8 @@
 //!
 //! A press that posts events is a task (`task`). Over the desktop that stands there it becomes a plan (`plan`), mostly by
 //! what the store tells of its texts, or what the screen shows (`by_screen`): the events, and what is left to do once they
-//! are done. What is typed breaks its lines (`filling`), and so does what
-//! is pasted (`pouring`, `poured`). What an event of the hand means at the desk is in `listed`.
+//! are done. What is typed breaks its lines (`filling`), and so does what is pasted (`pouring`). What an event of the hand
+//! means at the desk is in `listed`.
 //!
 //! What is typed where a pattern was found can be typed again in another such place (`replacing`). What presses have done
 //! is known beside this (`done_presses`).
@@ -15,12 +15,11 @@ mod laws;
 mod listed;
 mod over;
 mod plan;
-mod poured;
 mod pouring;
 mod replacing;
 mod task;
 
-pub use laws::constants_are_defined;
-pub use plan::Plan;
+pub use laws::{constants_are_defined, pastes_come_whole};
+pub use plan::{Plan, caret_place};
 pub use replacing::{MOST_TYPED, Replacing, Typing};
 pub use task::{Filling, MOST_PLANS, Task, calling_wish};

@@ -176,9 +176,9 @@ fn opened_viewer<D: Disk>(before: DeskInfo, store: &Store<D>) -> Option<ShownVie
     }
 }
 
-/// Where the viewer stands that has the caret.
+/// Where the viewer stands that has the caret. None where none has it.
 #[tactic(auto, unfolding(crate::specs::Plans::caret_place))]
-fn caret_place<D: Disk>(store: &Store<D>) -> Option<viewer_tracks::Place>
+pub fn caret_place<D: Disk>(store: &Store<D>) -> Option<viewer_tracks::Place>
     requires { store.now.must_reopen ≡ false }
     ensures { result ≡ caret_place store.now.desktop }
 {
@@ -341,7 +341,7 @@ fn shown_then(wish: Wish) -> Option<Task>
 {
     match wish {
         Wish::Line(_) => Some(Task::Show),
-        Wish::Up(_) | Wish::Down(_) | Wish::PageUp | Wish::PageDown | Wish::End => None,
+        Wish::Up(_) | Wish::Down(_) | Wish::PageUp | Wish::PageDown => None,
     }
 }
 

@@ -1,7 +1,7 @@
 //! What a part of a paste becomes where lines are filled.
 ghost use Rattle.std.specs.Prelude.{◌≡◌, drop, false, option_map, take, unwrap_or};
 ghost use Rattle.std.specs.Result.{result_map_both};
-ghost use Rattle.press_plans.specs.Poured.{poured_at};
+ghost use Rattle.filled_pastes.specs.Poured.{poured_at};
 ghost use Rattle.press_plans.specs.Plans.{Plans, column_clicked, first_plan, from_column, front_plan, poured_plan, room_plan};
 ghost use Rattle.press_plans.specs.Plans.{seen_plan, standing, typable, typed_plan};
 ghost use Rattle.press_plans.specs.declared.task.Task.TheVariants as Task;
@@ -9,16 +9,13 @@ ghost use Rattle.press_plans.specs.declared.task.Stage.TheVariants as Stage;
 
 use crate::filling::{is_place, one_behind, placed_plan};
 use crate::plan::{Plan, info_of};
-use crate::poured::{poured_at, word_length};
 use crate::task::{Stage, Task};
 use desk_journal::{Error, KeyWish, Store, WhyNot};
 use event_bytes::{Event, TypedBytes};
+use filled_pastes::{MOST_PASTED, poured_at, word_length};
 use sector_disk::Disk;
 use std::alloc::Global;
 use std::vec::Vec;
-
-/// The most bytes that one event types.
-const MOST: usize = 900;
 
 /// What is left of a part of a paste.
 pub(crate) fn pour_plan<D: Disk>(
@@ -143,15 +140,15 @@ fn from_column(column: Option<u8>, bytes: TypedBytes) -> Plan
     }
 }
 
-/// These bytes, by one event, or by two.
+/// These bytes, by one event, or by two. What is typed for a part of a paste has at most 1,350 of them.
 fn typed_plan(bytes: &[u8]) -> Plan
     ensures { seen_plan result ≡ typed_plan bytes.now }
 {
-    let next = match TypedBytes::new(behind(bytes, MOST)) {
+    let next = match TypedBytes::new(behind(bytes, MOST_PASTED)) {
         None => None,
         Some(more) => Some(Task::Post(Event::Typed(more))),
     };
-    front_plan(TypedBytes::new(front(bytes, MOST)), next)
+    front_plan(TypedBytes::new(front(bytes, MOST_PASTED)), next)
 }
 
 /// The first of these bytes, and then what is left.

@@ -1,5 +1,5 @@
 -- Which saying is due, by what came about. `rest` is what is said where there is nothing else to be said.
-use Rattle.std.specs.Prelude.{ℕ, Bool, true, false, ◌==◌, nat_lt, if◌then◌else◌}
+use Rattle.std.specs.Prelude.{ℕ, Bool, true, false, ◌==◌, nat_lt, if◌then◌else◌, Option, Some, None}
 use Rattle.event_bytes.specs.declared.event.Event.{Event}
 use Rattle.event_bytes.specs.declared.event.Event.TheVariants.{File, Point}
 use Rattle.event_bytes.specs.declared.keys.Keys.TheVariants.{Middle}
@@ -8,7 +8,7 @@ use Rattle.viewer_tracks.specs.declared.display.TheConstants.{COLUMNS}
 use Rattle.status_line.specs.declared.saying.Saying.{Saying}
 use Rattle.status_line.specs.declared.saying.Saying.TheVariants.{CutShort, Fills, FillsNot, NoDocument, OneSide}
 use Rattle.status_line.specs.declared.saying.Saying.TheVariants.{Refused}
-use Rattle.status_line.specs.declared.saying.Saying.TheVariants.{ToolFiled, TooLow, TooNarrow}
+use Rattle.status_line.specs.declared.saying.Saying.TheVariants.{ToolFiled, TooLow, TooNarrow, Keys, Unstored}
 use Rattle.status_line.specs.declared.saying.Saying.TheVariants.{FirstFailed, TwinFailed, WithoutTwin}
 
 -- of a store's two files one isn't written
@@ -57,3 +57,14 @@ fitted_saying narrow low rest saying =
 -- of lines that are filled from now on, or no longer
 abbrev pub fill_saying : Bool → Saying
 fill_saying fills = if fills then Fills else FillsNot
+
+-- whether it rests: it says which keys there are, and that a text isn't stored or not
+abbrev pub rests : Saying → Bool
+rests Keys = true
+rests (Unstored x y) = true
+rests _ = false
+
+-- what it says then: that the text isn't stored of the viewer whose menu begins at a cell, where one is meant
+abbrev pub rest_saying : Option (ℕ × ℕ) → Saying
+rest_saying None = Keys
+rest_saying (Some cell) = Unstored cell.0 cell.1

@@ -2,5 +2,6 @@ pub mod Choosing
 pub mod Clicks
 pub mod Deeds
 pub mod Named
+pub mod Opened
 pub mod Question
 pub mod Sayings

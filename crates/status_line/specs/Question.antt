@@ -1,7 +1,7 @@
 -- What is asked about before a press is done.
-use Rattle.std.specs.Prelude.{ℕ, Bool, true, false, not, ◌==◌, ◌&&◌, if◌then◌else◌, Option, Some, None}
+use Rattle.std.specs.Prelude.{Bool, true, false, not, ◌==◌, ◌&&◌, if◌then◌else◌, Option, Some, None}
 use Rattle.status_line.specs.declared.question.Question.{Question}
-use Rattle.status_line.specs.declared.question.Question.TheVariants.{Leaving, Closing, Taking, Rivalled, Deleting, Misnamed}
+use Rattle.status_line.specs.declared.question.Question.TheVariants.{Leaving, Closing, Taking, Rivalled, Deleting, Misnamed, Reopening}
 
 abbrev pub is_same_question : Question → Question → Bool
 is_same_question Leaving Leaving = true
@@ -10,6 +10,7 @@ is_same_question (Taking x y) (Taking u v) = (x == u) && (y == v)
 is_same_question (Rivalled x y) (Rivalled u v) = (x == u) && (y == v)
 is_same_question (Deleting x y) (Deleting u v) = (x == u) && (y == v)
 is_same_question (Misnamed x y) (Misnamed u v) = (x == u) && (y == v)
+is_same_question (Reopening x y) (Reopening u v) = (x == u) && (y == v)
 is_same_question _ _ = false
 
 abbrev pub is_asked : Option Question → Question → Bool

@@ -1,5 +1,5 @@
 -- What the line below the screen says.
-use Rattle.std.specs.Prelude.{ℕ, ◌-◌, ◌==◌, if◌then◌else◌, List, [], ◌∷◌, ◌++◌, Option, Some, None, codes, drop}
+use Rattle.std.specs.Prelude.{ℕ, ◌-◌, ◌==◌, if◌then◌else◌, List, [], ◌∷◌, ◌++◌, Option, Some, None, codes, drop, take}
 use Rattle.std.specs.Prelude.{length, slice_get}
 use Rattle.desktop_definitions.specs.Limits.{no_caret, no_file}
 use Rattle.std.specs.Prelude.{Bool, true, false, unwrap_or}
@@ -13,7 +13,7 @@ use Rattle.status_line.specs.declared.saying.Saying.{Saying}
 use Rattle.status_line.specs.declared.saying.Saying.TheVariants.{Greeting, Unproved, InMemory, Keys as ForKeys}
 use Rattle.status_line.specs.declared.saying.Saying.TheVariants.{Pointing, Asks, NoKey, NoCaret, NoText, NoScroll}
 use Rattle.status_line.specs.declared.saying.Saying.TheVariants.{NothingAfter, NoWord, NoCommand, NoSearch}
-use Rattle.status_line.specs.declared.saying.Saying.TheVariants.{NoLine, PartHidden}
+use Rattle.status_line.specs.declared.saying.Saying.TheVariants.{NoLine, PartHidden, Unstored}
 use Rattle.status_line.specs.declared.saying.Saying.TheVariants.{NothingTyped, Fills, FillsNot, ToolFiled, Refused}
 use Rattle.status_line.specs.declared.saying.Saying.TheVariants.{CutShort, OneSide, NoDocument}
 use Rattle.status_line.specs.declared.saying.Saying.TheVariants.{Worn, Unread, Unfinished, TooNarrow, TooLow}
@@ -21,7 +21,7 @@ use Rattle.status_line.specs.declared.saying.Saying.TheVariants.{TookBack, DidAg
 use Rattle.status_line.specs.declared.saying.Saying.TheVariants.{NothingBack, NothingAgain, NotBack, Logged}
 use Rattle.status_line.specs.declared.saying.Saying.TheVariants.{FirstFailed, TwinFailed, WithoutTwin, NotClipped}
 use Rattle.status_line.specs.declared.question.Question.{Question}
-use Rattle.status_line.specs.declared.question.Question.TheVariants.{Leaving, Closing, Taking, Rivalled, Deleting, Misnamed}
+use Rattle.status_line.specs.declared.question.Question.TheVariants.{Leaving, Closing, Taking, Rivalled, Deleting, Misnamed, Reopening}
 use Rattle.status_line.specs.declared.deed.Deed.{Deed}
 use Rattle.status_line.specs.declared.deed.Deed.TheVariants as deed
 use Rattle.screen_pictures.specs.declared.cell.Cell.{Cell}
@@ -121,6 +121,18 @@ unfoldable pub rivalled_words : List ℕ → List ℕ
 rivalled_words [] = codes "This name is in two viewers: press again to store this"
 rivalled_words (b ∷ name) = b ∷ name ++ codes " is in two viewers: press again to store this"
 
+-- that a document is opened once more, by the name in the menu of the viewer that is open
+unfoldable pub reopening_words : List ℕ → List ℕ
+reopening_words [] = codes "It is open, not stored: press again to open it anew"
+reopening_words (b ∷ name) = b ∷ name ++ codes " is open, not stored: press again to open it anew"
+
+-- that a text isn't stored, by the name in its menu, and the keys, as far as there is room
+unfoldable pub unstored_words : List ℕ → List ℕ
+unstored_words [] =
+    codes "This text isn't stored: Ctrl-S stores, F2 calls, F11 no mouse, Ctrl-Q leaves"
+unstored_words (b ∷ name) = b ∷ name ++ take (80 - length (b ∷ name))
+    (codes " isn't stored: Ctrl-S stores, F2 calls, F11 no mouse, Ctrl-Q leaves")
+
 -- what is asked, where this is the screen
 abbrev pub question_words : List (List Cell) → Question → List ℕ
 question_words screen Leaving =
@@ -130,6 +142,7 @@ question_words screen (Taking x y) = taking_words (word_from screen x y)
 question_words screen (Rivalled x y) = rivalled_words (word_from screen x y)
 question_words screen (Deleting x y) = deleting_words (behind_call screen x y)
 question_words screen (Misnamed x y) = misnamed_words (behind_call screen x y)
+question_words screen (Reopening x y) = reopening_words (word_from screen x y)
 
 -- where this is the screen, and this the line of the log that is said
 unfoldable pub words : List (List Cell) → List ℕ → Saying → List ℕ
@@ -142,6 +155,7 @@ words screen log OneSide =
 words screen log InMemory = codes "This desktop is in memory: when you leave (Ctrl-Q) it is gone."
 words screen log ForKeys =
     codes "F2 calls, F3 selects, F11 no mouse, Ctrl-S stores, Ctrl-Z undo, Ctrl-Q leaves"
+words screen log (Unstored x y) = unstored_words (word_from screen x y)
 words screen log Pointing =
     codes "Arrows move the pointer, Return clicks, F2 calls, F3 selects, Escape ends it"
 words screen log (Asks question) = question_words screen question
@@ -204,6 +218,7 @@ said_by_pointer true Unproved = Pointing
 said_by_pointer true OneSide = Pointing
 said_by_pointer true InMemory = Pointing
 said_by_pointer true ForKeys = Pointing
+said_by_pointer true (Unstored x y) = Pointing
 said_by_pointer true saying = saying
 
 -- the line between two presses: a name that is asked for, or else what the next click does, or what is said

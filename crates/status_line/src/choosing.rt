@@ -1,7 +1,7 @@
 //! Which saying is due, by what came about.
 ghost use Rattle.std.specs.Prelude.{◌≡◌};
 ghost use Rattle.status_line.specs.Choosing.{came_to, done_saying, fill_saying, first_saying, fitted_saying};
-ghost use Rattle.status_line.specs.Choosing.{is_of_twins, refused_saying};
+ghost use Rattle.status_line.specs.Choosing.{is_of_twins, refused_saying, rest_saying, rests};
 
 use crate::Saying;
 use desktop_definitions::codes::NO_FILE;
@@ -87,5 +87,22 @@ pub fn fill_saying(fills: bool) -> Saying
         Saying::Fills
     } else {
         Saying::FillsNot
+    }
+}
+
+/// Whether the line below rests: it says which keys there are, and that a text isn't stored or not.
+pub fn rests(saying: Saying) -> bool
+    ensures { result ≡ rests saying }
+{
+    matches!(saying, Saying::Keys | Saying::Unstored { .. })
+}
+
+/// What it says where it rests: that the text isn't stored of the viewer whose menu begins at a cell, where one is meant.
+pub fn rest_saying(unstored: Option<(u8, u8)>) -> Saying
+    ensures { result ≡ rest_saying unstored }
+{
+    match unstored {
+        None => Saying::Keys,
+        Some((x, y)) => Saying::Unstored { x, y },
     }
 }

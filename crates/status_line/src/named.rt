@@ -156,7 +156,7 @@ fn deletes(word: &[u8]) -> bool
 }
 
 /// Whether a word is a command that opens a document.
-fn opens(word: &[u8]) -> bool
+pub(crate) fn opens(word: &[u8]) -> bool
     ensures { result ≡ opens word.now }
 {
     word == b"Edit.Open".as_slice() || word == b"System.Open".as_slice()

@@ -35,6 +35,13 @@ pub enum Question {
         /// Its row.
         y: u8,
     },
+    /// A viewer of a document that shows another text than the one of its name that is open, and isn't stored.
+    Reopening {
+        /// The column of the first cell of the menu of the viewer that is open.
+        x: u8,
+        /// Its row.
+        y: u8,
+    },
     /// A name that goes on with a character that no name has: what stands before that is opened.
     Misnamed {
         /// The column of a cell of the command's word, or of the one right behind it.
@@ -55,6 +62,7 @@ fn is_same(last: Question, question: Question) -> bool
         (Question::Rivalled { x, y }, Question::Rivalled { x: u, y: v }) => x == u && y == v,
         (Question::Deleting { x, y }, Question::Deleting { x: u, y: v }) => x == u && y == v,
         (Question::Misnamed { x, y }, Question::Misnamed { x: u, y: v }) => x == u && y == v,
+        (Question::Reopening { x, y }, Question::Reopening { x: u, y: v }) => x == u && y == v,
         _ => false,
     }
 }

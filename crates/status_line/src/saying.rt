@@ -1,12 +1,12 @@
 //! What the line below the screen says.
-ghost use Rattle.std.specs.Prelude.{◌≡◌, ◌≤◌, length, option_map};
+ghost use Rattle.std.specs.Prelude.{◌≡◌, ◌≤◌, length, option_map, take};
 ghost use Rattle.status_line.specs.Sayings.{asked_words, click_words, closing_words, cut_short, keys_words};
 ghost use Rattle.status_line.specs.Sayings.{line_by_hand};
 ghost use Rattle.status_line.specs.Sayings.{line_of, no_document, question, question_words, reason};
 ghost use Rattle.status_line.specs.Sayings.{is_in_memory as memory_said, resting_of as rest_after};
 ghost use Rattle.status_line.specs.Sayings.{said_by_pointer as by_pointer};
-ghost use Rattle.status_line.specs.Sayings.{called, rivalled_words, short_reason, taking_words, told, told_back};
-ghost use Rattle.status_line.specs.Sayings.{words};
+ghost use Rattle.status_line.specs.Sayings.{called, reopening_words, rivalled_words, short_reason, taking_words, told};
+ghost use Rattle.status_line.specs.Sayings.{told_back, unstored_words, words};
 
 use crate::deed::Deed;
 use crate::named::{behind_call, deleting_words, misnamed_words};
@@ -31,6 +31,13 @@ pub enum Saying {
     InMemory,
     /// The keys that are needed most.
     Keys,
+    /// Of the viewer with the caret, whose menu begins at this cell, the text isn't stored; and the keys.
+    Unstored {
+        /// The column of the menu's first cell.
+        x: u8,
+        /// Its row.
+        y: u8,
+    },
     /// How to use the pointer that keys move.
     Pointing,
     /// A press would lose something.
@@ -234,6 +241,10 @@ fn question_words(screen: &Screen, question: Question) -> SayingLine
         }
         Question::Deleting { x, y } => deleting_words(behind_call(screen, x, y)),
         Question::Misnamed { x, y } => misnamed_words(behind_call(screen, x, y)),
+        Question::Reopening { x, y } => {
+            let name = word_from(screen, x, y);
+            reopening_words(name.as_slice())
+        }
     }
 }
 
@@ -282,6 +293,53 @@ fn rivalled_words(name: &[u8]) -> SayingLine
     text
 }
 
+/// That a document is opened once more, by the name in the menu of the viewer that is open, where one is seen.
+#[tactic(auto, unfolding(crate::specs::Sayings::reopening_words))]
+fn reopening_words(name: &[u8]) -> SayingLine
+    requires { length name.now ≤ 31 }
+    ensures { result.items ≡ reopening_words name.now }
+{
+    if name.is_empty() {
+        return line(b"It is open, not stored: press again to open it anew");
+    }
+    let mut text = line(name);
+    text.try_extend_from_slice(b" is open, not stored: press again to open it anew")
+        .unwrap();
+    text
+}
+
+/// What is said behind the name of a text that isn't stored.
+const UNSTORED: &[u8] = b" isn't stored: Ctrl-S stores, F2 calls, F11 no mouse, Ctrl-Q leaves";
+
+/// That a text isn't stored, by the name in its menu, where one is seen; and the keys, as far as there is room.
+#[tactic(auto, unfolding(crate::specs::Sayings::unstored_words))]
+fn unstored_words(name: &[u8]) -> SayingLine
+    requires { length name.now ≤ 31 }
+    ensures { result.items ≡ unstored_words name.now }
+{
+    if name.is_empty() {
+        return line(
+            b"This text isn't stored: Ctrl-S stores, F2 calls, F11 no mouse, Ctrl-Q leaves",
+        );
+    }
+    let mut text = line(name);
+    text.try_extend_from_slice(front(UNSTORED, 80 - name.len()))
+        .unwrap();
+    text
+}
+
+/// The first bytes, so many of them.
+fn front(bytes: &[u8], count: usize) -> &[u8]
+    ensures value { result.now ≡ take count bytes.now }
+    ensures short { length result.now ≤ count }
+{
+    if count < bytes.len() {
+        &bytes[..count]
+    } else {
+        bytes
+    }
+}
+
 /// Whether it says that the desktop is in memory.
 pub fn is_in_memory(saying: Saying) -> bool
     ensures { result ≡ memory_said saying }
@@ -311,6 +369,7 @@ pub fn said_by_pointer(is_shown: bool, saying: Saying) -> Saying
     match saying {
         Saying::Greeting | Saying::Unproved | Saying::OneSide | Saying::InMemory | Saying::Keys =>
             Saying::Pointing,
+        Saying::Unstored { .. } => Saying::Pointing,
         other => other,
     }
 }
@@ -337,6 +396,10 @@ impl Saying {
             Saying::Keys => line(
                 b"F2 calls, F3 selects, F11 no mouse, Ctrl-S stores, Ctrl-Z undo, Ctrl-Q leaves",
             ),
+            Saying::Unstored { x, y } => {
+                let name = word_from(screen, x, y);
+                unstored_words(name.as_slice())
+            }
             Saying::Pointing => line(
                 b"Arrows move the pointer, Return clicks, F2 calls, F3 selects, Escape ends it",
             ),

@@ -1,4 +1,4 @@
 pub mod Chaining
-pub mod Deeds
 pub mod Reopening
 pub mod Running
+pub mod Surviving

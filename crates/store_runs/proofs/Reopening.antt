@@ -2,7 +2,6 @@
 use Rattle.std.proofs.Common.{◌≡◌, inl, inr, ℕ, ◌+◌, ◌<◌, List, [], ◌∷◌, ◌++◌, length, take, drop, get_or, Ok, Err}
 use Rattle.std.proofs.Common.{length-append, refl, sym, ◌∙◌, ap, subst, arith, Bool, false}
 use Rattle.std.specs.Prelude.{if◌then◌else◌, Result, IfErr}
-use Rattle.std.proofs.lemmas.Bool.{cases_lt}
 use Rattle.std.proofs.lemmas.List.{take_more, take_at, take-append-drop}
 use Rattle.sector_disk.specs.declared.disk.Disk.{Ghosts}
 use Rattle.sector_disk.specs.Trail.{Content, Trail, LeavesOnly, now}
@@ -27,8 +26,9 @@ use Rattle.desk_journal.specs.Session.{session_of}
 use Rattle.desk_journal.proofs.Due.{due_or_room, has_it, has_none}
 use Rattle.desk_journal.proofs.Passing.{shows_means}
 use Rattle.desk_journal.proofs.Prefixes.{steps_both}
-use Rattle.store_runs.specs.Run.{StoreCounts, StoreAnswer, ServesCall, StopsAReopening, MeansSome, events_in}
-use Rattle.store_runs.specs.Run.{all_counted, counts_after, counts_of}
+use Rattle.desk_journal.specs.Prefixes.{MeansPrefix}
+use Rattle.store_runs.specs.Deeds.{DoesDeed, StoreAnswer, answered_deed}
+use Rattle.store_runs.specs.Reopening.{StoreCounts, StopsAReopening, all_counted, counts_after, counts_of, events_in}
 use Rattle.desk_journal.specs.View.{StoreView, IsDurable}
 
 -- the same device, call after call
@@ -70,7 +70,7 @@ counts_posted d event reply old new told = elim (due_or_room (session_of old)) [
         else record { layout = LAYOUT; epoch = old.epoch + 1; events = 1 }
 
 pub went_on : {D : Type 0} (d : Ghosts D) (call : StoreCall) (reply : Reply) (old new : StoreView D)
-    → ServesCall d call (Ok reply) old new → GoesOn d call old new
+    → DoesDeed d (answered_deed call (Ok reply)) old new → GoesOn d call old new
 went_on d (Posting event) reply old new p = record {
   device = p.behaves.device;
   calm = p.behaves.faults.calm (λ wrong. absurd cc);
@@ -121,7 +121,7 @@ module _ (calls : List StoreCall) (k : ℕ) (call : StoreCall) (room : k < lengt
 -- ---- what a crash leaves
 module _ (size : ℕ) (first : Desktop) (calls : List StoreCall) where
   abbrev Some : Content → Type 0
-  Some = MeansSome size first (events_in calls)
+  Some = MeansPrefix size first [] (events_in calls)
 
   -- the desktop after the first k calls
   pub after_some : (k : ℕ) (c : Content) → Means size (steps first (events_in (take k calls))) c → Some c
@@ -133,6 +133,7 @@ module _ (size : ℕ) (first : Desktop) (calls : List StoreCall) where
       let long : length (events_in calls) ≡ length front + length rest = ap length whole ∙ length-append front rest in
       record {
         count = length front;
+        none_lost = omega arith;
         within = omega (arith, long);
         means = subst (λ es. Means size (steps first es) c)
             (sym (ap (take (length front)) whole ∙ take_at front rest (length front) refl)) means;
@@ -142,7 +143,7 @@ module _ (size : ℕ) (first : Desktop) (calls : List StoreCall) where
   pub call_more : {D : Type 0} (d : Ghosts D) (k : ℕ) (call : StoreCall) (answer : StoreAnswer) (start : Trail)
       (old new : StoreView D) → k < length calls → call ≡ get_or calls k call → old.must_reopen ≡ false
       → d.honest old.disk → d.size old.disk ≡ size → old.desktop ≡ steps first (events_in (take k calls))
-      → LeavesOnly start (d.trail old.disk) Some → ServesCall d call answer old new
+      → LeavesOnly start (d.trail old.disk) Some → DoesDeed d (answered_deed call answer) old new
       → LeavesOnly start (d.trail new.disk) Some
   call_more d k (Posting event) answer start old new room here usable honest as_large is before p =
       chained before (weakened (p.any_moment usable honest) (λ c either. elim either [
@@ -164,7 +165,7 @@ module _ (size : ℕ) (first : Desktop) (calls : List StoreCall) where
 
 -- a call of a store in use stops for want of memory, by a fault, or since it is worn
 pub call_stops : {D : Type 0} (d : Ghosts D) (call : StoreCall) (e : Error) (old new : StoreView D)
-    → old.must_reopen ≡ false → ServesCall d call (Err e) old new → StopsAReopening e
+    → old.must_reopen ≡ false → DoesDeed d (answered_deed call (Err e)) old new → StopsAReopening e
 call_stops d (Posting event) e old new usable p = elim p.behaves.faults.errors [
   | inl none ↦ inl none
   | inr (inl failed) ↦ inr (inl failed)
@@ -179,7 +180,7 @@ call_stops d Checkpoint e old new usable p = elim p.0.behaves.faults.errors [
 
 -- and it is worn only in the last epoch
 pub call_worn : {D : Type 0} (d : Ghosts D) (call : StoreCall) (e : Error) (old new : StoreView D)
-    → ServesCall d call (Err e) old new → e ≡ Worn → old.epoch ≡ LAST_EPOCH
+    → DoesDeed d (answered_deed call (Err e)) old new → e ≡ Worn → old.epoch ≡ LAST_EPOCH
 call_worn d (Posting event) e old new p is = (p.worn.only (ap Err is)).0.1
 call_worn d Checkpoint e old new p is = (p.0.worn.only (ap Err is)).1
 

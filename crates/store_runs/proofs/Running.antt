@@ -1,7 +1,7 @@
 -- How a run of calls goes on, answer by answer, as the trails of an honest disk show it.
 use Rattle.std.proofs.Common.{◌≡◌, ◌⊎◌, inl, inr, ℕ, ◌≤◌, Bool, true, false, List, [], ◌∷◌, ◌++◌, length}
 use Rattle.std.proofs.Common.{take, drop, Ok, Err, refl, sym, ◌∙◌, ap, subst, arith, length-append}
-use Rattle.std.specs.Prelude.{IfOk, OnOk, IsErrOf}
+use Rattle.std.specs.Prelude.{IfOk, OnOk, IsErrOf, map}
 use Rattle.std.specs.List.{list_any}
 use Rattle.std.proofs.lemmas.List.{append-nil, map-append, take_at, drop_at}
 use Rattle.std.proofs.lemmas.List.Elements.{filter-append}
@@ -16,12 +16,13 @@ use Rattle.store_layout.proofs.Bits.{true_or_false, clash}
 use Rattle.store_layout.specs.Meaning.{Means, MeansEither}
 use Rattle.desk_journal.specs.Errors.{Error}
 use Rattle.desk_journal.specs.Errors.{NoMemory, Fault, MustReopen, Worn}
-use Rattle.store_runs.specs.Run.{StoreAnswer, Post, is_acknowledged, lets_in_at, accepted_posts, events_of_posts, MeansPostsPrefix}
-use Rattle.store_runs.specs.Run.{RunSurvives, none, one_more, renewed}
+use Rattle.store_runs.specs.Deeds.{StoreAnswer, Post}
+use Rattle.store_runs.specs.Run.{is_acknowledged, lets_in_at, accepted_posts, led_by, MeansPostsPrefix}
 use Rattle.desk_journal.proofs.Passing.{steps_on}
 
+-- where the accepted events lead
 abbrev pub led_to : Desktop → List Post → Desktop
-led_to first posts = steps first (events_of_posts (accepted_posts posts))
+led_to first posts = led_by first (accepted_posts posts)
 
 -- all the accepted events are there
 pub whole : (size : ℕ) (first : Desktop) (so_far all : List Post) (c : Content)
@@ -31,44 +32,31 @@ whole size first so_far all c more means = record {
   count = length (accepted_posts all);
   within = omega arith;
   none_lost = ap (list_any is_acknowledged) (drop_of_length-le (accepted_posts so_far) more);
-  means = subst (λ ps. Means size (steps first (events_of_posts ps)) c) (sym (take-length (accepted_posts all))) means;
+  means = subst (λ ps. Means size (led_by first ps) c) (sym (take-length (accepted_posts all))) means;
 }
 
--- the moments up to some clock stayed
-pub carried : {size : ℕ} {first : Desktop} {old new : Trail} {from to : ℕ} {posts : List Post}
-    → RunSurvives size first old from to posts → ((t : ℕ) → t ≤ to → new.at t ≡ old.at t)
-    → RunSurvives size first new from to posts
-carried none kept = none
-carried {size = size} {first = first} {old = old} {new = new} {to = to}
-    (one_more {mid = mid} {posts = posts} post before later each last) kept = one_more post
-    (carried before (λ t le. kept t (omega (arith, le, later)))) later
-    (λ t above below. subst (λ m. Leaves m (MeansPostsPrefix size first posts (posts ++ post ∷ []))) (sym (kept t below))
-    (each t above below))
-    (subst (λ m. Leaves m (MeansPostsPrefix size first (posts ++ post ∷ []) (posts ++ post ∷ [])))
-    (sym (kept to (omega arith))) last)
-carried {size = size} {first = first} {old = old} {new = new} {to = to}
-    (renewed {mid = mid} {posts = posts} before later each) kept = renewed
-    (carried before (λ t le. kept t (omega (arith, le, later)))) later
-    (λ t above below. subst (λ m. Leaves m (MeansPostsPrefix size first posts posts)) (sym (kept t below))
-    (each t above below))
-
 -- what is known between two calls
-pub record IsRunning (size : ℕ) (first : Desktop) (disk : Trail) (from : ℕ) (desktop : Desktop) (broken : Bool)
-    (posts : List Post) : Type 0 where
-  pub survived : RunSurvives size first disk from disk.clock posts
+pub record IsRunning (size : ℕ) (first : Desktop) (disk : Trail) (desktop : Desktop) (broken : Bool) (posts : List Post)
+    : Type 0 where
   pub prefix : Leaves (now disk) (MeansPostsPrefix size first posts posts)
   pub is : broken ≡ false → desktop ≡ led_to first posts
   pub shown : broken ≡ false → Leaves (now disk) (Means size desktop)
 
 -- no call yet
 pub begins_running : (size : ℕ) (disk : Trail) (desktop : Desktop) → Leaves (now disk) (Means size desktop)
-    → IsRunning size desktop disk disk.clock desktop false []
+    → IsRunning size desktop disk desktop false []
 begins_running size disk desktop shown = record {
-  survived = none;
   prefix = λ c image. whole size desktop [] [] c (omega arith) (shown c image);
   is = λ usable. refl;
   shown = λ usable. shown;
 }
+
+-- a call, and what is known behind it
+pub record RunsOn (size : ℕ) (first : Desktop) (old new : Trail) (desktop : Desktop) (broken : Bool)
+    (posts all : List Post) : Type 0 where
+  pub later : old.clock ≤ new.clock
+  pub each : (t : ℕ) → old.clock ≤ t → t ≤ new.clock → Leaves (new.at t) (MeansPostsPrefix size first posts all)
+  pub running : IsRunning size first new desktop broken all
 
 -- what a post's contract says, of a store before and after
 pub record Posted (size : ℕ) (event : Event) (answer : StoreAnswer) (old new : Trail) (desktop desktop' : Desktop)
@@ -84,9 +72,9 @@ pub record Posted (size : ℕ) (event : Event) (answer : StoreAnswer) (old new :
   pub must_reopen : broken ≡ true → IsErrOf answer MustReopen
   pub named : (e : Error) → IsErrOf answer e → (e ≡ NoMemory) ⊎ ((e ≡ Fault) ⊎ ((e ≡ MustReopen) ⊎ (e ≡ Worn)))
 
-module _ (size : ℕ) (first : Desktop) (old new : Trail) (from : ℕ) (desktop desktop' : Desktop)
+module _ (size : ℕ) (first : Desktop) (old new : Trail) (desktop desktop' : Desktop)
     (broken broken' : Bool) (posts : List Post) (event : Event)
-    (was : IsRunning size first old from desktop broken posts) where
+    (was : IsRunning size first old desktop broken posts) where
   abbrev answered : StoreAnswer → Post
   answered answer = record { event = event; answer = answer }
 
@@ -112,7 +100,7 @@ module _ (size : ℕ) (first : Desktop) (old new : Trail) (from : ℕ) (desktop 
     count = length (accepted_posts posts);
     within = longer answer;
     none_lost = none_lost;
-    means = subst (λ ps. Means size (steps first (events_of_posts ps)) c)
+    means = subst (λ ps. Means size (led_by first ps) c)
         (sym (ap (take (length (accepted_posts posts))) (accepted-grown answer)
         ∙ take_at (accepted_posts posts) (accepted_posts (answered answer ∷ [])) (length (accepted_posts posts)) refl)) means;
   }
@@ -133,13 +121,13 @@ module _ (size : ℕ) (first : Desktop) (old new : Trail) (from : ℕ) (desktop 
   led_on : (answer : StoreAnswer) → accepted_posts (answered answer ∷ []) ≡ answered answer ∷ []
       → (step (led_to first posts) event).desktop ≡ led_to first (grown answer)
   led_on answer taken = sym (
-      ap (λ ps. steps first (events_of_posts ps)) (accepted-grown answer ∙ ap (λ ps. accepted_posts posts ++ ps) taken)
+      ap (led_by first) (accepted-grown answer ∙ ap (λ ps. accepted_posts posts ++ ps) taken)
       ∙ ap (steps first) (map-append (λ (p : Post). p.event) (accepted_posts posts) (answered answer ∷ []))
-      ∙ steps_on first (events_of_posts (accepted_posts posts)) event)
+      ∙ steps_on first (map (λ (p : Post). p.event) (accepted_posts posts)) event)
 
   led_nowhere : (answer : StoreAnswer) → accepted_posts (answered answer ∷ []) ≡ [] → led_to first posts
       ≡ led_to first (grown answer)
-  led_nowhere answer turned_away = ap (λ ps. steps first (events_of_posts ps))
+  led_nowhere answer turned_away = ap (led_by first)
       (sym (accepted-grown answer ∙ ap (λ ps. accepted_posts posts ++ ps) turned_away ∙ append-nil (accepted_posts posts)))
 
   with_event : (answer : StoreAnswer) (so_far : List Post) (c : Content)
@@ -150,7 +138,7 @@ module _ (size : ℕ) (first : Desktop) (old new : Trail) (from : ℕ) (desktop 
       (subst (λ d. Means size d c) (led_on answer taken) means)
 
   abbrev Goal : StoreAnswer → Type 0
-  Goal answer = IsRunning size first new from desktop' broken' (grown answer)
+  Goal answer = RunsOn size first old new desktop' broken' posts (grown answer)
 
   -- a post that was begun: each image means the desktop from before it or the one after the event
   module _ (answer : StoreAnswer) (usable : broken ≡ false) (taken : accepted_posts (answered answer ∷ [])
@@ -161,13 +149,11 @@ module _ (size : ℕ) (first : Desktop) (old new : Trail) (from : ℕ) (desktop 
     after : (c : Content) → Means size (step desktop event).desktop c → Means size (step (led_to first posts) event).desktop c
     after c = subst (λ d. Means size (step d event).desktop c) (was.is usable)
 
-    begun : Leaves (now new) (MeansPostsPrefix size first (grown answer) (grown answer))
-        → RunSurvives size first new from new.clock (grown answer)
-    begun last = one_more (answered answer) (carried was.survived run.kept) run.later
-        (λ t above below c image. elim (run.each t above below c image) [
-          | inl means ↦ without_before answer c (before c means)
-          | inr means ↦ with_event answer posts c (longer answer) taken (after c means)
-        ]) last
+    begun : (t : ℕ) → old.clock ≤ t → t ≤ new.clock → Leaves (new.at t) (MeansPostsPrefix size first posts (grown answer))
+    begun t above below c image = elim (run.each t above below c image) [
+      | inl means ↦ without_before answer c (before c means)
+      | inr means ↦ with_event answer posts c (longer answer) taken (after c means)
+    ]
 
   done : (reply : Reply) → Posted size event (Ok reply) old new desktop desktop' broken broken' → Goal (Ok reply)
   done reply post = elim (true_or_false broken) [
@@ -180,10 +166,9 @@ module _ (size : ℕ) (first : Desktop) (old new : Trail) (from : ℕ) (desktop 
         λ c image. whole size first (grown (Ok reply)) (grown (Ok reply)) c (omega arith)
         (subst (λ d. Means size d c) is (post.acknowledged c image)) in
         record {
-          survived = begun (Ok reply) usable refl (post.any_moment usable) last;
-          prefix = last;
-          is = λ still. is;
-          shown = λ still. post.acknowledged;
+          later = (post.any_moment usable).later;
+          each = begun (Ok reply) usable refl (post.any_moment usable);
+          running = record { prefix = last; is = λ still. is; shown = λ still. post.acknowledged };
         }
   ]
 
@@ -199,22 +184,23 @@ module _ (size : ℕ) (first : Desktop) (old new : Trail) (from : ℕ) (desktop 
         count = p.count;
         within = omega (arith, p.within, ap length fewer);
         none_lost = ap (λ ps. list_any is_acknowledged (drop p.count ps)) as_far ∙ p.none_lost;
-        means = subst (λ ps. Means size (steps first (events_of_posts (take p.count ps))) c) (sym fewer) p.means;
+        means = subst (λ ps. Means size (led_by first (take p.count ps)) c) (sym fewer) p.means;
       } in
       let clocks : new.clock ≡ old.clock = ap (λ (d : Trail). d.clock) same.0 in
       let last : Leaves (now new) (MeansPostsPrefix size first (grown answer) (grown answer)) = λ c image. again
       (grown answer) c fewer (was.prefix c (subst (λ (d : Trail). IsCrashImage (now d) c) same.0 image)) in
       record {
-        survived = one_more (answered answer) (carried was.survived (λ t le. ap (λ (d : Trail). d.at t) same.0))
-            (omega (arith, clocks))
-            (λ t above below c image.
+        later = omega (arith, clocks);
+        each = λ t above below c image.
             let here : t ≡ new.clock = omega (arith, above, below, clocks) in
             again posts c refl (was.prefix c (subst (λ (d : Trail). IsCrashImage (now d) c) same.0
-            (subst (λ i. IsCrashImage (new.at i) c) here image)))) last;
-        prefix = last;
-        is = λ still. same.1 ∙ was.is (sym same.2 ∙ still) ∙ led_nowhere answer turned_away;
-        shown = λ still c image. subst (λ d. Means size d c) (sym same.1)
-            (was.shown (sym same.2 ∙ still) c (subst (λ (d : Trail). IsCrashImage (now d) c) same.0 image));
+            (subst (λ i. IsCrashImage (new.at i) c) here image)));
+        running = record {
+          prefix = last;
+          is = λ still. same.1 ∙ was.is (sym same.2 ∙ still) ∙ led_nowhere answer turned_away;
+          shown = λ still c image. subst (λ d. Means size d c) (sym same.1)
+              (was.shown (sym same.2 ∙ still) c (subst (λ (d : Trail). IsCrashImage (now d) c) same.0 image));
+        };
       }
 
   faulted : Posted size event (Err Fault) old new desktop desktop' broken broken' → Goal (Err Fault)
@@ -229,10 +215,13 @@ module _ (size : ℕ) (first : Desktop) (old new : Trail) (from : ℕ) (desktop 
               (after (Err Fault) usable refl run c means)
         ] in
         record {
-          survived = begun (Err Fault) usable refl run last;
-          prefix = last;
-          is = λ still. absurd (clash (post.broken_by_fault refl) still);
-          shown = λ still. absurd (clash (post.broken_by_fault refl) still);
+          later = run.later;
+          each = begun (Err Fault) usable refl run;
+          running = record {
+            prefix = last;
+            is = λ still. absurd (clash (post.broken_by_fault refl) still);
+            shown = λ still. absurd (clash (post.broken_by_fault refl) still);
+          };
         }
   ]
 
@@ -247,12 +236,14 @@ module _ (size : ℕ) (first : Desktop) (old new : Trail) (from : ℕ) (desktop 
         λ c image. whole size first (grown (Err NoMemory)) (grown (Err NoMemory)) c (omega arith)
         (here c (run.each new.clock run.later (omega arith) c image)) in
         record {
-          survived = one_more (answered (Err NoMemory)) (carried was.survived run.kept) run.later
-              (λ t above below c image. whole size first posts (grown (Err NoMemory)) c (longer (Err NoMemory))
-              (here c (run.each t above below c image))) last;
-          prefix = last;
-          is = λ still. absurd (clash (post.broken_by_memory refl) still);
-          shown = λ still. absurd (clash (post.broken_by_memory refl) still);
+          later = run.later;
+          each = λ t above below c image. whole size first posts (grown (Err NoMemory)) c (longer (Err NoMemory))
+              (here c (run.each t above below c image));
+          running = record {
+            prefix = last;
+            is = λ still. absurd (clash (post.broken_by_memory refl) still);
+            shown = λ still. absurd (clash (post.broken_by_memory refl) still);
+          };
         }
   ]
 
@@ -280,10 +271,10 @@ pub record Checkpointed (size : ℕ) (answer : StoreAnswer) (old new : Trail) (d
   pub must_reopen : broken ≡ true → IsErrOf answer MustReopen
   pub named : (e : Error) → IsErrOf answer e → (e ≡ Fault) ⊎ ((e ≡ MustReopen) ⊎ (e ≡ Worn))
 
-module _ (size : ℕ) (first : Desktop) (old new : Trail) (from : ℕ) (desktop desktop' : Desktop)
-    (broken broken' : Bool) (posts : List Post) (was : IsRunning size first old from desktop broken posts) where
+module _ (size : ℕ) (first : Desktop) (old new : Trail) (desktop desktop' : Desktop)
+    (broken broken' : Bool) (posts : List Post) (was : IsRunning size first old desktop broken posts) where
   abbrev Next : Type 0
-  Next = IsRunning size first new from desktop' broken' posts
+  Next = RunsOn size first old new desktop' broken' posts posts
 
   -- a checkpoint that was begun: each image means the desktop
   began : broken ≡ false → LeavesOnly old new (Means size desktop) → (broken' ≡ false → desktop' ≡ desktop) → Next
@@ -292,18 +283,26 @@ module _ (size : ℕ) (first : Desktop) (old new : Trail) (from : ℕ) (desktop 
       λ t above below c image. whole size first posts posts c (omega arith)
       (subst (λ d. Means size d c) (was.is usable) (run.each t above below c image)) in
       record {
-        survived = renewed (carried was.survived run.kept) run.later each;
-        prefix = each new.clock run.later (omega arith);
-        is = λ still. same still ∙ was.is usable;
-        shown = λ still c image. subst (λ d. Means size d c) (sym (same still))
-            (run.each new.clock run.later (omega arith) c image);
+        later = run.later;
+        each = each;
+        running = record {
+          prefix = each new.clock run.later (omega arith);
+          is = λ still. same still ∙ was.is usable;
+          shown = λ still c image. subst (λ d. Means size d c) (sym (same still))
+              (run.each new.clock run.later (omega arith) c image);
+        };
       }
 
   -- nothing of the store or its disk changed
   stayed : (new ≡ old) × (desktop' ≡ desktop) × (broken' ≡ broken) → Next
-  stayed same = subst (λ (t : Trail). IsRunning size first t from desktop' broken' posts) (sym same.0)
-      (subst (λ d. IsRunning size first old from d broken' posts) (sym same.1)
-      (subst (λ b. IsRunning size first old from desktop b posts) (sym same.2) was))
+  stayed same = subst (λ (t : Trail). RunsOn size first old t desktop' broken' posts posts) (sym same.0) (record {
+    later = omega arith;
+    each = λ t above below c image.
+        let here : t ≡ old.clock = omega (arith, above, below) in
+        was.prefix c (subst (λ i. IsCrashImage (old.at i) c) here image);
+    running = subst (λ d. IsRunning size first old d broken' posts) (sym same.1)
+        (subst (λ b. IsRunning size first old desktop b posts) (sym same.2) was);
+  })
 
   pub checkpoint_on : (answer : StoreAnswer) → Checkpointed size answer old new desktop desktop' broken broken' → Next
   checkpoint_on (Ok reply) made = elim (true_or_false broken) [

@@ -1,2 +1,3 @@
 pub mod Deeds
+pub mod Reopening
 pub mod Run

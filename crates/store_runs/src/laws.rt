@@ -1,11 +1,12 @@
 //! What holds of stores that are closed and opened, and of runs of calls.
-ghost use Rattle.store_runs.specs.Run.{ComposingLaw, ReopeningLaw, SurvivalLaw};
-ghost use Rattle.store_runs.specs.Deeds.{DeedSurvivalLaw};
+ghost use Rattle.store_runs.specs.Deeds.{ComposingLaw};
+ghost use Rattle.store_runs.specs.Reopening.{ReopeningLaw};
+ghost use Rattle.store_runs.specs.Run.{SurvivalLaw};
 
 use sector_disk::Disk;
 use store_layout::showing_law;
 
-/// Opening finds what was closed: the desktop, the epoch and the number of events.
+/// Opening finds what was closed: the desktop, the version, the epoch and the number of events.
 pub fn reopening_law<D: Disk>()
     ensures { ReopeningLaw D.Disk }
 {
@@ -18,14 +19,10 @@ pub fn runs_compose<D: Disk>()
 {}
 
 /// Whatever the calls of a run returned, and wherever a crash cuts them off, each image means the desktop after some of
-/// the accepted events, the first of them, and among them is every event acknowledged until then.
+/// the accepted events, the first of them, and among them is every event acknowledged until then. Amid an undo or a
+/// bringing it means that desktop or the one to which this leads. From the moment at which that is answered Ok the
+/// events that were taken back are no longer among the accepted ones, and the documents are there: what a crash leaves
+/// is reckoned from the desktop to which that led.
 pub fn runs_survive<D: Disk>()
     ensures { SurvivalLaw D.Disk }
-{}
-
-/// The same of runs between which events are taken back and documents are brought. From the moment at which that is answered
-/// Ok those events are no longer among the accepted ones, and these documents are there; what a crash leaves is reckoned
-/// from the desktop to which that led.
-pub fn deeds_survive<D: Disk>()
-    ensures { DeedSurvivalLaw D.Disk }
 {}

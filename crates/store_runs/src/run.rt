@@ -1,12 +1,13 @@
 //! Runs of calls.
-ghost use Rattle.std.specs.Prelude.{◌≡◌, false, length, IfOk, IfErr, IsErr};
+ghost use Rattle.std.specs.Prelude.{◌≡◌, [], false, length, IfOk, IfErr, IsErr};
 ghost use Rattle.sector_disk.specs.Trail.{LeavesOnly};
 ghost use Rattle.sector_disk.specs.Faults.{FailsAs};
 ghost use Rattle.desk_journal.specs.Device.{IsSameDevice, disk_after, result_of};
 ghost use Rattle.desk_journal.specs.Errors.{OfReopen};
-ghost use Rattle.store_runs.specs.Run.{IsCallRun, SurvivesRun, ServesCall, MeansSome, IsReopened, served_of, events_in};
-ghost use Rattle.store_runs.specs.Run.{LeadsToLastEpoch, StopsAReopening};
-ghost use Rattle.store_runs.specs.Deeds.{PromisesBringing, PromisesUndo, told_of};
+ghost use Rattle.desk_journal.specs.Prefixes.{MeansPrefix};
+ghost use Rattle.store_runs.specs.Deeds.{DoesDeed, IsRun, PromisesBringing, PromisesUndo, answered_deed, deeds_of, told_of};
+ghost use Rattle.store_runs.specs.Reopening.{IsReopened, LeadsToLastEpoch, StopsAReopening, events_in};
+ghost use Rattle.store_runs.specs.Run.{SurvivesRun};
 
 use crate::call::{StoreAnswer, StoreCall};
 use crate::laws::{reopening_law, runs_survive};
@@ -20,7 +21,7 @@ use std::alloc::Global;
 ///
 /// Errors: those of `Store::post` and `Store::checkpoint`.
 pub fn serve<D: Disk>(alloc: Global, store: &mut Store<D>, call: &StoreCall) -> StoreAnswer
-    ensures { ServesCall D.Disk call.now result store.old store.new }
+    ensures { DoesDeed D.Disk (answered_deed call.now result) store.old store.new }
 {
     match call {
         StoreCall::Post(event) => store.post(alloc, event),
@@ -66,10 +67,10 @@ pub fn serve_all<D: Disk>(
     requires { store.old.must_reopen ≡ false }
     ensures each { IfOk result (λ answers. length answers.items ≡ length calls.now) }
     ensures run { IfOk result (λ answers.
-        IsCallRun D.Disk (served_of calls.now answers.items) store.old store.new) }
+        IsRun D.Disk (deeds_of calls.now answers.items) store.old store.new) }
     // However the calls ended, and wherever a crash cuts them off.
     ensures any_moment { IfOk result (λ answers. SurvivesRun D.Disk
-        (served_of calls.now answers.items) store.old store.new) }
+        (deeds_of calls.now answers.items) store.old store.new) }
     ensures refused { IsErr result → store.new ≡ store.old }
 {
     let mut answers = Vec::with_capacity(alloc, calls.len())?;
@@ -96,7 +97,7 @@ pub fn serve_and_reopen<D: Disk>(
     // Wherever a crash cuts it off, and whatever it returns.
     ensures any_moment { D.honest store.disk
         → LeavesOnly (D.trail store.disk) (D.trail (disk_after (λ reopened. reopened.disk) result))
-        (MeansSome (D.size store.disk) store.desktop (events_in calls.now)) }
+        (MeansPrefix (D.size store.disk) store.desktop [] (events_in calls.now)) }
     ensures stops { D.honest store.disk → IfErr result (λ e. StopsAReopening e.0) }
     // It is worn only after calls that led to the last epoch.
     ensures worn { IfErr result (λ e. e.0 ≡ Error.Worn → LeadsToLastEpoch calls.now store) }

@@ -17,6 +17,9 @@ const STRETCH: u32 = 512;
 /// How many characters are counted at once on the way to a row, at most.
 const ROW_STRETCH: u32 = 128;
 
+/// How many are counted at once within the stretch where the row begins, at most.
+const SHORT_STRETCH: u32 = 16;
+
 /// Where the line of the position starts: at 0, or after the last carriage return before it. The text is read from the
 /// position back to there. `Fault`: the source failed in this call.
 pub fn line_start<S: CharSource>(text: &Text, pos: u32, source: &mut S) -> Result<u32, Fault>
@@ -108,8 +111,8 @@ pub(crate) fn ends_between<S: CharSource>(
 }
 
 /// Where the row begins that is so many rows below that of the position `from`. None where the text ends before. The
-/// text is read from there to less than a stretch past that place, and the last stretch twice. `Fault`: the source
-/// failed in this call.
+/// text is read from there to less than a stretch past that place; the last stretch is counted again in short ones, of
+/// which the last is read. `Fault`: the source failed in this call.
 pub(crate) fn row_below<S: CharSource>(
     text: &Text,
     from: u32,
@@ -131,6 +134,38 @@ pub(crate) fn row_below<S: CharSource>(
     let mut left = len - from;
     while left > 0 {
         let (count, found) = reader.count(CARRIAGE_RETURN, left.min(ROW_STRETCH), source)?;
+        if ends + found >= rows {
+            let begin = row_near(text, len - left, rows - ends, source)?;
+            return Ok(begin);
+        }
+        ends += found;
+        left -= count;
+    }
+    Ok(None)
+}
+
+/// The same, counted in short stretches.
+fn row_near<S: CharSource>(
+    text: &Text,
+    from: u32,
+    rows: u32,
+    source: &mut S,
+) -> Result<Option<u32>, Fault>
+    requires walk { CanWalk (S.characters source.old) (flat text.now) from
+        (length (flat text.now)) }
+    requires some { 0 < rows }
+    ensures begins { IfOk result (λ found. S.honest source.old → IfSome found
+        (IsRowBelow (bytes_of_text (S.characters source.old) (flat text.now)) from rows)) }
+    ensures range { IfOk result (λ found. IfSome found (λ p. (from + rows ≤ p)
+        × (p ≤ length (flat text.now)))) }
+    ensures source { ReadsOrFails S.CharSource result source.old source.new }
+{
+    let mut reader = Reader::open(text, from);
+    let mut ends = 0;
+    let len = text.len();
+    let mut left = len - from;
+    while left > 0 {
+        let (count, found) = reader.count(CARRIAGE_RETURN, left.min(SHORT_STRETCH), source)?;
         if ends + found >= rows {
             let begin = row_within(text, len - left, rows - ends, source)?;
             return Ok(begin);

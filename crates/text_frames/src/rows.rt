@@ -11,7 +11,7 @@ use crate::{CharSource, Fault, Frame, Text};
 use readers_scanners::Reader;
 
 /// How far the rows of a frame have been read. Those that are asked for from the upper one on take one pass over the
-/// text. Where one isn't asked for, less than 128 characters before the start of the next are read twice.
+/// text. Where one isn't asked for, less than 128 characters before the start of the next are read again.
 #[derive(Drop)]
 pub struct FrameRows<'a> {
     reader: Reader<'a>,

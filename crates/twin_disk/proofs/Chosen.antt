@@ -15,7 +15,8 @@ use Rattle.twin_disk.specs.declared.legs.Legs.{Legs}
 use Rattle.twin_disk.specs.declared.twin.TwinDisk.{TwinDisk}
 use Rattle.twin_disk.specs.Bounded.{bounded_content}
 use Rattle.twin_disk.specs.Flags.{ShowsFlag, says_alone}
-use Rattle.twin_disk.specs.Legs.{IsFewer, OrFlag}
+use Rattle.twin_disk.specs.Legs.{IsFewer, LegsOpened, OrFlag}
+use Rattle.twin_disk.specs.Marks.{HasOpened}
 use Rattle.twin_disk.specs.Twin.{with_mark, moment_when, SinceStart}
 use Rattle.twin_disk.specs.Survival.{first_when, second_when}
 use Rattle.twin_disk.specs.Survival.{first_clock, second_clock, first_leg, second_leg, legs_left, is_lost, twin_size, twin_moments, HasHonestLegs}
@@ -23,6 +24,7 @@ use Rattle.twin_disk.specs.Choosing.{CallsFollow, FirstSince, FlagsChooseNewest,
 use Rattle.twin_disk.specs.Choosing.{OfChosen, SecondSince, choice_of}
 use Rattle.twin_disk.proofs.Flagged.{no_flag}
 use Rattle.twin_disk.proofs.Followed.{survives_each}
+use Rattle.twin_disk.proofs.Opened.{opens_itself}
 use Rattle.twin_disk.proofs.Following.{since_later}
 use Rattle.twin_disk.proofs.Surviving.{survives}
 
@@ -229,8 +231,9 @@ module _ {A B : Type 0} (a : Ghosts A) (b : Ghosts B) where
       → (legs_left new ≡ legs_left old → is_lost new ≡ false
       → IsConfined a.size a.honest a.trail area (first_leg old) (first_leg new)
       × IsConfined b.size b.honest b.trail area (second_leg old) (second_leg new))
+      → LegsOpened a b (twin_size old) old.closed new.closed old.legs new.legs
       → GoesOn old new
-  goes_on old new area more out calls start size past left first second one fewer same = record {
+  goes_on old new area more out calls start size past left first second one fewer same opened = record {
     more = more;
     calls = calls;
     start = start;
@@ -240,6 +243,8 @@ module _ {A B : Type 0} (a : Ghosts A) (b : Ghosts B) where
     over = λ lost. absurd (cc);
     first_still = first.still;
     second_still = second.still;
+    first_opened = λ h. opened.first h (old.first_open h);
+    second_opened = λ h. opened.second h (old.second_open h);
     same = λ is none. let kept = same is none in (
       keeps_flag a (twin_size old) area (first_leg old) (first_leg new) out kept.0,
       keeps_flag b (twin_size old) area (second_leg old) (second_leg new) out kept.1,
@@ -261,11 +266,11 @@ module _ {A B : Type 0} (a : Ghosts A) (b : Ghosts B) where
   }
 
   -- nothing was done
-  pub goes_nowhere : (old new : TwinDisk A B a b) → new.legs ≡ old.legs
+  pub goes_nowhere : (old new : TwinDisk A B a b) → new.legs ≡ old.legs → new.closed ≡ old.closed
       → (is_lost old ≡ true → is_lost new ≡ true) → new.calls.items ≡ old.calls.items
       → new.start.items ≡ old.start.items → twin_size new ≡ twin_size old
       → (HasHonestLegs old → HasPast (twin_moments old) (twin_moments new)) → GoesOn old new
-  goes_nowhere old new same over calls start size past =
+  goes_nowhere old new same shut over calls start size past =
       let first : IsConfined a.size a.honest a.trail Nowhere (first_leg old) (first_leg new) =
       subst (λ l. IsConfined a.size a.honest a.trail Nowhere (first_leg old) l.first) (sym same)
       (stays_put a.size a.honest a.trail Nowhere (first_leg old)) in
@@ -284,6 +289,12 @@ module _ {A B : Type 0} (a : Ghosts A) (b : Ghosts B) where
         over = over;
         first_still = first.still;
         second_still = second.still;
+        first_opened = λ h. subst (λ c. HasOpened a (twin_size old) old.closed.first c.first (first_leg old) (first_leg new))
+            (sym shut) (subst (λ l. HasOpened a (twin_size old) old.closed.first old.closed.first (first_leg old) l.first)
+            (sym same) (opens_itself a (twin_size old) old.closed.first (first_leg old) h (old.first_open h)));
+        second_opened = λ h. subst (λ c. HasOpened b (twin_size old) old.closed.second c.second (second_leg old) (second_leg new))
+            (sym shut) (subst (λ l. HasOpened b (twin_size old) old.closed.second old.closed.second (second_leg old) l.second)
+            (sym same) (opens_itself b (twin_size old) old.closed.second (second_leg old) h (old.second_open h)));
         same = λ is left. (first_flag, second_flag);
         first = has_past a Nowhere (first_leg old) (first_leg new) first;
         second = has_past b Nowhere (second_leg old) (second_leg new) second;

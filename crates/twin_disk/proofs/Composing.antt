@@ -1,5 +1,5 @@
 -- Calls of a twin, one after another.
-use Rattle.std.proofs.Common.{◌≡◌, ◌≢◌, ◌⊎◌, inl, inr, ℕ, List, ◌++◌, true, false, refl, sym, ◌∙◌, ap, subst, arith}
+use Rattle.std.proofs.Common.{◌≡◌, ◌≢◌, ◌⊎◌, inl, inr, ℕ, ◌++◌, true, false, refl, sym, ◌∙◌, ap, subst, arith}
 use Rattle.std.proofs.Common.{append_assoc}
 use Rattle.sector_disk.specs.declared.disk.Disk.{Ghosts}
 use Rattle.sector_disk.specs.Trail.{Trail}
@@ -8,9 +8,11 @@ use Rattle.twin_disk.specs.declared.legs.Left.{Left}
 use Rattle.twin_disk.specs.declared.legs.Left.TheVariants.{Both, First, Second}
 use Rattle.twin_disk.specs.declared.twin.TwinDisk.{TwinDisk}
 use Rattle.twin_disk.specs.Legs.{IsFewer}
-use Rattle.twin_disk.specs.Survival.{first_leg, second_leg, legs_left, is_lost, twin_size}
+use Rattle.twin_disk.specs.Marks.{HasOpened}
+use Rattle.twin_disk.specs.Survival.{first_closed, first_leg, second_closed, second_leg, legs_left, is_lost, twin_size}
 use Rattle.twin_disk.specs.Choosing.{CallsCompose, GoesOn, HasPast, KeepsFlag}
 use Rattle.twin_disk.proofs.Chosen.{bool_two}
+use Rattle.twin_disk.proofs.Opened.{opened_on}
 
 fewer_on : (l m n : Left) → IsFewer l m → IsFewer m n → IsFewer l n
 fewer_on Both m n f g = tt
@@ -101,6 +103,18 @@ module _ {A B : Type 0} (a : Ghosts A) (b : Ghosts B) where
       | inr left ↦ left
     ]
 
+    first_opened : a.honest (first_leg old) → HasOpened a (twin_size old) (first_closed old) (first_closed new) (first_leg old)
+        (first_leg new)
+    first_opened h = opened_on a (twin_size old) (f.first_opened h)
+        (subst (λ n. HasOpened a n (first_closed mid) (first_closed new) (first_leg mid) (first_leg new)) f.size
+        (g.first_opened (f.first_still h)))
+
+    second_opened : b.honest (second_leg old) → HasOpened b (twin_size old) (second_closed old) (second_closed new)
+        (second_leg old) (second_leg new)
+    second_opened h = opened_on b (twin_size old) (f.second_opened h)
+        (subst (λ n. HasOpened b n (second_closed mid) (second_closed new) (second_leg mid) (second_leg new)) f.size
+        (g.second_opened (f.second_still h)))
+
     composed : GoesOn old new
     composed = record {
       more = f.more ++ g.more;
@@ -114,6 +128,8 @@ module _ {A B : Type 0} (a : Ghosts A) (b : Ghosts B) where
       second_still = λ h. g.second_still (f.second_still h);
       first = λ h. past_on (f.first h) (g.first (f.first_still h));
       second = λ h. past_on (f.second h) (g.second (f.second_still h));
+      first_opened = first_opened;
+      second_opened = second_opened;
       one = one_touched;
       none = λ why. let k = f.none why in let l = g.none (spent why) in (first_on k.0 l.0, second_on k.1 l.1);
       same = λ is left.

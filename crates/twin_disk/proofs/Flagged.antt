@@ -10,7 +10,7 @@ use Rattle.sector_disk.proofs.Touching.{still_reads, still_settled}
 use Rattle.twin_disk.specs.declared.legs.Left.{Left}
 use Rattle.twin_disk.specs.declared.legs.Left.TheVariants.{Both, First, Second}
 use Rattle.twin_disk.specs.declared.legs.Legs.{Legs}
-use Rattle.twin_disk.specs.Flags.{ShowsFlag, says_alone, says_closed}
+use Rattle.twin_disk.specs.Flags.{ShowsFlag, says_alone}
 use Rattle.twin_disk.specs.Legs.{Calls, IsFewer, OrFlag}
 use Rattle.twin_disk.specs.Twin.{IsFlagged, with_mark}
 
@@ -21,7 +21,6 @@ pub shows_still : {D : Type 0} (d : Ghosts D) (flag : ℕ) (alone : Bool) {area 
 shows_still d flag alone old new out run h was = record {
   settled = still_settled (d.trail old) (d.trail new) (run.moments h) flag out was.settled;
   says = ap says_alone (still_reads (d.trail old) (d.trail new) (run.moments h) flag out) ∙ was.says;
-  in_use = ap says_closed (still_reads (d.trail old) (d.trail new) (run.moments h) flag out) ∙ was.in_use;
 }
 
 pub no_flag : (l : Left) (flag : ℕ) (area : ℕ → Type 0) → l ≢ Both → ¬ area flag → ¬ OrFlag l flag area flag

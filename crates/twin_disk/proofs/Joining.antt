@@ -2,7 +2,7 @@
 use Rattle.std.proofs.Common.{◌≡◌, ◌⊎◌, inl, inr, ℕ, ◌<◌, refl, sym, ◌∙◌, ap, subst, arith}
 use Rattle.std.proofs.Common.{List, false, Result, Ok, Err, IsOk, IsErr, OnOk}
 use Rattle.sector_disk.specs.declared.disk.Disk.{Ghosts}
-use Rattle.sector_disk.specs.Trail.{Moment, Only, CountsFault, written, after_sync}
+use Rattle.sector_disk.specs.Trail.{Moment, Only, CountsFault, after_sync}
 use Rattle.sector_disk.specs.Confined.{IsConfined}
 use Rattle.sector_disk.proofs.Confinement.{widened, joined}
 use Rattle.sector_disk.proofs.Touching.{still_reads, still_settled}
@@ -203,10 +203,10 @@ map_ok : {T E P Q : Type 0} (r : Result T E) → (P → Q) → OnOk r P → OnOk
 map_ok (Ok _) f it = f it
 map_ok (Err _) f it = tt
 
--- what holds of a moment holds of each one that differs from it in the flag alone
+-- what holds of a moment holds of each one that is the same before the flag
 abbrev IsBesideFlag : ℕ → (Moment → Type 0) → Type 0
-IsBesideFlag flag F = (m m' : Moment) → ((k : ℕ) → ¬ (k ≡ flag) → m'.reads k ≡ m.reads k)
-    → ((k : ℕ) → ¬ (k ≡ flag) → m.pending k ≡ false → m'.pending k ≡ false) → F m → F m'
+IsBesideFlag flag F = (m m' : Moment) → ((k : ℕ) → k < flag → m'.reads k ≡ m.reads k)
+    → ((k : ℕ) → k < flag → m.pending k ≡ false → m'.pending k ≡ false) → F m → F m'
 
 module _ {A B E : Type 0} (a : Ghosts A) (b : Ghosts B) (flag : ℕ) (old mid : Legs A B) (F G : Moment → Type 0)
     (keeps : IsBesideFlag flag F) (keeps' : IsBesideFlag flag G) (on : a.honest old.first → a.honest mid.first)
@@ -226,27 +226,23 @@ module _ {A B E : Type 0} (a : Ghosts A) (b : Ghosts B) (flag : ℕ) (old mid : 
   joined_each (Ok _) (Ok _) result new f g is = subst (Did result) (sym is.1) (did_each result f g)
   joined_each (Ok _) (Err _) (Ok _) new f g is = at_first new.left _ _ is.left
       (λ h. let run = is.kept.moments (on h) in keeps (first_now a b mid) (first_now a b new)
-      (still_reads (a.trail mid.first) (a.trail new.first) run)
-      (still_settled (a.trail mid.first) (a.trail new.first) run) (f h))
+      (λ k low. still_reads (a.trail mid.first) (a.trail new.first) run k (λ is. omega (arith, low, is)))
+      (λ k low. still_settled (a.trail mid.first) (a.trail new.first) run k (λ is. omega (arith, low, is))) (f h))
   joined_each (Ok _) (Err _) (Err _) new f g is = tt
   joined_each (Err _) (Ok _) (Ok _) new f g is = at_second new.left _ _ is.left
       (λ h. let run = is.kept.moments (on' h) in keeps' (second_now a b mid) (second_now a b new)
-      (still_reads (b.trail mid.second) (b.trail new.second) run)
-      (still_settled (b.trail mid.second) (b.trail new.second) run) (g h))
+      (λ k low. still_reads (b.trail mid.second) (b.trail new.second) run k (λ is. omega (arith, low, is)))
+      (λ k low. still_settled (b.trail mid.second) (b.trail new.second) run k (λ is. omega (arith, low, is))) (g h))
   joined_each (Err _) (Ok _) (Err _) new f g is = tt
   joined_each (Err _) (Err _) (Ok _) new f g is = absurd (let wrong = is.0 in cc)
   joined_each (Err _) (Err _) (Err _) new f g is = tt
 
 pub written_beside : (flag n : ℕ) (bytes : List ℕ) (old : Moment) → IsBesideFlag flag (HasWritten flag n bytes old)
-written_beside flag n bytes old m m' reads settled was k other = reads k other ∙ was k other
+written_beside flag n bytes old m m' reads settled was k low = reads k low ∙ was k low
 
 pub settled_beside : (flag : ℕ) → IsBesideFlag flag (HasSettled flag)
-settled_beside flag m m' reads settled was k other = settled k other (was k other)
-
-pub has_written : {E : Type 0} (H : Type 0) (flag n : ℕ) (bytes : List ℕ) (old new : Moment) (r : Result (Unit {0}) E)
-    → OnOk r (H → new ≡ written old n bytes) → OnOk r (H → HasWritten flag n bytes old new)
-has_written H flag n bytes old new r = map_ok r (λ is h k other. ap (λ m. m.reads k) (is h))
+settled_beside flag m m' reads settled was k low = settled k low (was k low)
 
 pub has_settled : {E : Type 0} (H : Type 0) (flag : ℕ) (old new : Moment) (r : Result (Unit {0}) E)
     → OnOk r (H → new ≡ after_sync old) → OnOk r (H → HasSettled flag new)
-has_settled H flag old new r = map_ok r (λ is h k other. ap (λ m. m.pending k) (is h))
+has_settled H flag old new r = map_ok r (λ is h k low. ap (λ m. m.pending k) (is h))

@@ -8,6 +8,7 @@ pub mod Following
 pub mod Followed
 pub mod Chosen
 pub mod Joining
+pub mod Opened
 pub mod Flagged
 pub mod Copies
 pub mod Compared

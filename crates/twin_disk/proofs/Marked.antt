@@ -1,5 +1,5 @@
 -- Marks of two legs, and why they are honest.
-use Rattle.std.proofs.Common.{◌≡◌, ◌≢◌, ◌==◌, ◌⊎◌, ◌∷◌, inl, inr, ℕ, suc, ◌<◌, ◌≤◌, List, Bool, true, false, if◌then◌else◌, refl, sym, ◌∙◌, ap, subst, arith, length}
+use Rattle.std.proofs.Common.{◌≡◌, ◌≢◌, ◌==◌, ◌⊎◌, ◌∷◌, inl, inr, ℕ, suc, ◌<◌, ◌≤◌, ◌+◌, List, Bool, true, false, if◌then◌else◌, refl, sym, ◌∙◌, ap, subst, arith, length}
 use Rattle.std.proofs.lemmas.Bool.{cases_eq, cases_lt}
 use Rattle.std.proofs.lemmas.Bool.Decides.{nat_tests}
 use Rattle.sector_disk.specs.declared.disk.Disk.{Ghosts}
@@ -8,16 +8,14 @@ use Rattle.sector_disk.specs.Confined.{IsConfined}
 use Rattle.sector_disk.proofs.Confinement.{joined, stays_put}
 use Rattle.sector_disk.proofs.Touching.{read_is_an_image, still_reads, still_settled}
 use Rattle.twin_disk.specs.declared.twin.TwinDisk.{TwinDisk}
-use Rattle.twin_disk.specs.declared.legs.Left.TheVariants.{Both, First, Second}
 use Rattle.twin_disk.specs.Bounded.{within}
-use Rattle.twin_disk.specs.Flags.{ShowsFlag, says_closed}
+use Rattle.twin_disk.specs.Flags.{IsOpen, says_closed}
 use Rattle.twin_disk.specs.Copying.{AreSettled, HoldSame, ReadSame}
-use Rattle.twin_disk.specs.Legs.{IsFewer}
 use Rattle.twin_disk.specs.Twin.{pending_first}
-use Rattle.twin_disk.specs.Survival.{first_leg, second_leg, legs_left, is_lost, twin_size, twin_moments, HasBothLegs, HasHonestLegs}
-use Rattle.twin_disk.specs.Choosing.{FirstSince, GoesOn, KeepsFlag, SecondSince}
+use Rattle.twin_disk.specs.Survival.{first_leg, second_leg, twin_size, twin_moments, HasBothLegs, HasHonestLegs}
+use Rattle.twin_disk.specs.Choosing.{FirstSince, GoesOn, SecondSince}
 use Rattle.twin_disk.specs.Closing.{HasHonestMark, IsClosed, IsMarked, KeepsMark, MarksStayHonest}
-use Rattle.twin_disk.proofs.Chosen.{bool_two, by_three}
+use Rattle.twin_disk.proofs.Chosen.{bool_two, goes_nowhere}
 use Rattle.twin_disk.proofs.Moments.{now_is}
 use Rattle.twin_disk.proofs.Seen.{bounded_at, settled_at}
 
@@ -40,19 +38,22 @@ but_is_image m image flag bytes same is n settled = elim (cases_eq n flag) [
   | inr there ↦ but_there image flag bytes n there ∙ is n settled
 ]
 
-module _ (flag : ℕ) (x y : Moment) (marks : HasHonestMark flag x y) (closed : says_closed (x.reads flag) ≡ true)
-    (alike : x.reads flag ≡ y.reads flag) where
+module _ (flag : ℕ) (x y : Moment) (marks : HasHonestMark flag x y) (closed : says_closed (x.reads (flag + 1)) ≡ true)
+    (alike : x.reads (flag + 1) ≡ y.reads (flag + 1)) where
+  abbrev mark : ℕ
+  mark = flag + 1
+
   -- whatever a crash leaves of both is the same before the flags
   images_same : (i j : Content) → IsCrashImage x i → IsCrashImage y j → (n : ℕ) → n < flag → i n ≡ j n
   images_same i j is_i is_j n small =
-      let other : n ≢ flag = λ is. omega (arith, small, is) in
-      let i_flag = but_here i flag (x.reads flag) in
-      let j_flag = but_here j flag (y.reads flag) in
-      sym (but_there i flag (x.reads flag) n other)
-      ∙ marks (but i flag (x.reads flag)) (but j flag (y.reads flag))
-      (but_is_image x i flag (x.reads flag) (λ _. refl) is_i) (but_is_image y j flag (y.reads flag) (λ _. refl) is_j)
-      (ap says_closed i_flag ∙ closed) (i_flag ∙ alike ∙ sym j_flag) n small
-      ∙ but_there j flag (y.reads flag) n other
+      let other : n ≢ mark = λ is. omega (arith, small, is) in
+      let i_mark = but_here i mark (x.reads mark) in
+      let j_mark = but_here j mark (y.reads mark) in
+      sym (but_there i mark (x.reads mark) n other)
+      ∙ marks (but i mark (x.reads mark)) (but j mark (y.reads mark))
+      (but_is_image x i mark (x.reads mark) (λ _. refl) is_i) (but_is_image y j mark (y.reads mark) (λ _. refl) is_j)
+      (ap says_closed i_mark ∙ closed) (i_mark ∙ alike ∙ sym j_mark) n small
+      ∙ but_there j mark (y.reads mark) n other
 
   same_reads : (n : ℕ) → n < flag → x.reads n ≡ y.reads n
   same_reads n small = images_same x.reads y.reads (read_is_an_image x) (read_is_an_image y) n small
@@ -81,18 +82,18 @@ module _ (flag : ℕ) (x y : Moment) (marks : HasHonestMark flag x y) (closed : 
   ]
 
 module _ {A B : Type 0} (a : Ghosts A) (b : Ghosts B) where
-  -- two disks that hold the same, of which only the flags are touched
-  pub same_marked : (flag : ℕ) (x x1 : A) (y y1 : B) → HoldSame a b flag x y
-      → IsConfined a.size a.honest a.trail (Only flag) x x1 → IsConfined b.size b.honest b.trail (Only flag) y y1
-      → KeepsMark a b flag x x1 y y1
-  same_marked flag x x1 y y1 held from to h h' u v low high low' high' i j is is' closed alike n small =
+  -- two disks that hold the same, of which nothing is touched before the flags
+  pub same_marked : (flag : ℕ) (area : ℕ → Type 0) → ((k : ℕ) → k < flag → ¬ area k) → (x x1 : A) (y y1 : B)
+      → HoldSame a b flag x y → IsConfined a.size a.honest a.trail area x x1
+      → IsConfined b.size b.honest b.trail area y y1 → KeepsMark a b flag x x1 y y1
+  same_marked flag area out x x1 y y1 held from to h h' u v low high low' high' i j is is' closed alike n small =
       let first = from.moments h in
       let second = to.moments h' in
-      is n (first.settled u low high n (λ at. omega (arith, small, at)) (held.settled h h' n small).0)
-      ∙ first.reads u low high n (λ at. omega (arith, small, at))
+      is n (first.settled u low high n (out n small) (held.settled h h' n small).0)
+      ∙ first.reads u low high n (out n small)
       ∙ held.same h h' n small
-      ∙ sym (second.reads v low' high' n (λ at. omega (arith, small, at)))
-      ∙ sym (is' n (second.settled v low' high' n (λ at. omega (arith, small, at)) (held.settled h h' n small).1))
+      ∙ sym (second.reads v low' high' n (out n small))
+      ∙ sym (is' n (second.settled v low' high' n (out n small) (held.settled h h' n small).1))
 
   -- the same of legs under other names
   pub renamed_marked : (flag : ℕ) (x x1 x2 : A) (y y1 y2 : B) → (x2 ≡ x1) × (y2 ≡ y1) → KeepsMark a b flag x x1 y y1
@@ -123,8 +124,8 @@ module _ {A B : Type 0} (a : Ghosts A) (b : Ghosts B) where
   pub closed_same : (flag : ℕ) (x x1 : A) (y y1 : B)
       → (a.honest x → b.honest y → HasHonestMark flag (now (a.trail x)) (now (b.trail y)))
       → IsConfined a.size a.honest a.trail Nowhere x x1 → IsConfined b.size b.honest b.trail Nowhere y y1
-      → (a.honest x → says_closed ((now (a.trail x)).reads flag) ≡ true)
-      → (a.honest x → b.honest y → (now (b.trail y)).reads flag ≡ (now (a.trail x)).reads flag)
+      → (a.honest x → says_closed ((now (a.trail x)).reads (flag + 1)) ≡ true)
+      → (a.honest x → b.honest y → (now (b.trail y)).reads (flag + 1) ≡ (now (a.trail x)).reads (flag + 1))
       → HoldSame a b flag x1 y1
   closed_same flag x x1 y y1 marks from to closed alike = hold_still flag x x1 y y1
       (λ h h'. same_reads flag (now (a.trail x)) (now (b.trail y)) (marks h h') (closed h) (sym (alike h h')))
@@ -139,12 +140,12 @@ module _ {A B : Type 0} (a : Ghosts A) (b : Ghosts B) where
       → (a.honest x → b.honest y → HasHonestMark flag (now (a.trail x)) (now (b.trail y)))
       → IsConfined a.size a.honest a.trail Nowhere x x1 → IsConfined a.size a.honest a.trail Nowhere x1 x2
       → IsConfined b.size b.honest b.trail Nowhere y y1
-      → (a.honest x → says ≡ says_closed ((now (a.trail x)).reads flag))
-      → (a.honest x1 → b.honest y → (now (b.trail y)).reads flag ≡ (now (a.trail x1)).reads flag)
+      → (a.honest x → says ≡ says_closed ((now (a.trail x)).reads (flag + 1)))
+      → (a.honest x1 → b.honest y → (now (b.trail y)).reads (flag + 1) ≡ (now (a.trail x1)).reads (flag + 1))
       → HoldSame a b flag x2 y1
   closed_found flag x x1 x2 y y1 says so marks from from2 to closed alike = closed_same flag x x2 y y1 marks
       (joined a.size a.honest a.trail from from2) to (λ h. sym (closed h) ∙ so)
-      (λ h h'. alike (from.still h) h' ∙ still_reads (a.trail x) (a.trail x1) (from.moments h) flag (λ none. none))
+      (λ h h'. alike (from.still h) h' ∙ still_reads (a.trail x) (a.trail x1) (from.moments h) (flag + 1) (λ none. none))
 
 module _ {A B : Type 0} (a : Ghosts A) (b : Ghosts B) (d : TwinDisk A B a b) (whole : HasBothLegs d)
     (quiet : HasHonestLegs d → (n : ℕ) → (now (twin_moments d)).pending n ≡ false) where
@@ -167,99 +168,54 @@ module _ {A B : Type 0} (a : Ghosts A) (b : Ghosts B) (d : TwinDisk A B a b) (wh
         );
   }
 
-  pub held_legs : (legs : A × B) → legs ≡ (first_leg d, second_leg d) → HoldSame a b (twin_size d) legs.0 legs.1
-  held_legs legs are = subst (λ (p : A × B). HoldSame a b (twin_size d) p.0 p.1) (sym are) whole_held
-
 -- the legs that were handed out, and were marked then
-pub marked_legs : {A B : Type 0} (a : Ghosts A) (b : Ghosts B) (d : TwinDisk A B a b) → HasBothLegs d → (legs : A × B)
+pub marked_legs : {A B : Type 0} (a : Ghosts A) (b : Ghosts B) (d : TwinDisk A B a b) → (legs : A × B)
     → legs ≡ (first_leg d, second_leg d) → (one : A) (other : B)
-    → IsConfined a.size a.honest a.trail (Only (twin_size d)) legs.0 one
-    → IsConfined b.size b.honest b.trail (Only (twin_size d)) legs.1 other
+    → IsConfined a.size a.honest a.trail (Only (twin_size d + 1)) legs.0 one
+    → IsConfined b.size b.honest b.trail (Only (twin_size d + 1)) legs.1 other
     → KeepsMark a b (twin_size d) legs.0 one legs.1 other → IsMarked d one other
-marked_legs {A = A} {B = B} a b d whole legs are one other first second marks = record {
-  whole = whole;
-  first = subst (λ (p : A × B). IsConfined a.size a.honest a.trail (Only (twin_size d)) p.0 one) are first;
-  second = subst (λ (p : A × B). IsConfined b.size b.honest b.trail (Only (twin_size d)) p.1 other) are second;
+marked_legs {A = A} {B = B} a b d legs are one other first second marks = record {
+  first = subst (λ (p : A × B). IsConfined a.size a.honest a.trail (Only (twin_size d + 1)) p.0 one) are first;
+  second = subst (λ (p : A × B). IsConfined b.size b.honest b.trail (Only (twin_size d + 1)) p.1 other) are second;
   marks = subst (λ (p : A × B). KeepsMark a b (twin_size d) p.0 one p.1 other) are marks;
 }
 
--- what an image says of a flag that was known
-image_open : {D : Type 0} (d : Ghosts D) (flag : ℕ) (alone : Bool) (old new : D) → KeepsFlag d flag old new → d.honest old
-    → ShowsFlag flag alone (now (d.trail old)) → (u : ℕ) → (d.trail old).clock ≤ u → u ≤ (d.trail new).clock
-    → (image : Content) → IsCrashImage ((d.trail new).at u) image → says_closed (image flag) ≡ false
-image_open d flag alone old new keeps h shown u low high image is =
-    let run = keeps h in
-    ap says_closed (is flag (run.settled u low high flag (λ out. out refl) shown.settled)
-    ∙ run.reads u low high flag (λ out. out refl)) ∙ shown.in_use
+-- the legs of a twin hold the same, under other names
+pub named_legs : {A B : Type 0} (a : Ghosts A) (b : Ghosts B) (d : TwinDisk A B a b)
+    → HoldSame a b (twin_size d) (first_leg d) (second_leg d) → (legs : A × B) → legs ≡ (first_leg d, second_leg d)
+    → HoldSame a b (twin_size d) legs.0 legs.1
+named_legs {A = A} {B = B} a b d held legs are =
+    subst (λ (p : A × B). HoldSame a b (twin_size d) p.0 p.1) (sym are) held
+
+-- an image of a leg whose mark is gone
+open_image : (flag : ℕ) (m : Moment) (image : Content) → IsOpen (flag + 1) m → IsCrashImage m image
+    → says_closed (image (flag + 1)) ≡ true → ⊥
+open_image flag m image gone is closed =
+    let not = ap says_closed (is (flag + 1) gone.settled) ∙ gone.says in cc
 
 module _ {A B : Type 0} (a : Ghosts A) (b : Ghosts B) (old new : TwinDisk A B a b) (on : GoesOn old new)
-    (h : HasHonestLegs old) (u v : ℕ) (i j : Content) where
-  abbrev flag : ℕ
-  flag = twin_size old
-
-  first_open : (alone : Bool) → KeepsFlag a flag (first_leg old) (first_leg new)
-      → ShowsFlag flag alone (now (a.trail (first_leg old))) → FirstSince old new u
-      → IsCrashImage ((a.trail (first_leg new)).at u) i → says_closed (i flag) ≡ true → ⊥
-  first_open alone keeps shown since is closed =
-      let says = image_open a flag alone (first_leg old) (first_leg new) keeps h.first shown u since.0 since.1 i is in absurd cc
-
-  second_open : (alone : Bool) → KeepsFlag b flag (second_leg old) (second_leg new)
-      → ShowsFlag flag alone (now (b.trail (second_leg old))) → SecondSince old new v
-      → IsCrashImage ((b.trail (second_leg new)).at v) j → says_closed (j flag) ≡ true → ⊥
-  second_open alone keeps shown since is closed =
-      let says = image_open b flag alone (second_leg old) (second_leg new) keeps h.second shown v since.0 since.1 j is in
-      absurd cc
-
-  one_open : FirstSince old new u → SecondSince old new v → IsCrashImage ((a.trail (first_leg new)).at u) i
-      → IsCrashImage ((b.trail (second_leg new)).at v) j → says_closed (i flag) ≡ true → i flag ≡ j flag → ⊥
-  one_open since_u since_v is_i is_j closed alike =
-      let also = ap says_closed (sym alike) ∙ closed in
-      by_three (legs_left old)
-      (λ both. elim (bool_two (is_lost old)) [
-        | inl lost ↦
-            let keeps = on.none (inr lost) in
-            let shown = (old.flagged h).one both (λ shown. first_open false keeps.0 shown since_u is_i closed) in
-            second_open false keeps.1 shown since_v is_j also
-        | inr left ↦
-            let shown = (old.flagged h).whole left both in
-            elim on.one [
-              | inl keeps ↦ first_open false keeps shown.0 since_u is_i closed
-              | inr keeps ↦ second_open false keeps shown.1 since_v is_j also
-            ]
-      ])
-      (λ first. let keeps = on.none (inl (λ both. cc)) in first_open true keeps.0 ((old.flagged h).first first).0 since_u is_i closed)
-      (λ second. let keeps = on.none (inl (λ both. cc)) in
-      first_open false keeps.0 ((old.flagged h).second second).0 since_u is_i closed)
-
-  -- where both legs are in use still, neither flag was touched
-  module _ (whole : HasBothLegs new) where
-    were_both : legs_left old ≡ Both
-    were_both = by_three (legs_left old) (λ both. both)
-        (λ (first : legs_left old ≡ First).
-        let fewer : legs_left new ≡ First = subst (λ l. IsFewer l (legs_left new)) first on.fewer in
-        let is = whole.0 in absurd cc)
-        (λ (second : legs_left old ≡ Second).
-        let fewer : legs_left new ≡ Second = subst (λ l. IsFewer l (legs_left new)) second on.fewer in
-        let is = whole.0 in absurd cc)
-
-    was_left : is_lost old ≡ false
-    was_left = elim (bool_two (is_lost old)) [
-      | inl lost ↦ let over = on.over lost in let is = whole.1 in absurd cc
-      | inr left ↦ left
-    ]
-
-    first_in_use : FirstSince old new u → IsCrashImage ((a.trail (first_leg new)).at u) i → says_closed (i flag) ≡ true → ⊥
-    first_in_use = first_open false (on.same (whole.0 ∙ sym were_both) whole.1).0 ((old.flagged h).whole was_left were_both).0
-
-    second_in_use : SecondSince old new v → IsCrashImage ((b.trail (second_leg new)).at v) j → says_closed (j flag) ≡ true → ⊥
-    second_in_use = second_open false (on.same (whole.0 ∙ sym were_both) whole.1).1
-        ((old.flagged h).whole was_left were_both).1
+    (h : HasHonestLegs old) where
+  -- what was before the flags is the same, or one of the marks is gone
+  honest_since : (u v : ℕ) → FirstSince old new u → SecondSince old new v
+      → HasHonestMark (twin_size old) ((a.trail (first_leg new)).at u) ((b.trail (second_leg new)).at v)
+  honest_since u v since_u since_v i j is_i is_j closed alike n small =
+      elim ((on.first_opened h.first).each u since_u.0 since_u.1) [
+        | inl gone ↦ absurd (open_image (twin_size old) ((a.trail (first_leg new)).at u) i gone is_i closed)
+        | inr one ↦ elim ((on.second_opened h.second).each v since_v.0 since_v.1) [
+          | inl gone ↦ absurd (open_image (twin_size old) ((b.trail (second_leg new)).at v) j gone is_j
+              (ap says_closed (sym alike) ∙ closed))
+          | inr other ↦
+              let held = old.held one.0 other.0 in
+              let quiet = held.settled h.first h.second n small in
+              is_i n (one.1.settled n small quiet.0) ∙ one.1.reads n small ∙ held.same h.first h.second n small
+              ∙ sym (other.1.reads n small) ∙ sym (is_j n (other.1.settled n small quiet.1))
+        ]
+      ]
 
 pub all_honest : {A B : Type 0} (a : Ghosts A) (b : Ghosts B) → MarksStayHonest a b
 all_honest a b old new on h u v since_u since_v =
     subst (λ n. HasHonestMark n ((a.trail (first_leg new)).at u) ((b.trail (second_leg new)).at v)) (sym on.size)
-    (λ i j is_i is_j closed alike n small.
-    absurd (one_open a b old new on h u v i j since_u since_v is_i is_j closed alike))
+    (honest_since a b old new on h u v since_u since_v)
 
 module _ {A B : Type 0} (a : Ghosts A) (b : Ghosts B) (old last : TwinDisk A B a b) (on : GoesOn old last) where
   -- a twin whose legs are handed out after calls
@@ -267,32 +223,36 @@ module _ {A B : Type 0} (a : Ghosts A) (b : Ghosts B) (old last : TwinDisk A B a
   closed_plain = record {
     last = last;
     calls = on;
-    first = stays_put a.size a.honest a.trail (Only (twin_size old)) (first_leg last);
-    second = stays_put b.size b.honest b.trail (Only (twin_size old)) (second_leg last);
-    marks = λ h h' u v low high low' high' i j is_i is_j closed alike n small.
-        absurd (one_open a b old last on (record { first = h; second = h' }) u v i j (low, high) (low', high') is_i is_j closed
-        alike);
+    first = stays_put a.size a.honest a.trail (Only (twin_size old + 1)) (first_leg last);
+    second = stays_put b.size b.honest b.trail (Only (twin_size old + 1)) (second_leg last);
+    marks = λ h h' u v low high low' high'.
+        honest_since a b old last on (record { first = h; second = h' }) u v (low, high) (low', high');
   }
 
-  module _ (one : A) (other : B) (marked : IsMarked last one other) where
-    -- at a moment of a leg before its flag was touched it is as it was
-    first_past : a.honest (first_leg old) → (u : ℕ) → u ≤ (a.trail (first_leg last)).clock
-        → (a.trail one).at u ≡ (a.trail (first_leg last)).at u
-    first_past h u early = (marked.first.moments (on.first_still h)).kept u early
+  module _ (shut : old.closed.first ≡ false) (shut' : old.closed.second ≡ false) (one : A) (other : B)
+      (marked : IsMarked last one other) where
+    -- at a moment of a leg before its mark was put it is as it was, and its mark was gone
+    first_past : a.honest (first_leg old) → (u : ℕ) → (a.trail (first_leg old)).clock ≤ u
+        → u ≤ (a.trail (first_leg last)).clock → IsOpen (twin_size old + 1) ((a.trail one).at u)
+    first_past h u low early = elim ((on.first_opened h).each u low early) [
+      | inl gone ↦ subst (IsOpen (twin_size old + 1)) (sym ((marked.first.moments (on.first_still h)).kept u early)) gone
+      | inr still ↦ absurd (let is = still.0 in cc)
+    ]
 
-    second_past : b.honest (second_leg old) → (v : ℕ) → v ≤ (b.trail (second_leg last)).clock
-        → (b.trail other).at v ≡ (b.trail (second_leg last)).at v
-    second_past h v early = (marked.second.moments (on.second_still h)).kept v early
+    second_past : b.honest (second_leg old) → (v : ℕ) → (b.trail (second_leg old)).clock ≤ v
+        → v ≤ (b.trail (second_leg last)).clock → IsOpen (twin_size old + 1) ((b.trail other).at v)
+    second_past h v low early = elim ((on.second_opened h).each v low early) [
+      | inl gone ↦ subst (IsOpen (twin_size old + 1)) (sym ((marked.second.moments (on.second_still h)).kept v early)) gone
+      | inr still ↦ absurd (let is = still.0 in cc)
+    ]
 
     marks_kept : KeepsMark a b (twin_size old) (first_leg old) one (second_leg old) other
     marks_kept h h' u v low high low' high' i j is_i is_j closed alike n small =
-        let both : HasHonestLegs old = record { first = h; second = h' } in
         elim (cases_lt (a.trail (first_leg last)).clock u) [
-          | inr early ↦ absurd (first_in_use a b old last on both u v i j marked.whole (low, early)
-              (subst (λ m. IsCrashImage m i) (first_past h u early) is_i) closed)
+          | inr early ↦ absurd (open_image (twin_size old) ((a.trail one).at u) i (first_past h u low early) is_i closed)
           | inl late ↦ elim (cases_lt (b.trail (second_leg last)).clock v) [
-            | inr early ↦ absurd (second_in_use a b old last on both u v i j marked.whole (low', early)
-                (subst (λ m. IsCrashImage m j) (second_past h' v early) is_j) (ap says_closed (sym alike) ∙ closed))
+            | inr early ↦ absurd (open_image (twin_size old) ((b.trail other).at v) j (second_past h' v low' early) is_j
+                (ap says_closed (sym alike) ∙ closed))
             | inl late' ↦ subst (λ k. KeepsMark a b k (first_leg last) one (second_leg last) other) on.size marked.marks
                 (on.first_still h) (on.second_still h') u v (omega (arith, late)) high (omega (arith, late')) high' i j is_i is_j
                 closed alike n small
@@ -304,13 +264,32 @@ module _ {A B : Type 0} (a : Ghosts A) (b : Ghosts B) (old last : TwinDisk A B a
     closed_marked = record {
       last = last;
       calls = on;
-      first = subst (λ n. IsConfined a.size a.honest a.trail (Only n) (first_leg last) one) on.size marked.first;
-      second = subst (λ n. IsConfined b.size b.honest b.trail (Only n) (second_leg last) other) on.size marked.second;
+      first = subst (λ n. IsConfined a.size a.honest a.trail (Only (n + 1)) (first_leg last) one) on.size marked.first;
+      second = subst (λ n. IsConfined b.size b.honest b.trail (Only (n + 1)) (second_leg last) other) on.size marked.second;
       marks = marks_kept;
     }
 
   -- the legs that a twin hands out after calls, be they marked or not
-  pub closed_any : (legs : A × B) → (legs ≡ (first_leg last, second_leg last)) ⊎ IsMarked last legs.0 legs.1
-      → IsClosed old legs.0 legs.1
-  closed_any legs (inl are) = subst (λ (p : A × B). IsClosed old p.0 p.1) (sym are) closed_plain
-  closed_any legs (inr marked) = closed_marked legs.0 legs.1 marked
+  pub closed_any : old.closed.first ≡ false → old.closed.second ≡ false → (legs : A × B)
+      → (legs ≡ (first_leg last, second_leg last)) ⊎ IsMarked last legs.0 legs.1 → IsClosed old legs.0 legs.1
+  closed_any shut shut' legs (inl are) = subst (λ (p : A × B). IsClosed old p.0 p.1) (sym are) closed_plain
+  closed_any shut shut' legs (inr marked) = closed_marked shut shut' legs.0 legs.1 marked
+
+module _ {A B : Type 0} (a : Ghosts A) (b : Ghosts B) (d : TwinDisk A B a b) where
+  -- no call
+  stays_there : GoesOn d d
+  stays_there = goes_nowhere a b d d refl refl (λ lost. lost) refl refl refl
+      (λ h. record { later = omega arith; kept = λ t le. refl })
+
+  -- a twin whose legs are handed out at once
+  pub unwritten_plain : (legs : A × B) → legs ≡ (first_leg d, second_leg d) → IsClosed d legs.0 legs.1
+  unwritten_plain legs are = subst (λ (p : A × B). IsClosed d p.0 p.1) (sym are) (closed_plain a b d d stays_there)
+
+  pub unwritten_marked : (one : A) (other : B) → IsMarked d one other → IsClosed d one other
+  unwritten_marked one other marked = record {
+    last = d;
+    calls = stays_there;
+    first = marked.first;
+    second = marked.second;
+    marks = marked.marks;
+  }

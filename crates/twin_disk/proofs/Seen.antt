@@ -13,6 +13,7 @@ use Rattle.twin_disk.specs.declared.legs.Legs.{Legs}
 use Rattle.twin_disk.specs.Bounded.{bounded_content, bounded_moment, within}
 use Rattle.twin_disk.specs.Legs.{Calls, Each, HasSettled, HasWritten, IsFewer, IsHonest, OrFlag, Rests, first_now, read_by, second_now}
 use Rattle.twin_disk.specs.Legs.{LegsRead, LegsWritten, LegsSynced}
+use Rattle.twin_disk.specs.Marks.{OrMark}
 
 module _ {A B : Type 0} (a : Ghosts A) (b : Ghosts B) where
   -- what every call keeps
@@ -117,7 +118,7 @@ wrote_within flag n bytes m m' within wrote = λ i k. each k i
   where
     each : (k : ℕ) → bounded_content flag m'.reads k ≡ (if k == n then bytes else bounded_content flag m.reads k)
     each k = elim (cases_lt k flag) [
-      | inl low ↦ bounded_at flag k m'.reads low ∙ wrote k (λ is. omega (arith, low, is))
+      | inl low ↦ bounded_at flag k m'.reads low ∙ wrote k low
           ∙ ap (λ r. if k == n then bytes else r) (sym (bounded_at flag k m.reads low))
       | inr high ↦ past_at flag k m'.reads high ∙ sym (past_at flag k m.reads high)
           ∙ sym (ap (λ b. if b then bytes else bounded_content flag m.reads k) (tests_other k n (omega (arith, high, within))))
@@ -125,7 +126,7 @@ wrote_within flag n bytes m m' within wrote = λ i k. each k i
 
 settled_within : (flag : ℕ) (m : Moment) → HasSettled flag m → (k : ℕ) → (bounded_moment flag m).pending k ≡ false
 settled_within flag m settled k = elim (cases_lt k flag) [
-  | inl low ↦ settled_at flag k m.pending low ∙ settled k (λ is. omega (arith, low, is))
+  | inl low ↦ settled_at flag k m.pending low ∙ settled k low
   | inr high ↦ settled_past flag k m.pending high
 ]
 
@@ -138,15 +139,25 @@ ok_to : {T E P Q : Type 0} (r : Result T E) → (P → Q) → OnOk r P → OnOk 
 ok_to (Ok _) f it = f it
 ok_to (Err _) f it = tt
 
+-- before the flag a write touches its own sector
+before_mark : (flag n k : ℕ) → k < flag → OrMark flag n k → k ≡ n
+before_mark flag n k low (inl is) = is
+before_mark flag n k low (inr is) = absurd (omega (arith, low, is))
+
 module _ {A B : Type 0} (a : Ghosts A) (b : Ghosts B) (flag : ℕ) where
-  pub calls_seen : {E : Type 0} (area : ℕ → Type 0) (result : Result (Unit {0}) E) (old new : Legs A B)
-      → Calls a b flag area result old new → Moves (within flag a) (within flag b) area old new
-  calls_seen area result old new calls = record {
-    first = confined_within a flag old.first new.first (or_flag_in old.left flag area) calls.first;
-    second = confined_within b flag old.second new.second (or_flag_in old.left flag area) calls.second;
+  seen_in : {E : Type 0} (more area : ℕ → Type 0) → ((k : ℕ) → k < flag → more k → area k) → (result : Result (Unit {0}) E)
+      → (old new : Legs A B) → Calls a b flag more result old new → Moves (within flag a) (within flag b) area old new
+  seen_in more area inside result old new calls = record {
+    first = confined_within a flag old.first new.first (λ k low at. inside k low (or_flag_in old.left flag more k low at)) calls.first;
+    second = confined_within b flag old.second new.second (λ k low at. inside k low (or_flag_in old.left flag more k low at))
+        calls.second;
     fewer = calls.fewer;
     rests = calls.rests;
   }
+
+  pub calls_seen : {E : Type 0} (area : ℕ → Type 0) (result : Result (Unit {0}) E) (old new : Legs A B)
+      → Calls a b flag area result old new → Moves (within flag a) (within flag b) area old new
+  calls_seen area result old new calls = seen_in area area (λ k low at. at) result old new calls
 
   pub read_seen : {E : Type 0} (n : ℕ) (bytes : List ℕ) (result : Result (Unit {0}) E) (old new : Legs A B) → n < flag
       → LegsRead a b flag n bytes result old new → Reads (within flag a) (within flag b) n bytes result old new
@@ -159,7 +170,7 @@ module _ {A B : Type 0} (a : Ghosts A) (b : Ghosts B) (flag : ℕ) where
   pub write_seen : {E : Type 0} (n : ℕ) (bytes : List ℕ) (result : Result (Unit {0}) E) (old new : Legs A B) → n < flag
       → LegsWritten a b flag n bytes result old new → Writes (within flag a) (within flag b) n bytes result old new
   write_seen n bytes result old new low writes = record {
-    moves = calls_seen (Only n) result old new writes.calls;
+    moves = seen_in (OrMark flag n) (Only n) (before_mark flag n) result old new writes.calls;
     done = ok_to result (each_to new.left
         (λ did h. wrote_within flag n bytes (first_now a b old) (first_now a b new) low (did h))
         (λ did h. wrote_within flag n bytes (second_now a b old) (second_now a b new) low (did h))) writes.done;

@@ -10,7 +10,8 @@ use Rattle.twin_disk.specs.declared.choosing.Choice.TheVariants as choice
 use Rattle.twin_disk.specs.Bounded.{bounded_content}
 use Rattle.twin_disk.specs.Flags.{says_alone}
 use Rattle.twin_disk.specs.Legs.{IsFewer}
-use Rattle.twin_disk.specs.Survival.{first_leg, second_leg, legs_left, twin_size, is_lost, twin_moments, HasHonestLegs}
+use Rattle.twin_disk.specs.Marks.{HasOpened}
+use Rattle.twin_disk.specs.Survival.{first_closed, first_leg, second_closed, second_leg, legs_left, twin_size, is_lost, twin_moments, HasHonestLegs}
 
 -- which one is chosen where the flags say these: the one that is alone, and of two in pair the first
 abbrev pub choice_of : Bool → Bool → Choice
@@ -46,7 +47,8 @@ pub record HasPast (old new : Trail) : Type 0 where
 
 module _ {A B : Type 0} {a : Ghosts A} {b : Ghosts B} where
   -- What a call does to a twin, and calls one after another: what was noted of its calls is noted still, and what they
-  -- noted; and the flag of one leg at most is touched, and none where a leg had been dropped, or none is dropped.
+  -- noted; the flag of one leg at most is touched, and none where a leg had been dropped, or none is dropped; and before a
+  -- leg that may say *closed* is written, its mark is gone.
   pub record GoesOn (old new : TwinDisk A B a b) : Type 0 where
     pub more : List (Legs A B)
     pub calls : new.calls.items ≡ old.calls.items ++ more
@@ -66,6 +68,10 @@ module _ {A B : Type 0} {a : Ghosts A} {b : Ghosts B} where
     pub none : (legs_left old ≢ Both) ⊎ (is_lost old ≡ true) → KeepsFlag a (twin_size old)
         (first_leg old) (first_leg new)
         × KeepsFlag b (twin_size old) (second_leg old) (second_leg new)
+    pub first_opened : a.honest (first_leg old) → HasOpened a (twin_size old) (first_closed old)
+        (first_closed new) (first_leg old) (first_leg new)
+    pub second_opened : b.honest (second_leg old) → HasOpened b (twin_size old) (second_closed old)
+        (second_closed new) (second_leg old) (second_leg new)
     pub same : legs_left new ≡ legs_left old → is_lost new ≡ false → KeepsFlag a (twin_size old)
         (first_leg old) (first_leg new)
         × KeepsFlag b (twin_size old) (second_leg old) (second_leg new)

@@ -1,17 +1,17 @@
--- Two legs that were closed together, and so hold the same.
-use Rattle.std.specs.Prelude.{◌≡◌, ◌<◌, ◌≤◌, ℕ, true}
+-- Two legs that were closed together, and so hold the same. The mark that says so stands behind their flags.
+use Rattle.std.specs.Prelude.{◌≡◌, ◌<◌, ◌≤◌, ◌+◌, ℕ, true}
 use Rattle.sector_disk.specs.declared.disk.Disk.{Ghosts}
 use Rattle.sector_disk.specs.Trail.{Content, Moment, IsCrashImage, Only}
 use Rattle.sector_disk.specs.Confined.{IsConfined}
 use Rattle.twin_disk.specs.declared.twin.TwinDisk.{TwinDisk}
 use Rattle.twin_disk.specs.Flags.{says_closed}
-use Rattle.twin_disk.specs.Survival.{first_leg, second_leg, twin_size, HasBothLegs, HasHonestLegs}
+use Rattle.twin_disk.specs.Survival.{first_leg, second_leg, twin_size, HasHonestLegs}
 use Rattle.twin_disk.specs.Choosing.{FirstSince, GoesOn, SecondSince}
 
--- if both flags are one and the same sector, which says *closed*, all sectors before them read the same
+-- if both marks are one and the same sector, which says *closed*, all sectors before the flags read the same
 abbrev pub IsHonestMark : ℕ → Content → Content → Type 0
-IsHonestMark flag i j = says_closed (i flag) ≡ true → i flag ≡ j flag → (n : ℕ) → n < flag
-    → i n ≡ j n
+IsHonestMark flag i j = says_closed (i (flag + 1)) ≡ true → i (flag + 1) ≡ j (flag + 1) → (n : ℕ)
+    → n < flag → i n ≡ j n
 
 -- whatever a crash leaves of two legs at these moments
 abbrev pub HasHonestMark : ℕ → Moment → Moment → Type 0
@@ -25,7 +25,7 @@ KeepsMark a b flag one one' other other' = a.honest one → b.honest other → (
     → (b.trail other).clock ≤ v → v ≤ (b.trail other').clock
     → HasHonestMark flag ((a.trail one').at u) ((b.trail other').at v)
 
--- the calls of a twin, of which none marks a leg, leave no mark that isn't honest
+-- the calls of a twin leave no mark that isn't honest
 abbrev pub MarksStayHonest : {A B : Type 0} → Ghosts A → Ghosts B → Type 0
 MarksStayHonest {A = A} {B = B} a b = (old new : TwinDisk A B a b) → GoesOn old new
     → HasHonestLegs old → (u v : ℕ) → FirstSince old new u → SecondSince old new v
@@ -33,18 +33,19 @@ MarksStayHonest {A = A} {B = B} a b = (old new : TwinDisk A B a b) → GoesOn ol
     (second_leg new)).at v)
 
 module _ {A B : Type 0} {a : Ghosts A} {b : Ghosts B} where
-  -- a twin of which both legs were in use, and of whose legs no more was touched than their flags, honestly
+  -- legs of a twin of which no more was touched than their marks, honestly
   pub record IsMarked (twin : TwinDisk A B a b) (one : A) (other : B) : Type 0 where
-    pub whole : HasBothLegs twin
-    pub first : IsConfined a.size a.honest a.trail (Only (twin_size twin)) (first_leg twin) one
-    pub second : IsConfined b.size b.honest b.trail (Only (twin_size twin)) (second_leg twin) other
+    pub first : IsConfined a.size a.honest a.trail (Only (twin_size twin + 1)) (first_leg twin) one
+    pub second : IsConfined b.size b.honest b.trail (Only (twin_size twin + 1)) (second_leg twin)
+        other
     pub marks : KeepsMark a b (twin_size twin) (first_leg twin) one (second_leg twin) other
 
-  -- what becomes of the legs of a twin that is closed: after calls of the twin only their flags are touched, and whatever a
+  -- what becomes of the legs of a twin that is closed: after calls of the twin only their marks are touched, and whatever a
   -- crash left of both since the closing began, their marks are honest
   pub record IsClosed (old : TwinDisk A B a b) (one : A) (other : B) : Type 0 where
     pub last : TwinDisk A B a b
     pub calls : GoesOn old last
-    pub first : IsConfined a.size a.honest a.trail (Only (twin_size old)) (first_leg last) one
-    pub second : IsConfined b.size b.honest b.trail (Only (twin_size old)) (second_leg last) other
+    pub first : IsConfined a.size a.honest a.trail (Only (twin_size old + 1)) (first_leg last) one
+    pub second : IsConfined b.size b.honest b.trail (Only (twin_size old + 1)) (second_leg last)
+        other
     pub marks : KeepsMark a b (twin_size old) (first_leg old) one (second_leg old) other

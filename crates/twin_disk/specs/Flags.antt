@@ -7,7 +7,7 @@ use Rattle.twin_disk.specs.declared.flags.TheConstants.{ALONE, CLOSED, NAME_BYTE
 abbrev pub says_alone : List ℕ → Bool
 says_alone bytes = get_or bytes 0 0 == ALONE
 
--- a sector says *closed*: the leg is in pair, and was closed with its twin
+-- the sector behind it says *closed*: the leg was closed with its twin
 abbrev pub says_closed : List ℕ → Bool
 says_closed bytes = get_or bytes 0 0 == CLOSED
 
@@ -18,8 +18,12 @@ pair_name bytes = take NAME_BYTES (drop 1 bytes)
 abbrev pub IsNameless : List ℕ → Type 0
 IsNameless name = name ≡ replicate NAME_BYTES 0
 
--- the sector with the flag is settled, says whether the leg is alone, and doesn't say *closed*
+-- the sector with the flag is settled, and says whether the leg is alone
 pub record ShowsFlag (flag : ℕ) (alone : Bool) (m : Moment) : Type 0 where
   pub settled : m.pending flag ≡ false
   pub says : says_alone (m.reads flag) ≡ alone
-  pub in_use : says_closed (m.reads flag) ≡ false
+
+-- the sector with the mark is settled, and doesn't say *closed*
+pub record IsOpen (mark : ℕ) (m : Moment) : Type 0 where
+  pub settled : m.pending mark ≡ false
+  pub says : says_closed (m.reads mark) ≡ false

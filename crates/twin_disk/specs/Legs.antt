@@ -7,7 +7,9 @@ use Rattle.sector_disk.specs.Confined.{IsConfined}
 use Rattle.twin_disk.specs.declared.legs.Left.{Left}
 use Rattle.twin_disk.specs.declared.legs.Left.TheVariants.{Both, First, Second}
 use Rattle.twin_disk.specs.declared.legs.Legs.{Legs}
+use Rattle.twin_disk.specs.declared.legs.Closed.{Closed}
 use Rattle.twin_disk.specs.Flags.{ShowsFlag}
+use Rattle.twin_disk.specs.Marks.{Opens, OrMark}
 
 -- each leg in use
 abbrev pub Each : Left → Type 0 → Type 0 → Type 0
@@ -47,14 +49,14 @@ OrFlag Both flag area n = area n ⊎ (n ≡ flag)
 OrFlag First flag area n = area n
 OrFlag Second flag area n = area n
 
--- a leg reads as after a write, but for its flag
+-- a leg reads as after a write, before its flag
 abbrev pub HasWritten : ℕ → ℕ → List ℕ → Moment → Moment → Type 0
-HasWritten flag n bytes old new = (k : ℕ) → ¬ (k ≡ flag) → new.reads k ≡
+HasWritten flag n bytes old new = (k : ℕ) → k < flag → new.reads k ≡
     (if k == n then bytes else old.reads k)
 
--- all of a leg is settled, but for its flag
+-- all of a leg before its flag is settled
 abbrev pub HasSettled : ℕ → Moment → Type 0
-HasSettled flag m = (k : ℕ) → ¬ (k ≡ flag) → m.pending k ≡ false
+HasSettled flag m = (k : ℕ) → k < flag → m.pending k ≡ false
 
 -- this leg was made the only one in use, and its flag says so for good; or that failed, and nothing is said of it
 pub record StandsAlone {D O E : Type 0} (d : Ghosts D) (flag : ℕ) (only : Left) (result : Result
@@ -141,7 +143,7 @@ module _ {A B : Type 0} (a : Ghosts A) (b : Ghosts B) (flag : ℕ) where
   pub record LegsWritten {E : Type 0} (n : ℕ) (bytes : List ℕ) (result : Result (Unit {0}) E)
       (old new : Legs A B)
       : Type 0 where
-    pub calls : Calls (Only n) result old new
+    pub calls : Calls (OrMark flag n) result old new
     pub done : OnOk result (Each new.left
         (a.honest old.first → HasWritten flag n bytes (first_now a b old) (first_now a b new))
         (b.honest old.second → HasWritten flag n bytes (second_now a b old) (second_now a b new)))
@@ -152,3 +154,8 @@ module _ {A B : Type 0} (a : Ghosts A) (b : Ghosts B) (flag : ℕ) where
     pub done : OnOk result (Each new.left
         (a.honest old.first → HasSettled flag (first_now a b new))
         (b.honest old.second → HasSettled flag (second_now a b new)))
+
+  -- what became of the marks of both
+  pub record LegsOpened (closed closed' : Closed) (old new : Legs A B) : Type 0 where
+    pub first : Opens a flag closed.first closed'.first old.first new.first
+    pub second : Opens b flag closed.second closed'.second old.second new.second

@@ -1,6 +1,7 @@
 pub mod Bounded
 pub mod Flags
 pub mod Legs
+pub mod Marks
 pub mod Twin
 pub mod Survival
 pub mod Copying

@@ -38,6 +38,13 @@ module _ {A B : Type 0} {a : Ghosts A} {b : Ghosts B} where
   abbrev pub second_leg : TwinDisk A B a b → B
   second_leg d = d.legs.second
 
+  -- whether each may still say *closed*
+  abbrev pub first_closed : TwinDisk A B a b → Bool
+  first_closed d = d.closed.first
+
+  abbrev pub second_closed : TwinDisk A B a b → Bool
+  second_closed d = d.closed.second
+
   abbrev pub legs_left : TwinDisk A B a b → Left
   legs_left d = d.legs.left
 

@@ -24,9 +24,9 @@ pub struct FileLegs<F: HostFile, G: HostFile> {
     pub same: bool,
 }
 
-/// Two files as legs, with a sector for the flag behind the first `sectors` ones, and whether these were found to read the
-/// same. Nothing is written. It isn't found where the host refuses a read, interrupts it or gives fewer bytes than asked,
-/// nor without memory for what is read.
+/// Two files as legs, with a sector for the flag and one for the mark behind the first `sectors` ones, and whether these were
+/// found to read the same. Nothing is written. It isn't found where the host refuses a read, interrupts it or gives fewer
+/// bytes than asked, nor without memory for what is read.
 pub fn file_legs<F: HostFile, G: HostFile>(
     alloc: Global,
     first: F,
@@ -35,9 +35,9 @@ pub fn file_legs<F: HostFile, G: HostFile>(
 ) -> FileLegs<F, G>
     requires first { F.intact first ≡ true }
     requires second { G.intact second ≡ true }
-    requires few { sectors + 1 < 2 ^ 32 }
-    ensures first { ⟦<FileDisk<F> as Disk>⟧.size result.first ≡ sectors + 1 }
-    ensures second { ⟦<FileDisk<G> as Disk>⟧.size result.second ≡ sectors + 1 }
+    requires few { sectors + 2 < 2 ^ 32 }
+    ensures first { ⟦<FileDisk<F> as Disk>⟧.size result.first ≡ sectors + 2 }
+    ensures second { ⟦<FileDisk<G> as Disk>⟧.size result.second ≡ sectors + 2 }
     ensures same { IsTrue result.same → ReadSame ⟦<FileDisk<F> as Disk>⟧ ⟦<FileDisk<G> as Disk>⟧
         sectors result.first result.second }
 {
@@ -45,8 +45,8 @@ pub fn file_legs<F: HostFile, G: HostFile>(
     let mut second = second;
     let same = hold_same(alloc, &mut first, &mut second, sectors);
     FileLegs {
-        first: FileDisk::with_sectors(first, sectors + 1),
-        second: FileDisk::with_sectors(second, sectors + 1),
+        first: FileDisk::with_sectors(first, sectors + 2),
+        second: FileDisk::with_sectors(second, sectors + 2),
         same,
     }
 }

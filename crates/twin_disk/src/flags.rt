@@ -9,7 +9,7 @@ use sector_disk::{Disk, Fault, SECTOR_BYTES, Sector};
 /// The first byte of the flag's sector of a leg that goes on without its twin. Any other byte says *in pair*.
 pub const ALONE: u8 = 1;
 
-/// The first byte of that sector of a leg that was closed with its twin, which is also in pair.
+/// The first byte of the sector behind that of a leg that was closed with its twin.
 pub const CLOSED: u8 = 2;
 
 /// How many bytes the name of a pair has.
@@ -27,29 +27,28 @@ pub struct Flag {
     /// Whether the leg goes on without its twin.
     pub alone: bool,
 
-    /// Whether it was closed with its twin, and reads as this does if it bears the same stamp.
+    /// Whether its mark says that it was closed with its twin: then it reads as this does if that bears the same mark.
     pub closed: bool,
     pub name: Name,
 }
 
 impl Flag {
-    /// The flag in a sector.
-    pub fn of(sector: &Sector) -> Flag
+    /// The flag in a sector, with the mark in the one behind it.
+    pub fn of(sector: &Sector, mark: &Sector) -> Flag
         ensures alone { result.alone ≡ says_alone sector.now }
-        ensures closed { result.closed ≡ says_closed sector.now }
+        ensures closed { result.closed ≡ says_closed mark.now }
         ensures name { result.name ≡ pair_name sector.now }
     {
         Flag {
             alone: sector[0] == ALONE,
-            closed: sector[0] == CLOSED,
+            closed: mark[0] == CLOSED,
             name: name_of(sector),
         }
     }
 
-    /// The sector with this flag, which doesn't say *closed*.
+    /// The sector with this flag.
     pub fn sector(&self) -> Sector
-        ensures alone { says_alone result ≡ self.now.alone }
-        ensures in_use { says_closed result ≡ false }
+        ensures { says_alone result ≡ self.now.alone }
     {
         let mut sector = named(&self.name);
         set_alone(&mut sector, self.alone);
@@ -82,8 +81,7 @@ fn named(name: &Name) -> Sector {
 
 /// Says in a flag's sector whether the leg is alone.
 fn set_alone(sector: &mut Sector, alone: bool)
-    ensures alone { says_alone sector.new ≡ alone }
-    ensures in_use { says_closed sector.new ≡ false }
+    ensures { says_alone sector.new ≡ alone }
 {
     sector[0] = if alone { ALONE } else { 0 };
 }
@@ -101,35 +99,6 @@ pub fn put_flag<D: Disk>(leg: &mut D, at: u32, flag: Flag) -> Result<(), Fault>
         → (n : ℕ) → (now (D.trail leg.new)).pending n ≡ false) }
 {
     let sector = flag.sector();
-    leg.write(at, &sector)?;
-    leg.sync()
-}
-
-/// The sector of the flag of a leg that is closed with its twin under this stamp.
-fn closed_sector(name: &Name, stamp: &Name) -> Sector
-    ensures { says_closed result ≡ true }
-{
-    let mut sector = named(name);
-    sector[1 + NAME_BYTES..1 + 2 * NAME_BYTES].copy_from_slice(stamp);
-    sector[0] = CLOSED;
-    sector
-}
-
-/// Has a leg say *closed* in its sector `at`, for good, under this stamp.
-///
-/// `Fault`: a call of the leg failed, and that sector may hold anything.
-pub(crate) fn put_mark<D: Disk>(
-    leg: &mut D,
-    at: u32,
-    name: &Name,
-    stamp: &Name,
-) -> Result<(), Fault>
-    requires { at < D.size leg.old }
-    ensures kept { IsConfined D.size D.honest D.trail (Only at) leg.old leg.new }
-    ensures shown { OnOk result (D.honest leg.old
-        → says_closed ((now (D.trail leg.new)).reads at) ≡ true) }
-{
-    let sector = closed_sector(name, stamp);
     leg.write(at, &sector)?;
     leg.sync()
 }

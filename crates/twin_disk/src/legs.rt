@@ -1,9 +1,10 @@
 //! Two disks, and which of them are in use.
-ghost use Rattle.std.specs.Prelude.{◌≡◌, ◌<◌, true};
-ghost use Rattle.twin_disk.specs.Legs.{Joins, LegsRead, StandsAlone, LegsSynced, LegsWritten};
+ghost use Rattle.std.specs.Prelude.{◌≡◌, ◌<◌, ◌+◌, true};
+ghost use Rattle.twin_disk.specs.Legs.{Joins, LegsOpened, LegsRead, StandsAlone, LegsSynced, LegsWritten};
 ghost use Rattle.twin_disk.specs.declared.legs.Left.TheVariants.{First, Second};
 
 use crate::flags::{Flag, Name, put_flag};
+use crate::marks::{open_leg, write_open, write_opened};
 use sector_disk::{Disk, Fault, Sector};
 
 /// Which legs are in use.
@@ -22,6 +23,13 @@ pub(crate) struct Legs<A: Disk, B: Disk> {
     pub(crate) second: B,
     pub(crate) left: Left,
     pub(crate) mark: Option<u32>,
+}
+
+/// Which legs may still say that they were closed together, as nothing has been written to them since.
+#[derive(Clone, Copy)]
+pub(crate) struct Closed {
+    pub(crate) first: bool,
+    pub(crate) second: bool,
 }
 
 /// In which sector of each leg its flag stands, and the name of the pair.
@@ -114,29 +122,51 @@ impl<A: Disk, B: Disk> Legs<A, B> {
         self.leave_second(beside)
     }
 
-    /// LegsWritten to each leg in use.
-    pub(crate) fn write(&mut self, n: u32, bytes: &Sector, beside: &Beside) -> Result<(), Fault>
+    /// Writes to each leg in use, after none of these says *closed* any more: so if they differ, none does.
+    pub(crate) fn write(
+        &mut self,
+        n: u32,
+        bytes: &Sector,
+        beside: &Beside,
+        closed: &mut Closed,
+    ) -> Result<(), Fault>
         requires within { n < beside.now.sector }
-        requires first { beside.now.sector < A.size self.old.first }
-        requires second { beside.now.sector < B.size self.old.second }
-        ensures { LegsWritten A.Disk B.Disk beside.now.sector n bytes.now result self.old self.new }
+        requires first { beside.now.sector + 1 < A.size self.old.first }
+        requires second { beside.now.sector + 1 < B.size self.old.second }
+        ensures did { LegsWritten A.Disk B.Disk beside.now.sector n bytes.now result self.old
+            self.new }
+        ensures marks { LegsOpened A.Disk B.Disk beside.now.sector closed.old closed.new self.old
+            self.new }
     {
+        let at = beside.sector;
         match self.left {
-            Left::Both => self.write_both(n, bytes, beside),
-            Left::First => self.first.write(n, bytes),
-            Left::Second => self.second.write(n, bytes),
+            Left::Both => self.write_both(n, bytes, beside, closed),
+            Left::First => write_open(&mut self.first, at, &mut closed.first, n, bytes),
+            Left::Second => write_open(&mut self.second, at, &mut closed.second, n, bytes),
         }
     }
 
-    fn write_both(&mut self, n: u32, bytes: &Sector, beside: &Beside) -> Result<(), Fault>
+    fn write_both(
+        &mut self,
+        n: u32,
+        bytes: &Sector,
+        beside: &Beside,
+        closed: &mut Closed,
+    ) -> Result<(), Fault>
         requires within { n < beside.now.sector }
-        requires first { beside.now.sector < A.size self.old.first }
-        requires second { beside.now.sector < B.size self.old.second }
+        requires first { beside.now.sector + 1 < A.size self.old.first }
+        requires second { beside.now.sector + 1 < B.size self.old.second }
         requires both { self.old.left ≡ Left.Both }
-        ensures { LegsWritten A.Disk B.Disk beside.now.sector n bytes.now result self.old self.new }
+        ensures did { LegsWritten A.Disk B.Disk beside.now.sector n bytes.now result self.old
+            self.new }
+        ensures marks { LegsOpened A.Disk B.Disk beside.now.sector closed.old closed.new self.old
+            self.new }
     {
-        let first = self.first.write(n, bytes);
-        let second = self.second.write(n, bytes);
+        let at = beside.sector;
+        let one = open_leg(&mut self.first, at, &mut closed.first);
+        let other = open_leg(&mut self.second, at, &mut closed.second);
+        let first = write_opened(&mut self.first, one, n, bytes);
+        let second = write_opened(&mut self.second, other, n, bytes);
         self.join(first, second, beside)
     }
 

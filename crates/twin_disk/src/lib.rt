@@ -11,6 +11,7 @@ mod files;
 mod flags;
 mod leaving;
 mod legs;
+mod marks;
 mod notes;
 mod pairing;
 mod twin;

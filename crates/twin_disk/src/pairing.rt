@@ -1,5 +1,5 @@
 //! A twin of two disks.
-ghost use Rattle.std.specs.Prelude.{◌≡◌, ◌<◌, ◌↔◌, ℕ, IfOk, IsTrue};
+ghost use Rattle.std.specs.Prelude.{◌≡◌, ◌<◌, ◌+◌, ◌↔◌, ℕ, IfOk, IsTrue};
 ghost use Rattle.sector_disk.specs.Trail.{now};
 ghost use Rattle.twin_disk.specs.Closing.{KeepsMark};
 ghost use Rattle.twin_disk.specs.Copying.{HoldSame};
@@ -21,8 +21,8 @@ pub fn paired<A: Disk + Drop, B: Disk + Drop>(
     name: Name,
     same: bool,
 ) -> Result<TwinDisk<A, B>, Fault>
-    requires first { sectors < A.size first }
-    requires second { sectors < B.size second }
+    requires first { sectors + 1 < A.size first }
+    requires second { sectors + 1 < B.size second }
     requires same { IsTrue same → HoldSame A.Disk B.Disk sectors first second }
     ensures size { IfOk result (λ d. ⟦<TwinDisk<A, B> as Disk>⟧.size d ≡ sectors) }
     ensures honest { IfOk result (λ d. ⟦<TwinDisk<A, B> as Disk>⟧.honest d

@@ -1,17 +1,19 @@
 //! One disk over two.
-ghost use Rattle.std.specs.Prelude.{◌≡◌, ◌<◌, ◌++◌, [], ◌∷◌, true, false, if◌then◌else◌, MatchResult, OnOk, OnErr, Some, None};
+ghost use Rattle.std.specs.Prelude.{◌≡◌, ◌<◌, ◌+◌, ◌++◌, [], ◌∷◌, true, false, if◌then◌else◌, MatchResult, OnOk, OnErr, Some, None};
 ghost use Rattle.sector_disk.specs.Trail.{now, Nowhere, Only, written, after_sync, CountsFault};
 ghost use Rattle.sector_disk.specs.Confined.{IsConfined};
 ghost use Rattle.std.proofs.Props.{props};
 ghost use Rattle.twin_disk.specs.declared.legs.Left.TheVariants.{First, Second};
 ghost use Rattle.twin_disk.specs.Bounded.{within};
+ghost use Rattle.twin_disk.specs.Copying.{HoldSame};
+ghost use Rattle.twin_disk.specs.Flags.{IsOpen};
 ghost use Rattle.twin_disk.specs.Legs.{IsHonest};
 ghost use Rattle.twin_disk.specs.Twin.{Agrees, TwinEnds, IsFlagged, IsLegFollowed, with_mark, pending_now, twin_trail};
 
 use crate::choosing::Leg;
 use crate::closing::mark_both;
 use crate::flags::Name;
-use crate::legs::{Beside, Left, Legs};
+use crate::legs::{Beside, Closed, Left, Legs};
 use crate::notes::Notes;
 use ghost_traces::Count;
 use sector_disk::{Disk, Fault, Sector};
@@ -27,6 +29,10 @@ pub struct TwinDisk<A: Disk, B: Disk> {
     /// Where the flag of a leg stands, which is behind the sectors of the twin, and the name of the pair.
     beside: Beside,
 
+    /// Which legs may still say *closed*. Before one of them is written its mark is taken off: so a start that writes
+    /// nothing leaves it there.
+    closed: Closed,
+
     /// Whether no leg is left.
     lost: bool,
     failed: Count,
@@ -34,14 +40,20 @@ pub struct TwinDisk<A: Disk, B: Disk> {
     /// The legs at the start, and at each call that wrote or settled.
     start: Notes<Legs<A, B>>,
     calls: Notes<Legs<A, B>>,
-    ghost first_size: { beside.sector < A.Disk.size legs.first },
-    ghost second_size: { beside.sector < B.Disk.size legs.second },
+    ghost first_size: { beside.sector + 1 < A.Disk.size legs.first },
+    ghost second_size: { beside.sector + 1 < B.Disk.size legs.second },
     ghost agree: { IsHonest (within beside.sector A.Disk) (within beside.sector B.Disk) legs
         → Agrees (within beside.sector A.Disk) (within beside.sector B.Disk) lost
         (pending_now (within beside.sector A.Disk)
         (within beside.sector B.Disk) start.items calls.items) legs } by { Prim.hlevel props },
     ghost flagged: { IsHonest (within beside.sector A.Disk) (within beside.sector B.Disk) legs
         → IsFlagged A.Disk B.Disk beside.sector lost legs } by { Prim.hlevel props },
+    ghost first_open: { A.Disk.honest legs.first → closed.first ≡ false
+        → IsOpen (beside.sector + 1) (now (A.Disk.trail legs.first)) } by { Prim.hlevel props },
+    ghost second_open: { B.Disk.honest legs.second → closed.second ≡ false
+        → IsOpen (beside.sector + 1) (now (B.Disk.trail legs.second)) } by { Prim.hlevel props },
+    ghost held: { closed.first ≡ true → closed.second ≡ true
+        → HoldSame A.Disk B.Disk beside.sector legs.first legs.second } by { Prim.hlevel props },
     ghost first_followed: { IsHonest (within beside.sector A.Disk)
         (within beside.sector B.Disk) legs
         → IsLegFollowed (within beside.sector A.Disk) (within beside.sector B.Disk)
@@ -93,18 +105,15 @@ impl<A: Disk, B: Disk> TwinDisk<A, B> {
     ghost use Rattle.std.specs.Prelude.{ℕ, ◌↔◌, ◌⊎◌, IsTrue};
     ghost use Rattle.twin_disk.specs.Bounded.{bounded_moment};
     ghost use Rattle.twin_disk.specs.Closing.{IsClosed, IsMarked};
-    ghost use Rattle.twin_disk.specs.Flags.{ShowsFlag};
-    ghost use Rattle.twin_disk.specs.Survival.{HasBothLegs, HasHonestLegs, dropped_of, either_pending, first_leg, second_leg, twin_moments};
+    ghost use Rattle.twin_disk.specs.Copying.{ArePaired, HoldSame};
+    ghost use Rattle.twin_disk.specs.Survival.{HasBothLegs, HasHonestLegs, dropped_of, either_pending, first_leg, second_leg, twin_moments, twin_size};
 
-    /// The disk over two legs of which the first `sectors` read the same, and whose flags, in the sector behind them, say
-    /// *in pair*. `name` is written beside a flag that is changed.
+    /// The disk over two legs that hold the same in their first `sectors`, and whose flags, in the sector behind them,
+    /// say *in pair*. Their marks, in the one behind that, may say *closed*. `name` is written beside a flag that is
+    /// changed.
     pub fn new(first: A, second: B, sectors: u32, name: Name) -> TwinDisk<A, B>
-        requires sizes { (sectors < A.size first) × (sectors < B.size second) }
-        requires same { A.honest first → B.honest second → (n : ℕ) → n < sectors
-            → (now (A.trail first)).reads n ≡ (now (B.trail second)).reads n }
-        requires in_pair { A.honest first → B.honest second
-            → ShowsFlag sectors false (now (A.trail first)) × ShowsFlag sectors false (now
-            (B.trail second)) }
+        requires sizes { (sectors + 1 < A.size first) × (sectors + 1 < B.size second) }
+        requires in_pair { ArePaired A.Disk B.Disk sectors first second }
         ensures legs { (first_leg result ≡ first) × (second_leg result ≡ second) }
         ensures size { ⟦<TwinDisk<A, B> as Disk>⟧.size result ≡ sectors }
         ensures honest { ⟦<TwinDisk<A, B> as Disk>⟧.honest result ↔ (A.honest first
@@ -129,6 +138,10 @@ impl<A: Disk, B: Disk> TwinDisk<A, B> {
         TwinDisk {
             legs,
             beside,
+            closed: Closed {
+                first: true,
+                second: true,
+            },
             lost: false,
             failed: Count::new(),
             start,
@@ -154,16 +167,29 @@ impl<A: Disk, B: Disk> TwinDisk<A, B> {
         }
     }
 
-    /// Hands out both legs at the end. Where both are in use, all is synced, and then both say *closed* under this stamp, as
-    /// far as they can: the next start needn't compare them.
+    /// Hands out both legs at the end. Where both are in use, all is synced, and then both say *closed* under this stamp,
+    /// as far as they can, unless they say so still: the next start needn't compare them.
     pub fn close(self, stamp: &Name) -> (A, B)
         ensures { IsClosed self result.0 result.1 }
     {
+        if self.closed.first || self.closed.second {
+            return self.close_unwritten(stamp);
+        }
         let mut twin = self;
         match twin.sync() {
             Ok(()) => twin.leave(stamp),
             Err(_) => twin.into_legs(),
         }
+    }
+
+    /// The same of a twin of which a leg wasn't written, and so neither was, unless one was dropped.
+    fn close_unwritten(self, stamp: &Name) -> (A, B)
+        ensures { IsClosed self result.0 result.1 }
+    {
+        if self.closed.first && self.closed.second && self.is_whole() {
+            return self.mark(stamp);
+        }
+        self.into_legs()
     }
 
     /// The same of a twin of which all is settled.
@@ -177,16 +203,14 @@ impl<A: Disk, B: Disk> TwinDisk<A, B> {
         self.mark(stamp)
     }
 
-    /// Hands out both legs, which say *closed*, as far as they can.
+    /// Hands out both legs, which hold the same and say *closed*, as far as they can.
     fn mark(self, stamp: &Name) -> (A, B)
-        requires whole { HasBothLegs self }
-        requires settled { HasHonestLegs self
-            → (n : ℕ) → (now (twin_moments self)).pending n ≡ false }
+        requires { HoldSame A.Disk B.Disk (twin_size self) (first_leg self) (second_leg self) }
         ensures { IsMarked self result.0 result.1 }
     {
         let beside = self.beside;
         let (mut first, mut second) = self.into_legs();
-        let _ = mark_both(&mut first, &mut second, beside.sector, &beside.name, stamp);
+        let _ = mark_both(&mut first, &mut second, beside.sector, stamp);
         (first, second)
     }
 
@@ -197,6 +221,7 @@ impl<A: Disk, B: Disk> TwinDisk<A, B> {
         let TwinDisk {
             legs,
             beside: _,
+            closed: _,
             lost: _,
             failed: _,
             start: _,
@@ -251,7 +276,7 @@ impl<A: Disk, B: Disk> Disk for TwinDisk<A, B> {
         told(done, &mut self.lost, &mut self.failed)
     }
 
-    /// Writes to each leg in use.
+    /// Writes to each leg in use, from which its mark is taken off before the first write.
     fn write(&mut self, n: u32, bytes: &Sector) -> Result<(), Fault>
         requires { n < ⟦<Self as Disk>⟧.size self.old }
         ensures goes_on { GoesOn self.old self.new }
@@ -271,7 +296,7 @@ impl<A: Disk, B: Disk> Disk for TwinDisk<A, B> {
             return Err(Fault);
         }
         begin_write(n, &mut self.legs, &mut self.calls);
-        let done = self.legs.write(n, bytes, &self.beside);
+        let done = self.legs.write(n, bytes, &self.beside, &mut self.closed);
         told(done, &mut self.lost, &mut self.failed)
     }
 

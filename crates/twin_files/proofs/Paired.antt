@@ -1,5 +1,5 @@
 -- The pair of two legs is that of the leg which the flags choose.
-use Rattle.std.proofs.Common.{◌≡◌, Bool, false, true, sym, ◌∙◌, ap, subst, ℕ}
+use Rattle.std.proofs.Common.{◌≡◌, inl, inr, Bool, false, true, sym, ◌∙◌, ap, subst, ℕ}
 use Rattle.sector_disk.specs.declared.disk.Disk.{Ghosts}
 use Rattle.sector_disk.specs.Trail.{Nowhere}
 use Rattle.sector_disk.specs.Confined.{IsConfined}
@@ -8,7 +8,7 @@ use Rattle.twin_disk.specs.declared.choosing.Choice.{Choice}
 use Rattle.twin_disk.specs.declared.choosing.Choice.TheVariants as choice
 use Rattle.twin_disk.specs.Choosing.{OfChosen, choice_of}
 use Rattle.twin_files.specs.declared.pairing.Pair.{Pair}
-use Rattle.twin_files.specs.Pairing.{IsPairFrom, IsPairOf, leg_flag}
+use Rattle.twin_files.specs.Pairing.{HasOlder, IsPairFrom, IsPairOf, SaysOlder, leg_closed, leg_flag}
 
 module _ {D : Type 0} (d : Ghosts D) (n : ℕ) where
   -- legs of which nothing was touched
@@ -45,3 +45,26 @@ module _ {D : Type 0} (d : Ghosts D) (n : ℕ) where
         → IsPairFrom d n true second1 first1 pair → IsPairOf d n first second pair
     of_second c is second_chosen pair was = of_chosen choice.Second (sym is ∙ second_chosen) pair
         (pair_before true second second1 first first1 to from pair was)
+
+    -- what both say of an older copy
+    module _ (closed closed' : Bool) (ended : d.honest first → closed ≡ leg_closed d n first)
+        (ended' : d.honest second → closed' ≡ leg_closed d n second) (h : d.honest first) (h' : d.honest second) where
+      pub told_older : SaysOlder mine other closed closed' → HasOlder d n first second
+      told_older older = (
+        sym (says h) ∙ older.0,
+        sym (tells h') ∙ older.1,
+        elim older.2 [
+          | inl is ↦ inl (sym (ended h) ∙ is)
+          | inr is ↦ inr (sym (ended' h') ∙ is)
+        ],
+      )
+
+      pub would_tell : HasOlder d n first second → SaysOlder mine other closed closed'
+      would_tell older = (
+        says h ∙ older.0,
+        tells h' ∙ older.1,
+        elim older.2 [
+          | inl is ↦ inl (ended h ∙ is)
+          | inr is ↦ inr (ended' h' ∙ is)
+        ],
+      )

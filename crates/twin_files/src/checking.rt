@@ -1,5 +1,5 @@
 //! How two files of a store are.
-ghost use Rattle.std.specs.Prelude.{◌<◌, IfOk};
+ghost use Rattle.std.specs.Prelude.{◌<◌, ◌+◌, IfOk};
 
 use crate::legs::{LegDisk, leg_in};
 use crate::trouble::PairTrouble;
@@ -17,7 +17,7 @@ pub fn check_pair(rt: &HostRuntime, path: &str, twin: &str) -> Result<(), PairTr
 
 /// The leg in the file at this path, locked for a look.
 fn leg_at(rt: &HostRuntime, path: &str, which: Leg) -> Result<LegDisk, PairTrouble>
-    ensures { IfOk result (λ leg. FILE_SECTORS < ⟦<LegDisk as Disk>⟧.size leg) }
+    ensures { IfOk result (λ leg. FILE_SECTORS + 1 < ⟦<LegDisk as Disk>⟧.size leg) }
 {
     match looked_at(rt, path) {
         Ok(file) => Ok(leg_in(file)),
@@ -33,8 +33,8 @@ fn compare(
     path: &str,
     twin: &str,
 ) -> Result<(), PairTrouble>
-    requires first { FILE_SECTORS < ⟦<LegDisk as Disk>⟧.size first }
-    requires second { FILE_SECTORS < ⟦<LegDisk as Disk>⟧.size second }
+    requires first { FILE_SECTORS + 1 < ⟦<LegDisk as Disk>⟧.size first }
+    requires second { FILE_SECTORS + 1 < ⟦<LegDisk as Disk>⟧.size second }
 {
     let mut first = first;
     let mut second = second;

@@ -1,4 +1,4 @@
-//! Files as legs: a store's sectors, and behind them one with the flag.
+//! Files as legs: a store's sectors, and behind them one with the flag and one with the mark.
 ghost use Rattle.std.specs.Prelude.{◌≡◌};
 
 use host_files::LockedFile;
@@ -11,8 +11,8 @@ pub type LegDisk = FileDisk<LockedFile>;
 /// A disk over two such legs.
 pub type PairDisk = TwinDisk<LegDisk, LegDisk>;
 
-/// How many sectors a leg has: those of a store's disk, and that of its flag.
-pub const LEG_SECTORS: u32 = FILE_SECTORS + 1;
+/// How many sectors a leg has: those of a store's disk, that of its flag, and that of its mark.
+pub const LEG_SECTORS: u32 = FILE_SECTORS + 2;
 
 /// The leg in a file.
 pub(crate) fn leg_in(file: LockedFile) -> LegDisk

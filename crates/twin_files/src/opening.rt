@@ -1,5 +1,5 @@
 //! A store on two files.
-ghost use Rattle.std.specs.Prelude.{◌≡◌, ◌<◌, false, IfOk};
+ghost use Rattle.std.specs.Prelude.{◌≡◌, ◌<◌, ◌+◌, false, IfOk};
 
 use crate::legs::{LegDisk, PairDisk, leg_in};
 use crate::pairing::{Pair, pair_both, pair_from};
@@ -95,7 +95,7 @@ fn pair_new(
     path: &str,
     missing: Leg,
 ) -> Result<Pair<LegDisk>, PairTrouble>
-    requires { FILE_SECTORS < ⟦<LegDisk as Disk>⟧.size leg }
+    requires { FILE_SECTORS + 1 < ⟦<LegDisk as Disk>⟧.size leg }
 {
     let mut leg = leg;
     let flag = flag_at(&mut leg, FILE_SECTORS)?;
@@ -120,7 +120,7 @@ fn pair_made(
     name: Name,
     missing: Leg,
 ) -> Result<Pair<LegDisk>, PairTrouble>
-    requires { FILE_SECTORS < ⟦<LegDisk as Disk>⟧.size leg }
+    requires { FILE_SECTORS + 1 < ⟦<LegDisk as Disk>⟧.size leg }
 {
     let NewFile { name: aside, file } = made;
     let swapped = missing == Leg::First;
@@ -154,7 +154,7 @@ fn named(
         Ok(()) => Ok(pair),
         Err(trouble) => {
             let (mut leg, _copy) = pair.disk.into_legs();
-            if FILE_SECTORS < leg.sectors() {
+            if FILE_SECTORS + 1 < leg.sectors() {
                 let _ = leave_twin(&mut leg, FILE_SECTORS);
             }
             Err(PairTrouble::One(missing, trouble))

@@ -1,11 +1,11 @@
 //! Two legs as one disk: which of them is right, by what both say.
-ghost use Rattle.std.specs.Prelude.{◌≡◌, ◌≢◌, ◌<◌, IfOk, IfErr, IsTrue};
-ghost use Rattle.twin_files.specs.declared.pairing.Unpaired.TheVariants.{BothAlone, Fault as Failed};
+ghost use Rattle.std.specs.Prelude.{◌≡◌, ◌≢◌, ◌<◌, ◌+◌, ◌↔◌, false, IfOk, IfErr, IsTrue};
+ghost use Rattle.twin_files.specs.declared.pairing.Unpaired.TheVariants.{BothAlone, PutBack, Fault as Failed};
 ghost use Rattle.sector_disk.specs.Trail.{Nowhere};
 ghost use Rattle.sector_disk.specs.Confined.{IsConfined};
 ghost use Rattle.twin_disk.specs.Choosing.{choice_of};
 ghost use Rattle.twin_disk.specs.Copying.{HoldSame};
-ghost use Rattle.twin_files.specs.Pairing.{AreBothAlone, IsPairFrom, IsPairOf};
+ghost use Rattle.twin_files.specs.Pairing.{AreBothAlone, HasOlder, IsPairFrom, IsPairOf, IsPutBack, SaysOlder};
 
 use desk_journal::{Error, Store};
 use sector_disk::{Disk, Fault};
@@ -56,11 +56,14 @@ pub fn pair_both<D: Disk + Drop>(
     sectors: u32,
     same: bool,
 ) -> Result<Pair<D>, Unpaired>
-    requires first { sectors < D.size first }
-    requires second { sectors < D.size second }
+    requires first { sectors + 1 < D.size first }
+    requires second { sectors + 1 < D.size second }
     requires same { IsTrue same → HoldSame D.Disk D.Disk sectors first second }
     ensures chosen { IfOk result (IsPairOf D.Disk sectors first second) }
     ensures alone { IfErr result (AreBothAlone D.Disk sectors first second) }
+    ensures put_back { IfErr result (IsPutBack D.Disk sectors same first second) }
+    ensures none_older { IfOk result (λ pair. same ≡ false → D.honest first → D.honest second
+        → ¬ HasOlder D.Disk sectors first second) }
 {
     let mut first = first;
     let mut second = second;
@@ -76,17 +79,27 @@ pub fn pair_both<D: Disk + Drop>(
     }
 }
 
-/// Which leg goes on. Legs that may differ, of which neither is alone, and one says that it was closed with the other, no crash
-/// leaves: they are refused.
+/// Which leg goes on. Legs that may differ are refused where one is an older copy.
 fn chosen(mine: Flag, other: Flag, same: bool) -> Result<Choice, Unpaired>
     ensures choice { IfOk result (λ choice. choice ≡ choice_of mine.alone other.alone) }
     ensures alone { IfErr result (λ why. why ≢ BothAlone) }
+    ensures put_back { IfErr result (λ why. (same ≡ false)
+        × SaysOlder mine.alone other.alone mine.closed other.closed) }
+    ensures none_older { IfOk result (λ choice. same ≡ false
+        → ¬ SaysOlder mine.alone other.alone mine.closed other.closed) }
 {
-    let closed = mine.closed || other.closed;
-    if !same && closed && !mine.alone && !other.alone {
+    if !same && is_one_older(mine, other) {
         return Err(Unpaired::PutBack);
     }
     Ok(choose(mine, other))
+}
+
+/// Whether two legs say what no crash leaves them saying if they differ: neither that it is alone, and one that it was
+/// closed with the other.
+fn is_one_older(mine: Flag, other: Flag) -> bool
+    ensures { IsTrue result ↔ SaysOlder mine.alone other.alone mine.closed other.closed }
+{
+    (mine.closed || other.closed) && !mine.alone && !other.alone
 }
 
 /// The disk over two legs of which the first is right. Where the other one may differ, the first has to open as a store
@@ -102,11 +115,12 @@ pub fn pair_from<D: Disk + Drop>(
     swapped: bool,
     same: bool,
 ) -> Result<Pair<D>, Unpaired>
-    requires right { sectors < D.size right }
-    requires other { sectors < D.size other }
+    requires right { sectors + 1 < D.size right }
+    requires other { sectors + 1 < D.size other }
     requires same { IsTrue same → HoldSame D.Disk D.Disk sectors right other }
     ensures chosen { IfOk result (IsPairFrom D.Disk sectors swapped right other) }
     ensures alone { IfErr result (λ why. why ≢ BothAlone) }
+    ensures put_back { IfErr result (λ why. why ≢ PutBack) }
 {
     let mut right = right;
     if !same {
@@ -122,6 +136,7 @@ pub fn pair_from<D: Disk + Drop>(
 fn with_store<D: Disk + Drop>(alloc: Global, leg: D, swapped: bool) -> Result<D, Unpaired>
     ensures kept { IfOk result (λ found. IsConfined D.size D.honest D.trail Nowhere leg found) }
     ensures alone { IfErr result (λ why. why ≢ BothAlone) }
+    ensures put_back { IfErr result (λ why. why ≢ PutBack) }
 {
     match Store::open(alloc, leg) {
         Ok(store) => Ok(store.close()),

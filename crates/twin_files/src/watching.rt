@@ -1,5 +1,5 @@
 //! A keyboard that stops a sitting when one of a store's two files has failed, so that the next one can begin with it.
-ghost use Rattle.std.specs.Prelude.{◌≡◌, ◌<◌, ◌⊎◌, true, false, is_some, IfOk, IfErr, IfSome, OnErr};
+ghost use Rattle.std.specs.Prelude.{◌≡◌, ◌<◌, ◌+◌, ◌⊎◌, true, false, is_some, IfOk, IfErr, IfSome, OnErr};
 ghost use Rattle.sector_disk.specs.declared.file.TheConstants.{FILE_SECTORS};
 ghost use Rattle.terminal_keyboard.specs.declared.keyboard.KeyboardEnd.TheVariants.{Closed};
 ghost use Rattle.twin_files.specs.Pairing.{HasLegFailed, leg_flag};
@@ -17,8 +17,8 @@ use twin_disk::{Leg, flag_at};
 pub struct Watch<D: Disk> {
     first: D,
     second: D,
-    ghost first_size: { FILE_SECTORS < D.Disk.size first },
-    ghost second_size: { FILE_SECTORS < D.Disk.size second },
+    ghost first_size: { FILE_SECTORS + 1 < D.Disk.size first },
+    ghost second_size: { FILE_SECTORS + 1 < D.Disk.size second },
 }
 
 /// The same of files of the host.
@@ -50,7 +50,7 @@ impl<D: Disk> Watch<D> {
 
 /// Whether a leg says *alone*, as far as it can be read.
 fn says_alone<D: Disk>(leg: &mut D) -> bool
-    requires { FILE_SECTORS < D.size leg.old }
+    requires { FILE_SECTORS + 1 < D.size leg.old }
     ensures size { D.size leg.new ≡ D.size leg.old }
     ensures told { result ≡ true → D.honest leg.old → leg_flag D.Disk FILE_SECTORS leg.old ≡ true }
 {

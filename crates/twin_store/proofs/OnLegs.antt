@@ -48,7 +48,7 @@ module _ {A B : Type 0} (a : Ghosts A) (b : Ghosts B) where
         each = λ t low high. subst (λ u. Leaves ((twin_moments d).at u) P)
             (let here : (twin_moments d).clock ≡ t = omega (arith, low, high) in here) leaves;
       } in
-      let on = goes_nowhere a b d d refl (λ lost. lost) refl refl refl
+      let on = goes_nowhere a b d d refl refl (λ lost. lost) refl refl refl
       (λ honest. record { later = omega arith; kept = λ t le. refl }) in
       let all = legs_leave_only d d P first on h h none in
       record {

@@ -1,6 +1,6 @@
 # An import into two files is killed by signal 9 before each of its calls in turn, and then either file is deleted. The
-# other one opens, has what it had, and has the new document as a whole if that was told. The same of a sitting in which
-# each letter is shown.
+# other one opens, has what it had, and has the new document as a whole if that was told; and both together begin a sitting.
+# The same of a sitting in which each letter is shown.
 FEW=40
 . "$TESTS/lib/each_call.sh"
 "$PROGRAM" format made.disk
@@ -18,8 +18,12 @@ has() {
     found=$("$DESK_PROGRAM" export "$1" B.Text 2> missing)
     [ "$found" = Hello ] || { [ ! -s got ] && grep -q B.Text missing; }
 }
+printf '\021' > quit
+begins() {
+    "$DESK_PROGRAM" sit --twin two.disk 33 one.disk < quit > shown 2> said
+}
 is_right() {
-    [ $status = 137 ] && has one.disk && has two.disk
+    [ $status = 137 ] && has one.disk && has two.disk && begins
 }
 killed=0
 for call in pwrite fdatasync write; do

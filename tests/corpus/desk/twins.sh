@@ -9,6 +9,7 @@ cmp one.disk two.disk && echo 'both are the same'
 echo 'without the twin:'
 "$DESK_PROGRAM" import one.disk B.Text=A.Text
 "$DESK_PROGRAM" check two.disk --twin one.disk | sed -n 1,2p
+"$DESK_PROGRAM" check one.disk --twin two.disk | sed -n 2p
 "$DESK_PROGRAM" import two.disk --twin one.disk C.Text=A.Text
 "$DESK_PROGRAM" check one.disk --twin two.disk | sed -n 1,2p
 "$DESK_PROGRAM" list two.disk | grep Text

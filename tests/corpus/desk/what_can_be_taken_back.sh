@@ -31,3 +31,26 @@ ls
 "$PROGRAM" format keys.disk
 for keys in l lm lr m ml mr r rl rm; do echo "point $keys 1 1 1 1"; done | "$PROGRAM" play keys.disk | sort -u
 desk history keys.disk
+
+# The events before a checkpoint can be taken back too: right behind it, and together with those behind it.
+"$PROGRAM" format turned.disk
+printf '%s\n' 'file A.Text one' 'file B.Text two' checkpoint | "$PROGRAM" play turned.disk
+desk history turned.disk
+desk earlier turned.disk 1 right_behind.disk
+desk list right_behind.disk | grep Text
+echo 'file C.Text three' | "$PROGRAM" play turned.disk
+desk history turned.disk
+desk earlier turned.disk 2 across.disk
+desk list across.disk | grep Text
+desk earlier turned.disk 4 too_many.disk
+
+# What two presses come to: the middle button on the empty display, and Ctrl-End in a text that is shown in a hundred pages.
+"$PROGRAM" format empty.disk
+printf '\033[<1;10;10M\033[<1;10;10m\021' | desk sit 33 empty.disk > scenes
+desk history empty.disk
+"$PROGRAM" format long.disk
+seq 3000 > Long.Text
+desk import long.disk Long.Text
+printf '%s\n' 'file System.Tool Edit.Open Long.Text' 'point m 60 31 60 31' 'point m 52 30 52 30' | "$PROGRAM" play long.disk
+printf '\033[<0;20;10M\033[<0;20;10m\033[1;5F\021' | desk sit 33 long.disk > scenes
+"$PROGRAM" screen long.disk | cut -c 1-20 | sed -n 2,3p

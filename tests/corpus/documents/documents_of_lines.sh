@@ -19,3 +19,8 @@ for name in '' ' ' '.Text' '1.Text' 'A Text' 'A-Text' ABCDEFGHIJKLMNOPQRSTUVWXYZ
 done
 cmp before.disk my.disk && echo 'the store is as it was'
 "$DESK_PROGRAM" import my.disk ABCDEFGHIJKLMNOPQRSTUVWXYZ.Text=lines
+# A line is told as too wide where one character of it is beyond the edge of a new viewer.
+for width in 49 50; do
+    head -c $width /dev/zero | tr '\0' x > wide
+    "$DESK_PROGRAM" import my.disk W$width=wide
+done

@@ -24,6 +24,9 @@ for length in 13 31 32 100 255; do
     "$DESK_PROGRAM" import names.disk "$name" 2>&1 | cut -c 1-60
     "$DESK_PROGRAM" import names.disk "L$length=$name" 2>&1
 done
+name=$(head -c 40 /dev/zero | tr '\0' M)
+echo 40 > "$name"
+desk import names.disk --rename "$name"
 desk list names.disk
 
 echo '--- an output that takes nothing'
@@ -55,8 +58,8 @@ desk import prose.disk --fill wide prose 2>&1 | cut -c 1-40
 
 echo '--- room by System.Collect'
 "$PROGRAM" format worn.disk
-# Longer words stand before it, which are others.
-printf 'file System.Tool System.Collector%%20NoSystem.Collect%%0dEdit.Search%%20System.Collect%%20%%0d\npoint m 60 10 60 10\n' | "$PROGRAM" play worn.disk
+# Longer words stand below it, which are others.
+printf 'file System.Tool Edit.Search%%20System.Collect%%20%%0dNoSystem.Collect%%20System.Collector%%0d\npoint m 60 10 60 10\n' | "$PROGRAM" play worn.disk
 head -c 200000 /dev/zero | tr '\0' x > large
 for n in $(seq 21); do
     echo "$n" >> large

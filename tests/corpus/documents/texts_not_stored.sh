@@ -32,6 +32,25 @@ point m 52 28 52 28
 END
 desk list my.disk
 
+echo '--- a viewer that is covered by one with a lower number'
+"$PROGRAM" format low.disk
+"$PROGRAM" play low.disk << 'END' > played
+file System.Tool Edit.Open A.Text%0dEdit.Open B.Text%0dSystem.Close%0dSystem.Grow
+point m 60 31 60 31
+point m 52 30 52 30
+point m 52 29 52 29
+point l 2 14 2 14
+type second%0d
+mark 2 30
+point m 52 28 52 28
+point m 52 30 52 30
+mark 2 30
+point m 52 28 52 28
+mark 3 14
+point m 52 27 52 27
+END
+desk list low.disk
+
 echo '--- two open texts of one name: one comes, and of the other it is told that it stays behind'
 "$PROGRAM" format two.disk
 "$PROGRAM" play two.disk << 'END' > played

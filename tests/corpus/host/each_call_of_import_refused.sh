@@ -27,4 +27,18 @@ for call in open file_read flock pread pwrite fdatasync; do
     show desk.disk | cmp - whole && [ $status = 0 ] && [ $tried -gt 0 ] && echo "each $call was refused once"
     refused=$((refused + tried))
 done
+
+# The same where the import makes the store: why is said in one sentence, and no file is left under another name.
+attempt() {
+    rm -f fresh.disk*
+    env "$@" "$DESK_PROGRAM" import fresh.disk A.Text > got 2> said
+}
+is_right() {
+    [ $status != 0 ] && [ "$(grep -c '^desk: ' said)" = 1 ] && [ -z "$(ls -A | grep 'fresh.disk.')" ]
+}
+for call in fdatasync fsync realpath; do
+    each_call $call
+    [ "$("$DESK_PROGRAM" export fresh.disk A.Text)" = Hello ] && [ $status = 0 ] && [ $tried -gt 0 ] && echo "a new store: each $call was refused once"
+    refused=$((refused + tried))
+done
 count 'calls refused, desk import' $refused

@@ -99,8 +99,8 @@ def pages(disk, at, end):
 
 
 def half_with(sectors, next_):
-    half = (sectors - STORE - 1) // 2
-    for base in (STORE + 1, STORE + 1 + half):
+    half = (sectors - STORE - 2) // 2
+    for base in (STORE + 2, STORE + 2 + half):
         if half > STORE and base + STORE <= next_ <= base + half:
             return base
     raise Gone(f'no half has sector {next_}')

@@ -8,6 +8,7 @@ from model import ROWS
 from sitting import Ended
 
 FLAG = 15_621 * 1024
+MARK = FLAG + 1024
 # what the line below says where the first file failed, and where the twin did
 TOLD = ('The first file failed, the twin has all: mend it, then start again with both.',
         'The twin failed, the first file has all: mend it, then start again with both.')
@@ -115,16 +116,19 @@ def no_pair(trial):
 
 
 def put_back(trial):
-    """An older copy is put back over either file: nothing is written. Amid a sitting neither file says that it is closed, and
-    after it both say so alike."""
+    """An older copy is put back over either file: nothing is written. Once something is typed neither file says that it is
+    closed, and after the sitting both say so alike; one in which nothing is typed writes to neither."""
     both = pair(trial)
-    trial.check(read(both[0])[FLAG:FLAG + 1] == b'\2', 'the files were not closed')
+    trial.check(all(read(it)[MARK:MARK + 1] == b'\2' for it in both), 'the files were not closed')
     for number in (0, 1):
         older = read(both[number])
+        before = [read(it) for it in both]
+        trial.leaves(trial.sit(both[0], '--twin', both[1]))
+        trial.check([read(it) for it in both] == before, 'a sitting without a key wrote to a file')
         sitting = trial.sit(both[0], '--twin', both[1])
         sitting.press(b'text')
         trial.check(sitting.look_anew(), 'no scene')
-        trial.check(all(read(it)[FLAG:FLAG + 1] == b'\0' for it in both), 'a file says that it is closed amid a sitting')
+        trial.check(all(read(it)[MARK:MARK + 1] == b'\0' for it in both), 'a file says that it is closed after it was written')
         trial.leaves(sitting)
         newer = read(both[number])
         trial.check(newer[FLAG:] != older[FLAG:], 'two ends have one mark')

@@ -1,7 +1,7 @@
 use Rattle.std.proofs.Common.{◌∙◌, ap}
 use Rattle.std.specs.Prelude.{min}
 use Rattle.std.proofs.lemmas.Result.{err_from_is_err_and}
-use Rattle.press_plans.specs.Poured.{word_length}
+use Rattle.filled_pastes.specs.Poured.{word_length}
 use Rattle.press_plans.proofs.Planning.{makes_room, plans_seen, plans_unseen}
 use Rattle.press_plans.proofs.pouring.make_room.Goals as goal
 

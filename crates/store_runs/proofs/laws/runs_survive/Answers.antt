@@ -1,4 +1,4 @@
-use Rattle.store_runs.proofs.Chaining.{survives}
+use Rattle.store_runs.proofs.Surviving.{survives}
 use Rattle.store_runs.proofs.laws.runs_survive.Goals as goal
 
 pub returns : goal.returns

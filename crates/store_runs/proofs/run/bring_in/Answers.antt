@@ -1,4 +1,4 @@
-use Rattle.store_runs.proofs.Deeds.{told_brought}
+use Rattle.store_runs.proofs.Surviving.{told_brought}
 use Rattle.store_runs.proofs.run.bring_in.Goals as goal
 
 pub returns : goal.returns

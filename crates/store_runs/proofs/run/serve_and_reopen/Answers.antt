@@ -1,4 +1,4 @@
-use Rattle.std.proofs.Common.{◌≡◌, refl, sym, ◌∙◌, ap, subst, arith, take}
+use Rattle.std.proofs.Common.{◌≡◌, [], refl, sym, ◌∙◌, ap, subst, arith, take}
 use Rattle.std.proofs.lemmas.List.{take_all}
 use Rattle.std.proofs.lemmas.Result.{IfOk-weaker}
 use Rattle.sector_disk.specs.Trail.{LeavesOnly}
@@ -6,7 +6,8 @@ use Rattle.desktop_definitions.specs.Step.{steps}
 use Rattle.desk_journal.specs.Device.{IsOnlyRead, disk_after}
 use Rattle.desk_journal.proofs.Passing.{at_start, shows_means}
 use Rattle.desk_journal.specs.Opening.{IsOpened}
-use Rattle.store_runs.specs.Run.{MeansSome, StoreCounts, all_counted, counts_of, events_in}
+use Rattle.desk_journal.specs.Prefixes.{MeansPrefix}
+use Rattle.store_runs.specs.Reopening.{StoreCounts, all_counted, counts_of, events_in}
 use Rattle.store_runs.proofs.Reopening.{same_device, went_on, counts_next, desktop_next}
 use Rattle.store_runs.proofs.Reopening.{after_some, call_more, then_read, call_stops, call_worn, result_stops, result_not_worn}
 use Rattle.store_runs.proofs.run.serve_and_reopen.Goals as goal
@@ -63,7 +64,7 @@ returns-in-Err-clause-any_moment g c = λ h.
     let calls = c.args.calls.now in
     let size = g.D.Disk.size first.disk in
     subst (λ disk. LeavesOnly (g.D.Disk.trail first.disk) (g.D.Disk.trail disk)
-    (MeansSome size first.desktop (events_in calls))) (sym c.close.ensures)
+    (MeansPrefix size first.desktop [] (events_in calls))) (sym c.close.ensures)
     (call_more size first.desktop calls g.D.Disk c.loop-call.call-index c.call-item.result c.serve.result
     (g.D.Disk.trail first.disk) old c.serve.new.store c.loop-call-test.true c.call-item.is i.usable
     (i.device.still h) i.device.as_large (i.so_far h) (i.images h) c.serve.ensures)
@@ -97,9 +98,7 @@ returns-clause-ok g c = IfOk-weaker c.open.result _ _ (λ reopened found.
     record {
       desktop = λ h. (c.reopening_law.ensures store reopened (i.device.still h) i.durable opened).0 ∙ i.so_far h
           ∙ ap (λ cs. steps first.desktop (events_in cs)) all;
-      counts = λ h.
-          let same = c.reopening_law.ensures store reopened (i.device.still h) i.durable opened in
-          (λ j. record { layout = same.1 j; epoch = same.2 j; events = same.3 j }) ∙ i.counts
+      counts = λ h. (c.reopening_law.ensures store reopened (i.device.still h) i.durable opened).1 ∙ i.counts
           ∙ ap (λ cs. all_counted cs (counts_of first)) all;
       durable = found.durable;
       settled = λ h. opened.settled (i.device.still h);

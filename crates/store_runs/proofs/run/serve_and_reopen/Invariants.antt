@@ -1,8 +1,9 @@
-use Rattle.std.proofs.Common.{◌≡◌, ◌≤◌, length, take, false}
+use Rattle.std.proofs.Common.{◌≡◌, ◌≤◌, [], length, take, false}
 use Rattle.sector_disk.specs.Trail.{LeavesOnly}
 use Rattle.desktop_definitions.specs.Step.{steps}
 use Rattle.desk_journal.specs.Device.{IsSameDevice}
-use Rattle.store_runs.specs.Run.{MeansSome, all_counted, counts_of, events_in}
+use Rattle.desk_journal.specs.Prefixes.{MeansPrefix}
+use Rattle.store_runs.specs.Reopening.{all_counted, counts_of, events_in}
 use Rattle.desk_journal.specs.View.{IsDurable}
 use Rattle.store_runs.proofs.run.serve_and_reopen.Given as goal
 
@@ -18,5 +19,5 @@ invariant-loop-call g l = record {
   so_far : g.D.Disk.honest l.fn.store.disk
       → l.store.desktop ≡ steps l.fn.store.desktop (events_in (take l.call-index l.calls));
   images : g.D.Disk.honest l.fn.store.disk → LeavesOnly (g.D.Disk.trail l.fn.store.disk) (g.D.Disk.trail l.store.disk)
-      (MeansSome (g.D.Disk.size l.fn.store.disk) l.fn.store.desktop (events_in l.calls));
+      (MeansPrefix (g.D.Disk.size l.fn.store.disk) l.fn.store.desktop [] (events_in l.calls));
 }

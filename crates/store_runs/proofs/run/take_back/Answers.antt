@@ -1,4 +1,4 @@
-use Rattle.store_runs.proofs.Deeds.{told_undone}
+use Rattle.store_runs.proofs.Surviving.{told_undone}
 use Rattle.store_runs.proofs.run.take_back.Goals as goal
 
 pub returns : goal.returns

@@ -1,7 +1,7 @@
-use Rattle.std.proofs.Common.{rules, ◌≡◌, ℕ, ◌+◌, ◌*◌, ◌/◌, ◌%◌, length, subst, sym, ◌∙◌, arith, ap}
+use Rattle.std.proofs.Common.{rules, ◌≡◌, ℕ, ◌+◌, ◌*◌, ◌/◌, ◌%◌, length, subst, ◌∙◌, arith, ap}
 use Rattle.std.proofs.lemmas.List.{length-take-le}
 use Rattle.sector_disk.specs.declared.disk.TheConstants.{SECTOR_BYTES}
-use Rattle.twin_disk.specs.Files.{AgreeFrom, AgreeUpTo}
+use Rattle.twin_disk.specs.Files.{AgreeFrom}
 use Rattle.twin_disk.specs.declared.files.TheConstants.{RUN_BYTES}
 use Rattle.twin_disk.proofs.Compared.{one_compared, all_compared}
 use Rattle.twin_disk.proofs.files.hold_same_by.Goals as goal

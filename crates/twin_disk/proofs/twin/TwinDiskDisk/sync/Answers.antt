@@ -1,4 +1,4 @@
-use Rattle.std.proofs.Common.{◌<◌, inl, inr, [], ◌∷◌, if◌then◌else◌, arith, refl, ap, sym, ◌∙◌, subst}
+use Rattle.std.proofs.Common.{◌<◌, ◌+◌, inl, inr, [], ◌∷◌, if◌then◌else◌, arith, refl, ap, sym, ◌∙◌, subst}
 use Rattle.sector_disk.specs.Trail.{Nowhere}
 use Rattle.twin_disk.specs.Bounded.{within}
 use Rattle.std.specs.declared.option.Option.TheVariants.{None}
@@ -8,6 +8,7 @@ use Rattle.twin_disk.specs.Twin.{IsFlagged, with_mark}
 use Rattle.twin_disk.proofs.Seen.{sync_seen}
 use Rattle.twin_disk.proofs.Flagged.{flagged_after, flagged_if}
 use Rattle.twin_disk.proofs.Followed.{sync_followed}
+use Rattle.twin_disk.proofs.Opened.{calls_opened, opened_as, stays_held, stays_open}
 use Rattle.twin_disk.proofs.Chosen.{first_if, goes_nowhere, goes_on, left_if, second_if, synced_calls, where_left}
 use Rattle.twin_disk.proofs.Calls.{gone, mark_size, sync_agrees, sync_told, sync_failed, sync_touches, sync_honest, sync_was}
 use Rattle.twin_disk.proofs.twin.TwinDiskDisk.sync.Goals as goal
@@ -61,10 +62,22 @@ invariant_of-self-2 g c =
     let followed = sync_followed a b was.start.items was.calls.items was.legs was.lost c.if-self.false was.agree
     was.first_followed was.second_followed c.is_ok.result mid c.end_sync.new.legs
     c.end_sync.new.calls.items c.end_sync.ensures.legs c.end_sync.ensures.calls syncs.moves in
+    let first = ap (λ l. l.first) c.end_sync.ensures.legs ∙ first_if c.is_ok.result mid in
+    let second = ap (λ l. l.second) c.end_sync.ensures.legs ∙ second_if c.is_ok.result mid in
+    let back = (subst (IsConfined g.A.Disk.size g.A.Disk.honest g.A.Disk.trail (OrFlag was.legs.left at Nowhere) was.legs.first)
+    (sym first) calls.first).already in
+    let back' = (subst (IsConfined g.B.Disk.size g.B.Disk.honest g.B.Disk.trail (OrFlag was.legs.left at Nowhere) was.legs.second)
+    (sym second) calls.second).already in
+    let opened = opened_as g.A.Disk g.B.Disk at mid c.end_sync.new.legs first second
+    (calls_opened g.A.Disk g.B.Disk at was.closed c.sync-done.result was.legs mid calls) in
     record {
-      first_size = subst (λ n. at < n) (sym (ap (λ l. g.A.Disk.size l.first) c.end_sync.ensures.legs
+      first_open = stays_open g.A.Disk at opened.first back was.first_open;
+      second_open = stays_open g.B.Disk at opened.second back' was.second_open;
+      held = stays_held g.A.Disk g.B.Disk at was.closed was.closed was.legs c.end_sync.new.legs opened back back' was.first_open
+          was.second_open was.held;
+      first_size = subst (λ n. at + 1 < n) (sym (ap (λ l. g.A.Disk.size l.first) c.end_sync.ensures.legs
           ∙ mark_size (λ l. g.A.Disk.size l.first) (λ l. refl) c.is_ok.result mid ∙ calls.first.as_large)) was.first_size;
-      second_size = subst (λ n. at < n) (sym (ap (λ l. g.B.Disk.size l.second) c.end_sync.ensures.legs
+      second_size = subst (λ n. at + 1 < n) (sym (ap (λ l. g.B.Disk.size l.second) c.end_sync.ensures.legs
           ∙ mark_size (λ l. g.B.Disk.size l.second) (λ l. refl) c.is_ok.result mid ∙ calls.second.as_large)) was.second_size;
       agree = sync_agrees a b was.start.items was.calls.items was.legs was.lost c.if-self.false was.agree
           c.is_ok.result mid c.end_sync.new.legs c.end_sync.new.calls.items c.end_sync.ensures.legs
@@ -82,7 +95,7 @@ invariant_of-self-2 g c =
     }
 
 pub returns-then-self-clause-goes_on : goal.returns-then-self-clause-goes_on
-returns-then-self-clause-goes_on g c = goes_nowhere g.A.Disk g.B.Disk c.args.self.now _ refl (λ lost. lost) refl refl refl
+returns-then-self-clause-goes_on g c = goes_nowhere g.A.Disk g.B.Disk c.args.self.now _ refl refl (λ lost. lost) refl refl refl
     (λ h. record { later = omega arith; kept = λ t le. refl })
 
 pub returns-clause-goes_on : goal.returns-clause-goes_on
@@ -115,3 +128,5 @@ returns-clause-goes_on g c =
       subst (IsConfined a.size a.honest a.trail Nowhere was.legs.first) first kept.0,
       subst (IsConfined b.size b.honest b.trail Nowhere was.legs.second) second kept.1,
     ))
+    (opened_as a b at mid c.end_sync.new.legs (sym first) (sym second)
+    (calls_opened a b at was.closed c.sync-done.result was.legs mid calls))

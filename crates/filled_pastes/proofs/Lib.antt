@@ -1,0 +1,2 @@
+mod Lossless
+mod Pours
