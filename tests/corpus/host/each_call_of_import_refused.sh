@@ -28,13 +28,15 @@ for call in open file_read flock pread pwrite fdatasync; do
     refused=$((refused + tried))
 done
 
-# The same where the import makes the store: why is said in one sentence, and no file is left under another name.
+# The same where the import makes the store: why is said in one sentence, beside the one that a store was made if it was, and
+# no file is left under another name.
 attempt() {
     rm -f fresh.disk*
     env "$@" "$DESK_PROGRAM" import fresh.disk A.Text > got 2> said
 }
 is_right() {
-    [ $status != 0 ] && [ "$(grep -c '^desk: ' said)" = 1 ] && [ -z "$(ls -A | grep 'fresh.disk.')" ]
+    [ $status != 0 ] && [ "$(grep '^desk: ' said | grep -vc '^desk: a new store was made: fresh.disk$')" = 1 ] &&
+        [ -z "$(ls -A | grep 'fresh.disk.')" ] && { ! grep -q 'a new store was made' said || [ -e fresh.disk ]; }
 }
 for call in fdatasync fsync realpath; do
     each_call $call

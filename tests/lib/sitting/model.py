@@ -307,7 +307,9 @@ class Model:
 
     def paste(self, texts, looks=False):
         """The pieces of a paste, or of a file, up to one that is refused. No store is so full here that one is refused
-        after others."""
+        after others. A paste of nothing does nothing: what is selected stays."""
+        if not texts:
+            return True
         if self.cut_selected():
             self.name_press('typed 0 characters')
         self.typed = 0
