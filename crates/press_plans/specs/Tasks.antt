@@ -1,5 +1,5 @@
 -- Presses that post events: the task of each.
-use Rattle.std.specs.Prelude.{ℕ, ◌-◌, ◌==◌, Bool, true, false, if◌then◌else◌, List, length}
+use Rattle.std.specs.Prelude.{ℕ, ◌-◌, ◌==◌, Bool, true, false, ◌&&◌, nat_lt, if◌then◌else◌, List, length}
 use Rattle.std.specs.Prelude.{Option, Some, None, option_map}
 use Rattle.event_bytes.specs.declared.event.Event.{Event}
 use Rattle.event_bytes.specs.declared.event.Event.TheVariants as event
@@ -38,6 +38,10 @@ use Rattle.press_plans.specs.declared.task.Task.TheVariants.{Page, Show, Reveal,
 abbrev pub fills_lines : Filling → Bool
 fills_lines Off = false
 fills_lines _ = true
+
+-- and by a replacement: one that types nothing breaks none
+abbrev pub breaks_lines : Filling → TypingView → Bool
+breaks_lines fills t = fills_lines fills && nat_lt 0 (length t.bytes)
 
 -- the wheel moves a text by three lines, and a page is as long as what is in sight of it; to an end of it goes the caret
 abbrev pub scroll_task : Option (ℕ × ℕ) → ScrollKey → Sight → Task
@@ -116,7 +120,7 @@ task_of fills over replacement sight action.Store = Some (Lead (Call caret.Store
 task_of fills over replacement sight action.CallLine = Some (Lead CallLine)
 task_of fills over replacement sight action.Mark = Some (Lead Mark)
 task_of fills over replacement sight action.Replace =
-    option_map (λ t. TypeOn t (fills_lines fills) deed.Replacement) replacement
+    option_map (λ t. TypeOn t (breaks_lines fills t) deed.Replacement) replacement
 task_of fills over replacement sight _ = None
 
 -- what is wished of the caret by a press that calls a command

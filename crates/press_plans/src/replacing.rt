@@ -1,5 +1,5 @@
 //! What is typed where the pattern was found, and is typed again in another such place.
-ghost use Rattle.std.specs.Prelude.{◌≡◌};
+ghost use Rattle.std.specs.Prelude.{◌≡◌, length, nat_lt};
 ghost use Rattle.press_plans.specs.Replacing.{first_typed, is_untouched, is_untyped, kept_of, left_place};
 ghost use Rattle.press_plans.specs.Replacing.{no_replacing, noted, nothing_typed};
 ghost use Rattle.press_plans.specs.Replacing.{replaced_by, replacement, rest_typed, rubbed, searched, typed_behind};
@@ -56,6 +56,13 @@ impl Typing {
         ensures { result ≡ is_untyped self.now }
     {
         self.backs == 0 && self.bytes.is_empty()
+    }
+
+    /// Whether it types a byte.
+    pub(crate) fn types(&self) -> bool
+        ensures { result ≡ nat_lt 0 (length self.now.bytes) }
+    {
+        !self.bytes.is_empty()
     }
 
     /// The same once more.

@@ -5,7 +5,7 @@
 //! `plan_of` in `specs/Plans.antt`, and what does it here; each plan is made by one look at the store.
 ghost use Rattle.std.specs.Prelude.{◌≡◌, Some, None, IfOk, IfErr};
 ghost use Rattle.press_plans.specs.Tasks.{calling_wish, cell_meant as cell_of_spot, deed_of_task, keeps_sight, lead_deed};
-ghost use Rattle.press_plans.specs.Tasks.{bytes_task, deleting, fills_lines, letter_task, posted, posting, pour_deed};
+ghost use Rattle.press_plans.specs.Tasks.{breaks_lines, bytes_task, deleting, fills_lines, letter_task, posted, posting, pour_deed};
 ghost use Rattle.press_plans.specs.Tasks.{posting_over, scroll_task, selecting, typed_task};
 ghost use Rattle.press_plans.specs.Replacing.{nothing_typed, typed_behind};
 ghost use Rattle.press_plans.specs.Tasks.{step_meant as step_of_arrow, task_of};
@@ -119,7 +119,10 @@ impl Task {
             Action::Mark => Ok(Task::Lead(KeyWish::Mark)),
             Action::Seek(at) => Ok(Task::Seek((at.x, at.y))),
             Action::Replace => match replacement {
-                Some(typing) => Ok(Task::TypeOn(typing, fills_lines(fills), Deed::Replacement)),
+                Some(typing) => {
+                    let breaks = breaks_lines(fills, &typing);
+                    Ok(Task::TypeOn(typing, breaks, Deed::Replacement))
+                }
                 None => Err(Action::Replace),
             },
             alone => Err(alone),
@@ -176,6 +179,13 @@ fn fills_lines(fills: Filling) -> bool
         Filling::Off => false,
         Filling::Letters | Filling::Pasted(_) => true,
     }
+}
+
+/// Whether a replacement breaks lines: one that types nothing breaks none.
+fn breaks_lines(fills: Filling, typing: &Typing) -> bool
+    ensures { result ≡ breaks_lines fills typing.now }
+{
+    fills_lines(fills) && typing.types()
 }
 
 /// An event of the hand. What is typed or pasted may break a line, where lines are filled.
