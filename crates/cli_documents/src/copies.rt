@@ -1,12 +1,13 @@
 //! A copy of a store.
-ghost use Rattle.std.specs.Prelude.{◌≡◌};
+ghost use Rattle.std.specs.Prelude.{◌≡◌, true, OnOk};
+ghost use Rattle.cli_documents.specs.Copies.{AreTakenBack};
 
 use crate::checking::WHOLE;
 use crate::progress::Progress;
 use crate::sentences::Stop;
 use crate::stores::{LockedDisk, LockedStore, store_at};
 use cli_stores::Trouble;
-use desk_journal::Error;
+use desk_journal::{Error, Store};
 use event_bytes::Event;
 use host_files::{
     HostFault, LockedFile, is_there, length_of, lock_new, remove, rename_new, sync_folder,
@@ -122,13 +123,15 @@ fn copied(
 }
 
 /// Takes events back in a copy, if there are any. What comes back has to be just these.
-fn take_back(rt: &HostRuntime, store: &mut LockedStore, last: &[Event]) -> Result<(), Stop> {
+fn take_back<D: Disk>(rt: &HostRuntime, store: &mut Store<D>, last: &[Event]) -> Result<(), Stop>
+    ensures { OnOk result (AreTakenBack D.Disk last.now store.old store.new) }
+{
     if last.is_empty() {
         return Ok(());
     }
     let count = u32::try_from(last.len()).unwrap_or(u32::MAX);
     let taken = store.undo(rt.alloc(), count)?;
-    if taken.as_slice() == last {
+    if are_same_events(taken.as_slice(), last) {
         return Ok(());
     }
     let there = taken.len();
@@ -136,6 +139,54 @@ fn take_back(rt: &HostRuntime, store: &mut LockedStore, last: &[Event]) -> Resul
         "desk: of {count} events only {there} could be taken back in the copy, so it was taken away"
     );
     Err(Stop::Host)
+}
+
+/// Whether these are the same events, one after another.
+fn are_same_events(events: &[Event], others: &[Event]) -> bool
+    ensures { result ≡ true → events.now ≡ others.now }
+{
+    match (events.split_first(), others.split_first()) {
+        (None, None) => true,
+        (Some((event, rest)), Some((other, behind))) => {
+            is_same_event(event, other) && are_same_events(rest, behind)
+        }
+        _ => false,
+    }
+}
+
+/// Whether these are the same event.
+fn is_same_event(event: &Event, other: &Event) -> bool
+    ensures { result ≡ true → event.now ≡ other.now }
+{
+    match (event, other) {
+        (Event::Typed(typed), Event::Typed(again)) => typed.as_bytes() == again.as_bytes(),
+        (Event::Key(key), Event::Key(again)) => *key == *again,
+        (Event::Mark { x, y }, Event::Mark { x: column, y: row }) => *x == *column && *y == *row,
+        (
+            Event::Point {
+                keys,
+                x0,
+                y0,
+                x1,
+                y1,
+            },
+            Event::Point {
+                keys: again,
+                x0: from,
+                y0: low,
+                x1: to,
+                y1: high,
+            },
+        ) => *keys == *again && *x0 == *from && *y0 == *low && *x1 == *to && *y1 == *high,
+        (
+            Event::File { name, bytes },
+            Event::File {
+                name: called,
+                bytes: again,
+            },
+        ) => { name.as_bytes() == called.as_bytes() && bytes.as_bytes() == again.as_bytes() }
+        _ => false,
+    }
 }
 
 /// Copies a store onto a disk, waits until all is there for good, and compares.

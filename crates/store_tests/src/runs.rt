@@ -166,3 +166,38 @@ fn reopening_left_out(rt: HostRuntime) -> Result<(), AllocError> {
     }
     Ok(())
 }
+
+/// Of three events takes the last one back where that call of an undo fails: whether it is taken back, and whether it is
+/// when that is asked for once more.
+fn undone(alloc: Global, call: u64) -> Result<(bool, bool), AllocError> {
+    let calls = CALLS_TO_OPEN
+        .saturating_add(CALLS_TO_POST)
+        .saturating_add(call);
+    match Store::open(alloc, OneFault::new(new_store(alloc, Version::V3)?, calls)) {
+        Err(_) => Err(AllocError),
+        Ok(mut store) => {
+            let made = [mark(0), mark(1), mark(2)];
+            let _answers = serve_all(alloc, &mut store, &made)?;
+            let done = store.undo(alloc, 1).is_ok();
+            Ok((done, done || store.undo(alloc, 1).is_ok()))
+        }
+    }
+}
+
+/// A call that fails before anything is written leaves the store in use. After the last two, a write and a sync, it must
+/// be opened again.
+#[test]
+fn each_call_of_an_undo_fails(rt: HostRuntime) -> Result<(), AllocError> {
+    let mut closed = 0u8;
+    for call in 0..64 {
+        let (done, again) = undone(rt.alloc(), call)?;
+        if done {
+            assert!(rt; 10 < call && closed == 2);
+            return Ok(());
+        }
+        assert!(rt; !again || closed == 0);
+        closed = closed.saturating_add(u8::from(!again));
+    }
+    assert!(rt; false);
+    Ok(())
+}
