@@ -7,4 +7,4 @@
 //! then the host opens the store anew, from its medium. After another one it goes on.
 #![tactic(auto)]
 
-mod calls;
+pub mod calls;
