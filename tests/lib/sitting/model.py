@@ -748,10 +748,15 @@ class Model:
 
     def page(self, way):
         """The text under the mouse, or that of the caret, moves by as many rows as are in sight of it, less one; where none
-        is, by all rows of the viewer, less one."""
+        is, by all rows of the viewer, less one. The caret of that viewer goes to the first cell of the text in sight."""
         viewer = self.viewer_at(*self.pointer) if self.pointer else self.viewer_of_caret()
         seen = [y for y in range(viewer[1], viewer[2] - 1) if self.top - self.rows < y <= self.top] if viewer else []
-        return self.scroll(viewer, ('rows', way, max(len(seen) - 1, 1)) if seen else ('page', way))
+        goes_along = bool(viewer) and viewer == self.viewer_of_caret()
+        is_done = self.scroll(viewer, ('rows', way, max(len(seen) - 1, 1)) if seen else ('page', way))
+        if not is_done or not goes_along:
+            return is_done
+        x, y = viewer[0] + 1, max(seen, default=viewer[2] - 2)
+        return self.post(f'point l {x} {y} {x} {y}')
 
     def go(self, wish):
         """The text of the caret goes to a line, and the caret with it."""
