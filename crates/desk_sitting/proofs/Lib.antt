@@ -4,6 +4,7 @@ pub mod Between
 pub mod Carrying
 pub mod Done
 mod Found
+mod Marks
 pub mod Pressed
 mod Questions
 pub mod Seen

@@ -2,7 +2,7 @@
 use Rattle.std.proofs.Common.{◌≡◌, ◌∙◌, ℕ, zero, suc, Bool, true, false, List, [], ◌∷◌, Option, Some, None, inl, inr}
 use Rattle.std.proofs.Common.{refl, sym, ap, subst}
 use Rattle.std.specs.Prelude.{◌||◌, ◌&&◌, ◌==◌, ◌⊎◌, not, is_some, length, if◌then◌else◌}
-use Rattle.std.proofs.lemmas.Bool.{cond-true, cond-false, or_parts, or_from, or_left, or_right, and_parts, true≢false}
+use Rattle.std.proofs.lemmas.Bool.{cond-true, cond-false, or_parts, or_from, or_left, or_right, and_left, and_parts, true≢false}
 use Rattle.store_layout.proofs.Bits.{true_or_false}
 use Rattle.sector_disk.specs.declared.disk.Disk.{Ghosts}
 use Rattle.event_bytes.specs.declared.event.Event.{Event}
@@ -31,7 +31,7 @@ use Rattle.press_plans.specs.Replacing.{noted}
 use Rattle.status_line.specs.declared.question.Question.{Question}
 use Rattle.status_line.specs.declared.saying.Saying.{Saying}
 use Rattle.status_line.specs.declared.saying.Saying.TheVariants.{Asks, NothingBack, Worn}
-use Rattle.status_line.specs.Choosing.{refused_saying}
+use Rattle.status_line.specs.Choosing.{refused_saying, rest_saying, rests}
 use Rattle.status_line.specs.Question.{asks_to_leave, comes_first}
 use Rattle.status_line.specs.Sayings.{line_of, said_by_pointer}
 use Rattle.desk_sitting.specs.declared.sitting.Sitting.{Sitting}
@@ -57,7 +57,9 @@ use Rattle.desk_sitting.specs.Travelling.{IsBetween}
 use Rattle.desk_sitting.specs.Travels.{Travelled, did_again, goes_again, is_unmoved, none_again, settled, store_place, took_back}
 use Rattle.desk_sitting.specs.Travels.{none as not_asked, back, nothing, again}
 use Rattle.desk_sitting.specs.Twice.{is_missed}
-use Rattle.desk_sitting.specs.Clips.{clip_saying, clip_sent, clip_told, copied_text}
+use Rattle.desk_sitting.specs.Clips.{clip_saying, clip_sent, copied_text}
+use Rattle.desk_sitting.specs.Stored.{unstored_caret}
+use Rattle.desk_sitting.specs.Telling.{scene_told, told_saying}
 use Rattle.desk_sitting.specs.TheDesk.{◌>>=◌, the_desk}
 
 -- ---- a scene that isn't due
@@ -96,9 +98,13 @@ follows_due s follows = record { is = or_left _ _ (or_left _ _ (or_left _ _ (or_
 changed_due : (s : Sitting) → s.changed ≡ true → IsDue s
 changed_due s changed = record { is = or_left _ _ (or_left _ _ (or_left _ _ (or_left _ _ (or_left _ _ changed)))) }
 
--- nothing is to be done at a look then, and nothing to be told of the clipboard
-pub looks_same : (d : Desktop) (s : Sitting) → is_scene_due s ≡ false → looked (shown_screen d) (clip_told d s) ≡ s
-unfolding looked
+-- nothing is to be done at a look then, and nothing to be told
+told_same : (d : Desktop) (s : Sitting) → is_scene_due s ≡ false → told_saying d s ≡ s.saying
+told_same d s due = cond-false (is_scene_due s && rests s.saying) (rest_saying (unstored_caret d)) s.saying
+    (and_left (is_scene_due s) (rests s.saying) due)
+
+pub looks_same : (d : Desktop) (s : Sitting) → is_scene_due s ≡ false → looked (shown_screen d) (scene_told d s) ≡ s
+unfolding looked scene_told
 looks_same d s due =
     let is = quiet s due in
     let screen = shown_screen d in
@@ -110,24 +116,24 @@ looks_same d s due =
       asks = sym is.asks k;
       copies = sym is.copies k;
       changed = sym is.changed k;
-      saying = clip_saying (is.copies k) (copied_text d) s.saying;
+      saying = clip_saying (is.copies k) (copied_text d) (told_same d s due k);
     }
 
 -- before anything is heard
 pub seen_so : {D : Type 0} {s : Sitting} {old mid : StoreView D} {known known' : List (List Face)}
     {held held' : Option (List ℕ)} {waiting waiting' : ℕ} → IsShownIfDue the_desk s old mid known known' held held' waiting waiting'
     → (is_scene_due s ≡ false → IsSeen the_desk s (store_screen old) known held × (waiting ≡ 0))
-    → IsSeen the_desk (looked (store_screen old) (clip_told old.desktop s)) (store_screen old) known' held'
+    → IsSeen the_desk (looked (store_screen old) (scene_told old.desktop s)) (store_screen old) known' held'
 seen_so {s = s} {old = old} {known = known} {held = held} (anew due shown) seen = record {
   scene = shown.painted.scene;
   is = shown.painted.is;
   rows = shown.painted.rows;
-  was_known = known_by s.forgets known;
+  was_known = known_by (scene_told old.desktop s).forgets known;
   before = held;
   between = shown.between;
   paints = shown.painted.paints;
-  rings = s.rings;
-  asks = s.asks;
+  rings = (scene_told old.desktop s).rings;
+  asks = (scene_told old.desktop s).asks;
   clip = clip_sent old.desktop s;
   after = shown.after;
 }

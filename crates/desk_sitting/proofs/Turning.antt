@@ -1,7 +1,8 @@
 -- What a turn comes to, outcome by outcome.
 use Rattle.std.proofs.Common.{◌≡◌, ◌≢◌, ◌∙◌, ℕ, ◌<◌, List, [], ◌++◌, Option, Ok, Err, ap, sym, subst, inl, inr}
 use Rattle.std.proofs.Common.{append-nil, refl, true, false}
-use Rattle.std.specs.Prelude.{Result, OnErr, IfErr, length, ◌≤◌}
+use Rattle.std.specs.Prelude.{Result, OnErr, OnOk, IfErr, length, ◌≤◌}
+use Rattle.std.proofs.lemmas.Result.{IfErr-weaker, on_ok_weaker}
 use Rattle.byte_streams.specs.Counting.{CountsFault, RisesWhere}
 use Rattle.byte_streams.specs.Sent.{AppendsFront}
 use Rattle.sector_disk.specs.declared.disk.Disk.{Ghosts}
@@ -31,16 +32,17 @@ use Rattle.desk_sitting.specs.declared.ending.SittingEnd.{SittingEnd}
 use Rattle.desk_sitting.specs.declared.ending.SittingEnd.TheVariants.{Left, Closed, Input, TooLong, Output, Fault}
 use Rattle.desk_sitting.specs.declared.ending.SittingEnd.TheVariants.{Memory}
 use Rattle.desk_sitting.specs.Endings.{EndsBy, IsOfNoKeyboard, sitting_end_of, end_of_keyboard}
-use Rattle.desk_sitting.specs.Scenes.{IsScenePainted, IsUnshown, after_scene, behind_it, clip_bytes, known_by}
+use Rattle.desk_sitting.specs.Scenes.{IsScenePainted, IsSceneShown, IsUnshown, after_scene, behind_it, clip_bytes, known_by}
 use Rattle.desk_sitting.specs.Serving.{TurnState, IsFetched, IsLookedAt, HearsAfterScene, IsDeaf, Broke}
 use Rattle.desk_sitting.specs.Serving.{HasTurned, HasStopped, TakesTurn, CountsEnding, IsUsableAt, store_screen}
 use Rattle.desk_sitting.specs.Serving.{sitting_shown}
 use Rattle.desk_sitting.specs.Serving.{CountsOutput, left, closed}
 use Rattle.desk_sitting.specs.Serving.{unheard, unseen, faulty, starved, faulty_press, starved_press}
 use Rattle.desk_sitting.specs.Serving.{IsSeenUnlessDue, IsShownIfDue, StaysInUse}
-use Rattle.desk_sitting.specs.Clips.{clip_sent, clip_told}
+use Rattle.desk_sitting.specs.Clips.{clip_sent}
 use Rattle.desk_sitting.proofs.Seen.{handed_so, seen_so}
 use Rattle.desk_sitting.specs.Desk.{accepted_events}
+use Rattle.desk_sitting.specs.Telling.{scene_told}
 use Rattle.desk_sitting.specs.TheDesk.{the_desk}
 
 -- ---- a scene
@@ -106,6 +108,30 @@ module _ (s s' : Sitting) (screen screen' : List (List Cell)) (clip : List ℕ) 
       subst (λ e. IsUnshown the_desk e s screen clip known held held') (sym is) (behind_it
       (subst (λ x. IsScenePainted the_desk (looked x s) x (known_by s.forgets known) known' held between) (shows h)
       (subst (λ t. IsScenePainted the_desk t screen' (known_by s.forgets known) known' held between) looks painted)) front)
+
+-- what is told first is told of what is shown then
+module _ {T H H' : Type 0} (result : Result T SittingEnd) {told there : Sitting} {screen screen' : List (List Cell)}
+    {clip clip' : List ℕ} (still : H → H') (same : H → there ≡ told) (shows : H → screen' ≡ screen) (clips : H → clip' ≡ clip)
+    (known : List (List Face)) (held held' : Option (List ℕ)) where
+  pub told_shown : (s' : Sitting) (known' : List (List Face)) (waiting' : ℕ)
+      → OnOk result (H' → (s' ≡ looked screen' there)
+      × IsSceneShown the_desk there screen' clip' known known' held held' waiting')
+      → OnOk result (H → (s' ≡ looked screen told)
+      × IsSceneShown the_desk told screen clip known known' held held' waiting')
+  told_shown s' known' waiting' = on_ok_weaker result (λ is honest.
+      let both = is (still honest) in (
+        both.0 ∙ (λ k. looked (shows honest k) (same honest k)),
+        subst (λ (t : Sitting). IsSceneShown the_desk t screen clip known known' held held' waiting') (same honest)
+        (subst (λ (x : List (List Cell)). IsSceneShown the_desk there x clip known known' held held' waiting') (shows honest)
+        (subst (λ (b : List ℕ). IsSceneShown the_desk there screen' b known known' held held' waiting') (clips honest) both.1)),
+      ))
+
+  pub told_unshown : IfErr result (λ end. H' → IsUnshown the_desk end there screen' clip' known held held')
+      → IfErr result (λ end. H → IsUnshown the_desk end told screen clip known held held')
+  told_unshown = IfErr-weaker result _ _ (λ end is honest.
+      subst (λ (t : Sitting). IsUnshown the_desk end t screen clip known held held') (same honest)
+      (subst (λ (x : List (List Cell)). IsUnshown the_desk end there x clip known held held') (shows honest)
+      (subst (λ (b : List ℕ). IsUnshown the_desk end there screen' b known held held') (clips honest) (is (still honest)))))
 
 -- ---- failures
 
@@ -245,7 +271,7 @@ module _ {D : Type 0} (d : Ghosts D) where
   -- the scene isn't shown
   unshown_stops : (end : SittingEnd) (old new : TurnState D) → is_scene_due old.sitting ≡ true
       → IsLookedAt d old.store new.store → new.heard ≡ old.heard → new.asked ≡ old.asked
-      → IsUnshown the_desk end (clip_told old.store.desktop old.sitting) (store_screen old.store)
+      → IsUnshown the_desk end (scene_told old.store.desktop old.sitting) (store_screen old.store)
       (clip_bytes (clip_sent old.store.desktop old.sitting)) old.known old.held new.held
       → HasStopped the_desk d end old new
   unshown_stops Left old new due looks heard unasked why = absurd why
@@ -262,7 +288,7 @@ module _ {D : Type 0} (d : Ghosts D) where
   pub unshown_ends : {T : Type 0} {old new : TurnState D} (result : Result T SittingEnd) (end : SittingEnd)
       → result ≡ Err end → (d.honest old.store.disk → IsDurable d old.store → IsLookedAt d old.store new.store)
       → (is_scene_due old.sitting ≡ true)
-      × (d.honest old.store.disk → IsUnshown the_desk end (clip_told old.store.desktop old.sitting) (store_screen old.store)
+      × (d.honest old.store.disk → IsUnshown the_desk end (scene_told old.store.desktop old.sitting) (store_screen old.store)
       (clip_bytes (clip_sent old.store.desktop old.sitting)) old.known old.held new.held)
       → new.heard ≡ old.heard → new.asked ≡ old.asked → new.store.must_reopen ≡ false
       → CountsEnding end (d.failures old.store.disk) (d.failures new.store.disk)

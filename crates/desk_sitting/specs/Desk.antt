@@ -32,8 +32,8 @@ pub record Desk : Type 0 where
   pub looks : List (List Cell) → Sitting → Sitting
   pub points : Sitting → Option (ℕ × ℕ)
   pub says : List (List Cell) → Sitting → List ℕ
-  -- the text that the clipboard of the terminal is given with a scene of this desktop, and the sitting that says where a text
-  -- can't be given
+  -- the text that the clipboard of the terminal is given with a scene of this desktop, and the sitting that says what there
+  -- is to be told of the desktop
   pub gives : Desktop → Sitting → Option (List ℕ)
   pub tells : Desktop → Sitting → Sitting
   -- after the keyboard was asked for the text of a host file, which will be heard or not

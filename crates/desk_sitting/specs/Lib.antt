@@ -10,6 +10,7 @@ pub mod Sitting
 pub mod Sittings
 pub mod Stored
 pub mod Surviving
+pub mod Telling
 pub mod TheDesk
 pub mod Travelling
 pub mod Travels

@@ -10,9 +10,10 @@ use Rattle.done_presses.specs.Again.{next_event}
 pub use Rattle.event_bytes.specs.Parts.{◌>>=◌}
 use Rattle.status_line.specs.Sayings.{line_of, said_by_pointer}
 use Rattle.desk_sitting.specs.declared.sitting.Sitting.{Sitting}
-use Rattle.desk_sitting.specs.Clips.{clip_sent, clip_told}
+use Rattle.desk_sitting.specs.Clips.{clip_sent}
 use Rattle.desk_sitting.specs.Desk.{Desk, Seat, accepted_events, after_presses}
 use Rattle.desk_sitting.specs.Sittings.{accepted_of, after_fetch, after_press, looked, new_sitting}
+use Rattle.desk_sitting.specs.Telling.{scene_told}
 use Rattle.desk_sitting.specs.Travels.{done_again, none_again, settled, step_count, took_back}
 
 -- where in the terminal the pointer is that keys move, while it is shown
@@ -36,7 +37,7 @@ the_desk = record {
   points = pointer_of;
   says = sitting_line;
   gives = clip_sent;
-  tells = clip_told;
+  tells = scene_told;
   fetches = after_fetch;
   counts = step_count;
   takes_back = λ events from to s. took_back events from to (settled s);

@@ -1,4 +1,4 @@
-//! What the clipboard of the terminal is given of what is copied.
+//! What is told with a scene: what the clipboard of the terminal is given of what is copied, and on the line below.
 ghost use Rattle.std.specs.Prelude.{◌≡◌, IfOk, IfErr, true, false, length};
 ghost use Rattle.event_bytes.specs.Bytes.{lies_within};
 ghost use Rattle.desk_journal.specs.Errors.{NoMemory};
@@ -6,7 +6,9 @@ ghost use Rattle.desk_journal.specs.Looking.{OnlyLooks};
 ghost use Rattle.desk_sitting.specs.Clips.{clip_saying, clip_sent, clip_told, copied_text, is_copying, text_given};
 ghost use Rattle.desk_sitting.specs.Clips.{unless_asked};
 ghost use Rattle.desk_sitting.specs.Scenes.{clip_bytes, clip_order};
+ghost use Rattle.desk_sitting.specs.Telling.{scene_told};
 
+use crate::unstored::mark;
 use crate::{Saying, Sitting};
 use base64::engine::general_purpose::STANDARD;
 use desk_journal::{Error, Store};
@@ -31,7 +33,7 @@ pub(crate) fn is_copying(event: &Event) -> bool
 /// is too long for it, that is said.
 ///
 /// Errors: `NoMemory`; `Fault`.
-pub(crate) fn clip<D: Disk>(
+fn clip<D: Disk>(
     alloc: Global,
     sitting: &mut Sitting,
     store: &mut Store<D>,
@@ -48,6 +50,25 @@ pub(crate) fn clip<D: Disk>(
     let text = copied_text(alloc, store)?;
     sitting.tell_clip(text.as_slice());
     clip_of(alloc, text.as_slice())
+}
+
+/// The line below says whether the text with the caret isn't stored, where it rests. Returns what gives the clipboard of the
+/// terminal what was copied since the last scene, as `clip` does.
+///
+/// Errors: `NoMemory`; `Fault`.
+pub(crate) fn tell<D: Disk>(
+    alloc: Global,
+    sitting: &mut Sitting,
+    store: &mut Store<D>,
+) -> Result<Vec<u8>, Error>
+    requires { store.old.must_reopen ≡ false }
+    ensures sent { IfOk result (λ clip. D.honest store.old.disk
+        → (clip.items ≡ clip_bytes (clip_sent store.old.desktop sitting.old))
+        × (sitting.new ≡ scene_told store.old.desktop sitting.old)) }
+    ensures looks { OnlyLooks D.Disk result store.old store.new }
+{
+    mark(alloc, sitting, store)?;
+    clip(alloc, sitting, store)
 }
 
 /// What was copied last, as a text of the host's.

@@ -1,12 +1,12 @@
 //! A sitting over a store, turn by turn.
-ghost use Rattle.std.specs.Prelude.{◌≡◌, ◌≢◌, ◌++◌, ℕ, Bool, true, false, OnOk, OnErr, IfErr, IfSome, List};
+ghost use Rattle.std.specs.Prelude.{◌≡◌, ◌≢◌, ◌++◌, Bool, true, false, OnOk, OnErr, IfErr, IfSome, List};
 ghost use Rattle.terminal_keyboard.specs.declared.parser.Parser.{Parser as AParser};
 ghost use Rattle.screen_drawing.specs.declared.face.Face.{Face};
 ghost use Rattle.byte_streams.specs.Counting.{CountsFault, RisesWhere};
 ghost use Rattle.byte_streams.specs.Sent.{Sends};
 ghost use Rattle.desk_journal.specs.Device.{IsSameDevice};
 ghost use Rattle.desk_journal.specs.View.{IsDurable};
-ghost use Rattle.desk_sitting.specs.Clips.{clip_sent, clip_told};
+ghost use Rattle.desk_sitting.specs.Clips.{clip_sent};
 ghost use Rattle.desk_sitting.specs.Sittings.{after_fetch, is_scene_due, looked};
 ghost use Rattle.desk_sitting.specs.declared.ending.SittingEnd.TheVariants.{Output as TakesNoMore};
 ghost use Rattle.screen_drawing.specs.Scene.{IsInSight};
@@ -18,9 +18,10 @@ ghost use Rattle.desk_sitting.specs.Serving.{IsShownIfDue, IsUsableAt};
 ghost use Rattle.desk_sitting.specs.Serving.{StaysInUse, TakesTurn, first_place, turn_state_of, store_screen};
 ghost use Rattle.desk_sitting.specs.Sitting.{Sits, TakesEitherTurn};
 ghost use Rattle.desk_sitting.specs.Travelling.{TakesBetween};
+ghost use Rattle.desk_sitting.specs.Telling.{scene_told};
 ghost use Rattle.desk_sitting.specs.TheDesk.{pointer_of as pointer_at, sitting_line, the_desk};
 
-use crate::clips::clip;
+use crate::clips::tell;
 use crate::ending::SittingEnd;
 use crate::serving_laws::sittings_survive;
 use crate::{Past, Saying, Sitting, do_presses, travel};
@@ -209,13 +210,13 @@ fn show_if_due<W: AnswerWriter, D: Disk>(
     ensures looks { D.honest store.old.disk → IsDurable D.Disk store.old
         → IsLookedAt D.Disk store.old store.new }
     ensures shown { OnOk result (D.honest store.old.disk
-        → (sitting.new ≡ looked (store_screen store.old) (clip_told store.old.desktop sitting.old))
+        → (sitting.new ≡ looked (store_screen store.old) (scene_told store.old.desktop sitting.old))
         × IsShownIfDue the_desk sitting.old store.old store.new
         painter.old painter.new (W.contents writer.old) (W.contents writer.new)
         (W.unflushed writer.old) (W.unflushed writer.new)) }
     ensures unshown { IfErr result (λ end. (is_scene_due sitting.old ≡ true)
         × (D.honest store.old.disk
-        → IsUnshown the_desk end (clip_told store.old.desktop sitting.old) (store_screen store.old)
+        → IsUnshown the_desk end (scene_told store.old.desktop sitting.old) (store_screen store.old)
         (clip_bytes (clip_sent store.old.desktop sitting.old))
         painter.old (W.contents writer.old) (W.contents writer.new))) }
     ensures cause { IfErr result IsOfNoKeyboard }
@@ -244,13 +245,13 @@ fn show<W: AnswerWriter, D: Disk>(
     ensures looks { D.honest store.old.disk → IsDurable D.Disk store.old
         → IsLookedAt D.Disk store.old store.new }
     ensures shown { OnOk result (D.honest store.old.disk
-        → (sitting.new ≡ looked (store_screen store.old) (clip_told store.old.desktop sitting.old))
-        × IsSceneShown the_desk (clip_told store.old.desktop sitting.old) (store_screen store.old)
+        → (sitting.new ≡ looked (store_screen store.old) (scene_told store.old.desktop sitting.old))
+        × IsSceneShown the_desk (scene_told store.old.desktop sitting.old) (store_screen store.old)
         (clip_bytes (clip_sent store.old.desktop sitting.old))
         painter.old painter.new (W.contents writer.old) (W.contents writer.new)
         (W.unflushed writer.new)) }
     ensures unshown { IfErr result (λ end. D.honest store.old.disk
-        → IsUnshown the_desk end (clip_told store.old.desktop sitting.old) (store_screen store.old)
+        → IsUnshown the_desk end (scene_told store.old.desktop sitting.old) (store_screen store.old)
         (clip_bytes (clip_sent store.old.desktop sitting.old))
         painter.old (W.contents writer.old) (W.contents writer.new)) }
     ensures cause { IfErr result IsOfNoKeyboard }
@@ -258,7 +259,7 @@ fn show<W: AnswerWriter, D: Disk>(
     ensures counts { CountsTurn result (D.failures store.old.disk) (D.failures store.new.disk) }
     ensures store { StaysInUse D.Disk store.old store.new }
 {
-    let clip = clip(alloc, sitting, store)?;
+    let clip = tell(alloc, sitting, store)?;
     show_with(alloc, clip.as_slice(), store, sitting, painter, writer)
 }
 

@@ -14,8 +14,9 @@ use Rattle.caret_moves.specs.declared.wish.WhyNot.{WhyNot}
 use Rattle.desk_journal.specs.Leading.{DoesWish, led}
 use Rattle.desk_journal.specs.Scrolling.{Scrolls, Wish, presses_to}
 use Rattle.desk_journal.specs.View.{StoreView}
-use Rattle.desk_journal.specs.Views.{DeskInfo, ShownViewer, desk_info, last_log_line}
+use Rattle.desk_journal.specs.Views.{DeskInfo, Place as ViewerPlace, ShownViewer, desk_info, last_log_line}
 use Rattle.terminal_presses.specs.Sights.{Sight}
+use Rattle.screen_reading.specs.Frames.{text_rows_in_sight}
 use Rattle.desk_journal.proofs.Passing.{at_start}
 use Rattle.press_plans.specs.declared.task.Filling.{Filling}
 use Rattle.press_plans.specs.declared.task.Stage.{Stage}
@@ -23,7 +24,7 @@ use Rattle.press_plans.specs.declared.task.Stage.TheVariants.{First, Back, On}
 use Rattle.press_plans.specs.declared.task.Task.{Task}
 use Rattle.press_plans.specs.declared.task.Task.TheVariants as kind
 use Rattle.press_plans.specs.declared.plan.Plan.{Plan as MadePlan}
-use Rattle.press_plans.specs.Plans.{Plans, comeback_plan}
+use Rattle.press_plans.specs.Plans.{Plans, caret_place, comeback_plan, goes_along, page_plan, page_wish, paged_plan, place_meant}
 use Rattle.press_plans.specs.Plans.{Plan, Events, Says, answer_plan, lead_plan, opened_plan, opened_viewer, plan_of, plan_on}
 use Rattle.press_plans.specs.Plans.{seen_plan, unbroken_plan, broken_plan, type_plan, placed_plan, return_plan}
 use Rattle.press_plans.specs.Plans.{poured_plan, room_plan, standing}
@@ -129,6 +130,21 @@ pours bytes typed place info told d place_is info_is told_is =
     let at : place ≡ standing d = place_is ∙ ap (λ (i : DeskInfo). unwrap_or i.caret_position 0) info_is in
     let by : told ≡ led d (Place (standing d)) = told_is ∙ ap (λ (p : ℕ). led d (Place p)) at in
     ap (λ (r : Result (List Event) WhyNot). poured_plan r bytes typed) by
+
+-- a page, with which the caret goes along or doesn't
+pub pages : (at : Option (ℕ × ℕ)) (is_up : Bool) (sight : Sight) (d : Desktop) (caret : Option (ℕ × ℕ))
+    (place stands : Option ViewerPlace) (rows : ℕ) (wish : Wish) (found : Option (List Event)) → place ≡ place_meant at d
+    → stands ≡ caret_place d → caret ≡ goes_along sight place stands → rows ≡ text_rows_in_sight sight place
+    → wish ≡ page_wish is_up rows → found ≡ presses_to d at wish → paged_plan caret found ≡ plan_of (kind.Page at is_up sight) d
+unfolding plan_of page_plan
+pages at is_up sight d caret place stands rows wish found place_is stands_is caret_is rows_is wish_is found_is =
+    let goes : caret ≡ goes_along sight (place_meant at d) (caret_place d) =
+    caret_is ∙ (λ k. goes_along sight (place_is k) (stands_is k)) in
+    let wished : wish ≡ page_wish is_up (text_rows_in_sight sight (place_meant at d)) =
+    wish_is ∙ ap (page_wish is_up) (rows_is ∙ ap (text_rows_in_sight sight) place_is) in
+    let told : found ≡ presses_to d at (page_wish is_up (text_rows_in_sight sight (place_meant at d))) =
+    found_is ∙ ap (presses_to d at) wished in
+    λ k. paged_plan (goes k) (told k)
 
 -- what is left to do once a word was called
 module _ (before : DeskInfo) (cell : Option (ℕ × ℕ)) (d : Desktop) where

@@ -164,9 +164,31 @@ unfoldable pub page_wish : Bool → ℕ → Wish
 page_wish true n = if n == 0 then wish.PageUp else wish.Up (max (n - 1) 1)
 page_wish false n = if n == 0 then wish.PageDown else wish.Down (max (n - 1) 1)
 
+-- the first cell of a viewer's text that is in sight, and where none is its first cell
+abbrev pub seen_start : Sight → ViewerPlace → Option (ℕ × ℕ)
+seen_start sight place = if text_rows_in_sight sight (Some place) == 0 then text_start place
+    else text_start (record place { top = min place.top (sight.top + 2) })
+
+-- whether it is one viewer that stands here and there
+abbrev pub is_one_viewer : ViewerPlace → ViewerPlace → Bool
+is_one_viewer place other = (place.x == other.x) && (place.top == other.top)
+
+-- where the caret goes with a page: in its own viewer to the first cell in sight, and in another one nowhere
+abbrev pub goes_along : Sight → Option ViewerPlace → Option ViewerPlace → Option (ℕ × ℕ)
+goes_along sight None caret = None
+goes_along sight (Some place) None = None
+goes_along sight (Some place) (Some caret) =
+    if is_one_viewer place caret then seen_start sight caret else None
+
+-- the presses of a page, where there is a way, and then the click that takes the caret along
+abbrev pub paged_plan : Option (ℕ × ℕ) → Option (List Event) → Plan
+paged_plan caret None = Refused NoScroll
+paged_plan caret (Some events) =
+    Events events (option_map (λ cell. Post (click_of cell)) caret)
+
 unfoldable pub page_plan : Option (ℕ × ℕ) → Bool → Sight → Desktop → Plan
-page_plan at is_up sight d = let rows = text_rows_in_sight sight (place_meant at d) in
-    Events [] (Some (Scroll at (page_wish is_up rows)))
+page_plan at is_up sight d = paged_plan (goes_along sight (place_meant at d) (caret_place d))
+    (presses_to d at (page_wish is_up (text_rows_in_sight sight (place_meant at d))))
 
 -- the caret goes to a cell, where there is one
 abbrev pub go_plan : Option (ℕ × ℕ) → Plan

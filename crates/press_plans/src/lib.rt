@@ -3,7 +3,7 @@
 //! A press that posts events is a task (`task`). Over the desktop that stands there it becomes a plan (`plan`), mostly by
 //! what the store tells of its texts, or what the screen shows (`by_screen`): the events, and what is left to do once they
 //! are done. What is typed breaks its lines (`filling`), and so does what is pasted (`pouring`). What an event of the hand
-//! means at the desk is in `listed`.
+//! means at the desk is in `listed`, and what a page of a text does in `paging`.
 //!
 //! What is typed where a pattern was found can be typed again in another such place (`replacing`). What presses have done
 //! is known beside this (`done_presses`).
@@ -14,6 +14,7 @@ mod filling;
 mod laws;
 mod listed;
 mod over;
+mod paging;
 mod plan;
 mod pouring;
 mod replacing;

@@ -3,7 +3,7 @@ ghost use Rattle.std.specs.Prelude.{◌≡◌, true, false, None, if◌then◌el
 ghost use Rattle.std.specs.Result.{result_map_both};
 ghost use Rattle.press_plans.specs.Plans.{Plans, caret_place, empty_plan, entry_plan, is_call, lead_plan, nothing_there};
 ghost use Rattle.press_plans.specs.Plans.{Events, call_plan, comeback_plan, has_lost_caret, is_calling, part_hidden};
-ghost use Rattle.press_plans.specs.Plans.{opened_plan, opened_viewer, page_plan, page_wish, place_meant, plan_of};
+ghost use Rattle.press_plans.specs.Plans.{opened_plan, opened_viewer, page_wish, place_meant, plan_of};
 ghost use Rattle.press_plans.specs.Plans.{plan_on, scroll_plan, seen_plan, shown_plan, shown_then, why_not};
 ghost use Rattle.desk_journal.specs.Views.{desk_info};
 ghost use Rattle.desk_journal.specs.Views.{shown_viewer};
@@ -13,6 +13,7 @@ use crate::by_screen::{click, go_plan, plan_on};
 use crate::filling::{return_plan, type_plan};
 use crate::listed::{begins_in_viewer, has_tool, place_at, uncalled_event};
 use crate::over::{erase_plan, over_plan};
+use crate::paging::page_plan;
 use crate::pouring::pour_plan;
 use crate::task::{CellPlace, Task, posting};
 use desk_journal::{DeskInfo, Error, KeyWish, ShownViewer, Store, WhyNot, Wish};
@@ -20,13 +21,12 @@ use desktop_definitions::Entry;
 use done_presses::take_last;
 use event_bytes::{Event, Key, Keys};
 use screen_cells::Screen;
-use screen_reading::{caret_of, text_rows_in_sight, text_start};
+use screen_reading::{caret_of, text_start};
 use sector_disk::Disk;
 use starter_desktop::tool_event;
 use status_line::{Saying, SayingLine};
 use std::alloc::Global;
 use std::vec::Vec;
-use terminal_presses::Sight;
 
 /// What a task becomes over a desktop.
 #[derive(Drop)]
@@ -62,7 +62,7 @@ impl Task {
             Task::Post(event) => post_plan(alloc, event, store),
             Task::After(before, cell) => after_plan(before, cell, store),
             Task::Enter(cell) => Ok(entry_plan(info_of(store).is_marked, cell)),
-            Task::Page { at, is_up, sight } => Ok(page_plan(at, is_up, sight, store)),
+            Task::Page { at, is_up, sight } => page_plan(alloc, at, is_up, sight, store),
             Task::Show => Ok(shown_plan(caret_place(store))),
             Task::Scroll(at, wish) => {
                 let presses = store.scroll(alloc, at, wish)?;
@@ -190,7 +190,10 @@ pub fn caret_place<D: Disk>(store: &Store<D>) -> Option<viewer_tracks::Place>
 }
 
 /// Where the viewer stands that is meant: at a cell, or that of the caret.
-fn place_meant<D: Disk>(at: Option<CellPlace>, store: &Store<D>) -> Option<viewer_tracks::Place>
+pub(crate) fn place_meant<D: Disk>(
+    at: Option<CellPlace>,
+    store: &Store<D>,
+) -> Option<viewer_tracks::Place>
     requires { store.now.must_reopen ≡ false }
     ensures { result ≡ place_meant at store.now.desktop }
 {
@@ -200,19 +203,9 @@ fn place_meant<D: Disk>(at: Option<CellPlace>, store: &Store<D>) -> Option<viewe
     }
 }
 
-/// A page of a viewer's text, where this part of the display is in sight.
-#[tactic(auto, unfolding(crate::specs::Plans::page_plan))]
-fn page_plan<D: Disk>(at: Option<CellPlace>, is_up: bool, sight: Sight, store: &Store<D>) -> Plan
-    requires { store.now.must_reopen ≡ false }
-    ensures { seen_plan result ≡ page_plan at is_up sight store.now.desktop }
-{
-    let rows = text_rows_in_sight(sight, place_meant(at, store));
-    Plan::Next(Some(Task::Scroll(at, page_wish(is_up, rows))))
-}
-
 /// A page, where so many rows of the text are in sight.
 #[tactic(auto, unfolding(crate::specs::Plans::page_wish))]
-fn page_wish(is_up: bool, rows: u8) -> Wish
+pub(crate) fn page_wish(is_up: bool, rows: u8) -> Wish
     ensures { result ≡ page_wish is_up rows }
 {
     let lines = u32::from(rows.saturating_sub(1).max(1));

@@ -1,2 +1,3 @@
-# It is asked before a document is opened once more whose text isn't stored. tests/lib/unstored says what is tried.
+# The line below says that a text isn't stored, and it is asked before its document is opened once more. tests/lib/unstored says what
+# is tried.
 "$TESTS/lib/unstored"

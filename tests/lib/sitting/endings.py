@@ -12,7 +12,7 @@ import tempfile
 import termios
 import time
 
-from model import GREETING, KEYS, NO_KEY, ONE_SIDE, ROWS, TOO_NARROW, UNREAD, Screen
+from model import GREETING, KEYS, NO_KEY, ONE_SIDE, ROWS, TOO_NARROW, UNREAD, UNSTORED, Screen
 from sitting import Ended, Sitting
 
 LETTERS = 'abcdefghijklmnopqrstuvwxyz'
@@ -20,6 +20,7 @@ AT_A_TIME = 3
 OVER_TWINS = 'killed over two files'
 STORE = b'\x1b[<1;48;1M\x1b[<1;48;1m'  # a middle click on Edit.Store in the menu of A.Text
 TESTS = os.path.dirname(os.path.dirname(os.path.dirname(os.path.realpath(__file__))))
+MARKED = f'A.Text{UNSTORED}'
 BEGIN = ['file System.Tool Edit.Open A.Text%0d', 'point m 60 31 60 31', 'point m 52 30 52 30', 'point l 1 30 1 30']
 
 
@@ -411,14 +412,14 @@ def hole(trial):
         wanted = '900 characters typed, the rest dropped: no room'
         trial.check(sitting.wait(lambda: sitting.terminal.line(ROWS) == wanted, 30), sitting.terminal.line(ROWS))
         sitting.press(b'\x7f')
-        trial.check(sitting.wait(lambda: sitting.terminal.line(ROWS) == KEYS, 30), sitting.terminal.line(ROWS))
+        trial.check(sitting.wait(lambda: sitting.terminal.line(ROWS) == MARKED, 30), sitting.terminal.line(ROWS))
         trial.leaves(sitting)
         answers = trial.oberon_says('play', trial.path, lines=['type ' + 'x' * 181, 'type x']).split()
         trial.check(answers == ['ok', 'no', '6'], f'there is another room: {answers}')
     room_for(trial, 100)
     sitting = trial.sit(trial.path)
     sitting.press(paste + b'b')
-    trial.check(sitting.wait(lambda: sitting.terminal.line(ROWS) == KEYS, 30), sitting.terminal.line(ROWS))
+    trial.check(sitting.wait(lambda: sitting.terminal.line(ROWS) == MARKED, 30), sitting.terminal.line(ROWS))
     trial.leaves(sitting)
     answers = trial.oberon_says('play', trial.path, lines=['type ' + 'x' * 99, 'type x']).split()
     trial.check(answers == ['ok', 'no', '6'], f'there is another room: {answers}')
@@ -526,7 +527,7 @@ def resized_amid_paste(trial):
     trial.check(sitting.wait(lambda: sitting.terminal.scenes > 0, 5), 'no scene')
     sitting.press(b'def\x1b[201~')
     trial.check(sitting.look_anew(), 'no scene')
-    trial.check(sitting.wait(lambda: sitting.terminal.line(23) == KEYS, 5), sitting.terminal.line(23))
+    trial.check(sitting.wait(lambda: sitting.terminal.line(23) == MARKED, 5), sitting.terminal.line(23))
     trial.check(sitting.terminal.line(22) != '', 'the display has other rows')
     trial.leaves(sitting)
     trial.kept('abcdef', 'abcdef')

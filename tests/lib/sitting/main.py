@@ -185,7 +185,7 @@ def compared(terminal, model, wanted):
         wrong.append('another screen: ' + repr([(g, w) for g, w in zip(painted, wanted) if g != w][:3]))
     if before != after:
         wrong.append('the screen that is painted anew is another one')
-    if terminal.line(model.rows) != model.line():
+    if not model.is_below(terminal.line(model.rows)):
         wrong.append(f'the line below is {terminal.line(model.rows)!r} and not {model.line()!r}')
     caret = model.screen().caret()
     place = caret and (caret[0] - model.left(), model.top - caret[1])

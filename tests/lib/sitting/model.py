@@ -15,6 +15,7 @@ GREETING = 'Help: F2, then click Edit.Open Help. F11: no mouse. Ctrl-S stores, C
 UNREAD = "The host's file can't be read, and nothing was typed."
 # What the line below says where nothing else is to be said.
 KEYS = 'F2 calls, F3 selects, F11 no mouse, Ctrl-S stores, Ctrl-Z undo, Ctrl-Q leaves'
+UNSTORED = " isn't stored: Ctrl-S stores, F2 calls, F11 no mouse, Ctrl-Q leaves"
 NO_KEY = 'That key means nothing here.'
 NO_CARET = 'No caret is set: click into a text first.'
 NOTHING_AFTER = 'No character after the caret is in sight.'
@@ -229,8 +230,34 @@ class Model:
         return COLUMNS if self.width == COLUMNS else min(self.width, WIDTHS[self.side])
 
     def line(self):
-        """What is seen of the line below."""
+        """What is seen of the line below, where it doesn't say that a text isn't stored."""
         return self.saying[:self.width].rstrip()
+
+    def is_below(self, seen):
+        """Whether that may stand on the line below. Where nothing else is to be said it says whether the text with the caret isn't
+        stored; which it is can't be told here where its document is as long, and where its menu is another one or cut."""
+        if self.saying != KEYS:
+            return seen == self.line()
+        name, unstored = self.caret_text()
+        marks = [f'{name or some}{UNSTORED}'[:80][:self.width].rstrip() for some in re.findall('^[A-Za-z0-9.]+', seen)]
+        return unstored is not True and seen == self.line() or unstored is not False and seen in marks
+
+    def caret_text(self):
+        """The name in the menu of the viewer with the caret, and whether its text isn't stored; None where that isn't known."""
+        screen = self.screen()
+        place = screen.caret()
+        viewer = place and self.viewer_at(*place)
+        if not viewer:
+            return None, None
+        left, _, top, name = viewer
+        if not screen.rows[ROWS - top][left:left + WIDTHS[left]].startswith(f'{name}{MENU[:15]}'):
+            return None, None
+        lines = [line.split(' ') for line in self.lines('list')]
+        lengths = [int(line[5]) for line in lines if line[0] == 'viewer' and line[4] == name]
+        stored = [int(line[2]) for line in lines if line[0] == 'file' and line[1] == name]
+        if len(lengths) != 1 or name == 'System.Log':
+            return name, None
+        return name, bool(lengths[0]) and (True if lengths != stored else None)
 
     def end(self):
         self.play.stdin.close()
@@ -721,10 +748,15 @@ class Model:
 
     def page(self, way):
         """The text under the mouse, or that of the caret, moves by as many rows as are in sight of it, less one; where none
-        is, by all rows of the viewer, less one."""
+        is, by all rows of the viewer, less one. The caret of that viewer goes to the first cell of the text in sight."""
         viewer = self.viewer_at(*self.pointer) if self.pointer else self.viewer_of_caret()
         seen = [y for y in range(viewer[1], viewer[2] - 1) if self.top - self.rows < y <= self.top] if viewer else []
-        return self.scroll(viewer, ('rows', way, max(len(seen) - 1, 1)) if seen else ('page', way))
+        goes_along = bool(viewer) and viewer == self.viewer_of_caret()
+        is_done = self.scroll(viewer, ('rows', way, max(len(seen) - 1, 1)) if seen else ('page', way))
+        if not is_done or not goes_along:
+            return is_done
+        x, y = viewer[0] + 1, max(seen, default=viewer[2] - 2)
+        return self.post(f'point l {x} {y} {x} {y}')
 
     def go(self, wish):
         """The text of the caret goes to a line, and the caret with it."""

@@ -292,7 +292,7 @@ def sit(seed, desk, oberon, folder, tool):
             if not sitting.wait(lambda: characters(terminal.cells, model.rows) == wanted, 5):
                 seen = characters(terminal.cells, model.rows)
                 return [f'another screen after turn {turn}: ' + repr([(g, w) for g, w in zip(seen, wanted) if g != w][:3])]
-            if terminal.line(model.rows) != model.saying:
+            if not model.is_below(terminal.line(model.rows)):
                 return [f'the line below after turn {turn} is {terminal.line(model.rows)!r} and not {model.saying!r}']
         sitting.press(b'\x11')
         wrong = [] if sitting.end() == 0 else [f'status {sitting.status}']

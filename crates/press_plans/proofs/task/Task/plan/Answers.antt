@@ -17,11 +17,6 @@ unfolding plan_of
 returns-in-Enter g c = rw c.in-Enter.is (plans_at_once g.D.Disk c.entry_plan.result c.args.store.now c.requires (λ honest.
     c.entry_plan.ensures ∙ ap (λ (info : DeskInfo). entry_plan info.is_marked c.in-Enter.cell) c.info_of.ensures))
 
-pub returns-in-Page : goal.returns-in-Page
-unfolding plan_of
-returns-in-Page g c = rw c.in-Page.is (plans_at_once g.D.Disk c.page_plan.result c.args.store.now c.requires
-    (λ honest. c.page_plan.ensures))
-
 pub returns-in-Show : goal.returns-in-Show
 unfolding plan_of
 returns-in-Show g c = rw c.in-Show.is (plans_at_once g.D.Disk c.shown_plan.result c.args.store.now c.requires
