@@ -1,13 +1,14 @@
 //! How a store is.
 ghost use Rattle.std.specs.Prelude.{◌≤◌};
 
+use crate::pasts::tell_past;
 use crate::sentences::Stop;
 use crate::stores::{LockedDisk, LockedStore};
 use cli_stores::{Trouble, looked_at};
 use desk_journal::{Error, Info};
 use desktop_definitions::MOST_WRITTEN;
 use host_files::length_of;
-use host_stores::{FileDisk, opened};
+use host_stores::{FileDisk, PAST_SECTORS, opened};
 use sector_disk::{Disk, FILE_SECTORS, SECTOR_BYTES};
 use std::io;
 use store_documents::{Examined, Part, SlotState, examine, part_of};
@@ -16,13 +17,14 @@ use store_layout::{JOURNAL_EVENTS, LAST_EPOCH};
 /// How many bytes the file of a store has.
 pub(crate) const WHOLE: u64 = FILE_SECTORS as u64 * SECTOR_BYTES as u64;
 
-/// Tells how the store in a file is: how long its file is, what its label and both slots say, and whether it opens. The
-/// file is locked beside other programs that look, and nothing is written. `Cut`: it opens, but its file was cut short.
+/// Tells how the store in a file is: how long its file is, what its label and both slots say, whether it opens, and how far
+/// its past reaches, if it keeps one. The file is locked beside other programs that look, and nothing is written. `Cut`: it
+/// opens, but its file was cut short.
 pub fn check(rt: &HostRuntime, path: &str) -> Result<(), Stop> {
-    let mut disk = FileDisk::new(looked_at(rt, path)?);
+    let mut disk = FileDisk::with_sectors(looked_at(rt, path)?, PAST_SECTORS);
     let length = look(rt, path, &mut disk)?;
     match opened(rt, disk) {
-        Ok(store) => tell_store(rt, &store, length),
+        Ok(store) => tell_store(rt, store, length),
         Err(error) => Err(cannot_open(rt, error)),
     }
 }
@@ -46,9 +48,11 @@ fn look(rt: &HostRuntime, path: &str, disk: &mut LockedDisk) -> Result<u64, Stop
 }
 
 /// Tells what an opening finds in a file of this length.
-fn tell_store(rt: &HostRuntime, store: &LockedStore, length: u64) -> Result<(), Stop> {
+fn tell_store(rt: &HostRuntime, store: LockedStore, length: u64) -> Result<(), Stop> {
+    let mut store = store;
     let info = store.info()?;
     printed(tell_info(rt, &info))?;
+    tell_past(rt, &mut store)?;
     if length >= WHOLE {
         return Ok(());
     }

@@ -13,7 +13,7 @@ use host_files::{
     HostFault, LockedFile, is_there, length_of, lock_new, remove, rename_new, sync_folder,
 };
 use host_stores::{FileDisk, opened as opened_on};
-use sector_disk::{Disk, FILE_SECTORS};
+use sector_disk::{Disk, FILE_SECTORS, MemoryDisk};
 use store_documents::{are_same, copy};
 
 // The number that is told beside those that were copied.
@@ -61,6 +61,19 @@ pub(crate) fn copy_to(
     copy_aside(rt, path, &mut disk, aside.as_str(), to, last)
 }
 
+/// Puts a disk in memory into a new file. Where there is something of that name nothing is done.
+pub(crate) fn put_copy(
+    rt: &HostRuntime,
+    path: &str,
+    disk: MemoryDisk,
+    copy: &str,
+) -> Result<(), Stop> {
+    refuse_taken(rt, copy)?;
+    let mut disk = disk;
+    let aside = format!(in rt.alloc(); "{copy}.desk-copy")?;
+    copy_aside(rt, path, &mut disk, aside.as_str(), copy, &[])
+}
+
 /// Whether the file of a store has all of its bytes, as far as the host tells.
 fn is_whole(rt: &HostRuntime, path: &str) -> bool {
     match length_of(rt, path) {
@@ -70,10 +83,10 @@ fn is_whole(rt: &HostRuntime, path: &str) -> bool {
 }
 
 /// The same by a file under another name, which is gone where this fails.
-fn copy_aside(
+fn copy_aside<D: Disk>(
     rt: &HostRuntime,
     path: &str,
-    disk: &mut LockedDisk,
+    disk: &mut D,
     aside: &str,
     to: &str,
     last: &[Event],
@@ -107,14 +120,14 @@ fn new_copy(rt: &HostRuntime, aside: &str, to: &str) -> Result<LockedFile, Stop>
 }
 
 /// Copies a store onto a disk, waits until all is there for good, compares, opens the copy, and takes events back there.
-fn copied(
+fn copied<D: Disk>(
     rt: &HostRuntime,
     path: &str,
-    disk: &mut LockedDisk,
+    disk: &mut D,
     copy_disk: LockedDisk,
     last: &[Event],
 ) -> Result<(), Stop>
-    requires { ⟦<LockedDisk as Disk>⟧.size copy_disk ≡ ⟦<LockedDisk as Disk>⟧.size disk.old }
+    requires { ⟦<LockedDisk as Disk>⟧.size copy_disk ≡ D.size disk.old }
 {
     let mut other = copy_disk;
     fill_copy(rt, path, disk, &mut other)?;
@@ -190,13 +203,13 @@ fn is_same_event(event: &Event, other: &Event) -> bool
 }
 
 /// Copies a store onto a disk, waits until all is there for good, and compares.
-fn fill_copy(
+fn fill_copy<D: Disk>(
     rt: &HostRuntime,
     path: &str,
-    disk: &mut LockedDisk,
+    disk: &mut D,
     other: &mut LockedDisk,
 ) -> Result<(), Stop>
-    requires { ⟦<LockedDisk as Disk>⟧.size other.old ≡ ⟦<LockedDisk as Disk>⟧.size disk.old }
+    requires { ⟦<LockedDisk as Disk>⟧.size other.old ≡ D.size disk.old }
 {
     let sectors = disk.sectors();
     let mut progress = Progress::new(rt, "of 15621 sectors copied");

@@ -1,6 +1,7 @@
 //! What can be taken back in a store, and a store as it was.
 
-use crate::copies::{copy_to, refuse_taken};
+use crate::copies::{copy_to, put_copy, refuse_taken};
+use crate::pasts::shown_before;
 use crate::sentences::Stop;
 use crate::stores::{store_at, store_in_memory};
 use arrayvec::ArrayVec;
@@ -31,7 +32,7 @@ pub fn events_back(rt: &HostRuntime, path: &str) -> Result<(), Stop> {
 }
 
 /// What each of these events does, which are done one after another.
-fn lines_of(
+pub(crate) fn lines_of(
     alloc: Global,
     store: &mut Store<MemoryDisk>,
     events: &[Event],
@@ -122,7 +123,7 @@ fn words_in(alloc: Global, words: &[u8], name: &[u8]) -> Result<String, Stop> {
 }
 
 /// Prints lines behind their numbers, the last one first.
-fn print_lines(rt: &HostRuntime, lines: &[String]) -> io::Result<()> {
+pub(crate) fn print_lines(rt: &HostRuntime, lines: &[String]) -> io::Result<()> {
     let mut number = 0u32;
     for line in lines.iter().rev() {
         number = number.saturating_add(1);
@@ -140,14 +141,35 @@ pub fn earlier(rt: &HostRuntime, path: &str, count: u32, copy: &str) -> Result<(
     let events = store.history(rt.alloc())?;
     let there = events.len();
     let Some(first) = there.checked_sub(count as usize) else {
-        let _ = eprintln!(rt; "desk: only {there} events can be taken back, so nothing was done");
-        return Err(Stop::Refused);
+        drop(store);
+        return much_earlier(rt, path, count, copy, there);
     };
     refuse_taken(rt, copy)?;
     let last = events.as_slice().get(first..).unwrap_or(&[]);
     copy_to(rt, path, store, copy, last)?;
     match println!(rt;
         "{copy}: a copy of the store, compared and synced; events taken back there: {count}"
+    ) {
+        Ok(()) => Ok(()),
+        Err(_) => Err(Stop::Trouble(Trouble::Output)),
+    }
+}
+
+/// The same by the past behind the store, if it keeps one that reaches so far.
+fn much_earlier(
+    rt: &HostRuntime,
+    path: &str,
+    count: u32,
+    copy: &str,
+    there: usize,
+) -> Result<(), Stop> {
+    let Some(shown) = shown_before(rt, path, count)? else {
+        let _ = eprintln!(rt; "desk: only {there} events can be taken back, so nothing was done");
+        return Err(Stop::Refused);
+    };
+    put_copy(rt, path, shown.close(), copy)?;
+    match println!(rt;
+        "{copy}: a store, compared and synced, made of the past; events taken back there: {count}"
     ) {
         Ok(()) => Ok(()),
         Err(_) => Err(Stop::Trouble(Trouble::Output)),

@@ -1,5 +1,5 @@
 //! What a person asks of a store's file from the shell: documents out (`exporting`), a list of them (`listing`) and of
-//! texts that no document has (`unstored`), a copy of a store (`copies`), what can be taken back (`history`), and how a store is (`checking`). Documents come in by the crate
+//! texts that no document has (`unstored`), a copy of a store (`copies`), what can be taken back (`history`), the past behind a store (`pasts`), and how a store is (`checking`). Documents come in by the crate
 //! `cli_imports`. Their bytes, and the store, are the matter of `store_documents`; what is refused is said in one sentence
 //! here (`sentences`). No function has many exits while it owns memory, since such exits are what a proof costs.
 #![tactic(auto)]
@@ -9,6 +9,7 @@ mod copies;
 mod exporting;
 mod history;
 mod listing;
+mod pasts;
 mod progress;
 mod sentences;
 mod stores;
@@ -19,6 +20,7 @@ pub use copies::backup;
 pub use exporting::{Putting, export_all, export_names};
 pub use history::{earlier, events_back};
 pub use listing::{list, list_json};
+pub use pasts::{events_all, forget_past};
 pub use progress::Progress;
 pub use sentences::{Stop, word_of};
 pub use stores::store_in_memory;

@@ -32,6 +32,10 @@ const SIT: &[Argument<'static>] = &[
         kind: Kind::Choice,
     },
     Argument {
+        name: "past",
+        kind: Kind::Choice,
+    },
+    Argument {
         name: "columns",
         kind: Kind::Named,
     },
@@ -43,6 +47,15 @@ const SIT: &[Argument<'static>] = &[
     Argument {
         name: "path",
         kind: Kind::Optional,
+    },
+];
+
+/// Those of `history`.
+const HISTORY: &[Argument<'static>] = &[
+    PATH,
+    Argument {
+        name: "all",
+        kind: Kind::Choice,
     },
 ];
 
@@ -167,11 +180,15 @@ pub(crate) const COMMANDS: &[CommandShape<'static>] = &[
     },
     CommandShape {
         name: "history",
-        arguments: STORE,
+        arguments: HISTORY,
     },
     CommandShape {
         name: "earlier",
         arguments: EARLIER,
+    },
+    CommandShape {
+        name: "forget",
+        arguments: STORE,
     },
     CommandShape {
         name: "export",

@@ -31,8 +31,13 @@ pub enum Order<'a> {
         path: &'a str,
         twin: Option<&'a str>,
     },
-    /// To list the events that can be taken back.
-    History(&'a str),
+    /// To list the events that can be taken back, or all of a past that a store keeps.
+    History {
+        path: &'a str,
+        all: bool,
+    },
+    /// To forget the past that a store keeps.
+    Forget(&'a str),
     /// To copy a store as it was before so many of its last events.
     Earlier {
         path: &'a str,
@@ -50,6 +55,8 @@ pub struct Sit<'a> {
     pub unproved: bool,
     /// Whether it asks before a press loses something.
     pub questions: bool,
+    /// Whether a past is to begin where the store keeps none.
+    pub past: bool,
     /// The store's file; without one the desktop is in memory.
     pub path: Option<&'a str>,
     /// The store's twin, if it is to have one.
@@ -122,6 +129,7 @@ fn short_order<'a>(asked: &Asked<'a>) -> Option<Order<'a>> {
             window: window_of(asked)?,
             unproved: asked.chooses("unproved"),
             questions: !asked.chooses("no-questions"),
+            past: asked.chooses("past"),
             path: asked.word("path"),
             twin: asked.word("twin"),
         })),
@@ -138,7 +146,11 @@ fn short_order<'a>(asked: &Asked<'a>) -> Option<Order<'a>> {
             path: asked.word("path")?,
             twin: asked.word("twin"),
         }),
-        "history" => Some(Order::History(asked.word("path")?)),
+        "history" => Some(Order::History {
+            path: asked.word("path")?,
+            all: asked.chooses("all"),
+        }),
+        "forget" => Some(Order::Forget(asked.word("path")?)),
         "earlier" => Some(Order::Earlier {
             path: asked.word("path")?,
             count: asked.word("count")?.parse::<u32>().ok()?,

@@ -5,7 +5,8 @@ use crate::orders::{Export, Import, Order, Sit, order_of};
 use crate::sitting::{Service, sit_at, sit_at_pair, sit_in_memory};
 use crate::usages::usage_of;
 use cli_documents::{
-    Putting, Stop, backup, check, earlier, events_back, export_all, export_names, list, list_json,
+    Putting, Stop, backup, check, earlier, events_all, events_back, export_all, export_names,
+    forget_past, list, list_json,
 };
 use cli_imports::{Manner, import, import_to_pair};
 use cli_stores::{Trouble, picture};
@@ -76,7 +77,9 @@ fn follow(rt: &HostRuntime, order: &Order<'_>) -> u8 {
             path,
             twin: Some(twin),
         } => check_both(rt, path, twin),
-        Order::History(path) => done(rt, path, events_back(rt, path)),
+        Order::History { path, all: false } => done(rt, path, events_back(rt, path)),
+        Order::History { path, all: true } => done(rt, path, events_all(rt, path)),
+        Order::Forget(path) => done(rt, path, forget_past(rt, path)),
         Order::Earlier { path, count, copy } => done(rt, path, earlier(rt, path, *count, copy)),
     }
 }
@@ -91,6 +94,7 @@ fn sit(rt: &HostRuntime, order: &Sit<'_>) -> u8 {
         window: order.window,
         greeting,
         questions: order.questions,
+        past: order.past,
     };
     match (order.path, order.twin) {
         (None, _) => sit_in_memory(rt, service),

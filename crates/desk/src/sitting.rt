@@ -5,10 +5,11 @@ ghost use Rattle.desk_sitting.specs.Serving.{IsUsableAt};
 use crate::endings::{kept, lost};
 use byte_streams::{AnswerWriter, CountedWriter};
 use cli_stores::{NewFile, Trouble, in_memory, make, new_file};
-use desk_journal::Store;
+use desk_journal::{Error, Store};
+use desk_past::{Outset, go_on};
 use desk_sitting::{Past, Saying, SittingEnd, serve};
 use host_files::{HostFault, LockedFile, lock_alone};
-use host_stores::without_twin;
+use host_stores::{FileDisk, with_past_room, without_twin};
 use screen_drawing::{ring, send_bytes};
 use sector_disk::Disk;
 use std::io::BufWriter;
@@ -36,6 +37,8 @@ pub(crate) struct Service {
     pub(crate) greeting: Saying,
     /// Before a press loses something it is asked about.
     pub(crate) questions: bool,
+    /// A past begins where the store keeps none.
+    pub(crate) past: bool,
 }
 
 /// Serves a person at the desktop of a new store in memory, and returns the status.
@@ -63,8 +66,26 @@ fn sit_at_locked(rt: &HostRuntime, file: LockedFile, path: &str, service: Servic
             if left_twin {
                 service.greeting = Saying::WithoutTwin;
             }
-            kept(rt, path, sit(rt, store, service))
+            sit_keeping(rt, store, path, service)
         }
+        Err(error) => Trouble::Store(error).say(rt, path),
+    }
+}
+
+/// The same over a store on a disk with room for a past, which goes on or begins, if the store keeps one or is to. Where one
+/// that is asked for doesn't begin, the disk reads otherwise than it was written.
+fn sit_keeping(
+    rt: &HostRuntime,
+    store: Store<FileDisk<LockedFile>>,
+    path: &str,
+    service: Service,
+) -> u8
+    requires { store.must_reopen ≡ false }
+{
+    let mut store = store;
+    match go_on(rt.alloc(), &mut store, service.past) {
+        Ok(Outset::Absent) if service.past => Trouble::Store(Error::Fault).say(rt, path),
+        Ok(_outset) => kept(rt, path, sit(rt, store, service)),
         Err(error) => Trouble::Store(error).say(rt, path),
     }
 }
@@ -81,8 +102,16 @@ fn sit_at_new(rt: &HostRuntime, path: &str, service: Service) -> u8 {
 /// The same, in the file under the other name.
 fn sit_at_made(rt: &HostRuntime, made: NewFile, path: &str, service: Service) -> u8 {
     match make(rt, made, path) {
-        Ok(store) => kept(rt, path, sit(rt, store, service)),
+        Ok(store) => sit_again(rt, store.close().into_file(), path, service),
         Err(trouble) => trouble.say(rt, path),
+    }
+}
+
+/// The same, in a file whose store was just made.
+fn sit_again(rt: &HostRuntime, file: LockedFile, path: &str, service: Service) -> u8 {
+    match with_past_room(rt, file) {
+        Ok(store) => sit_keeping(rt, store, path, service),
+        Err(error) => Trouble::Store(error).say(rt, path),
     }
 }
 

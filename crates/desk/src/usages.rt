@@ -4,13 +4,14 @@
 pub(crate) fn usage_of(command: &str) -> Option<&'static str> {
     match command {
         "sit" => Some(
-            "sit [--unproved] [--no-questions] [--no-fill] [--columns N] [--twin PATH2] ROWS [PATH]",
+            "sit [--unproved] [--no-questions] [--no-fill] [--past] [--columns N] [--twin PATH2] ROWS [PATH]",
         ),
         "picture" => Some("picture PATH"),
         "check" => Some("check PATH [--twin PATH2]"),
         "list" => Some("list PATH [--json]"),
         "backup" => Some("backup PATH COPY"),
-        "history" => Some("history PATH"),
+        "history" => Some("history PATH [--all]"),
+        "forget" => Some("forget PATH"),
         "earlier" => Some("earlier PATH K COPY"),
         "export" => Some(
             "export PATH NAME.. [--join] [--open], or export PATH NAME --looks [--open], or export PATH --all FOLDER [--looks] [--join] [--replace] [--open]",

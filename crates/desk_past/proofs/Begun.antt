@@ -215,12 +215,12 @@ end_at next before = record { next = next; before = before }
 module _ (size base : ℕ) (x c : Content) (s : Standing) (room : base + STORE_SECTORS ≤ size) (behind : STORE_SECTORS ≤ base)
     (same : (n : ℕ) → n < STORE_SECTORS → x (base + n) ≡ x n)
     (still : (n : ℕ) → STORE_SECTORS ≤ n → c n ≡ x n) (at : Stands size x s) where
-  stands_there : StandsFrom c base s
+  pub stands_there : StandsFrom c base s
   stands_there = stands_behind x (λ n. c (base + n)) s (resized STORE_SECTORS x s (omega arith) at)
       (λ n low. still (base + n) (omega (arith, behind)) ∙ same n low)
 
   -- the start begins a past
-  pub begun_there : (desktop : Desktop) (before : ℕ) (end : PastEnd) → desktop_of s ≡ desktop
+  abbrev pub begun_there : (desktop : Desktop) (before : ℕ) (end : PastEnd) → desktop_of s ≡ desktop
       → before ≡ s.past.before + length s.events → end.next ≡ base + STORE_SECTORS → end.before ≡ before
       → Stands size c (renewed_from end s) → Remembers size (begun_at desktop before base) [] desktop c
   begun_there desktop before end is counted next told anew = record {
@@ -335,7 +335,7 @@ module _ {D : Type 0} (d : Ghosts D) (old new : StoreView D) (base before : ℕ)
     (behind : STORE_SECTORS ≤ base) (room : base + STORE_SECTORS ≤ d.size old.disk) (within : StaysWithin d old.disk new.disk)
     (same : (n : ℕ) → n < STORE_SECTORS → (now (d.trail old.disk)).reads (base + n) ≡ (now (d.trail old.disk)).reads n)
     (s : Standing) (at : ShowsStanding d old s) (counted : before ≡ s.past.before + length s.events) where
-  pub has_begun : (desktop : Desktop) → desktop_of s ≡ desktop → end.next ≡ base + STORE_SECTORS → end.before ≡ before
+  abbrev pub has_begun : (desktop : Desktop) → desktop_of s ≡ desktop → end.next ≡ base + STORE_SECTORS → end.before ≡ before
       → new.must_reopen ≡ false → ShowsNext d (renewed_from end) old new
       → KeepsAll d (begun_at desktop before base) [] desktop new
   has_begun desktop is next told usable shows = record {

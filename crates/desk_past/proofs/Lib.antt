@@ -8,7 +8,10 @@ pub mod StillReads
 pub mod PageReads
 pub mod Stepping
 pub mod Opened
+pub mod Copied
 pub mod Begun
 pub mod Ways
 pub mod Rooms
 pub mod GoingOn
+pub mod Found
+pub mod Forgotten

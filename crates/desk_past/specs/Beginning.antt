@@ -1,12 +1,19 @@
 -- A past that begins, behind another one or none. `d` is what is known of a disk.
-use Rattle.std.specs.Prelude.{◌≡◌, ◌⊎◌, ◌+◌, ◌<◌, ◌≤◌, ◌^◌, ℕ, [], List, false, length, nat_lt, if◌then◌else◌}
+use Rattle.std.specs.Prelude.{◌≡◌, ◌⊎◌, ◌+◌, ◌<◌, ◌≤◌, ◌^◌, ℕ, [], List, false, true, length, nat_lt, if◌then◌else◌}
+use Rattle.std.specs.Prelude.{Result, IsErrOf, get_or}
 use Rattle.sector_disk.specs.declared.disk.Disk.{Ghosts}
+use Rattle.sector_disk.specs.declared.disk.TheConstants.{SECTOR_BYTES}
+use Rattle.sector_disk.specs.Faults.{FailsAs}
 use Rattle.sector_disk.specs.Trail.{Content, now, LeavesOnly}
 use Rattle.event_bytes.specs.declared.event.Event.{Event}
 use Rattle.desktop_definitions.specs.Desktop.{Desktop}
-use Rattle.store_layout.specs.declared.layout.TheConstants.{STORE_SECTORS}
+use Rattle.store_layout.specs.declared.layout.TheConstants.{LAST_EPOCH, STORE_SECTORS}
 use Rattle.store_layout.specs.Filling.{InRange}
 use Rattle.store_layout.specs.Meaning.{Standing}
+use Rattle.store_slots.specs.declared.error.Error.{Error}
+use Rattle.store_slots.specs.declared.error.Error.TheVariants.{Fault, MustReopen, Worn}
+use Rattle.store_slots.specs.Errors.{OfPost}
+use Rattle.desk_journal.specs.Device.{IsSameDevice}
 use Rattle.desk_journal.specs.Undoing.{ShowsStanding}
 use Rattle.desk_journal.specs.View.{StoreView}
 use Rattle.desk_past.specs.Past.{KeepsAll, Remembers, Start}
@@ -32,6 +39,14 @@ pub record SparesAllBut {D : Type 0} (d : Ghosts D) (from limit : ℕ) (old new 
 abbrev pub SparesOthers : {D : Type 0} → Ghosts D → ℕ → StoreView D → StoreView D → Type 0
 SparesOthers d base old new = SparesAllBut d base STORE_SECTORS old new
 
+-- two sectors hold the same bytes
+abbrev pub HoldsSame : List ℕ → List ℕ → Type 0
+HoldsSame bytes bytes' = (j : ℕ) → j < SECTOR_BYTES → get_or bytes j 0 ≡ get_or bytes' j 0
+
+-- The content has copies of so many sectors of another one, from this one on, each `base` sectors further on.
+abbrev pub HasCopies : ℕ → ℕ → ℕ → Content → Content → Type 0
+HasCopies base from count was c = (n : ℕ) → InRange from count n → HoldsSame (c (base + n)) (was n)
+
 -- Something was written behind a store, or nothing. It is in use, and shows what it showed, by the same journal.
 pub record IsAside {D : Type 0} (d : Ghosts D) (old new : StoreView D) : Type 0 where
   pub usable : new.must_reopen ≡ false
@@ -50,6 +65,21 @@ pub record IsStarted {D : Type 0} (d : Ghosts D) (base before : ℕ) (old new : 
       → (now (d.trail new.disk)).reads (base + n) ≡ (now (d.trail new.disk)).reads n
   pub counted : d.honest old.disk → (s : Standing) → ShowsStanding d old s
       → before ≡ s.past.before + length s.events
+
+-- Too many events came before what the store shows: no number of eight bytes counts them.
+abbrev pub AreUncounted : {D : Type 0} → Ghosts D → StoreView D → Type 0
+AreUncounted d store = (s : Standing) → ShowsStanding d store s
+    → 2 ^ 64 ≤ s.past.before + length s.events
+
+-- What stops a past that is to begin: a failure of the device, which is counted, want of memory, the last epoch, or a
+-- store that must be opened again. The device is the same one, whatever the call returns.
+pub record IsStoppedBy {D T : Type 0} (d : Ghosts D) (answer : Result T Error)
+    (old new : StoreView D)
+    : Type 0 where
+  pub same : IsSameDevice d old.disk new.disk
+  pub faults : FailsAs Fault OfPost answer (d.failures old.disk) (d.failures new.disk)
+  pub worn : IsErrOf answer Worn → old.epoch ≡ LAST_EPOCH
+  pub reopen : IsErrOf answer MustReopen → old.must_reopen ≡ true
 
 -- ---- behind another past
 
@@ -70,6 +100,14 @@ pub record GoesOnFrom (size base : ℕ) (start : Start) (events : List Event) (d
   pub former : RemembersFormer size base start events desktop c
 
 module _ {D : Type 0} (d : Ghosts D) where
+  -- A past begins with what the store shows, from this sector on, and its start has copies of all sectors of the store.
+  pub record HasBegun (base : ℕ) (old new : StoreView D) : Type 0 where
+    pub before : ℕ
+    pub keeps : KeepsAll d (begun_at old.desktop before base) [] old.desktop new
+    pub next : keeps.remembers.standing.past.next ≡ base + STORE_SECTORS
+    pub copies : HasCopies base 0 STORE_SECTORS (now (d.trail old.disk)).reads
+        (now (d.trail new.disk)).reads
+
   -- a start from this sector on touches no sector of the past
   abbrev pub IsApart : {start : Start} {events : List Event} {desktop : Desktop}
       {store : StoreView D} → ℕ → KeepsAll d start events desktop store → Type 0

@@ -1,13 +1,54 @@
 -- A past that goes on where a sitting begins, or begins there. `d` is what is known of a disk.
-use Rattle.std.specs.Prelude.{◌≡◌, ◌⊎◌, ◌≤◌, ℕ, [], List}
+use Rattle.std.specs.Prelude.{◌≡◌, ◌⊎◌, ◌+◌, ◌<◌, ◌≤◌, ℕ, [], List, Bool, true, max, if◌then◌else◌}
 use Rattle.sector_disk.specs.declared.disk.Disk.{Ghosts}
-use Rattle.sector_disk.specs.Trail.{LeavesOnly}
+use Rattle.sector_disk.specs.Trail.{Content, LeavesOnly, now}
 use Rattle.event_bytes.specs.declared.event.Event.{Event}
 use Rattle.desktop_definitions.specs.Desktop.{Desktop}
+use Rattle.store_layout.specs.declared.layout.TheConstants.{LABEL, STORE_SECTORS}
+use Rattle.store_layout.specs.Layout.{head_of, is_label, is_open, slot_gate, slot_head}
+use Rattle.store_layout.specs.Meaning.{Standing}
 use Rattle.desk_journal.specs.View.{StoreView}
-use Rattle.desk_past.specs.Beginning.{GoesOnFrom, begun_at}
-use Rattle.desk_past.specs.Halves.{IsHalf}
+use Rattle.desk_past.specs.Beginning.{AreUncounted, GoesOnFrom, begun_at}
+use Rattle.desk_past.specs.Halves.{HasHalves, IsHalf, middle}
 use Rattle.desk_past.specs.Past.{KeepsAll, Remembers, Start}
+use Rattle.desk_past.specs.declared.going_on.Outset.{Outset}
+use Rattle.desk_past.specs.declared.going_on.Outset.TheVariants.{Absent, GoesOn, Begins}
+use Rattle.desk_past.specs.declared.going_on.TheConstants.{LEAST_ROOM}
+use Rattle.desk_past.specs.declared.halves.TheConstants.{HALVES}
+
+-- ---- what stands behind a store
+
+-- the epoch of a slot of the start from this sector on, or 0 where its gate is closed
+abbrev pub slot_epoch : Content → ℕ → ℕ → ℕ
+slot_epoch c base slot = if is_open (c (base + slot_gate slot))
+    then (head_of (c (base + slot_head slot))).epoch else 0
+
+-- the epoch of that start, or 0 where none stands there
+abbrev pub start_epoch : Content → ℕ → ℕ
+start_epoch c base = if is_label (c (base + LABEL))
+    then max (slot_epoch c base 0) (slot_epoch c base 1) else 0
+
+-- the sector lies in a half in which pages can go on there
+pub record IsInHalf (size next : ℕ) : Type 0 where
+  pub base : ℕ
+  pub end : ℕ
+  pub half : IsHalf size base end
+  pub low : base + STORE_SECTORS ≤ next
+  pub high : next ≤ end
+
+-- A past is to go on or to begin: one is asked for, or was kept, since there is a start, or pages go on in this sector
+-- of a half.
+abbrev pub IsWanted : Bool → ℕ → ℕ → Content → Type 0
+IsWanted asked size next c = (asked ≡ true) ⊎ (0 < start_epoch c HALVES)
+    ⊎ (0 < start_epoch c (middle size)) ⊎ IsInHalf size next
+
+-- The half in which pages go on in this sector has its start, and room for a sitting.
+pub record CanGoOn (size next : ℕ) (c : Content) : Type 0 where
+  pub at : IsInHalf size next
+  pub start : 0 < start_epoch c at.base
+  pub room : next + LEAST_ROOM ≤ at.end
+
+-- ---- a past that goes on there
 
 module _ {D : Type 0} (d : Ghosts D) where
   -- the past lies in a half, up to the sector that the head names
@@ -31,3 +72,14 @@ module _ {D : Type 0} (d : Ghosts D) where
   abbrev pub BeginsNow : StoreView D → StoreView D → Type 0
   BeginsNow old new = d.honest old.disk → (base : ℕ) × (before : ℕ)
       × KeepsAll d (begun_at old.desktop before base) [] old.desktop new
+
+  -- what becomes of a past, where the store shows this
+  abbrev pub IsDueOutset : Bool → StoreView D → Standing → Outset → Type 0
+  IsDueOutset asked old s Absent = HasHalves (d.size old.disk)
+      → IsWanted asked (d.size old.disk) s.past.next (now (d.trail old.disk)).reads
+      → AreUncounted d old
+  IsDueOutset asked old s GoesOn = CanGoOn (d.size old.disk) s.past.next
+      (now (d.trail old.disk)).reads
+  IsDueOutset asked old s Begins = HasHalves (d.size old.disk)
+      × IsWanted asked (d.size old.disk) s.past.next (now (d.trail old.disk)).reads
+      × ¬ CanGoOn (d.size old.disk) s.past.next (now (d.trail old.disk)).reads

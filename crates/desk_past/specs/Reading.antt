@@ -1,5 +1,5 @@
 -- What is read of a past.
-use Rattle.std.specs.Prelude.{◌≡◌, ◌+◌, ◌≤◌, ◌<◌, ℕ, false}
+use Rattle.std.specs.Prelude.{◌≡◌, ◌+◌, ◌≤◌, ℕ, false}
 use Rattle.sector_disk.specs.Stored.{HoldsBytes}
 use Rattle.sector_disk.specs.Trail.{Content}
 use Rattle.sector_disk.specs.declared.disk.Disk.{Ghosts}

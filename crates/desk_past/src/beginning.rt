@@ -1,10 +1,11 @@
 //! A past that begins.
-ghost use Rattle.std.specs.Prelude.{◌≡◌, ◌+◌, ◌^◌, ◌≤◌, ◌<◌, ℕ, [], true, false, IfOk, IfSome, OnOk};
+ghost use Rattle.std.specs.Prelude.{◌≡◌, ◌+◌, ◌-◌, ◌^◌, ◌≤◌, ◌<◌, true, false, IfNone, IfOk, IfSome, IsErrOf, OnOk};
+ghost use Rattle.sector_disk.specs.Trail.{now};
 ghost use Rattle.store_layout.specs.declared.layout.TheConstants.{STORE_SECTORS};
+ghost use Rattle.store_slots.specs.Errors.{OfDesktop, OfLook};
 ghost use Rattle.desk_journal.specs.Checkpointing.{LeavesDesktop};
-ghost use Rattle.desk_journal.specs.Device.{IsSameDevice};
-ghost use Rattle.desk_past.specs.Beginning.{ForgetsNoneBefore, BeginsBehind, HasStartRoom, IsAside, IsStarted, SparesOthers, begun_at};
-ghost use Rattle.desk_past.specs.Past.{KeepsAll};
+ghost use Rattle.desk_past.specs.Beginning.{AreUncounted, BeginsBehind, ForgetsNoneBefore, HasBegun, HasCopies, HasStartRoom, IsAside, IsStarted, IsStoppedBy, SparesAllBut, SparesOthers};
+ghost use Rattle.desk_past.specs.Keeping.{UsesDevice};
 
 use crate::reading::events_before;
 use crate::sectors::{bytes_at, is_copied};
@@ -30,9 +31,11 @@ fn copy_some<D: Disk>(
     requires start { HasStartRoom (D.size store.old.disk) base }
     requires some { 0 < count }
     requires inside { from + count ≤ STORE_SECTORS }
-    ensures others { SparesOthers D.Disk base store.old store.new }
-    ensures device { IsSameDevice D.Disk store.old.disk store.new.disk }
+    ensures only { SparesAllBut D.Disk (base + from) count store.old store.new }
+    ensures device { UsesDevice D.Disk OfDesktop result store.old store.new }
     ensures aside { OnOk result (IsAside D.Disk store.old store.new) }
+    ensures copied { OnOk result (D.honest store.old.disk → HasCopies base from count
+        (now (D.trail store.old.disk)).reads (now (D.trail store.new.disk)).reads) }
 {
     store.shows_what_crashes_leave();
     let bytes = bytes_at(alloc, store, from, count)?;
@@ -48,8 +51,10 @@ fn copy_rest<D: Disk>(alloc: Global, store: &mut Store<D>, base: u32) -> Result<
     requires usable { store.old.must_reopen ≡ false }
     requires start { HasStartRoom (D.size store.old.disk) base }
     ensures others { SparesOthers D.Disk base store.old store.new }
-    ensures device { IsSameDevice D.Disk store.old.disk store.new.disk }
+    ensures device { UsesDevice D.Disk OfDesktop result store.old store.new }
     ensures aside { OnOk result (IsAside D.Disk store.old store.new) }
+    ensures copied { OnOk result (D.honest store.old.disk → HasCopies base 1 (STORE_SECTORS - 1)
+        (now (D.trail store.old.disk)).reads (now (D.trail store.new.disk)).reads) }
 {
     store.shows_what_crashes_leave();
     let mut done = 1;
@@ -68,8 +73,10 @@ fn copy_behind<D: Disk>(alloc: Global, store: &mut Store<D>, base: u32) -> Resul
     requires usable { store.old.must_reopen ≡ false }
     requires start { HasStartRoom (D.size store.old.disk) base }
     ensures others { SparesOthers D.Disk base store.old store.new }
-    ensures device { IsSameDevice D.Disk store.old.disk store.new.disk }
+    ensures device { UsesDevice D.Disk OfDesktop result store.old store.new }
     ensures aside { OnOk result (IsAside D.Disk store.old store.new) }
+    ensures copied { OnOk result (D.honest store.old.disk → HasCopies base 0 STORE_SECTORS
+        (now (D.trail store.old.disk)).reads (now (D.trail store.new.disk)).reads) }
 {
     store.shows_what_crashes_leave();
     store.write_behind(base, 1, &[])?;
@@ -84,9 +91,12 @@ fn copy_behind<D: Disk>(alloc: Global, store: &mut Store<D>, base: u32) -> Resul
 fn make_start<D: Disk>(alloc: Global, store: &mut Store<D>, base: u32) -> Result<Option<u64>, Error>
     requires { HasStartRoom (D.size store.old.disk) base }
     ensures others { SparesOthers D.Disk base store.old store.new }
-    ensures device { IsSameDevice D.Disk store.old.disk store.new.disk }
+    ensures device { UsesDevice D.Disk OfLook result store.old store.new }
+    ensures open { IsErrOf result Error.MustReopen → store.old.must_reopen ≡ true }
     ensures start { IfOk result (λ found. IfSome found (λ before. IsStarted D.Disk base before
         store.old store.new)) }
+    ensures none { IfOk result (λ found. IfNone found (D.honest store.old.disk
+        → AreUncounted D.Disk store.old)) }
     ensures usable { OnOk result (store.new.must_reopen ≡ false) }
 {
     store.shows_what_crashes_leave();
@@ -107,17 +117,18 @@ fn make_start<D: Disk>(alloc: Global, store: &mut Store<D>, base: u32) -> Result
 /// one stays, up to the new start. False where what is read isn't what was written, or where the events before it are too
 /// many to be counted: then the store shows what it showed, and its head tells what it told.
 ///
-/// Errors: those of `Store::read_behind`, `Store::write_behind` and `Store::checkpoint`.
+/// Errors: those of `Store::read_behind`, `Store::write_behind` and `Store::checkpoint`; `NoMemory`.
 pub fn begin<D: Disk>(alloc: Global, store: &mut Store<D>, base: u32) -> Result<bool, Error>
     requires { HasStartRoom (D.size store.old.disk) base }
     ensures any_moment { LeavesDesktop D.Disk store.old store.new }
     ensures none_forgotten { ForgetsNoneBefore D.Disk base store.old store.new }
     ensures begun { IfOk result (λ done. done ≡ true → D.honest store.old.disk
-        → (before : ℕ) × KeepsAll D.Disk (begun_at store.old.desktop before base) []
-        store.old.desktop store.new) }
+        → HasBegun D.Disk base store.old store.new) }
     ensures goes_on { IfOk result (λ done. done ≡ true
         → BeginsBehind D.Disk base store.old store.new) }
-    ensures device { IsSameDevice D.Disk store.old.disk store.new.disk }
+    ensures refused { IfOk result (λ done. done ≡ false → D.honest store.old.disk
+        → AreUncounted D.Disk store.old) }
+    ensures device { IsStoppedBy D.Disk result store.old store.new }
     ensures usable { OnOk result (store.new.must_reopen ≡ false) }
 {
     standing_law();

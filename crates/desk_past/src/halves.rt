@@ -1,5 +1,5 @@
 //! The two halves of the room behind a store. Each begins with a start, and pages stand behind that.
-ghost use Rattle.std.specs.Prelude.{◌≡◌, ◌+◌, ◌≤◌, ◌^◌, ℕ, true, IfSome, IsSomeAnd};
+ghost use Rattle.std.specs.Prelude.{◌≡◌, ◌+◌, ◌≤◌, ◌^◌, ℕ, Decides, IfSome, IsSomeAnd};
 ghost use Rattle.store_layout.specs.declared.layout.TheConstants.{STORE_SECTORS};
 ghost use Rattle.desk_past.specs.Halves.{HasHalves, IsHalf, half_sectors, middle};
 
@@ -32,7 +32,7 @@ pub(crate) fn middle_of(sectors: u32) -> u32
 
 /// Whether a disk of so many sectors has two halves, each with room for a start.
 pub(crate) fn has_halves(sectors: u32) -> bool
-    ensures { result ≡ true → HasHalves sectors }
+    ensures { Decides result (HasHalves sectors) }
 {
     let middle = middle_of(sectors);
     middle >= HALVES + STORE_SECTORS && middle <= sectors.saturating_sub(STORE_SECTORS)

@@ -7,6 +7,7 @@
 #![tactic(auto)]
 
 mod beginning;
+mod forgetting;
 mod going_on;
 mod halves;
 mod keeping;
@@ -17,6 +18,7 @@ mod reading;
 mod sectors;
 
 pub use beginning::begin;
+pub use forgetting::forget;
 pub use going_on::{LEAST_ROOM, Outset, go_on};
 pub use halves::{HALVES, Half, half_at};
 pub use keeping::{end_epoch, post, undo};

@@ -1,5 +1,6 @@
 //! Any moment of a past: its start is opened as a store on another disk, and the events of its pages are posted to that.
-ghost use Rattle.std.specs.Prelude.{◌≡◌, ◌+◌, ◌-◌, ◌*◌, ◌≤◌, ◌<◌, ◌++◌, ◌^◌, ℕ, List, length, take, drop, true, false, IfOk, IfSome, IsSomeAnd, MatchOption, OnOk, Some};
+ghost use Rattle.std.specs.Prelude.{◌≡◌, ◌+◌, ◌-◌, ◌*◌, ◌≤◌, ◌<◌, ◌++◌, ◌^◌, ℕ, List, length, take, drop, true, false, IfOk, IfSome, IsErrOf, IsSomeAnd, MatchOption, OnOk, Some};
+ghost use Rattle.sector_disk.specs.Faults.{FailsAs};
 ghost use Rattle.sector_disk.specs.Trail.{now};
 ghost use Rattle.event_bytes.specs.declared.event.Event.{Event};
 ghost use Rattle.desktop_definitions.specs.Desktop.{Desktop};
@@ -7,6 +8,7 @@ ghost use Rattle.desktop_definitions.specs.Step.{steps, steps_in};
 ghost use Rattle.store_layout.specs.declared.layout.TheConstants.{LAYOUT, STORE_SECTORS};
 ghost use Rattle.store_layout.specs.declared.head.PastEnd.{PastEnd};
 ghost use Rattle.store_layout.specs.Meaning.{Standing};
+ghost use Rattle.store_slots.specs.Errors.{OfLook};
 ghost use Rattle.desk_journal.specs.Device.{IsOnlyRead};
 ghost use Rattle.desk_journal.specs.Undoing.{IsLedOn, ShowsStanding};
 ghost use Rattle.desk_past.specs.Page.{Page, HasPages, end_of_pages};
@@ -58,6 +60,9 @@ pub(crate) fn events_before<D: Disk>(store: &mut Store<D>) -> Result<Option<u64>
     ensures still { OnOk result (IsOnlyReadFrom D.Disk store.old store.new) }
     ensures disk { IsOnlyRead D.Disk store.old.disk store.new.disk }
     ensures usable { OnOk result (store.old.must_reopen ≡ false) }
+    ensures faults { FailsAs Error.Fault OfLook result (D.failures store.old.disk)
+        (D.failures store.new.disk) }
+    ensures open { IsErrOf result Error.MustReopen → store.old.must_reopen ≡ true }
 {
     standing_law();
     store.shows_what_crashes_leave();

@@ -1,11 +1,14 @@
 //! Sectors behind a store: read, copied and compared.
 ghost use Rattle.std.specs.Prelude.{◌≡◌, ◌+◌, ◌*◌, ◌^◌, ◌<◌, ◌≤◌, ℕ, true, false, length, IfOk, OnOk};
 ghost use Rattle.sector_disk.specs.declared.disk.TheConstants.{SECTOR_BYTES};
+ghost use Rattle.sector_disk.specs.Faults.{FailsAs};
 ghost use Rattle.sector_disk.specs.Stored.{stored};
 ghost use Rattle.sector_disk.specs.Trail.{now};
 ghost use Rattle.store_layout.specs.declared.layout.TheConstants.{STORE_SECTORS};
+ghost use Rattle.store_slots.specs.Errors.{OfDesktop};
 ghost use Rattle.desk_journal.specs.Device.{IsSameDevice};
 ghost use Rattle.desk_journal.specs.Looking.{OnlyLooks};
+ghost use Rattle.desk_past.specs.Beginning.{HasCopies, HoldsSame};
 ghost use Rattle.desk_past.specs.Reading.{IsOnlyReadFrom};
 
 use desk_journal::{Error, STORE_SECTORS, Store};
@@ -47,6 +50,8 @@ pub(crate) fn bytes_at<D: Disk>(
         → bytes.items ≡ stored (now (D.trail store.old.disk)).reads at (SECTOR_BYTES * count)) }
     ensures long { IfOk result (λ bytes. length bytes.items ≡ SECTOR_BYTES * count) }
     ensures still { IsOnlyReadFrom D.Disk store.old store.new }
+    ensures faults { FailsAs Error.Fault OfDesktop result (D.failures store.old.disk)
+        (D.failures store.new.disk) }
 {
     store.shows_what_crashes_leave();
     let mut bytes = Vec::new(alloc);
@@ -93,7 +98,11 @@ pub(crate) fn is_copied<D: Disk>(store: &mut Store<D>, base: u32) -> Result<bool
     ensures same { IfOk result (λ is. is ≡ true → D.honest store.old.disk → (n : ℕ)
         → n < STORE_SECTORS → (now (D.trail store.old.disk)).reads (base + n)
         ≡ (now (D.trail store.old.disk)).reads n) }
+    ensures all { IfOk result (λ is. D.honest store.old.disk → HasCopies base 0 STORE_SECTORS
+        (now (D.trail store.old.disk)).reads (now (D.trail store.old.disk)).reads → is ≡ true) }
     ensures still { IsOnlyReadFrom D.Disk store.old store.new }
+    ensures faults { FailsAs Error.Fault OfDesktop result (D.failures store.old.disk)
+        (D.failures store.new.disk) }
 {
     store.shows_what_crashes_leave();
     for k in 0..STORE_SECTORS {
@@ -111,7 +120,12 @@ fn are_alike<D: Disk>(store: &mut Store<D>, n: u32, other: u32) -> Result<bool, 
     requires second { other < D.size store.old.disk }
     ensures same { IfOk result (λ is. is ≡ true → D.honest store.old.disk
         → (now (D.trail store.old.disk)).reads other ≡ (now (D.trail store.old.disk)).reads n) }
+    ensures all { IfOk result (λ is. D.honest store.old.disk
+        → HoldsSame ((now (D.trail store.old.disk)).reads other)
+        ((now (D.trail store.old.disk)).reads n) → is ≡ true) }
     ensures still { IsOnlyReadFrom D.Disk store.old store.new }
+    ensures faults { FailsAs Error.Fault OfDesktop result (D.failures store.old.disk)
+        (D.failures store.new.disk) }
 {
     store.shows_what_crashes_leave();
     let sector = sector_at(store, n)?;

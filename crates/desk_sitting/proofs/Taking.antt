@@ -15,7 +15,10 @@ use Rattle.store_layout.specs.Meaning.{Means, MeansEither, Shows}
 use Rattle.desk_journal.specs.Device.{IsSameDevice}
 use Rattle.desk_journal.specs.Errors.{Error, NoMemory, Fault, MustReopen, Worn, OfPost, OfLook}
 use Rattle.desk_journal.specs.Looking.{OnlyLooks}
-use Rattle.desk_journal.specs.Posting.{LeavesEither, IsAcknowledged, IsStarved, AnswersWorn, AnswersMustReopen}
+use Rattle.desk_journal.specs.Checkpointing.{LeavesDesktop}
+use Rattle.desk_journal.specs.Posting.{LeavesEither, IsAcknowledged, AnswersWorn, AnswersMustReopen}
+use Rattle.desk_past.specs.Keeping.{HasKept, KeepsOn}
+use Rattle.desk_sitting.specs.Pasts.{KeepsPast}
 use Rattle.desk_journal.proofs.Stepped.{stepped_newest}
 use Rattle.desk_journal.specs.Session.{Session, session_of, is_worn, taken}
 use Rattle.desk_journal.specs.View.{StoreView, IsDurable}
@@ -178,7 +181,7 @@ module _ {D : Type 0} (d : Ghosts D) where
         (ap (λ t. seat_of t old) is
         ∙ worn_seat event (seat_of s old) (is_it_worn (session_of old) when.0.1 when.1)))
 
-    module _ (error : Error) (starved : IsErrOf {T = Reply} (Err error) NoMemory → IsStarved d old new)
+    module _ (error : Error) (starved : IsErrOf {T = Reply} (Err error) NoMemory → LeavesDesktop d old new)
         (worn : AnswersWorn (Err error) old new) (reopen : AnswersMustReopen {T = Reply} (Err error) old new)
         (faults : FailsAs {T = Reply} Fault OfPost (Err error) (d.failures old.disk) (d.failures new.disk)) where
       -- another error is passed on
@@ -190,7 +193,7 @@ module _ {D : Type 0} (d : Ghosts D) where
             done = tt;
             undone = λ honest durable. record {
               any_moment = moments_to _ (posted_steps event (seat_of s old) room) honest;
-              starved = λ is. (starved (ap (λ e. Err e) is)).unrecorded usable honest;
+              starved = λ is. starved (ap (λ e. Err e) is) usable honest;
               device = device;
             };
             usable = tt;
@@ -213,6 +216,21 @@ module _ {D : Type 0} (d : Ghosts D) where
       takes_turned_away {T = T} (Err passed) is other =
           subst (λ e. ComesToSeat d {T = T} (after_post event (seat_of s old)) (Err e) s' old new) (sym other.1)
           (takes_failed other.0)
+
+  -- ---- the past of the store
+
+  pub keeps_acknowledged : {T : Type 0} (value : T) (event : Event) {old new : StoreView D} → KeepsOn d event old new
+      → HasKept d event old new → KeepsPast d event (Ok value) old new
+  keeps_acknowledged value event any_moment kept = record { any_moment = any_moment; kept = inl kept }
+
+  pub keeps_turned_away : {T : Type 0} (event : Event) (error : Error) (s s' : Sitting) {old new : StoreView D}
+      (result : Result T Error) → KeepsOn d event old new → AnswersWorn (Err error) old new
+      → OnOk result ((error ≡ Worn) × (s' ≡ turned_away saying.Worn s)) → KeepsPast d event result old new
+  keeps_turned_away event error s s' {old = old} {new = new} (Ok value) any_moment worn is = record {
+    any_moment = any_moment;
+    kept = inr (worn.only (ap (λ e. Err e) is.0));
+  }
+  keeps_turned_away event error s s' (Err passed) any_moment worn is = record { any_moment = any_moment; kept = tt }
 
   -- ---- a look at the screen comes first
 

@@ -3,6 +3,7 @@ pub mod Desk
 pub mod Doing
 pub mod Endings
 pub mod Files
+pub mod Pasts
 pub mod Questions
 pub mod Scenes
 pub mod Serving

@@ -2,6 +2,7 @@
 ghost use Rattle.std.specs.Prelude.{◌≡◌, ◌≢◌, [], false, Some, None, if◌then◌else◌, OnOk, IfOk, IfErr, IfSome, ◌<◌};
 ghost use Rattle.desk_journal.specs.Session.{session_of};
 ghost use Rattle.desk_sitting.specs.Doing.{ComesToSeat, DoesAction, DoesPress, TellsDone, seat_of};
+ghost use Rattle.desk_sitting.specs.Pasts.{KeepsPast};
 ghost use Rattle.desk_sitting.specs.TheDesk.{sitting_line};
 ghost use Rattle.desk_sitting.specs.Questions.{is_nothing, is_of_terminal, questioned, unasked};
 ghost use Rattle.desk_journal.specs.View.{IsDurable};
@@ -656,7 +657,7 @@ impl Sitting {
         Ok(true)
     }
 
-    /// Posts an event, and returns whether it is done.
+    /// Posts an event, and returns whether it is done. Where the store keeps a past, that goes on.
     pub(crate) fn post<D: Disk>(
         &mut self,
         alloc: Global,
@@ -667,8 +668,9 @@ impl Sitting {
         ensures comes { ComesToSeat D.Disk (after_post event.now (seat_of self.old store.old))
             result self.new store.old store.new }
         ensures done { TellsDone D.Disk event.now result store.old }
+        ensures past { KeepsPast D.Disk event.now result store.old store.new }
     {
-        match store.post(alloc, event) {
+        match desk_past::post(alloc, store, event) {
             Ok(reply) => Ok(self.reply(event, reply)),
             Err(error) => self.turned_away(error),
         }

@@ -18,16 +18,23 @@ module _ {F : Type 0} (f : Ghosts F) where
   abbrev pub content_of : F → Content
   content_of file = (now (sectors_of (f.trail file))).reads
 
-  -- the store shows what stands in the file
-  abbrev pub IsFoundIn : F → StoreView (FileDisk F f) → Type 0
-  IsFoundIn file store = f.honest file
-      → Shows FILE_SECTORS store.layout store.epoch store.events store.desktop (content_of file)
+  -- the store shows what stands in so many sectors of the file
+  abbrev pub IsFoundOn : ℕ → F → StoreView (FileDisk F f) → Type 0
+  IsFoundOn sectors file store = f.honest file
+      → Shows sectors store.layout store.epoch store.events store.desktop (content_of file)
 
   -- what stands there is no store, or a damaged one
-  pub record IsNoneIn (file : F) (error : Error) : Type 0 where
-    pub foreign : error ≡ NotAStore → f.honest file → IsForeign FILE_SECTORS (content_of file)
+  pub record IsNoneOn (sectors : ℕ) (file : F) (error : Error) : Type 0 where
+    pub foreign : error ≡ NotAStore → f.honest file → IsForeign sectors (content_of file)
     pub damaged : (n : ℕ) → error ≡ Damaged n → f.honest file
-        → IsDamagedAt FILE_SECTORS (content_of file) n
+        → IsDamagedAt sectors (content_of file) n
+
+  -- both of a file that has just the sectors of a store
+  abbrev pub IsFoundIn : F → StoreView (FileDisk F f) → Type 0
+  IsFoundIn file store = IsFoundOn FILE_SECTORS file store
+
+  abbrev pub IsNoneIn : F → Error → Type 0
+  IsNoneIn file error = IsNoneOn FILE_SECTORS file error
 
   -- a screen shows what stands in the file
   abbrev pub IsScreenOf : F → List (List Cell) → Type 0

@@ -12,7 +12,8 @@ ghost use Rattle.store_layout.specs.Meaning.{Shows};
 ghost use Rattle.store_layout.specs.declared.layout.TheConstants.{LAYOUT, STORE_SECTORS};
 ghost use Rattle.desk_journal.specs.Errors.{OfFormat, OfOpen};
 ghost use Rattle.desk_journal.specs.Opening.{IsOpened, IsNoStore};
-ghost use Rattle.host_stores.specs.Found.{IsFoundIn, IsNoneIn, IsScreenOf};
+ghost use Rattle.host_stores.specs.Found.{IsFoundIn, IsFoundOn, IsNoneIn, IsNoneOn, IsScreenOf};
+ghost use Rattle.host_stores.specs.declared.TheConstants.{PAST_SECTORS};
 ghost use Rattle.twin_disk.specs.Flags.{IsNameless, ShowsFlag, pair_name, says_alone, says_closed};
 
 pub use desk_journal::{Error, Store};
@@ -22,6 +23,9 @@ use sector_disk::{FILE_SECTORS, HostFile};
 pub use sector_disk::{Disk, FileDisk, MemoryDisk};
 use store_layout::showing_law;
 use twin_disk::{flag_at, has_name, leave_twin};
+
+/// How many sectors a disk has that has room for a past: those of a store, two that are for pairs of disks, and two halves.
+pub const PAST_SECTORS: u32 = FILE_SECTORS + 2 + 65_536;
 
 /// The store on a disk. A disk that is refused is left as it is: it isn't formatted.
 ///
@@ -85,21 +89,41 @@ pub fn in_locked_file<F: HostFile + Drop>(
     opened(rt, FileDisk::new(file))
 }
 
+/// The same on a disk that has room for a past behind the store: two halves of 32,768 sectors. What the file hasn't reads
+/// as zeros.
+///
+/// Errors: those of `Store::open`.
+pub fn with_past_room<F: HostFile + Drop>(
+    rt: &HostRuntime,
+    file: F,
+) -> Result<Store<FileDisk<F>>, Error>
+    requires { F.intact file ≡ true }
+    ensures usable { IfOk result (λ store. store.must_reopen ≡ false) }
+    ensures ok { IfOk result (IsFoundOn F.HostFile PAST_SECTORS file) }
+    ensures no_store { IfErr result (IsNoneOn F.HostFile PAST_SECTORS file) }
+    ensures errors { IfErr result OfOpen }
+    ensures room { IfOk result (λ store. ⟦<FileDisk<F> as Disk>⟧.size store.disk ≡ PAST_SECTORS) }
+    ensures still { IfOk result (λ store. F.honest file
+        → ⟦<FileDisk<F> as Disk>⟧.honest store.disk) }
+{
+    opened(rt, FileDisk::with_sectors(file, PAST_SECTORS))
+}
+
 /// The store in a file that is locked, which is to be written without its twin, and whether the file was in a pair: then it
 /// says *alone* for good in the sector behind the store when this has returned. What opens as no store is left as it is.
+/// The disk has room for a past.
 ///
 /// Errors: those of `Store::open`.
 pub fn without_twin(
     rt: &HostRuntime,
     file: LockedFile,
 ) -> Result<(Store<FileDisk<LockedFile>>, bool), Error>
-    ensures { IfOk result (λ found. found.0.must_reopen ≡ false) }
+    ensures usable { IfOk result (λ found. found.0.must_reopen ≡ false) }
+    ensures room { IfOk result (λ found. ⟦<FileDisk<LockedFile> as Disk>⟧.size found.0.disk
+        ≡ PAST_SECTORS) }
+    ensures errors { IfErr result OfOpen }
 {
-    left_alone(
-        rt,
-        FileDisk::with_sectors(file, FILE_SECTORS + 2),
-        FILE_SECTORS,
-    )
+    left_alone(rt, FileDisk::with_sectors(file, PAST_SECTORS), FILE_SECTORS)
 }
 
 /// The store on a leg whose flag stands in sector `at`, and whether the leg was in a pair: then it says *alone* there, for
@@ -121,6 +145,7 @@ pub fn left_alone<D: Disk + Drop>(
         ⊎ IsNameless (pair_name ((now (D.trail leg)).reads at))) }
     ensures in_use { IfOk result (λ found. D.honest leg
         → says_closed ((now (D.trail found.0.disk)).reads (at + 1)) ≡ false) }
+    ensures as_large { IfOk result (λ found. D.size found.0.disk ≡ D.size leg) }
     ensures errors { IfErr result OfOpen }
 {
     let mut leg = leg;

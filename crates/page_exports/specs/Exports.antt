@@ -39,11 +39,11 @@ HasBroughtMore name file (Some old) None status = ⊥
 module _ (d : Ghosts Recording) where
   -- By its status: the place is filled, of what had neither a page nor a document, or it found no room for that and is as
   -- it was.
-  pub data HasBegun (bytes : List ℕ) (old new : Option Kept) : ℕ → Type 0 where
+  pub data HasBegunPage (bytes : List ℕ) (old new : Option Kept) : ℕ → Type 0 where
     filled : (fresh made : Kept) (status : ℕ) → fresh.page ≡ None → fresh.coming.items ≡ []
         → new ≡ Some made → made.coming ≡ fresh.coming → AnswersBegin d bytes fresh made status
-        → HasBegun bytes old new status
-    no_room : new ≡ old → HasBegun bytes old new 1
+        → HasBegunPage bytes old new status
+    no_room : new ≡ old → HasBegunPage bytes old new 1
 
   abbrev pub HasPressed : List ℕ → Option Kept → Option Kept → ℕ → Type 0
   HasPressed bytes (Some old) (Some new) status = AnswersPress d bytes old new status

@@ -3,7 +3,7 @@
 //! is 0.
 ghost use Rattle.std.specs.Prelude.{◌≡◌, ◌≢◌, ◌≤◌, ◌++◌, [], length, take, drop, min};
 ghost use Rattle.desk_page.specs.Owning.{IsThere};
-ghost use Rattle.page_exports.specs.Exports.{HasBegun, HasBrought, HasBroughtMore, HasCopied, HasGiven, HasPressed};
+ghost use Rattle.page_exports.specs.Exports.{HasBegunPage, HasBrought, HasBroughtMore, HasCopied, HasGiven, HasPressed};
 ghost use Rattle.page_exports.specs.Exports.{coming_of, handed, rings_of, leaves_of, pointer_told};
 
 use desk_page::{Held, Kept, Made, NO_MEMORY, RecordedDisk, put, take};
@@ -15,7 +15,7 @@ use std::alloc::Global;
 /// is `NO_MEMORY` there may be nothing at the place.
 #[unsafe(no_mangle)]
 pub extern "C" fn page_begin(alloc: Global, held: &mut Held, bytes: &[u8]) -> u32
-    ensures begun { HasBegun ⟦<RecordedDisk as Disk>⟧ bytes.now held.old.kept held.new.kept result }
+    ensures begun { HasBegunPage ⟦<RecordedDisk as Disk>⟧ bytes.now held.old.kept held.new.kept result }
     ensures there { result ≢ 1 → IsThere held.new.kept }
     ensures few { result ≤ 5 }
 {

@@ -7,7 +7,7 @@ completed() {
 }
 completed ''
 completed e
-for command in import export list backup history earlier check picture; do
+for command in import export list backup history earlier forget check picture; do
     completed "$command" --
 done
 completed export --l

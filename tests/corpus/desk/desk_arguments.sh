@@ -12,7 +12,7 @@ try nothing
 try --help
 try --version
 try help
-for command in sit picture import export list backup check history earlier; do
+for command in sit picture import export list backup check history earlier forget; do
     try $command
     try $command my.disk --nothing
     try $command --path my.disk

@@ -66,6 +66,9 @@ class Trial:
         script = ''.join(line + '\n' for line in lines).encode()
         return subprocess.run([self.oberon, *words], input=script, stdout=subprocess.PIPE, check=True).stdout.decode()
 
+    def desk_says(self, *words):
+        return subprocess.run([self.desk, *words], stdout=subprocess.PIPE, check=True).stdout.decode()
+
     def store(self):
         """A store with an empty document in a viewer, which has the caret."""
         self.oberon_says('format', self.path)
@@ -101,10 +104,13 @@ class Trial:
             sitting.read(0.001)
         return text
 
+    def text(self, path=None):
+        """The characters of the document in a store."""
+        return text_of(Screen(self.oberon_says('screen', path or self.path).splitlines()[:-1]).rows)
+
     def kept(self, text, seen):
         """What was typed is kept as far as it was seen, and nothing else is."""
-        lines = self.oberon_says('screen', self.path).splitlines()
-        kept = text_of(Screen(lines[:-1]).rows)
+        kept = self.text()
         self.check(kept.startswith(seen), f'{seen!r} was seen and {kept!r} is kept')
         self.check(text.startswith(kept), f'{kept!r} is kept of {text!r}')
 
@@ -175,6 +181,31 @@ def killed_over_twins(trial):
     trial.leaves(trial.sit(trial.path, '--twin', twin))
     trial.check(filecmp.cmp(*both, shallow=False), 'the files are not equal again')
     trial.kept(text, seen)
+
+
+def killed_with_a_past(trial):
+    """Signal 9 at the program, three times, at a desk that keeps its past from the first time on. Each letter is listed, but what
+    a Ctrl-Z took back, and a store that is gone back to shows the letters up to there."""
+    trial.store()
+    typed = ''
+    for turn, options in enumerate((['--past'], [], [])):
+        sitting = trial.sit(*options, trial.path)
+        for _place in range(150):
+            letter = trial.chance.choice(LETTERS)
+            typed += letter
+            trial.check(sitting.hear(letter.encode() + b'\r' * (len(typed) % 40 == 0)), 'no scene')
+        if turn == 2:
+            trial.check(sitting.hear(b'\x1a'), 'no scene')
+        os.kill(sitting.program(), signal.SIGKILL)
+        trial.check(sitting.end() == 137 and sitting.is_put_back, f'status {sitting.status}')
+    kept = trial.text()
+    trial.check(len(kept) > 400 and typed.startswith(kept), f'{kept!r} is kept of {typed!r}')
+    listed = re.findall('typed "(.)"', trial.desk_says('history', trial.path, '--all'))
+    trial.check(''.join(reversed(listed)) == kept, f'{len(listed)} letters are listed, {len(kept)} are kept')
+    for back in (0, 1, 170, 400):
+        now = trial.desk_says('earlier', trial.path, str(back), f'{trial.folder}/then{back}')
+        was = trial.text(f'{trial.folder}/then{back}')
+        trial.check(kept.startswith(was) and 0 <= back - (len(kept) - len(was)) <= 25, f'{back} back: {was!r}, {now}')
 
 
 def script_killed(trial):
@@ -949,6 +980,7 @@ def no_file(trial):
 
 TRIALS = {
     'signal 9 at the program': killed(signal.SIGKILL, True, 137),
+    'signal 9 at the program, with a past': killed_with_a_past,
     'TERM at the program': killed(signal.SIGTERM, True, 143),
     'TERM at the script': killed(signal.SIGTERM, False, 143),
     'HUP at the script': killed(signal.SIGHUP, False, 129),

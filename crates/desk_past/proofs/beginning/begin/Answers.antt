@@ -1,9 +1,11 @@
-use Rattle.std.proofs.Common.{◌≡◌, ◌+◌, ◌≤◌, arith, refl}
+use Rattle.std.proofs.Common.{◌≡◌, ◌+◌, ◌≤◌, ◌∙◌, ap, arith, refl}
+use Rattle.std.specs.Prelude.{get_or}
 use Rattle.sector_disk.specs.Trail.{now}
-use Rattle.sector_disk.proofs.Touching.{read_is_an_image}
+use Rattle.sector_disk.proofs.Touching.{read_is_an_image, still_reads as reads_stay}
 use Rattle.store_layout.specs.declared.layout.TheConstants.{STORE_SECTORS}
-use Rattle.desk_past.proofs.Begun.{begins_anew, desktop_kept, desktop_then, end_at, goes_on_now, has_begun, same_both}
+use Rattle.desk_past.proofs.Begun.{begins_anew, desktop_kept, desktop_then, end_at, goes_on_now, has_begun}
 use Rattle.desk_past.proofs.Begun.{spares_shows, still_remembered}
+use Rattle.desk_past.proofs.Copied.{held_as, spared_reads}
 use Rattle.desk_past.proofs.beginning.begin.Goals as goal
 
 pub make_start-requires : goal.make_start-requires
@@ -15,7 +17,7 @@ returns-in_err-before-clause-any_moment g c = desktop_kept g.D.Disk c.args.base 
 
 pub returns-in_err-before-clause-none_forgotten : goal.returns-in_err-before-clause-none_forgotten
 returns-in_err-before-clause-none_forgotten g c = λ honest start events desktop keeps apart.
-    still_remembered g.D.Disk keeps honest c.args.base c.requires.behind apart c.make_start.ensures.device
+    still_remembered g.D.Disk keeps honest c.args.base c.requires.behind apart c.make_start.ensures.device.same
     c.make_start.ensures.others
 
 pub returns-in_default-clause-any_moment : goal.returns-in_default-clause-any_moment
@@ -24,14 +26,14 @@ returns-in_default-clause-any_moment g c = desktop_kept g.D.Disk c.args.base c.a
 
 pub returns-in_default-clause-none_forgotten : goal.returns-in_default-clause-none_forgotten
 returns-in_default-clause-none_forgotten g c = λ honest start events desktop keeps apart.
-    still_remembered g.D.Disk keeps honest c.args.base c.requires.behind apart c.make_start.ensures.device
+    still_remembered g.D.Disk keeps honest c.args.base c.requires.behind apart c.make_start.ensures.device.same
     c.make_start.ensures.others
 
 pub returns-in_err-checkpoint_with-clause-any_moment : goal.returns-in_err-checkpoint_with-clause-any_moment
 returns-in_err-checkpoint_with-clause-any_moment g c =
     let d = g.D.Disk in
     let started = (rw c.in-Some.is at c.in_ok-before.ensures.start) in
-    desktop_then d c.checkpoint_with.new.self c.make_start.ensures.device
+    desktop_then d c.checkpoint_with.new.self c.make_start.ensures.device.same
     (desktop_kept d c.args.base c.args.store.now c.make_start.new.store c.requires.behind
     c.shows_what_crashes_leave.ensures.durable c.make_start.ensures.others) started.aside
     c.checkpoint_with.ensures.any_moment
@@ -40,7 +42,7 @@ pub returns-in_err-checkpoint_with-clause-none_forgotten : goal.returns-in_err-c
 returns-in_err-checkpoint_with-clause-none_forgotten g c = λ honest start events desktop keeps apart.
     let d = g.D.Disk in
     let started = (rw c.in-Some.is at c.in_ok-before.ensures.start) in
-    let device = c.make_start.ensures.device in
+    let device = c.make_start.ensures.device.same in
     begins_anew d keeps honest c.args.base c.requires.behind apart device c.make_start.ensures.others
     started.aside.usable (c.shows_what_crashes_leave-2.ensures.quiet started.aside.usable (device.still honest))
     c.checkpoint_with.new.self c.requires.room c.checkpoint_with.ensures.behaves.within (started.same honest)
@@ -48,14 +50,11 @@ returns-in_err-checkpoint_with-clause-none_forgotten g c = λ honest start event
     (started.counted honest keeps.remembers.standing keeps.remembers.past.stands) refl refl
     c.checkpoint_with.ensures.standings
 
-pub returns-in_err-checkpoint_with-clause-device : goal.returns-in_err-checkpoint_with-clause-device
-returns-in_err-checkpoint_with-clause-device g c = same_both g.D.Disk c.make_start.ensures.device c.checkpoint_with.ensures.behaves.device
-
 pub returns-clause-any_moment : goal.returns-clause-any_moment
 returns-clause-any_moment g c =
     let d = g.D.Disk in
     let started = (rw c.in-Some.is at c.in_ok-before.ensures.start) in
-    desktop_then d c.checkpoint_with.new.self c.make_start.ensures.device
+    desktop_then d c.checkpoint_with.new.self c.make_start.ensures.device.same
     (desktop_kept d c.args.base c.args.store.now c.make_start.new.store c.requires.behind
     c.shows_what_crashes_leave.ensures.durable c.make_start.ensures.others) started.aside
     c.checkpoint_with.ensures.any_moment
@@ -64,7 +63,7 @@ pub returns-clause-none_forgotten : goal.returns-clause-none_forgotten
 returns-clause-none_forgotten g c = λ honest start events desktop keeps apart.
     let d = g.D.Disk in
     let started = (rw c.in-Some.is at c.in_ok-before.ensures.start) in
-    let device = c.make_start.ensures.device in
+    let device = c.make_start.ensures.device.same in
     begins_anew d keeps honest c.args.base c.requires.behind apart device c.make_start.ensures.others
     started.aside.usable (c.shows_what_crashes_leave-2.ensures.quiet started.aside.usable (device.still honest))
     c.checkpoint_with.new.self c.requires.room c.checkpoint_with.ensures.behaves.within (started.same honest)
@@ -72,32 +71,41 @@ returns-clause-none_forgotten g c = λ honest start events desktop keeps apart.
     (started.counted honest keeps.remembers.standing keeps.remembers.past.stands) refl refl
     c.checkpoint_with.ensures.standings
 
-pub returns-clause-device : goal.returns-clause-device
-returns-clause-device g c = same_both g.D.Disk c.make_start.ensures.device c.checkpoint_with.ensures.behaves.device
-
 pub returns-clause-begun : goal.returns-clause-begun
 returns-clause-begun g c = λ is honest.
     let d = g.D.Disk in
     let started = (rw c.in-Some.is at c.in_ok-before.ensures.start) in
-    let device = c.make_start.ensures.device in
+    let device = c.make_start.ensures.device.same in
     let usable = started.was in
+    let second = device.still honest in
+    let within = c.checkpoint_with.ensures.behaves.within in
     let shows = c.shows_what_crashes_leave.ensures.durable usable honest (now (d.trail c.args.store.now.disk)).reads
-    (read_is_an_image (now (d.trail c.args.store.now.disk))) in (
-      c.in-Some.before,
-      has_begun d c.make_start.new.store c.checkpoint_with.new.self c.args.base c.in-Some.before (end_at (c.args.base + STORE_SECTORS) c.in-Some.before)
-          (device.still honest)
-          c.requires.behind (omega (arith, c.requires.room, device.as_large)) c.checkpoint_with.ensures.behaves.within
+    (read_is_an_image (now (d.trail c.args.store.now.disk))) in
+    record {
+      before = c.in-Some.before;
+      keeps = has_begun d c.make_start.new.store c.checkpoint_with.new.self c.args.base c.in-Some.before
+          (end_at (c.args.base + STORE_SECTORS) c.in-Some.before) second
+          c.requires.behind (omega (arith, c.requires.room, device.as_large)) within
           (started.same honest) shows.standing
           (spares_shows d c.args.base c.requires.behind c.make_start.ensures.others device usable honest shows.standing
           shows.stands) (started.counted honest shows.standing shows.stands) c.args.store.now.desktop shows.is refl refl
-          c.in_ok-checkpoint_with.ensures.ok.usable c.in_ok-checkpoint_with.ensures.next.shows,
-    )
+          c.in_ok-checkpoint_with.ensures.ok.usable c.in_ok-checkpoint_with.ensures.next.shows;
+      next = refl;
+      copies = λ n low. held_as
+          (reads_stay (d.trail c.make_start.new.store.disk) (d.trail c.checkpoint_with.new.self.disk) (within.moments second)
+          (c.args.base + n) (λ inside. omega (arith, inside, c.requires.behind))
+          ∙ started.same honest n (omega (arith, low.1)))
+          refl
+          (λ j less. ap (λ l. get_or l j 0)
+          (spared_reads d c.make_start.ensures.others usable honest n
+          (λ inside. omega (arith, inside.0, c.requires.behind, low.1))));
+    }
 
 pub returns-clause-goes_on : goal.returns-clause-goes_on
 returns-clause-goes_on g c = λ is honest start events desktop keeps apart.
     let d = g.D.Disk in
     let started = (rw c.in-Some.is at c.in_ok-before.ensures.start) in
-    let device = c.make_start.ensures.device in
+    let device = c.make_start.ensures.device.same in
     goes_on_now d keeps honest c.args.base c.requires.behind apart device c.make_start.ensures.others
     started.aside.usable (c.shows_what_crashes_leave-2.ensures.quiet started.aside.usable (device.still honest))
     c.checkpoint_with.new.self c.requires.room c.checkpoint_with.ensures.behaves.within (started.same honest)

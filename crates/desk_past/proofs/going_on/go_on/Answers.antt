@@ -1,17 +1,21 @@
-use Rattle.std.proofs.Common.{◌∙◌, subst, sym}
+use Rattle.std.proofs.Common.{◌≡◌, ℕ, ◌∙◌, ap, subst, sym}
+use Rattle.std.proofs.lemmas.Bool.{false≢true}
+use Rattle.sector_disk.specs.Trail.{now}
+use Rattle.store_layout.specs.declared.head.PastEnd.{PastEnd}
+use Rattle.desk_past.specs.Going.{CanGoOn, IsWanted, start_epoch}
 use Rattle.std.proofs.lemmas.Result.{IfOk-weaker}
 use Rattle.desk_past.specs.Beginning.{HasStartRoom}
-use Rattle.desk_past.specs.Halves.{HasHalves}
-use Rattle.desk_past.proofs.Begun.{same_both}
+use Rattle.desk_past.specs.Halves.{HasHalves, middle}
 use Rattle.desk_past.proofs.GoingOn.{apart_from, begins_then, forgets_begun, forgets_read, leaves_begun, leaves_read}
+use Rattle.desk_past.proofs.Found.{both_weaker, due_begun, uncounted_then}
 use Rattle.desk_past.proofs.StillReads.{still_none}
 use Rattle.desk_past.proofs.going_on.go_on.Goals as goal
 
 pub found_behind-requires-clause-halves : goal.found_behind-requires-clause-halves
-found_behind-requires-clause-halves g c = subst HasHalves c.sectors-sectors.ensures (c.has_halves.ensures c.if-not-has_halves.false)
+found_behind-requires-clause-halves g c = subst HasHalves c.sectors-sectors.ensures (c.has_halves.ensures.0 c.if-not-has_halves.false)
 
 pub due_base-requires : goal.due_base-requires
-due_base-requires g c = c.has_halves.ensures c.if-not-has_halves.false
+due_base-requires g c = c.has_halves.ensures.0 c.if-not-has_halves.false
 
 pub begin_at-requires : goal.begin_at-requires
 begin_at-requires g c = subst (λ n. HasStartRoom n c.in-Some.base)
@@ -69,5 +73,51 @@ returns-clause-begins g c = IfOk-weaker c.begin_at.result _ _
     (λ outset begins is. begins_then g.D.Disk c.begin_at.new.store c.found_behind.ensures.still (begins is))
     c.begin_at.ensures.begins
 
-pub returns-clause-device : goal.returns-clause-device
-returns-clause-device g c = same_both g.D.Disk c.found_behind.ensures.still.left.disk.device c.begin_at.ensures.device
+pub returns-then-not-has_halves-clause-due : goal.returns-then-not-has_halves-clause-due
+returns-then-not-has_halves-clause-due g c = λ honest s at halves wanted.
+    absurd (false≢true (sym c.if-not-has_halves.true
+    ∙ c.has_halves.ensures.1 (subst HasHalves (sym c.sectors-sectors.ensures) halves)))
+
+pub returns-then-not-is_wanted-clause-due : goal.returns-then-not-is_wanted-clause-due
+returns-then-not-is_wanted-clause-due g c = λ honest s at halves wanted.
+    let d = g.D.Disk in
+    let reads = (now (d.trail c.args.store.now.disk)).reads in
+    let found = c.in_ok-found.ensures in
+    let size = c.sectors-sectors.ensures in
+    let next = ap (λ (p : PastEnd). p.next) (found.told honest s at) in
+    absurd (false≢true (sym c.if-not-is_wanted.true
+    ∙ (c.is_wanted.ensures reads (found.first honest) (found.second honest ∙ ap (λ n. start_epoch reads (middle n)) (sym size))).1
+    (subst (λ (x : ℕ × ℕ). IsWanted c.args.asked x.0 x.1 reads) (λ i. (sym size i, sym next i)) wanted)))
+
+pub returns-in_default-clause-due : goal.returns-in_default-clause-due
+returns-in_default-clause-due g c = λ honest s at.
+    let d = g.D.Disk in
+    let reads = (now (d.trail c.args.store.now.disk)).reads in
+    let found = c.in_ok-found.ensures in
+    let size = c.sectors-sectors.ensures in
+    let next = ap (λ (p : PastEnd). p.next) (found.told honest s at) in
+    subst (λ (x : ℕ × ℕ). CanGoOn x.0 x.1 reads) (λ i. (size i, next i))
+    (c.in_default.ensures.none reads (found.first honest)
+    (found.second honest ∙ ap (λ n. start_epoch reads (middle n)) (sym size)))
+
+pub returns-clause-due : goal.returns-clause-due
+returns-clause-due g c = both_weaker c.begin_at.result c.begin_at.ensures.absent c.begin_at.ensures.never
+    (λ outset absent never honest s at.
+    let d = g.D.Disk in
+    let reads = (now (d.trail c.args.store.now.disk)).reads in
+    let found = c.in_ok-found.ensures in
+    let size = c.sectors-sectors.ensures in
+    let next = ap (λ (p : PastEnd). p.next) (found.told honest s at) in
+    let one = found.first honest in
+    let two = found.second honest ∙ ap (λ n. start_epoch reads (middle n)) (sym size) in
+    let still = c.found_behind.ensures.still in
+    due_begun d c.args.asked c.args.store.now s outset
+    (λ is. uncounted_then d still (c.shows_what_crashes_leave.ensures.quiet c.requires honest) honest
+    (absent is (still.left.disk.device.still honest)))
+    never (
+      subst HasHalves size (c.has_halves.ensures.0 c.if-not-has_halves.false),
+      subst (λ (x : ℕ × ℕ). IsWanted c.args.asked x.0 x.1 reads) (λ i. (size i, next i))
+          ((c.is_wanted.ensures reads one two).0 c.if-not-is_wanted.false),
+      λ can. c.in-Some.ensures.some reads one two
+          (subst (λ (x : ℕ × ℕ). CanGoOn x.0 x.1 reads) (λ i. (sym size i, sym next i)) can),
+    ))

@@ -9,6 +9,7 @@ use Rattle.desk_past.proofs.sectors.bytes_at.Goals as goal
 pub loop-k-init : goal.loop-k-init
 loop-k-init g c = record {
   still = still_none g.D.Disk c.args.store.now c.requires.usable;
+  calm = refl;
   long = ap length c.new-bytes.ensures.items;
   bytes = λ honest. c.new-bytes.ensures.items
       ∙ sym (none_stored (now (g.D.Disk.trail c.args.store.now.disk)).reads c.args.at);
@@ -20,6 +21,7 @@ loop-k-preserved g c =
     let i = c.loop-k.invariant in
     record {
       still = still_looked d c.sector_at.result i.still c.sector_at.ensures.looks;
+      calm = search rules;
       long =
           let wide : length c.in_ok-sector.sector ≡ SECTOR_BYTES = search rules in
           let all = ap length c.in_ok-extend_from_slice.ensures.items in

@@ -1,12 +1,14 @@
-use Rattle.std.proofs.Common.{◌≡◌, inl, inr, ◌+◌, ◌∙◌, ap, arith, subst, sym}
-use Rattle.std.proofs.lemmas.Bool.{cases_lt}
-use Rattle.sector_disk.specs.Trail.{now}
+use Rattle.std.proofs.Common.{◌≡◌, inl, inr, ◌+◌, ◌∙◌, ap, arith, refl, rules, subst, sym}
+use Rattle.std.proofs.lemmas.Bool.{cases_lt, false≢true}
+use Rattle.sector_disk.specs.Trail.{Content, now}
+use Rattle.desk_past.specs.Beginning.{HoldsSame}
 use Rattle.desk_past.proofs.StillReads.{still_both, still_none, still_reads}
 use Rattle.desk_past.proofs.sectors.is_copied.Goals as goal
 
 pub loop-k-init : goal.loop-k-init
 loop-k-init g c = record {
   still = still_none g.D.Disk c.args.store.now c.requires.usable;
+  calm = refl;
   same = λ honest k low. absurd (omega (arith, low));
 }
 
@@ -22,6 +24,7 @@ loop-k-preserved g c =
     let i = c.loop-k.invariant in
     record {
       still = still_both d i.still c.are_alike.ensures.still;
+      calm = search rules;
       same = λ honest k low. elim (cases_lt k c.loop-k.k) [
         | inl less ↦ i.same honest k less
         | inr ge ↦
@@ -33,3 +36,12 @@ loop-k-preserved g c =
             ∙ ap (λ r. r c.loop-k.k) same)
       ];
     }
+
+pub returns-then-not-branch-clause-all : goal.returns-then-not-branch-clause-all
+returns-then-not-branch-clause-all g c = λ honest copied.
+    let d = g.D.Disk in
+    let i = c.loop-k.invariant in
+    let same = still_reads d i.still (c.shows_what_crashes_leave.ensures.quiet c.requires.usable honest) honest in
+    let alike = subst (λ (r : Content). HoldsSame (r (c.args.base + c.loop-k.k)) (r c.loop-k.k)) (sym same)
+    (copied c.loop-k.k (omega arith, omega (arith, c.loop-k-test.true))) in
+    absurd (false≢true (sym c.if-not-branch.true ∙ c.in_ok-are_alike.ensures.all (i.still.left.disk.device.still honest) alike))

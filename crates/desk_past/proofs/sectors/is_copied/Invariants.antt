@@ -7,6 +7,7 @@ use Rattle.desk_past.proofs.sectors.is_copied.Given as goal
 abbrev pub invariant-loop-k : goal.invariant-loop-k
 invariant-loop-k g l = record {
   still : IsOnlyReadFrom g.D.Disk l.fn.store l.store;
+  calm : g.D.Disk.failures l.store.disk ≡ g.D.Disk.failures l.fn.store.disk;
   same : g.D.Disk.honest l.fn.store.disk → (n : ℕ) → n < l.k
       → (now (g.D.Disk.trail l.fn.store.disk)).reads (l.base + n) ≡ (now (g.D.Disk.trail l.fn.store.disk)).reads n;
 }

@@ -1,0 +1,90 @@
+-- What stands behind a store, and what is due of a past there. `d` is what is known of a disk.
+use Rattle.std.proofs.Common.{◌≡◌, ◌≢◌, ◌⊎◌, inl, inr, ◌+◌, ◌<◌, ◌≤◌, ℕ, List, sym, ◌∙◌, ap, subst, arith, true, false, refl}
+use Rattle.std.specs.Prelude.{Bool, max, if◌then◌else◌, Result, Ok, Err, IfOk}
+use Rattle.std.proofs.lemmas.Bool.{false≢true}
+use Rattle.sector_disk.specs.declared.disk.Disk.{Ghosts}
+use Rattle.sector_disk.specs.Trail.{Content, now}
+use Rattle.store_layout.specs.declared.layout.TheConstants.{LABEL, STORE_SECTORS}
+use Rattle.store_layout.specs.Layout.{head_of, is_label, is_open, slot_gate, slot_head}
+use Rattle.store_layout.specs.Meaning.{Standing}
+use Rattle.desk_journal.specs.View.{StoreView}
+use Rattle.desk_past.specs.declared.going_on.Outset.{Outset}
+use Rattle.desk_past.specs.declared.going_on.Outset.TheVariants.{Absent, GoesOn, Begins}
+use Rattle.desk_past.specs.declared.going_on.TheConstants.{LEAST_ROOM}
+use Rattle.desk_past.specs.declared.halves.TheConstants.{HALVES}
+use Rattle.desk_past.specs.Beginning.{AreUncounted}
+use Rattle.desk_past.specs.Going.{CanGoOn, IsDueOutset, IsInHalf, IsWanted, slot_epoch, start_epoch}
+use Rattle.desk_past.specs.Halves.{HasHalves, IsHalf, middle}
+use Rattle.desk_past.specs.Reading.{IsOnlyReadFrom}
+use Rattle.desk_past.proofs.Remembering.{IsQuiet}
+use Rattle.desk_past.proofs.StillReads.{still_shows}
+
+-- ---- epochs
+
+pub slot_there : (c : Content) (base slot epoch : ℕ) (gate head : List ℕ) (opens : Bool) → gate ≡ c (base + slot_gate slot)
+    → head ≡ c (base + slot_head slot) → opens ≡ is_open gate → epoch ≡ (if opens then (head_of head).epoch else 0)
+    → epoch ≡ slot_epoch c base slot
+slot_there c base slot epoch gate head opens gate_is head_is told is =
+    is ∙ (λ i. if (told ∙ ap is_open gate_is) i then (head_of (head_is i)).epoch else 0)
+
+pub start_there : (c : Content) (base epoch first second : ℕ) (label : List ℕ) (has : Bool) → label ≡ c (base + LABEL)
+    → first ≡ slot_epoch c base 0 → second ≡ slot_epoch c base 1 → has ≡ is_label label
+    → epoch ≡ (if has then max first second else 0) → epoch ≡ start_epoch c base
+start_there c base epoch first second label has label_is first_is second_is told is =
+    is ∙ (λ i. if (told ∙ ap is_label label_is) i then max (first_is i) (second_is i) else 0)
+
+-- ---- halves
+
+-- the epoch of the start of a half is one of the two
+pub epoch_first : (c : Content) (base first : ℕ) → first ≡ start_epoch c HALVES → base ≡ HALVES → first ≡ start_epoch c base
+epoch_first c base first is at = is ∙ ap (start_epoch c) (sym at)
+
+pub epoch_second : (c : Content) (size base end second : ℕ) → second ≡ start_epoch c (middle size) → IsHalf size base end
+    → base ≢ HALVES → second ≡ start_epoch c base
+epoch_second c size base end second is (inl half) other = absurd (other half.0)
+epoch_second c size base end second is (inr half) other = is ∙ ap (start_epoch c) (sym half.0)
+
+-- where the one half in which pages can go on is known, what can go on does so there
+pub at_half : (size next base end epoch : ℕ) (c : Content) (can : CanGoOn size next c) → base ≡ can.at.base → end ≡ can.at.end
+    → epoch ≡ start_epoch c base → (0 < epoch) × (next + LEAST_ROOM ≤ end)
+at_half size next base end epoch c can same last is = (
+  subst (λ n. 0 < n) (sym (is ∙ ap (start_epoch c) same)) can.start,
+  subst (λ n. next + LEAST_ROOM ≤ n) (sym last) can.room,
+)
+
+-- ---- wants
+
+module _ (asked : Bool) (size next first second : ℕ) (c : Content) (one : first ≡ start_epoch c HALVES)
+    (two : second ≡ start_epoch c (middle size)) where
+  pub wanted_first : 0 < first → IsWanted asked size next c
+  wanted_first some = inr (inl (subst (λ n. 0 < n) one some))
+
+  pub wanted_second : 0 < second → IsWanted asked size next c
+  wanted_second some = inr (inr (inl (subst (λ n. 0 < n) two some)))
+
+  pub wanted_not : (asked ≡ true → ⊥) → (0 < first → ⊥) → (0 < second → ⊥) → (IsInHalf size next → ⊥)
+      → IsWanted asked size next c → ⊥
+  wanted_not unasked none neither nowhere (inl is) = unasked is
+  wanted_not unasked none neither nowhere (inr (inl some)) = none (subst (λ n. 0 < n) (sym one) some)
+  wanted_not unasked none neither nowhere (inr (inr (inl some))) = neither (subst (λ n. 0 < n) (sym two) some)
+  wanted_not unasked none neither nowhere (inr (inr (inr there))) = nowhere there
+
+-- two facts of a value
+pub both_weaker : {T E : Type 0} (answer : Result T E) {P Q R : T → Type 0} → IfOk answer P → IfOk answer Q
+    → ((x : T) → P x → Q x → R x) → IfOk answer R
+both_weaker (Ok x) p q f = f x p q
+both_weaker (Err e) p q f = tt
+
+-- ---- what is due
+
+module _ {D : Type 0} (d : Ghosts D) where
+  -- a store that was only read shows the same events
+  pub uncounted_then : {old mid : StoreView D} → IsOnlyReadFrom d old mid → IsQuiet d old → d.honest old.disk
+      → AreUncounted d mid → AreUncounted d old
+  uncounted_then still quiet honest too_many s at = too_many s (still_shows d still quiet honest s at)
+
+  pub due_begun : (asked : Bool) (old : StoreView D) (s : Standing) (outset : Outset) → (outset ≡ Absent → AreUncounted d old)
+      → (outset ≡ GoesOn → ⊥) → IsDueOutset d asked old s Begins → IsDueOutset d asked old s outset
+  due_begun asked old s Absent absent never due = λ halves wanted. absent refl
+  due_begun asked old s GoesOn absent never due = absurd (never refl)
+  due_begun asked old s Begins absent never due = due

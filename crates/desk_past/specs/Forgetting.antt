@@ -1,0 +1,39 @@
+-- A past that is forgotten. `d` is what is known of a disk.
+use Rattle.std.specs.Prelude.{◌≡◌, ◌⊎◌, ◌+◌, ◌<◌, ◌≤◌, ℕ, List, false, get_or}
+use Rattle.sector_disk.specs.declared.disk.Disk.{Ghosts}
+use Rattle.sector_disk.specs.declared.disk.TheConstants.{SECTOR_BYTES}
+use Rattle.sector_disk.specs.Trail.{Content, now, LeavesOnly}
+use Rattle.store_layout.specs.declared.layout.TheConstants.{STORE_SECTORS}
+use Rattle.store_layout.specs.Filling.{InRange}
+use Rattle.desk_journal.specs.View.{StoreView}
+use Rattle.desk_past.specs.declared.halves.TheConstants.{HALVES}
+use Rattle.desk_past.specs.Beginning.{HasBegun}
+use Rattle.desk_past.specs.Halves.{half_sectors, middle}
+
+-- the sector has zeros
+abbrev pub IsBlank : List ℕ → Type 0
+IsBlank bytes = (j : ℕ) → j < SECTOR_BYTES → get_or bytes j 0 ≡ 0
+
+-- so many sectors have zeros, from this one on
+abbrev pub AreBlank : ℕ → ℕ → Content → Type 0
+AreBlank from count c = (n : ℕ) → InRange from count n → IsBlank (c n)
+
+-- All sectors of both halves have zeros, but those of a start from this sector on.
+abbrev pub AreBlankBeside : ℕ → ℕ → Content → Type 0
+AreBlankBeside size base c = (n : ℕ) → HALVES ≤ n → n < middle size + half_sectors size
+    → ¬ InRange base STORE_SECTORS n → IsBlank (c n)
+
+module _ {D : Type 0} (d : Ghosts D) where
+  -- at every moment of the call a crash leaves the sectors of the store and those of a start as they were
+  pub record SparesStart (base : ℕ) (old new : StoreView D) : Type 0 where
+    pub moments : old.must_reopen ≡ false → d.honest old.disk
+        → LeavesOnly (d.trail old.disk) (d.trail new.disk)
+        (λ c. (n : ℕ) → (n < STORE_SECTORS) ⊎ InRange base STORE_SECTORS n
+        → c n ≡ (now (d.trail old.disk)).reads n)
+
+  -- A past has begun with what the store shows, and nothing else is behind the store in either half.
+  pub record HasForgotten (old new : StoreView D) : Type 0 where
+    pub base : ℕ
+    pub half : (base ≡ HALVES) ⊎ (base ≡ middle (d.size old.disk))
+    pub begun : HasBegun d base old new
+    pub blank : AreBlankBeside (d.size old.disk) base (now (d.trail new.disk)).reads

@@ -1,0 +1,62 @@
+# A document that was deleted stays in the past of a store, until that is forgotten. What the store shows stays, and behind it
+# there is a copy of it and nothing else. What has no past to be forgotten.
+desk() { "$DESK_PROGRAM" "$@"; echo "= $?"; }
+reach() { "$DESK_PROGRAM" check "$1" | tail -n 1; }
+typed() { for _k in $(seq "$1"); do printf 'ab\177'; done; printf '\021'; }
+secrets() {
+    echo "$(grep -a -o Heimlich my.disk | wc -l) in the file," \
+        "$(head -c $((15621 * 1024)) my.disk | grep -a -o Heimlich | wc -l) of them in the store"
+}
+"$PROGRAM" format my.disk
+"$PROGRAM" play my.disk << 'END' | uniq -c
+file Secret.Text Heimlich
+file System.Tool Edit.Open A.Text%0dSystem.DeleteFiles Secret.Text ~%0dSystem.Collect
+point m 60 31 60 31
+point m 52 30 52 30
+point l 1 30 1 30
+END
+
+echo '--- a document, its past, and its end'
+typed 40 | desk sit --past 33 my.disk > shown
+printf '%s\n' 'list' | "$PROGRAM" play my.disk
+secrets
+printf '%s\n' 'point m 52 29 52 29' 'point m 52 28 52 28' 'list' | "$PROGRAM" play my.disk
+for _turn in 1 2; do
+    typed 100 | desk sit 33 my.disk > shown
+    printf '%s\n' 'point m 52 28 52 28' | "$PROGRAM" play my.disk
+done
+typed 100 | desk sit 33 my.disk > shown
+reach my.disk
+secrets
+
+echo '--- forgotten'
+"$PROGRAM" screen my.disk > before
+desk forget my.disk
+cmp before <("$PROGRAM" screen my.disk) && echo same
+reach my.disk
+"$DESK_PROGRAM" history my.disk --all | wc -l
+secrets
+python3 - my.disk << 'END'
+import sys
+STORE, HALF = 15621, 32768
+data = open(sys.argv[1], 'rb').read().ljust((STORE + 2 + 2 * HALF) * 1024, b'\0')
+halves = [data[(STORE + 2 + at) * 1024:][:HALF * 1024] for at in (0, HALF)]
+print(sorted('a start and zeros' if it[:16] == b'OBERONDESKSTORE1' and not any(it[STORE * 1024:]) else 'zeros'
+             if not any(it) else 'more' for it in halves))
+END
+
+echo '--- it goes on'
+typed 1 | desk sit 33 my.disk > shown
+reach my.disk
+desk earlier my.disk 3 then.disk
+cmp before <("$PROGRAM" screen then.disk) && echo same
+
+echo '--- a store without a past, what is no store, and nothing'
+desk backup my.disk copy.disk
+cp copy.disk same.disk
+desk forget copy.disk
+cmp copy.disk same.disk && echo same
+head -c 20000000 /dev/zero > no.disk
+desk forget no.disk
+desk forget none.disk
+ls
