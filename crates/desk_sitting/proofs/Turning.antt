@@ -122,8 +122,8 @@ module _ {T H H' : Type 0} (result : Result T SittingEnd) {told there : Sitting}
       let both = is (still honest) in (
         both.0 ∙ (λ k. looked (shows honest k) (same honest k)),
         subst (λ (t : Sitting). IsSceneShown the_desk t screen clip known known' held held' waiting') (same honest)
-        (subst (λ (x : List (List Cell)). IsSceneShown the_desk there x clip known known' held held' waiting') (shows honest)
-        (subst (λ (b : List ℕ). IsSceneShown the_desk there screen' b known known' held held' waiting') (clips honest) both.1)),
+            (subst (λ (x : List (List Cell)). IsSceneShown the_desk there x clip known known' held held' waiting') (shows honest)
+            (subst (λ (b : List ℕ). IsSceneShown the_desk there screen' b known known' held held' waiting') (clips honest) both.1)),
       ))
 
   pub told_unshown : IfErr result (λ end. H' → IsUnshown the_desk end there screen' clip' known held held')
