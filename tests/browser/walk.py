@@ -50,7 +50,7 @@ TOLD = [('a', 0, 'a'), ('A', 1, 'A'), ('s', 4, '\x13'), ('c', 4, ''), ('s', 5, '
         ('z', 2, '\x1bz'), ('Tab', 0, '\t'), ('Enter', 0, '\r'), ('Backspace', 0, '\x7f'), ('Escape', 0, '\x1b'),
         ('Delete', 0, '\x1b[3~'), ('F2', 0, '\x1bOQ'), ('F11', 0, '\x1b[23~'), ('F12', 0, ''), ('ArrowLeft', 0, '\x1b[D'),
         ('ArrowLeft', 1, '\x1b[1;2D'), ('ArrowLeft', 2, '\x1b[1;3D'), ('ArrowLeft', 4, '\x1b[1;5D'), ('Home', 4, '\x1b[1;5H'),
-        ('PageUp', 2, '\x1b[5;3~'), ('Shift', 1, ''), ('p', 4, ''), ('F5', 0, ''), ('\u00e9', 0, '\u00e9')]
+        ('PageUp', 2, '\x1b[5;3~'), ('Shift', 1, ''), ('p', 4, ''), ('u', 4, '\x15'), ('F5', 0, ''), ('\u00e9', 0, '\u00e9')]
 KEY = """pressed(new KeyboardEvent('keydown', {key: %r, shiftKey: %d, altKey: %d, ctrlKey: %d}))"""
 
 
@@ -93,6 +93,10 @@ def walk(kind, url, profile):
     page.click(2, 1)
     page.type('Hello World\r')
     same('typed', page.text(1, 50)[0 if page.text(1, 50)[0].startswith('Hello') else 1], 'Hello World')
+    same('the line says that it is not stored', page.js(LINE).startswith("A.Text isn't stored: Ctrl-S stores"), True)
+    page.js(FILE % ('Hello World\n', 'A.Text'))
+    page.wait(1)
+    same('and no more once the document has it', "isn't stored" in page.js(LINE), False)
     page.press(7, 1, 'right')
     page.release(11, 1, 'right')
     page.wait(2)

@@ -5,7 +5,7 @@ const LETTERS = {
     ArrowUp: 'A', ArrowDown: 'B', ArrowRight: 'C', ArrowLeft: 'D', End: 'F', Home: 'H', F1: 'P', F2: 'Q', F3: 'R', F4: 'S',
 };
 const NUMBERS = { Delete: 3, PageUp: 5, PageDown: 6, F5: 15, F6: 17, F7: 18, F8: 19, F9: 20, F10: 21, F11: 23 };
-const MEANT = new Set('aefghkoqrstwyz[');                 // letters that mean something with Ctrl; C, X and V come as events
+const MEANT = new Set('abefghkoqrstuwyz[');                 // letters that mean something with Ctrl; C, X and V come as events
 const MAC = /^(Mac|iP)/.test(navigator.platform);
 function control(letter) {                                // the byte of a letter with Ctrl
     return String.fromCharCode(letter.toUpperCase().charCodeAt(0) & 31);

@@ -42,7 +42,7 @@ use Rattle.caret_moves.specs.declared.wish.Step.{Step as AStep}
 use Rattle.caret_moves.specs.declared.wish.CaretCommand.{CaretCommand}
 use Rattle.caret_moves.specs.declared.wish.KeyWish.{KeyWish}
 use Rattle.caret_moves.specs.declared.wish.KeyWish.TheVariants.{Select, SelectOn, SelectAll, CutSelected, CutLine}
-use Rattle.caret_moves.specs.declared.wish.KeyWish.TheVariants.{Step, DeleteNext, Call, CallLine, Mark as MarkWish, Break, Place}
+use Rattle.caret_moves.specs.declared.wish.KeyWish.TheVariants.{Step, DeleteNext, Call, CallLine, Mark as MarkWish, Break, Place, Reach}
 use Rattle.caret_moves.specs.Filling.{line_break, IsBreak}
 use Rattle.caret_moves.specs.declared.wish.WhyNot.{WhyNot}
 use Rattle.caret_moves.specs.declared.wish.WhyNot.TheVariants.{NoRow, TooFar, NothingBehind, PastEdge, NotInSight}
@@ -268,6 +268,13 @@ module _ (d : Desktop) (sound : IsSound d) (c : Caret) (is : d.caret ≡ Some c)
       (near_events d c.viewer (place_wished d c.viewer n)) NotInSight
       (near_lead some (place_wished d c.viewer n) (omega arith))
 
+  reach_leads : (n : ℕ) → 0 < rows_of d c.viewer
+      → IfOk (led_from d c.viewer c.position (Reach n)) (Fulfils d c (Reach n))
+  unfolding led_from after_wish
+  reach_leads n some = if_ok_or (λ events. LeadTo d events (stood d c.viewer (place_wished d c.viewer n)))
+      (events_to d c.viewer (place_wished d c.viewer n)) TooFar
+      (stand_led some (place_wished d c.viewer n) (omega arith))
+
   ended_there : 0 < rows_of d c.viewer → (q : ℕ) → q ≤ length (main_of d c.viewer) → has_column d c.viewer q ≡ true
       → IfSome (and_line_end (near_events d c.viewer q)) (Ends q)
   unfolding stood
@@ -349,6 +356,7 @@ module _ (d : Desktop) (sound : IsSound d) (c : Caret) (is : d.caret ≡ Some c)
   wish_led CutLine some = line_cut d sound c c_top c_within
   wish_led (Break n) some = break_leads n some
   wish_led (Place n) some = place_leads n some
+  wish_led (Reach n) some = reach_leads n some
 
   leads_from : (wish : KeyWish) → IfOk (led_with d (Some c) wish) (Fulfils d c wish)
   leads_from wish = (elim (rows_of d c.viewer == 0) as (λ (b : Bool). (rows_of d c.viewer == 0) ≡ b

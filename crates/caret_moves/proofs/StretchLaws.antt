@@ -42,11 +42,12 @@ use Rattle.caret_moves.specs.declared.wish.Step.{Step as AStep}
 use Rattle.caret_moves.specs.declared.wish.KeyWish.TheVariants.{Select, SelectOn, SelectAll, CutSelected, CutLine}
 use Rattle.caret_moves.specs.declared.wish.WhyNot.TheVariants.{TooFar, PastEdge, NothingThere}
 use Rattle.caret_moves.specs.Steps.{end_of_line}
-use Rattle.caret_moves.specs.Stretches.{stretch_of, other_end, end_by, anchor_in, selected_up_to, line_around, without_stretch, drag_by}
+use Rattle.caret_moves.specs.Stretches.{stretch_of, stop_by, other_end, end_by, anchor_by, line_around, without_stretch, drag_by}
 use Rattle.caret_moves.specs.Stretches.{with_stretch}
 use Rattle.caret_moves.specs.Leading.{text_width, display_cell, character_cell, cell_from, stood, landing_in, org_in, has_column}
 use Rattle.caret_moves.specs.Leading.{step_goal_in, stepped_over, whole_text, after_wish, events_to, drawn, then_drawn, draw_led}
-use Rattle.caret_moves.specs.Leading.{select_led, cut_led, led_from, Fulfils}
+use Rattle.caret_moves.specs.Leading.{select_led, cut_led, select_all_led, cut_all_led, without_hidden_end, stop_in, anchor_in}
+use Rattle.caret_moves.specs.Leading.{selected_up_to, led_from, Fulfils}
 use Rattle.caret_moves.proofs.ClickLaws.{IsShown, cell_shown, shown_body, shown_on, shown_position, leads_on}
 use Rattle.caret_moves.proofs.RowLaws.{start_low}
 use Rattle.caret_moves.proofs.StepLaws.{stepped_within, line_end_within}
@@ -235,76 +236,120 @@ module _ (d : Desktop) (s : Selection) (sound : IsSound d) (top : IsOnTop s.view
   cut_drawn = cut_by_cells (cell_from d s.viewer (viewer_of d s.viewer).org s.beg)
       (cell_from d s.viewer (viewer_of d s.viewer).org (s.end - 1)) refl refl
 
+-- ---- where a stretch stops
+
+pub stop_low : (p start : ℕ) (is_shown : Bool) → stop_by p start is_shown ≤ p
+stop_low p start is_shown = elim (start == p) as (λ (b : Bool). (if b then (if is_shown then p else p - 1) else p) ≤ p) [
+  | true ↦ elim is_shown as (λ (b : Bool). (if b then p else p - 1) ≤ p) [
+    | true ↦ omega arith
+    | false ↦ omega arith
+  ]
+  | false ↦ omega arith
+]
+
 -- ---- the theorem of stretches
 
 module _ (d : Desktop) (sound : IsSound d) (c : Caret) (top : IsOnTop c.viewer d.columns)
     (low : c.position ≤ length (main_of d c.viewer)) where
-  module _ (q r : ℕ) (q_low : q ≤ length (main_of d c.viewer)) (r_low : r ≤ length (main_of d c.viewer)) where
-    cut_leads : IfOk (cut_led d (stretch_of c.viewer q r))
-        (λ events. LeadTo d events (without_stretch d (stretch_of c.viewer q r)))
-    unfolding cut_led
-    cut_leads = (elim (nat_lt (min q r) (max q r)) as (λ (b : Bool). nat_lt (min q r) (max q r) ≡ b
-        → IfOk (if b then then_drawn (Some []) (drawn d RightLeft (viewer_of d c.viewer).org (stretch_of c.viewer q r))
-        else Err NothingThere) (λ events. LeadTo d events (without_stretch d (stretch_of c.viewer q r)))) [
-          | true ↦ λ is. cut_drawn d (stretch_of c.viewer q r) sound top (ltb-true _ _ is) (omega (arith, q_low, r_low))
+  module _ (beg end : ℕ) (end_low : end ≤ length (main_of d c.viewer)) where
+    abbrev all : Selection
+    all = record { viewer = c.viewer; beg = beg; end = end }
+
+    cut_leads : IfOk (cut_all_led d all) (λ events. LeadTo d events (without_stretch d all))
+    unfolding cut_all_led
+    cut_leads = (elim (nat_lt beg end) as (λ (b : Bool). nat_lt beg end ≡ b
+        → IfOk (if b then then_drawn (Some []) (drawn d RightLeft (viewer_of d c.viewer).org all)
+        else Err NothingThere) (λ events. LeadTo d events (without_stretch d all))) [
+          | true ↦ λ is. cut_drawn d all sound top (ltb-true _ _ is) end_low
           | false ↦ λ is. tt
         ]) refl
 
     module _ (p : ℕ) (lead : IfSome (events_to d c.viewer p) (λ events. LeadTo d events (stood d c.viewer p))) where
       abbrev after : Bool → Desktop
-      after some = if some then with_selection (stood d c.viewer p) (stretch_of c.viewer q r) else stood d c.viewer p
+      after some = if some then with_selection (stood d c.viewer p) all else stood d c.viewer p
 
       alone : (events : Option (List Event)) → IfSome events (λ events. LeadTo d events (stood d c.viewer p))
           → IfOk (ok_or events TooFar) (λ events. LeadTo d events (stood d c.viewer p))
       alone None leads = tt
       alone (Some events) leads = leads
 
-      select_leads : IfOk (select_led d p (stretch_of c.viewer q r))
-          (λ events. LeadTo d events (with_stretch (stood d c.viewer p) (stretch_of c.viewer q r)))
-      unfolding select_led
-      select_leads = (elim (nat_lt (min q r) (max q r)) as (λ (b : Bool). nat_lt (min q r) (max q r) ≡ b
-          → IfOk (if b then (if has_column d c.viewer p then draw_led d p (stretch_of c.viewer q r) else Err PastEdge)
+      select_leads : IfOk (select_all_led d p all) (λ events. LeadTo d events (with_stretch (stood d c.viewer p) all))
+      unfolding select_all_led
+      select_leads = (elim (nat_lt beg end) as (λ (b : Bool). nat_lt beg end ≡ b
+          → IfOk (if b then (if has_column d c.viewer p then draw_led d p all else Err PastEdge)
           else ok_or (events_to d c.viewer p) TooFar) (λ events. LeadTo d events (after b))) [
             | true ↦ λ is. elim (has_column d c.viewer p) as (λ (b : Bool).
-                IfOk (if b then draw_led d p (stretch_of c.viewer q r) else Err PastEdge) (λ events. LeadTo d events (after true))) [
-                  | true ↦ draws d p (stretch_of c.viewer q r) sound top (ltb-true _ _ is) (omega (arith, q_low, r_low)) lead
+                IfOk (if b then draw_led d p all else Err PastEdge) (λ events. LeadTo d events (after true))) [
+                  | true ↦ draws d p all sound top (ltb-true _ _ is) end_low lead
                   | false ↦ tt
                 ]
             | false ↦ λ is. alone (events_to d c.viewer p) lead
           ]) refl
+
+  -- ---- without a line end that has no column
+
+  stop_within : (p : ℕ) → stop_in d c.viewer p ≤ p
+  unfolding stop_in
+  stop_within p = stop_low p (line_start (bytes_of (main_of d c.viewer)) p) (has_column d c.viewer (p - 1))
+
+  module _ (q r : ℕ) (q_low : q ≤ length (main_of d c.viewer)) (r_low : r ≤ length (main_of d c.viewer)) where
+    abbrev last : ℕ
+    last = stop_in d c.viewer (max q r)
+
+    last_low : last ≤ length (main_of d c.viewer)
+    last_low = let is = stop_within (max q r) in omega (arith, is, q_low, r_low)
+
+    part_cut : IfOk (cut_led d (stretch_of c.viewer q r))
+        (λ events. LeadTo d events (without_stretch d (without_hidden_end d (stretch_of c.viewer q r))))
+    unfolding cut_led without_hidden_end
+    part_cut = cut_leads (min (min q r) last) last last_low
+
+    part_selected : (p : ℕ) (lead : IfSome (events_to d c.viewer p) (λ events. LeadTo d events (stood d c.viewer p)))
+        → IfOk (select_led d p (stretch_of c.viewer q r))
+        (λ events. LeadTo d events (with_stretch (stood d c.viewer p) (without_hidden_end d (stretch_of c.viewer q r))))
+    unfolding select_led without_hidden_end
+    part_selected p lead = select_leads (min (min q r) last) last last_low p lead
 
   -- ---- their ends
 
   bytes_long : length (bytes_of (main_of d c.viewer)) ≡ length (main_of d c.viewer)
   bytes_long = length-map (main_of d c.viewer) (λ (x : ℕ × Look). x.0)
 
-  other_low : (x : Selection) → IsSelection d.columns (main_length d.texts d.viewers) x
-      → other_end x c.viewer c.position ≤ length (main_of d c.viewer)
-  other_low x is = (elim (x.viewer == c.viewer) as (λ (b : Bool). (x.viewer == c.viewer) ≡ b
-      → (if b then (if x.beg == c.position then x.end else (if x.end == c.position then x.beg else c.position)) else c.position)
+  other_low : (x : Selection) → IsSelection d.columns (main_length d.texts d.viewers) x → (stop : ℕ)
+      → other_end x c.viewer c.position stop ≤ length (main_of d c.viewer)
+  other_low x is stop = (elim (x.viewer == c.viewer) as (λ (b : Bool). (x.viewer == c.viewer) ≡ b
+      → (if b then (if x.beg == c.position then x.end else
+      (if x.end == c.position then x.beg else (if x.end == stop then x.beg else c.position))) else c.position)
       ≤ length (main_of d c.viewer)) [
         | true ↦ λ same. (let all = is.within in let some = is.some in
             let here : main_length d.texts d.viewers x.viewer ≡ length (main_of d c.viewer) =
             ap (main_length d.texts d.viewers) (eqb-true x.viewer c.viewer same) in
-            elim (x.beg == c.position) as (λ (b : Bool).
-            (if b then x.end else (if x.end == c.position then x.beg else c.position)) ≤ length (main_of d c.viewer)) [
+            let first : x.beg ≤ length (main_of d c.viewer) = omega (arith, all, here, some) in
+            elim (x.beg == c.position) as (λ (b : Bool). (if b then x.end else
+            (if x.end == c.position then x.beg else (if x.end == stop then x.beg else c.position)))
+            ≤ length (main_of d c.viewer)) [
               | true ↦ omega (arith, all, here)
               | false ↦ elim (x.end == c.position) as (λ (b : Bool).
-                  (if b then x.beg else c.position) ≤ length (main_of d c.viewer)) [
-                    | true ↦ omega (arith, all, here, some)
-                    | false ↦ low
+                  (if b then x.beg else (if x.end == stop then x.beg else c.position)) ≤ length (main_of d c.viewer)) [
+                    | true ↦ first
+                    | false ↦ elim (x.end == stop) as (λ (b : Bool).
+                        (if b then x.beg else c.position) ≤ length (main_of d c.viewer)) [
+                          | true ↦ first
+                          | false ↦ low
+                        ]
                   ]
             ])
         | false ↦ λ other. low
       ]) refl
 
-  anchor_by : (o : Option Selection) → newest d ≡ o → end_by o c.viewer c.position ≤ length (main_of d c.viewer)
-  anchor_by None is = low
-  anchor_by (Some x) is = other_low x (newest_stands d sound.shaped x is)
+  anchor_from : (o : Option Selection) → newest d ≡ o → (stop : ℕ)
+      → end_by o c.viewer c.position stop ≤ length (main_of d c.viewer)
+  anchor_from None is stop = low
+  anchor_from (Some x) is stop = other_low x (newest_stands d sound.shaped x is) stop
 
   anchor_low : anchor_in d c.viewer c.position ≤ length (main_of d c.viewer)
-  unfolding anchor_in
-  anchor_low = anchor_by (newest d) refl
+  unfolding anchor_in anchor_by
+  anchor_low = anchor_from (newest d) refl (stop_in d c.viewer c.position)
 
   goal_low : (a : AStep) → step_goal_in d c.viewer c.position a ≤ length (main_of d c.viewer)
   unfolding step_goal_in
@@ -315,11 +360,11 @@ module _ (d : Desktop) (sound : IsSound d) (c : Caret) (top : IsOnTop c.viewer d
 
   pub selected_cut : IfOk (led_from d c.viewer c.position CutSelected) (Fulfils d c CutSelected)
   unfolding led_from after_wish
-  selected_cut = cut_leads (anchor_in d c.viewer c.position) c.position anchor_low low
+  selected_cut = part_cut (anchor_in d c.viewer c.position) c.position anchor_low low
 
   pub line_cut : IfOk (led_from d c.viewer c.position CutLine) (Fulfils d c CutLine)
   unfolding led_from after_wish line_around
-  line_cut = cut_leads (line_start (bytes_of (main_of d c.viewer)) c.position)
+  line_cut = part_cut (line_start (bytes_of (main_of d c.viewer)) c.position)
       (min (end_of_line (bytes_of (main_of d c.viewer)) c.position + 1) (length (bytes_of (main_of d c.viewer))))
       (let first = start_low (bytes_of (main_of d c.viewer)) c.position in omega (arith, first, low))
       (omega (arith, bytes_long))
@@ -328,15 +373,15 @@ module _ (d : Desktop) (sound : IsSound d) (c : Caret) (top : IsOnTop c.viewer d
       → IfSome (events_to d c.viewer p) (λ events. LeadTo d events (stood d c.viewer p))) where
     pub step_selected : (a : AStep) → IfOk (led_from d c.viewer c.position (Select a)) (Fulfils d c (Select a))
     unfolding led_from after_wish stepped_over
-    step_selected a = select_leads c.position (step_goal_in d c.viewer c.position a) low
+    step_selected a = part_selected c.position (step_goal_in d c.viewer c.position a) low
         (goal_low a) (step_goal_in d c.viewer c.position a) (lead (step_goal_in d c.viewer c.position a) (goal_low a))
 
     pub step_selected_on : (a : AStep) → IfOk (led_from d c.viewer c.position (SelectOn a)) (Fulfils d c (SelectOn a))
     unfolding led_from after_wish stepped_over
-    step_selected_on a = select_leads (anchor_in d c.viewer c.position) (step_goal_in d c.viewer c.position a) anchor_low
+    step_selected_on a = part_selected (anchor_in d c.viewer c.position) (step_goal_in d c.viewer c.position a) anchor_low
         (goal_low a) (step_goal_in d c.viewer c.position a) (lead (step_goal_in d c.viewer c.position a) (goal_low a))
 
     pub all_selected : IfOk (led_from d c.viewer c.position SelectAll) (Fulfils d c SelectAll)
     unfolding led_from after_wish whole_text
-    all_selected = select_leads 0 (length (main_of d c.viewer)) (omega arith) (omega arith) (length (main_of d c.viewer))
+    all_selected = part_selected 0 (length (main_of d c.viewer)) (omega arith) (omega arith) (length (main_of d c.viewer))
         (lead (length (main_of d c.viewer)) (omega arith))

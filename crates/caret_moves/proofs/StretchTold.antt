@@ -22,9 +22,10 @@ use Rattle.caret_moves.specs.declared.wish.KeyWish.TheVariants.{Select, SelectOn
 use Rattle.caret_moves.specs.declared.wish.WhyNot.{WhyNot}
 use Rattle.caret_moves.specs.declared.wish.WhyNot.TheVariants.{TooFar, PastEdge, NotInSight, NothingThere}
 use Rattle.caret_moves.specs.Steps.{end_of_line}
-use Rattle.caret_moves.specs.Stretches.{stretch_of, other_end, anchor_in, line_around}
+use Rattle.caret_moves.specs.Stretches.{stretch_of, stop_by, up_to, other_end, anchor_by, line_around}
 use Rattle.caret_moves.specs.Leading.{text_width, display_cell, cell_from, org_in, has_column, events_to, drawn, then_drawn}
 use Rattle.caret_moves.specs.Leading.{character_cell, draw_led, select_led, cut_led, led_from, step_goal_in, stepped_over, whole_text}
+use Rattle.caret_moves.specs.Leading.{stop_in, without_hidden_end, anchor_in, select_all_led, cut_all_led}
 use Rattle.caret_moves.proofs.Told.{bytes_are}
 
 -- ---- what was read of a viewer
@@ -55,16 +56,23 @@ module _ (old : List ℕ) (d : KeptDesktop) (v : ℕ) (text : List Piece)
 
 -- ---- the other end of a selection
 
-pub other_within : (d : KeptDesktop) (s : Selection) (v p : ℕ) → s.beg < s.end → IsPosition d s.viewer s.end
-    → IsPosition d v p → IsPosition d v (other_end s v p)
-other_within d s v p some stands at = (elim (s.viewer == v) as (λ (b : Bool). (s.viewer == v) ≡ b
-    → IsPosition d v (if b then (if s.beg == p then s.end else (if s.end == p then s.beg else p)) else p)) [
+pub other_within : (d : KeptDesktop) (s : Selection) (v p stop : ℕ) → s.beg < s.end → IsPosition d s.viewer s.end
+    → IsPosition d v p → IsPosition d v (other_end s v p stop)
+other_within d s v p stop some stands at = (elim (s.viewer == v) as (λ (b : Bool). (s.viewer == v) ≡ b
+    → IsPosition d v (if b then (if s.beg == p then s.end else
+    (if s.end == p then s.beg else (if s.end == stop then s.beg else p))) else p)) [
       | true ↦ λ same. (let here : IsPosition d v s.end = subst (λ (u : ℕ). IsPosition d u s.end) (eqb-true s.viewer v same) stands in
-          elim (s.beg == p) as (λ (b : Bool). IsPosition d v (if b then s.end else (if s.end == p then s.beg else p))) [
+          let first : IsPosition d v s.beg =
+          record { placed = here.placed; place = (let low = here.place in omega (arith, low, some)) } in
+          elim (s.beg == p) as (λ (b : Bool). IsPosition d v (if b then s.end else
+          (if s.end == p then s.beg else (if s.end == stop then s.beg else p)))) [
             | true ↦ here
-            | false ↦ elim (s.end == p) as (λ (b : Bool). IsPosition d v (if b then s.beg else p)) [
-              | true ↦ record { placed = here.placed; place = (let low = here.place in omega (arith, low, some)) }
-              | false ↦ at
+            | false ↦ elim (s.end == p) as (λ (b : Bool). IsPosition d v (if b then s.beg else (if s.end == stop then s.beg else p))) [
+              | true ↦ first
+              | false ↦ elim (s.end == stop) as (λ (b : Bool). IsPosition d v (if b then s.beg else p)) [
+                | true ↦ first
+                | false ↦ at
+              ]
             ]
           ])
       | false ↦ λ other. at
@@ -88,39 +96,64 @@ module _ (d : Desktop) (p : ℕ) (s : Selection) where
   abbrev by_size : Bool → Result (List Event) WhyNot
   by_size some = if some then by_column (has_column d s.viewer p) else ok_or (events_to d s.viewer p) TooFar
 
-  pub select_nothing : s.end ≤ s.beg → ok_or (events_to d s.viewer p) TooFar ≡ select_led d p s
-  unfolding select_led
+  pub select_nothing : s.end ≤ s.beg → ok_or (events_to d s.viewer p) TooFar ≡ select_all_led d p s
+  unfolding select_all_led
   select_nothing none = ap by_size (sym (le-ltb s.beg s.end none))
 
   module _ (some : s.beg < s.end) where
-    pub select_past : false ≡ has_column d s.viewer p → Err PastEdge ≡ select_led d p s
-    unfolding select_led
+    pub select_past : false ≡ has_column d s.viewer p → Err PastEdge ≡ select_all_led d p s
+    unfolding select_all_led
     select_past is = ap by_column is ∙ ap by_size (sym (lt-ltb s.beg s.end some))
 
-    pub select_there : true ≡ has_column d s.viewer p → draw_led d p s ≡ select_led d p s
-    unfolding select_led
+    pub select_there : true ≡ has_column d s.viewer p → draw_led d p s ≡ select_all_led d p s
+    unfolding select_all_led
     select_there is = ap by_column is ∙ ap by_size (sym (lt-ltb s.beg s.end some))
 
 module _ (d : Desktop) (s : Selection) where
   abbrev cut_by_size : Bool → Result (List Event) WhyNot
   cut_by_size some = if some then then_drawn (Some []) (drawn d RightLeft (viewer_of d s.viewer).org s) else Err NothingThere
 
-  pub cut_nothing : s.end ≤ s.beg → Err NothingThere ≡ cut_led d s
-  unfolding cut_led
+  pub cut_nothing : s.end ≤ s.beg → Err NothingThere ≡ cut_all_led d s
+  unfolding cut_all_led
   cut_nothing none = ap cut_by_size (sym (le-ltb s.beg s.end none))
 
   pub cut_told : s.beg < s.end → (org : ℕ) (event : Option Event) → org ≡ (viewer_of d s.viewer).org
-      → event ≡ drawn d RightLeft org s → then_drawn (Some []) event ≡ cut_led d s
-  unfolding cut_led
+      → event ≡ drawn d RightLeft org s → then_drawn (Some []) event ≡ cut_all_led d s
+  unfolding cut_all_led
   cut_told some org event org_is event_is =
       ap (then_drawn (Some [])) (event_is ∙ ap (λ (o : ℕ). drawn d RightLeft o s) org_is)
       ∙ ap cut_by_size (sym (lt-ltb s.beg s.end some))
 
 -- ---- the wishes
 
-pub anchor_seen : (old : List ℕ) (d : KeptDesktop) (v p : ℕ) → anchor_in d v p ≡ anchor_in (seen old d) v p
-unfolding anchor_in seen
-anchor_seen old d v p = refl
+pub anchor_seen : (old : List ℕ) (d : KeptDesktop) (v p stop : ℕ) → anchor_by d v p stop ≡ anchor_by (seen old d) v p stop
+unfolding anchor_by seen
+anchor_seen old d v p stop = refl
+
+-- ---- where a stretch stops
+
+module _ (d : Desktop) (v p : ℕ) where
+  pub stop_told : (start : ℕ) (is_shown : Bool) → start ≡ line_start (bytes_of (main_of d v)) p
+      → is_shown ≡ has_column d v (p - 1) → stop_by p start is_shown ≡ stop_in d v p
+  unfolding stop_in
+  stop_told start is_shown start_is shown_is = λ k. stop_by p (start_is k) (shown_is k)
+
+  pub anchor_told : (stop : ℕ) → stop ≡ stop_in d v p → anchor_by d v p stop ≡ anchor_in d v p
+  unfolding anchor_in
+  anchor_told stop is = ap (anchor_by d v p) is
+
+module _ (d : Desktop) (s : Selection) where
+  pub part_told : (stop : ℕ) → stop ≡ stop_in d s.viewer s.end → up_to s stop ≡ without_hidden_end d s
+  unfolding without_hidden_end
+  part_told stop is = ap (up_to s) is
+
+  pub select_of_part : (p : ℕ) (part : Selection) → part ≡ without_hidden_end d s → select_all_led d p part ≡ select_led d p s
+  unfolding select_led
+  select_of_part p part is = ap (select_all_led d p) is
+
+  pub cut_of_part : (part : Selection) → part ≡ without_hidden_end d s → cut_all_led d part ≡ cut_led d s
+  unfolding cut_led
+  cut_of_part part is = ap (cut_all_led d) is
 
 module _ (d : Desktop) (v p : ℕ) where
   pub step_is : (a : AStep) (goal : ℕ) (s : Selection) → goal ≡ step_goal_in d v p a → s ≡ stretch_of v p goal

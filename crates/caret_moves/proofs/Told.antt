@@ -222,6 +222,11 @@ pub place_told : (d : Desktop) (v n p long : ℕ) → p ≡ min n long → long 
 place_told d v n p long is long_is =
     ap (λ (q : ℕ). ok_or (near_events d v q) NotInSight) (is ∙ ap (min n) long_is)
 
+pub reach_told : (d : Desktop) (v n p long : ℕ) → p ≡ min n long → long ≡ length (main_of d v)
+    → ok_or (events_to d v p) TooFar ≡ ok_or (events_to d v (min n (length (main_of d v)))) TooFar
+reach_told d v n p long is long_is =
+    ap (λ (q : ℕ). ok_or (events_to d v q) TooFar) (is ∙ ap (min n) long_is)
+
 -- ---- to call a command, and to set the marker
 
 module _ (d : Desktop) (v p : ℕ) (command : CaretCommand) where

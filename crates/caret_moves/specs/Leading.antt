@@ -9,6 +9,7 @@ use Rattle.event_bytes.specs.declared.event.Event.{Event}
 use Rattle.event_bytes.specs.declared.event.Event.TheVariants.{Key, Mark, Point, Typed}
 use Rattle.event_bytes.specs.Bytes.{carriage_return}
 use Rattle.text_frames.specs.Cells.{cell_of, column_of}
+use Rattle.text_frames.specs.Lines.{line_start}
 use Rattle.desktop_definitions.specs.declared.viewer.Caret.{Caret}
 use Rattle.desktop_definitions.specs.declared.viewer.Selection.{Selection}
 use Rattle.desktop_definitions.specs.declared.reply.Reply.TheVariants.{Done}
@@ -25,14 +26,14 @@ use Rattle.desk_input.specs.Scrolling.{line_presses, LeadTo}
 use Rattle.caret_moves.specs.declared.wish.Step.{Step as AStep}
 use Rattle.caret_moves.specs.declared.wish.KeyWish.{KeyWish}
 use Rattle.caret_moves.specs.declared.wish.KeyWish.TheVariants.{Select, SelectOn, SelectAll, CutSelected, CutLine}
-use Rattle.caret_moves.specs.declared.wish.KeyWish.TheVariants.{Step, DeleteNext, Call, CallLine, Mark as MarkWish, Break, Place}
+use Rattle.caret_moves.specs.declared.wish.KeyWish.TheVariants.{Step, DeleteNext, Call, CallLine, Mark as MarkWish, Break, Place, Reach}
 use Rattle.caret_moves.specs.declared.wish.WhyNot.{WhyNot}
 use Rattle.caret_moves.specs.declared.wish.WhyNot.TheVariants.{NoCaret, NoRow, TooFar, NothingBehind, PastEdge}
 use Rattle.caret_moves.specs.declared.wish.WhyNot.TheVariants.{NoWord, NotInSight, NoBreak, NothingThere}
 use Rattle.caret_moves.specs.Filling.{line_break, IsBreak}
 use Rattle.caret_moves.specs.Steps.{column_cut, step_goal, org_for, landing}
 use Rattle.caret_moves.specs.Calling.{middle_press, mark_cell, call_led, call_desktop, done_on, line_word}
-use Rattle.caret_moves.specs.Stretches.{stretch_of, anchor_in, selected_up_to, line_around, with_stretch, without_stretch}
+use Rattle.caret_moves.specs.Stretches.{stretch_of, stop_by, up_to, anchor_by, line_around, with_stretch, without_stretch}
 use Rattle.caret_moves.specs.Stretches.{drag_by}
 
 module _ {T : Type 0} where
@@ -82,6 +83,23 @@ unfoldable pub cell_from : Desktop → ℕ → ℕ → ℕ → Option (ℕ × �
 cell_from d v org p = option_map (display_cell d v)
     (cell_of (text_width d v) (rows_of d v) (bytes_of (main_of d v)) org p)
 
+-- where a stretch up to p ends: before a line end that has no column, since its line fills the row
+unfoldable pub stop_in : Desktop → ℕ → ℕ → ℕ
+stop_in d v p =
+    stop_by p (line_start (bytes_of (main_of d v)) p) (has_column d v (p - 1))
+
+-- a stretch without such a line end
+unfoldable pub without_hidden_end : Desktop → Selection → Selection
+without_hidden_end d s = up_to s (stop_in d s.viewer s.end)
+
+-- where what is selected up to p begins; where nothing is it is p
+unfoldable pub anchor_in : Desktop → ℕ → ℕ → ℕ
+anchor_in d v p = anchor_by d v p (stop_in d v p)
+
+-- what is selected up to p, which may have no character
+abbrev pub selected_up_to : Desktop → ℕ → ℕ → Selection
+selected_up_to d v p = stretch_of v (anchor_in d v p) p
+
 -- what a step from p goes over, from a position on
 unfoldable pub stepped_over : Desktop → ℕ → ℕ → ℕ → AStep → Selection
 stepped_over d v start p step = stretch_of v start (step_goal_in d v p step)
@@ -102,18 +120,22 @@ after_wish d c DeleteNext = without_character_before (stood d c.viewer (c.positi
 after_wish d c MarkWish = let cell = marker_cell d c.viewer c.position in marked d cell.0 cell.1
 after_wish d c (Select step) =
     with_stretch (stood d c.viewer (step_goal_in d c.viewer c.position step))
-    (stepped_over d c.viewer c.position c.position step)
+    (without_hidden_end d (stepped_over d c.viewer c.position c.position step))
 after_wish d c (SelectOn step) =
     with_stretch (stood d c.viewer (step_goal_in d c.viewer c.position step))
-    (stepped_over d c.viewer (anchor_in d c.viewer c.position) c.position step)
+    (without_hidden_end d
+    (stepped_over d c.viewer (anchor_in d c.viewer c.position) c.position step))
 after_wish d c SelectAll = with_stretch (stood d c.viewer (length (main_of d c.viewer)))
-    (whole_text d c.viewer)
-after_wish d c CutSelected = without_stretch d (selected_up_to d c.viewer c.position)
-after_wish d c CutLine = without_stretch d (line_around d c.viewer c.position)
+    (without_hidden_end d (whole_text d c.viewer))
+after_wish d c CutSelected =
+    without_stretch d (without_hidden_end d (selected_up_to d c.viewer c.position))
+after_wish d c CutLine =
+    without_stretch d (without_hidden_end d (line_around d c.viewer c.position))
 after_wish d c (Call command) = call_desktop d c.viewer command
 after_wish d c CallLine = d
 after_wish d c (Break n) = d
 after_wish d c (Place n) = stood d c.viewer (min n (length (main_of d c.viewer)))
+after_wish d c (Reach n) = stood d c.viewer (min n (length (main_of d c.viewer)))
 
 -- ---- the events
 
@@ -165,16 +187,23 @@ abbrev pub draw_led : Desktop → ℕ → Selection → Result (List Event) WhyN
 draw_led d p s = then_drawn (events_to d s.viewer p) (drawn d Right (org_in d s.viewer p) s)
 
 -- so a stretch is selected, if the caret can stand at p; where it has no character the caret goes alone
-unfoldable pub select_led : Desktop → ℕ → Selection → Result (List Event) WhyNot
-select_led d p s = if nat_lt s.beg s.end
+unfoldable pub select_all_led : Desktop → ℕ → Selection → Result (List Event) WhyNot
+select_all_led d p s = if nat_lt s.beg s.end
     then (if has_column d s.viewer p then draw_led d p s else Err PastEdge)
     else ok_or (events_to d s.viewer p) TooFar
 
 -- it is cut as it is in sight
-unfoldable pub cut_led : Desktop → Selection → Result (List Event) WhyNot
-cut_led d s = if nat_lt s.beg s.end
+unfoldable pub cut_all_led : Desktop → Selection → Result (List Event) WhyNot
+cut_all_led d s = if nat_lt s.beg s.end
     then then_drawn (Some []) (drawn d RightLeft (viewer_of d s.viewer).org s)
     else Err NothingThere
+
+-- a line end at its end that has no column isn't selected, and isn't cut: no cell is drawn to for it
+unfoldable pub select_led : Desktop → ℕ → Selection → Result (List Event) WhyNot
+select_led d p s = select_all_led d p (without_hidden_end d s)
+
+unfoldable pub cut_led : Desktop → Selection → Result (List Event) WhyNot
+cut_led d s = cut_all_led d (without_hidden_end d s)
 
 -- ---- a line is broken
 
@@ -210,6 +239,10 @@ place_wished d v n = min n (length (main_of d v))
 abbrev pub place_led : Desktop → ℕ → ℕ → Result (List Event) WhyNot
 place_led d v n = ok_or (near_events d v (place_wished d v n)) NotInSight
 
+-- and wherever its line is
+abbrev pub reach_led : Desktop → ℕ → ℕ → Result (List Event) WhyNot
+reach_led d v n = ok_or (events_to d v (place_wished d v n)) TooFar
+
 -- ---- the command of a line
 
 -- a click at the word of a command, where that is in sight
@@ -237,6 +270,7 @@ led_from d v p (Call command) = call_led d v command
 led_from d v p CallLine = line_led d v p
 led_from d v p (Break n) = break_led d v p (break_in d v n p)
 led_from d v p (Place n) = place_led d v n
+led_from d v p (Reach n) = reach_led d v n
 led_from d v p MarkWish = let cell = marker_cell d v p in Ok (Mark cell.0 cell.1 ∷ [])
 
 abbrev pub led_with : Desktop → Option Caret → KeyWish → Result (List Event) WhyNot

@@ -1,5 +1,5 @@
 -- Stretches of a text that a key selects or cuts.
-use Rattle.std.specs.Prelude.{ℕ, ◌+◌, ◌==◌, nat_lt, min, max, if◌then◌else◌, length, Option, Some, None}
+use Rattle.std.specs.Prelude.{ℕ, ◌+◌, ◌-◌, ◌==◌, nat_lt, min, max, Bool, if◌then◌else◌, length, Option, Some, None}
 use Rattle.event_bytes.specs.declared.keys.Keys.{Keys}
 use Rattle.event_bytes.specs.declared.event.Event.{Event}
 use Rattle.event_bytes.specs.declared.event.Event.TheVariants.{Point}
@@ -14,22 +14,26 @@ use Rattle.caret_moves.specs.Steps.{end_of_line}
 abbrev pub stretch_of : ℕ → ℕ → ℕ → Selection
 stretch_of v p q = record { viewer = v; beg = min p q; end = max p q }
 
--- the other end of a selection of which one end is p; of another selection it is p
-abbrev pub other_end : Selection → ℕ → ℕ → ℕ
-other_end s v p = if s.viewer == v
-    then (if s.beg == p then s.end else (if s.end == p then s.beg else p)) else p
+-- where a stretch up to p ends whose line begins at start: before the line end before it, where that isn't shown
+abbrev pub stop_by : ℕ → ℕ → Bool → ℕ
+stop_by p start is_shown = if start == p then (if is_shown then p else p - 1) else p
 
-abbrev pub end_by : Option Selection → ℕ → ℕ → ℕ
-end_by None v p = p
-end_by (Some s) v p = other_end s v p
+-- a stretch up to there
+abbrev pub up_to : Selection → ℕ → Selection
+up_to s stop = record { viewer = s.viewer; beg = min s.beg stop; end = stop }
 
--- where what is selected begins that ends at p; where nothing is it is p
-unfoldable pub anchor_in : {T : Type 0} → DesktopOf T → ℕ → ℕ → ℕ
-anchor_in d v p = end_by (newest d) v p
+-- the other end of a selection of which one end is p, or the end is where a stretch up to p stops; of another it is p
+abbrev pub other_end : Selection → ℕ → ℕ → ℕ → ℕ
+other_end s v p stop = if s.viewer == v then (if s.beg == p then s.end else
+    (if s.end == p then s.beg else (if s.end == stop then s.beg else p))) else p
 
--- what is selected up to p, which may have no character
-abbrev pub selected_up_to : Desktop → ℕ → ℕ → Selection
-selected_up_to d v p = stretch_of v (anchor_in d v p) p
+abbrev pub end_by : Option Selection → ℕ → ℕ → ℕ → ℕ
+end_by None v p stop = p
+end_by (Some s) v p stop = other_end s v p stop
+
+-- where what is selected begins that ends at p, or where a stretch up to p stops; where nothing is it is p
+unfoldable pub anchor_by : {T : Type 0} → DesktopOf T → ℕ → ℕ → ℕ → ℕ
+anchor_by d v p stop = end_by (newest d) v p stop
 
 -- the line of p, with its end
 unfoldable pub line_around : Desktop → ℕ → ℕ → Selection

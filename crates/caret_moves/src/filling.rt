@@ -199,3 +199,26 @@ pub(crate) fn lead_place<S: CharSource>(
     let events = near_events(desk, caret.viewer, pos, source)?;
     Ok(events.ok_or(WhyNot::NotInSight))
 }
+
+/// The events after which the caret stands at a position of its text, or at the end of that, wherever its line is.
+pub(crate) fn lead_reach<S: CharSource>(
+    desk: &Desk,
+    caret: Caret,
+    place: u32,
+    source: &mut S,
+) -> Result<Led, Stop>
+    requires over { IsOver (S.characters source.old) (kept_desktop desk.now) }
+    requires at { IsPosition (kept_desktop desk.now) caret.viewer caret.position }
+    ensures told { IfOk result (λ told. S.honest source.old
+        → result_map_both (λ events. events.items) (λ why. why) told
+        ≡ led_from (seen (S.characters source.old) (kept_desktop desk.now)) caret.viewer
+        caret.position (KeyWish.Reach place)) }
+    ensures reads { OnlyReads S.characters S.failures S.honest S.same_ground source.old
+        source.new }
+    ensures faults { FailsAs Stop.Fault IsStop result (S.failures source.old)
+        (S.failures source.new) }
+{
+    let goal = place.min(desk.main_text(caret.viewer).len());
+    let events = events_to(desk, caret.viewer, goal, source)?;
+    Ok(events.ok_or(WhyNot::TooFar))
+}

@@ -12,7 +12,7 @@ ghost use Rattle.caret_moves.specs.Calling.{marked_call, middle_press};
 ghost use Rattle.caret_moves.specs.declared.wish.KeyWish.TheVariants as KeyWish;
 
 use crate::calling::{line_word, mark_cell, word_cell};
-use crate::filling::{lead_break, lead_place};
+use crate::filling::{lead_break, lead_place, lead_reach};
 use crate::selecting::{
     cell_from, lead_cut_line, lead_cut_selected, lead_select, lead_select_all, lead_select_on,
 };
@@ -426,6 +426,7 @@ fn lead_from<S: CharSource>(
         KeyWish::CutLine => lead_cut_line(desk, caret, source),
         KeyWish::Break(count) => lead_break(desk, caret, count, source),
         KeyWish::Place(place) => lead_place(desk, caret, place, source),
+        KeyWish::Reach(place) => lead_reach(desk, caret, place, source),
     }
 }
 

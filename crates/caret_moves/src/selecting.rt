@@ -1,10 +1,11 @@
 //! The events that select a stretch of a text, or cut one.
-ghost use Rattle.std.specs.Prelude.{◌≡◌, ◌<◌, IfOk, option_map};
+ghost use Rattle.std.specs.Prelude.{◌≡◌, ◌<◌, ◌≤◌, IfOk, option_map};
 ghost use Rattle.std.specs.Result.{result_map_both};
 ghost use Rattle.desk_core.specs.Words.{FailsAs, OnlyReads, IsOver, IsPosition, IsKeptWhole, kept_desktop, seen, IsStop};
 ghost use Rattle.desk_core.specs.Words.{TellsValue};
-ghost use Rattle.caret_moves.specs.Stretches.{stretch_of, other_end, anchor_in, line_around, drag_by};
+ghost use Rattle.caret_moves.specs.Stretches.{stretch_of, stop_by, up_to, other_end, anchor_by, line_around, drag_by};
 ghost use Rattle.caret_moves.specs.Leading.{cell_from, drawn, draw_led, select_led, cut_led, led_from};
+ghost use Rattle.caret_moves.specs.Leading.{stop_in, without_hidden_end, anchor_in, select_all_led, cut_all_led};
 ghost use Rattle.caret_moves.specs.declared.wish.KeyWish.TheVariants as KeyWish;
 
 use crate::leading::{
@@ -52,34 +53,93 @@ fn stretch_of(id: u16, pos: u32, other: u32) -> Selection
     }
 }
 
-/// The other end of a selection of which one end is that position of a viewer's text; of another selection that position.
-fn other_end(selection: Selection, id: u16, pos: u32) -> u32
-    ensures { result ≡ other_end selection id pos }
+/// Where a stretch up to a position ends whose line begins at `start`: before the line end before it, where that isn't shown.
+fn stop_by(pos: u32, start: u32, is_shown: bool) -> u32
+    ensures { result ≡ stop_by pos start is_shown }
+{
+    if start != pos || is_shown {
+        pos
+    } else {
+        pos.saturating_sub(1)
+    }
+}
+
+/// Where a stretch up to a position ends: before a line end that has no column, since its line fills the row.
+fn stop_in<S: CharSource>(desk: &Desk, id: u16, pos: u32, source: &mut S) -> Read<u32>
+    requires over { IsOver (S.characters source.old) (kept_desktop desk.now) }
+    requires at { IsPosition (kept_desktop desk.now) id pos }
+    ensures told { TellsValue S.CharSource result (λ d. stop_in d id pos) source.old source.new
+        (kept_desktop desk.now) }
+    ensures within { IfOk result (λ stop. stop ≤ pos) }
+{
+    let text = desk.main_text(id);
+    let start = line_start(text, pos, source)?;
+    let is_shown = has_column(desk, id, pos.saturating_sub(1), source)?;
+    Ok(stop_by(pos, start, is_shown))
+}
+
+/// A stretch without a line end at its end that has no column.
+fn without_hidden_end<S: CharSource>(
+    desk: &Desk,
+    stretch: Selection,
+    source: &mut S,
+) -> Read<Selection>
+    requires over { IsOver (S.characters source.old) (kept_desktop desk.now) }
+    requires end { IsPosition (kept_desktop desk.now) stretch.viewer stretch.end }
+    ensures told { TellsValue S.CharSource result (λ d. without_hidden_end d stretch) source.old
+        source.new (kept_desktop desk.now) }
+    ensures viewer { IfOk result (λ part. part.viewer ≡ stretch.viewer) }
+    ensures within { IfOk result (λ part. part.end ≤ stretch.end) }
+{
+    let stop = stop_in(desk, stretch.viewer, stretch.end, source)?;
+    Ok(Selection {
+        viewer: stretch.viewer,
+        beg: stretch.beg.min(stop),
+        end: stop,
+    })
+}
+
+/// The other end of a selection of which one end is that position of a viewer's text, or whose end is where a stretch up to
+/// that stops; of another selection that position.
+fn other_end(selection: Selection, id: u16, pos: u32, stop: u32) -> u32
+    ensures { result ≡ other_end selection id pos stop }
 {
     if selection.viewer != id {
         return pos;
     }
     if selection.beg == pos {
         selection.end
-    } else if selection.end == pos {
+    } else if selection.end == pos || selection.end == stop {
         selection.beg
     } else {
         pos
     }
 }
 
-/// Where what is selected begins that ends at a position, and else that position.
-#[tactic(auto, unfolding(crate::specs::Stretches::anchor_in))]
-fn anchor_in(desk: &Desk, id: u16, pos: u32) -> u32
+/// Where what is selected begins that ends at a position, or where a stretch up to that stops; and else that position.
+#[tactic(auto, unfolding(crate::specs::Stretches::anchor_by))]
+fn anchor_by(desk: &Desk, id: u16, pos: u32, stop: u32) -> u32
     requires whole { IsKeptWhole (kept_desktop desk.now) }
     requires at { IsPosition (kept_desktop desk.now) id pos }
-    ensures anchor { result ≡ anchor_in (kept_desktop desk.now) id pos }
+    ensures anchor { result ≡ anchor_by (kept_desktop desk.now) id pos stop }
     ensures within { IsPosition (kept_desktop desk.now) id result }
 {
     match desk.selection() {
         None => pos,
-        Some(selection) => other_end(selection, id, pos),
+        Some(selection) => other_end(selection, id, pos, stop),
     }
+}
+
+/// Where what is selected up to a position begins, and else that position.
+fn anchor_in<S: CharSource>(desk: &Desk, id: u16, pos: u32, source: &mut S) -> Read<u32>
+    requires over { IsOver (S.characters source.old) (kept_desktop desk.now) }
+    requires at { IsPosition (kept_desktop desk.now) id pos }
+    ensures told { TellsValue S.CharSource result (λ d. anchor_in d id pos) source.old source.new
+        (kept_desktop desk.now) }
+    ensures within { IfOk result (IsPosition (kept_desktop desk.now) id) }
+{
+    let stop = stop_in(desk, id, pos, source)?;
+    Ok(anchor_by(desk, id, pos, stop))
 }
 
 /// The line of a position, with its end.
@@ -165,6 +225,36 @@ fn lead_drawn<S: CharSource>(
 }
 
 /// The events after which the caret stands at a position and a stretch is selected, if it has a character.
+fn lead_select_all_of<S: CharSource>(
+    desk: &Desk,
+    pos: u32,
+    stretch: Selection,
+    source: &mut S,
+) -> Result<Led, Stop>
+    requires over { IsOver (S.characters source.old) (kept_desktop desk.now) }
+    requires at { IsPosition (kept_desktop desk.now) stretch.viewer pos }
+    requires end { IsPosition (kept_desktop desk.now) stretch.viewer stretch.end }
+    ensures told { IfOk result (λ told. S.honest source.old
+        → result_map_both (λ events. events.items) (λ why. why) told
+        ≡ select_all_led (seen (S.characters source.old) (kept_desktop desk.now)) pos stretch) }
+    ensures reads { OnlyReads S.characters S.failures S.honest S.same_ground source.old
+        source.new }
+    ensures faults { FailsAs Stop.Fault IsStop result (S.failures source.old)
+        (S.failures source.new) }
+{
+    if stretch.beg >= stretch.end {
+        let alone = events_to(desk, stretch.viewer, pos, source)?;
+        return Ok(alone.ok_or(WhyNot::TooFar));
+    }
+    let has_column = has_column(desk, stretch.viewer, pos, source)?;
+    if !has_column {
+        return Ok(Err(WhyNot::PastEdge));
+    }
+    lead_drawn(desk, pos, stretch, source)
+}
+
+/// The events after which the caret stands at a position and a stretch is selected, without a line end at its end that has no
+/// column.
 fn lead_selected<S: CharSource>(
     desk: &Desk,
     pos: u32,
@@ -182,24 +272,21 @@ fn lead_selected<S: CharSource>(
     ensures faults { FailsAs Stop.Fault IsStop result (S.failures source.old)
         (S.failures source.new) }
 {
-    if stretch.beg >= stretch.end {
-        let alone = events_to(desk, stretch.viewer, pos, source)?;
-        return Ok(alone.ok_or(WhyNot::TooFar));
-    }
-    let has_column = has_column(desk, stretch.viewer, pos, source)?;
-    if !has_column {
-        return Ok(Err(WhyNot::PastEdge));
-    }
-    lead_drawn(desk, pos, stretch, source)
+    let part = without_hidden_end(desk, stretch, source)?;
+    lead_select_all_of(desk, pos, part, source)
 }
 
 /// The event that cuts a stretch as it is in sight.
-fn lead_cut<S: CharSource>(desk: &Desk, stretch: Selection, source: &mut S) -> Result<Led, Stop>
+fn lead_cut_all_of<S: CharSource>(
+    desk: &Desk,
+    stretch: Selection,
+    source: &mut S,
+) -> Result<Led, Stop>
     requires over { IsOver (S.characters source.old) (kept_desktop desk.now) }
     requires end { IsPosition (kept_desktop desk.now) stretch.viewer stretch.end }
     ensures told { IfOk result (λ told. S.honest source.old
         → result_map_both (λ events. events.items) (λ why. why) told
-        ≡ cut_led (seen (S.characters source.old) (kept_desktop desk.now)) stretch) }
+        ≡ cut_all_led (seen (S.characters source.old) (kept_desktop desk.now)) stretch) }
     ensures reads { OnlyReads S.characters S.failures S.honest S.same_ground source.old
         source.new }
     ensures faults { FailsAs Stop.Fault IsStop result (S.failures source.old)
@@ -215,6 +302,22 @@ fn lead_cut<S: CharSource>(desk: &Desk, stretch: Selection, source: &mut S) -> R
     };
     let events = one_event(desk, event)?;
     Ok(Ok(events))
+}
+
+/// The event that cuts a stretch as it is in sight, without a line end at its end that has no column.
+fn lead_cut<S: CharSource>(desk: &Desk, stretch: Selection, source: &mut S) -> Result<Led, Stop>
+    requires over { IsOver (S.characters source.old) (kept_desktop desk.now) }
+    requires end { IsPosition (kept_desktop desk.now) stretch.viewer stretch.end }
+    ensures told { IfOk result (λ told. S.honest source.old
+        → result_map_both (λ events. events.items) (λ why. why) told
+        ≡ cut_led (seen (S.characters source.old) (kept_desktop desk.now)) stretch) }
+    ensures reads { OnlyReads S.characters S.failures S.honest S.same_ground source.old
+        source.new }
+    ensures faults { FailsAs Stop.Fault IsStop result (S.failures source.old)
+        (S.failures source.new) }
+{
+    let part = without_hidden_end(desk, stretch, source)?;
+    lead_cut_all_of(desk, part, source)
 }
 
 /// The events that go a step and select what is passed, with what was selected up to the caret.
@@ -237,7 +340,8 @@ pub(crate) fn lead_select_on<S: CharSource>(
 {
     let Caret { viewer, position } = caret;
     let goal = step_goal_in(desk, viewer, position, step, source)?;
-    let stretch = stretch_of(viewer, anchor_in(desk, viewer, position), goal);
+    let anchor = anchor_in(desk, viewer, position, source)?;
+    let stretch = stretch_of(viewer, anchor, goal);
     lead_selected(desk, goal, stretch, source)
 }
 
@@ -304,7 +408,8 @@ pub(crate) fn lead_cut_selected<S: CharSource>(
         (S.failures source.new) }
 {
     let Caret { viewer, position } = caret;
-    let stretch = stretch_of(viewer, anchor_in(desk, viewer, position), position);
+    let anchor = anchor_in(desk, viewer, position, source)?;
+    let stretch = stretch_of(viewer, anchor, position);
     lead_cut(desk, stretch, source)
 }
 

@@ -51,7 +51,8 @@ pub enum KeyWish {
     CallLine,
     /// The marker goes to it.
     Mark,
-    /// It goes a step, and what it passes is selected.
+    /// It goes a step, and what it passes is selected. A line end that has no cell isn't, at the end of what is selected or
+    /// cut: its line fills the row. What is selected up to it counts as selected up to the caret behind it.
     Select(Step),
     /// The same with what is selected up to it: where that leaves nothing it only goes there.
     SelectOn(Step),
@@ -59,12 +60,14 @@ pub enum KeyWish {
     SelectAll,
     /// What is selected up to it is cut.
     CutSelected,
-    /// Its line is cut, with the end of the line.
+    /// Its line is cut, with the end of the line where that has a cell.
     CutLine,
     /// Its line is broken, where that has no room for a word of so many characters more.
     Break(u8),
     /// It goes to a position of its text, or to the end of that, where its line is in sight.
     Place(u32),
+    /// The same wherever its line is: that comes into sight.
+    Reach(u32),
 }
 
 /// Why no events do what is wished.

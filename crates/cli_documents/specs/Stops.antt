@@ -1,11 +1,12 @@
 -- Why an order about documents was not done, and the status of the program then.
-use Rattle.std.specs.Prelude.{ℕ}
+use Rattle.std.specs.Prelude.{◌≡◌, ◌⊎◌, ℕ}
 use Rattle.host_files.specs.declared.HostFault.{HostFault}
 use Rattle.host_files.specs.declared.HostFault.TheVariants.{NoMemory}
 use Rattle.store_documents.specs.declared.exporting.ExportFault.{ExportFault}
 use Rattle.store_documents.specs.declared.exporting.ExportFault.TheVariants.{Store, Output}
 use Rattle.cli_stores.specs.declared.trouble.Trouble.TheVariants.{Memory, Store as StoreThere, Output as OutputThere}
 use Rattle.cli_stores.specs.Statuses.{trouble_status}
+use Rattle.desk_journal.specs.Errors.{Damaged}
 use Rattle.cli_documents.specs.declared.sentences.Stop.{Stop}
 use Rattle.cli_documents.specs.declared.sentences.Stop.TheVariants.{Trouble, Refused, Host, Cut}
 
@@ -25,3 +26,7 @@ host_stop _ = Host
 abbrev pub export_stop : ExportFault → Stop
 export_stop (Store error) = Trouble (StoreThere error)
 export_stop Output = Trouble OutputThere
+
+-- where neither a past nor what can be taken back reaches so far, or a page of the past is missing
+abbrev pub IsOutOfReach : Stop → Type 0
+IsOutOfReach stop = (stop ≡ Refused) ⊎ ((at : ℕ) × (stop ≡ Trouble (StoreThere (Damaged at))))

@@ -1,9 +1,11 @@
 //! Documents on their way out.
+ghost use Rattle.std.specs.Prelude.{◌≡◌};
+ghost use Rattle.cli_documents.specs.declared.sentences.Stop.TheVariants.{Refused};
 
+use crate::history::store_as;
 use crate::progress::Progress;
 use crate::sentences::{Stop, cut_off, refused_folder, word_of};
 use crate::stores::{store_at, store_in_memory};
-use crate::unstored::{Fate, Unstored, unstored_in};
 use byte_streams::CountedWriter;
 use cli_stores::Trouble;
 use desk_journal::Store;
@@ -17,6 +19,7 @@ use std::alloc::{AllocError, Global};
 use std::fs::File;
 use std::io::IsTerminal;
 use store_documents::{Form, Reader, export};
+use unstored_texts::{Fate, Unstored, unstored_in};
 
 /// How documents come out.
 #[derive(Clone, Copy, Debug, PartialEq, Eq)]
@@ -29,6 +32,8 @@ pub struct Putting {
     pub looks: bool,
     /// Texts of viewers that no document has come out as documents of their names.
     pub open: bool,
+    /// They come out as they were so many events ago.
+    pub at: Option<u32>,
 }
 
 impl Putting {
@@ -46,8 +51,9 @@ impl Putting {
     }
 }
 
-/// Prints documents of the store in a file one after another, with LF at the end of each line, or as HTML. The file is
-/// locked beside other programs that look. Nothing is printed where there is no document of one of the names.
+/// Prints documents of the store in a file one after another, with LF at the end of each line, or as HTML, as they are
+/// or as they were at a moment. The file is locked beside other programs that look. Nothing is printed where there is no
+/// document of one of the names.
 pub fn export_names(
     rt: &HostRuntime,
     path: &str,
@@ -56,9 +62,13 @@ pub fn export_names(
 ) -> Result<(), Stop> {
     let names = names_for(rt.alloc(), words)?;
     if putting.open {
-        let (mut store, left) = store_with_open(rt, path, Some(words))?;
+        let (mut store, left) = store_with_open(rt, path, Some(words), putting)?;
         print_all(rt, path, &mut store, names.as_slice(), putting)?;
         return none_left(left);
+    }
+    if putting.at.is_some() {
+        let mut store = store_as(rt, path, putting.at)?;
+        return print_all(rt, path, &mut store, names.as_slice(), putting);
     }
     let mut store = store_at(rt, path)?;
     print_all(rt, path, &mut store, names.as_slice(), putting)
@@ -70,8 +80,9 @@ fn store_with_open(
     rt: &HostRuntime,
     path: &str,
     words: Option<&[&str]>,
+    putting: Putting,
 ) -> Result<(Store<MemoryDisk>, bool), Stop> {
-    let mut store = store_in_memory(rt, path)?;
+    let mut store = store_as(rt, path, putting.at)?;
     let texts = unstored_in(rt.alloc(), &mut store, true)?;
     let mut left = false;
     for text in texts.as_slice() {
@@ -114,10 +125,9 @@ fn tell_open(rt: &HostRuntime, text: &Unstored) {
     };
 }
 
-/// Tells of texts that are open and not stored, and so stay behind.
-fn tell_left_behind(rt: &HostRuntime, path: &str) -> Result<(), Stop> {
-    let mut store = store_in_memory(rt, path)?;
-    let texts = unstored_in(rt.alloc(), &mut store, false)?;
+/// Tells of texts that are open and not stored, and so stay behind. They are looked for in a copy of the store.
+fn tell_left_behind(rt: &HostRuntime, store: &mut Store<MemoryDisk>) -> Result<(), Stop> {
+    let texts = unstored_in(rt.alloc(), store, false)?;
     for text in texts.as_slice() {
         let name = text.name();
         let len = text.len;
@@ -150,7 +160,7 @@ fn print_all<D: Disk>(
 ) -> Result<(), Stop> {
     for name in names {
         if store.file(rt.alloc(), name)?.is_none() {
-            return Err(no_document(rt, path, name));
+            return Err(no_document(rt, path, name, putting.at));
         }
     }
     let mut progress = Progress::beside(rt, "documents printed");
@@ -159,10 +169,17 @@ fn print_all<D: Disk>(
     done
 }
 
-/// Says that there is no document of that name.
-fn no_document(rt: &HostRuntime, path: &str, name: &Name) -> Stop {
+/// Says that there is no document of that name, or was none before an event.
+fn no_document(rt: &HostRuntime, path: &str, name: &Name, at: Option<u32>) -> Stop
+    ensures { result ≡ Refused }
+{
     let name = word_of(name);
-    let _ = eprintln!(rt; "desk: there is no document {name} in {path:?}");
+    let _ = match at {
+        None | Some(0) => eprintln!(rt; "desk: there is no document {name} in {path:?}"),
+        Some(count) => eprintln!(rt;
+            "desk: before event {count} there was no document {name} in {path:?}"
+        ),
+    };
     Stop::Refused
 }
 
@@ -206,7 +223,7 @@ fn print<D: Disk>(
         &mut CountedWriter::new(output),
     ) {
         Ok(true) => Ok(()),
-        Ok(false) => Err(no_document(rt, path, name)),
+        Ok(false) => Err(no_document(rt, path, name, putting.at)),
         Err(fault) => Err(cut_off(fault)),
     }
 }
@@ -214,7 +231,8 @@ fn print<D: Disk>(
 /// Makes each document of the store in a file a file in a folder, which is made where there is none, and tells each on a
 /// line. A file that is there is replaced only if that is asked for: otherwise it is named, and nothing is done. Each
 /// file is written under another name first, and is durable when it gets its own. It has the name of its document, with
-/// `.html` behind it if it is HTML. Texts that are open and not stored are told.
+/// `.html` behind it if it is HTML. Texts that are open and not stored are told. All are as they are or as they were at
+/// a moment.
 pub fn export_all(
     rt: &HostRuntime,
     path: &str,
@@ -223,13 +241,18 @@ pub fn export_all(
 ) -> Result<(), Stop> {
     let folder = folder.trim_end_matches('/');
     if putting.open {
-        let (mut store, left) = store_with_open(rt, path, None)?;
+        let (mut store, left) = store_with_open(rt, path, None, putting)?;
         put_all(rt, &mut store, folder, putting)?;
         return none_left(left);
     }
+    if putting.at.is_some() {
+        let mut store = store_as(rt, path, putting.at)?;
+        put_all(rt, &mut store, folder, putting)?;
+        return tell_left_behind(rt, &mut store);
+    }
     let mut store = store_at(rt, path)?;
     put_all(rt, &mut store, folder, putting)?;
-    tell_left_behind(rt, path)
+    tell_left_behind(rt, &mut store_in_memory(rt, path)?)
 }
 
 /// The same with a store.

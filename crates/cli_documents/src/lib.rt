@@ -1,7 +1,9 @@
-//! What a person asks of a store's file from the shell: documents out (`exporting`), a list of them (`listing`) and of
-//! texts that no document has (`unstored`), a copy of a store (`copies`), what can be taken back (`history`), the past behind a store (`pasts`), and how a store is (`checking`). Documents come in by the crate
-//! `cli_imports`. Their bytes, and the store, are the matter of `store_documents`; what is refused is said in one sentence
-//! here (`sentences`). No function has many exits while it owns memory, since such exits are what a proof costs.
+//! What a person asks of a store's file from the shell: documents out (`exporting`), a list of them (`listing`), a copy
+//! of a store (`copies`), what can be taken back (`history`), the past behind a store (`pasts`), and how a store is
+//! (`checking`). A past is told by `told_pasts`, and texts that no document has are found by `unstored_texts`; documents
+//! come in by the crate `cli_imports`. Their bytes, and the store, are the matter of `store_documents`; what is refused is
+//! said in one sentence here (`sentences`). No function has many exits while it owns memory, since such exits are what a
+//! proof costs.
 #![tactic(auto)]
 
 mod checking;
@@ -13,7 +15,6 @@ mod pasts;
 mod progress;
 mod sentences;
 mod stores;
-mod unstored;
 
 pub use checking::check;
 pub use copies::backup;

@@ -1,22 +1,29 @@
 //! What a store has.
 
+use crate::history::store_as;
 use crate::sentences::{Stop, word_of};
-use crate::stores::{store_at, store_in_memory};
-use crate::unstored::{Unstored, unstored_in};
 use cli_stores::Trouble;
 use desktop_definitions::{Entry, MOST_FILES, MOST_HELD, MOST_WRITTEN};
 use serde_json::{Value, json};
 use std::alloc::Global;
 use std::io;
 use store_documents::Counts;
+use unstored_texts::{Unstored, unstored_in};
 
-/// Lists the documents of the store in a file, a line for each with its length, lines for the room that is left, and a line
-/// for each text that is open and not stored.
-pub fn list(rt: &HostRuntime, path: &str) -> Result<(), Stop> {
-    let entries = entries_at(rt, path)?;
+/// Lists the documents of the store in a file, a line for each with its length, lines for the room that is left, and a
+/// line for each text that is open and not stored; as they were so many events ago, if a number is given.
+pub fn list(rt: &HostRuntime, path: &str, at: Option<u32>) -> Result<(), Stop> {
+    let (entries, texts) = listed(rt, path, at)?;
     printed(print_entries(rt, entries.as_slice()))?;
-    let texts = unstored_at(rt, path)?;
     printed(print_unstored(rt, texts.as_slice()))
+}
+
+/// The same as an object of JSON on one line.
+pub fn list_json(rt: &HostRuntime, path: &str, at: Option<u32>) -> Result<(), Stop> {
+    let (entries, texts) = listed(rt, path, at)?;
+    let text = text_of(rt.alloc(), entries.as_slice(), texts.as_slice())?;
+    let text = text.as_str();
+    printed(println!(rt; "{text}"))
 }
 
 /// Where the output fails that is to be told.
@@ -27,16 +34,16 @@ fn printed(lines: io::Result<()>) -> Result<(), Stop> {
     }
 }
 
-/// What the store in a file has.
-fn entries_at(rt: &HostRuntime, path: &str) -> Result<Vec<Entry>, Stop> {
-    let mut store = store_at(rt, path)?;
-    Ok(store.list(rt.alloc())?)
-}
-
-/// The texts of the store in a file that are open and not stored.
-fn unstored_at(rt: &HostRuntime, path: &str) -> Result<Vec<Unstored>, Stop> {
-    let mut store = store_in_memory(rt, path)?;
-    Ok(unstored_in(rt.alloc(), &mut store, false)?)
+/// What the store in a file has, and its texts that are open and not stored: as it is, or as it was so many events ago.
+fn listed(
+    rt: &HostRuntime,
+    path: &str,
+    at: Option<u32>,
+) -> Result<(Vec<Entry>, Vec<Unstored>), Stop> {
+    let mut store = store_as(rt, path, at)?;
+    let entries = store.list(rt.alloc())?;
+    let texts = unstored_in(rt.alloc(), &mut store, false)?;
+    Ok((entries, texts))
 }
 
 /// Prints the lines of documents and of the room that is left.
@@ -77,18 +84,6 @@ fn print_counts(rt: &HostRuntime, counts: Counts) -> io::Result<()> {
     println!(rt;
         "written: {written} characters of {MOST_WRITTEN}, so room for {unwritten} before a System.Collect"
     )
-}
-
-/// The same as an object of JSON on one line.
-pub fn list_json(rt: &HostRuntime, path: &str) -> Result<(), Stop> {
-    let entries = entries_at(rt, path)?;
-    let texts = unstored_at(rt, path)?;
-    let text = text_of(rt.alloc(), entries.as_slice(), texts.as_slice())?;
-    let text = text.as_str();
-    match println!(rt; "{text}") {
-        Ok(()) => Ok(()),
-        Err(_) => Err(Stop::Trouble(Trouble::Output)),
-    }
 }
 
 /// The object, as it is spelled.

@@ -1,71 +1,38 @@
 //! The past that a store keeps behind it: all its events in words, the store as it was, and how far both reach.
+ghost use Rattle.std.specs.Prelude.{◌≡◌, IfOk};
+ghost use Rattle.cli_documents.specs.Stops.{IsOutOfReach};
+ghost use Rattle.cli_documents.specs.declared.sentences.Stop.TheVariants.{Refused};
 
-use crate::history::{lines_of, print_lines};
+use crate::history::print_lines;
 use crate::sentences::Stop;
 use crate::stores::LockedStore;
 use cli_stores::{Trouble, looked_at};
 use desk_journal::{Error, STORE_SECTORS, Store};
-use desk_past::{HALVES, Half, forget, half_at, moment, page_in, start_of};
-use event_bytes::Event;
+use desk_past::{HALVES, forget, start_of};
 use host_files::{length_of, lock_alone};
 use host_stores::with_past_room;
-use sector_disk::{Disk, FILE_SECTORS, MemoryDisk, SECTOR_BYTES};
+use sector_disk::{FILE_SECTORS, MemoryDisk, SECTOR_BYTES};
 use std::io;
-
-/// How far a past reaches: the half in which it lies, the sector behind its pages, how many events came before what the store
-/// shows, and how many of these are in the journal in use.
-#[derive(Clone, Copy)]
-struct Reach {
-    half: Half,
-    next: u32,
-    now: u64,
-    journal: u32,
-}
+use told_pasts::{
+    Pages, Reach, counted_pages, none_where_missing, reach_of, shown_before, told_past,
+};
 
 /// The store in a file, which is locked beside other programs that look, on a disk that has room for a past.
 fn past_at(rt: &HostRuntime, path: &str) -> Result<LockedStore, Stop> {
     Ok(with_past_room(rt, looked_at(rt, path)?)?)
 }
 
-/// How far the past of a store reaches. None where its head tells of none.
-fn reach_of(store: &mut LockedStore) -> Result<Option<Reach>, Stop> {
-    let told = store.past()?;
-    let info = store.info()?;
-    let Some(half) = half_at(store.sectors(), told.next) else {
-        return Ok(None);
-    };
-    Ok(Some(Reach {
-        half,
-        next: told.next,
-        now: told.before.saturating_add(info.events as u64),
-        journal: info.events,
-    }))
-}
-
-/// The store as it was before so many of its last events, in memory. None where its past doesn't reach so far.
-pub(crate) fn shown_before(
+/// The store in a file as it was before so many of its last events, in memory. None where its past doesn't reach so
+/// far.
+pub(crate) fn past_before(
     rt: &HostRuntime,
     path: &str,
     count: u32,
 ) -> Result<Option<Store<MemoryDisk>>, Stop> {
     let mut store = past_at(rt, path)?;
-    let Some(reach) = reach_of(&mut store)? else {
-        return Ok(None);
-    };
-    let Some(k) = reach.now.checked_sub(count as u64) else {
-        return Ok(None);
-    };
     let disk = MemoryDisk::new(rt.alloc(), FILE_SECTORS)?;
-    none_where_missing(moment(rt.alloc(), &mut store, reach.half.base, k, disk))
-}
-
-/// None where no start stands, or a damaged one.
-fn none_where_missing<T: Drop>(found: Result<Option<T>, Error>) -> Result<Option<T>, Stop> {
-    match found {
-        Ok(found) => Ok(found),
-        Err(Error::NotAStore | Error::Damaged(_)) => Ok(None),
-        Err(error) => Err(Stop::from(error)),
-    }
+    let found = shown_before(rt.alloc(), &mut store, count, disk);
+    Ok(none_where_missing(found)?)
 }
 
 /// The start of a past, in memory, and how many events came before it. None where none stands there.
@@ -75,7 +42,50 @@ fn start_at(
     base: u32,
 ) -> Result<Option<(Store<MemoryDisk>, u64)>, Stop> {
     let disk = MemoryDisk::new(rt.alloc(), FILE_SECTORS)?;
-    none_where_missing(start_of(rt.alloc(), store, base, disk))
+    Ok(none_where_missing(start_of(rt.alloc(), store, base, disk))?)
+}
+
+/// Why the store in a file isn't shown as it was before so many of its last events: `Trouble`, where a page of its past
+/// is missing, and `Refused`, which is said, where neither its past nor what can be taken back reaches so far.
+pub(crate) fn out_of_reach(rt: &HostRuntime, path: &str, count: u32) -> Result<Stop, Stop>
+    ensures { IfOk result IsOutOfReach }
+{
+    let mut store = past_at(rt, path)?;
+    let Some(reach) = reach_of(&mut store)? else {
+        return Ok(only_so_many(rt, &mut store, "and no past is kept")?);
+    };
+    let Some((_shown, before)) = start_at(rt, &mut store, reach.half.base)? else {
+        return Ok(only_so_many(rt, &mut store, "and the start of the past is missing")?);
+    };
+    let kept = reach.now().saturating_sub(before);
+    let first = reach.half.base.saturating_add(STORE_SECTORS);
+    match counted_pages(rt.alloc(), &mut store, first, reach.next)? {
+        Pages::Missing(at) if count as u64 <= kept => {
+            Ok(Stop::Trouble(Trouble::Store(Error::Damaged(at))))
+        }
+        _ => Ok(too_far(rt, path, kept)),
+    }
+}
+
+/// Says how many events can be taken back, and why no others.
+fn only_so_many(rt: &HostRuntime, store: &mut LockedStore, why: &str) -> Result<Stop, Error>
+    ensures { IfOk result (λ stop. stop ≡ Refused) }
+{
+    let there = store.history(rt.alloc())?.len();
+    let _ = eprintln!(rt;
+        "desk: only {there} events can be taken back, {why}, so nothing was done"
+    );
+    Ok(Stop::Refused)
+}
+
+/// Says how far a past reaches.
+fn too_far(rt: &HostRuntime, path: &str, kept: u64) -> Stop
+    ensures { result ≡ Refused }
+{
+    let _ = eprintln!(rt;
+        "desk: the past of {path:?} reaches back {kept} events, so nothing was done"
+    );
+    Stop::Refused
 }
 
 /// Prints all events of the past of the store in a file, the last one first, each in words behind its number.
@@ -84,12 +94,12 @@ pub fn events_all(rt: &HostRuntime, path: &str) -> Result<(), Stop> {
     let Some(reach) = reach_of(&mut store)? else {
         return Err(no_past(rt, path));
     };
-    let Some((mut shown, _before)) = start_at(rt, &mut store, reach.half.base)? else {
+    if start_at(rt, &mut store, reach.half.base)?.is_none() {
+        return Err(no_past(rt, path));
+    }
+    let Some(lines) = told_past(rt.alloc(), &mut store)? else {
         return Err(no_past(rt, path));
     };
-    let mut lines = Vec::new(rt.alloc());
-    add_pages(rt, &mut store, &mut shown, reach, &mut lines)?;
-    add_journal(rt, &mut store, &mut shown, reach, &mut lines)?;
     match print_lines(rt, lines.as_slice()) {
         Ok(()) => Ok(()),
         Err(_) => Err(Stop::Trouble(Trouble::Output)),
@@ -97,60 +107,11 @@ pub fn events_all(rt: &HostRuntime, path: &str) -> Result<(), Stop> {
 }
 
 /// Says that there is no past.
-fn no_past(rt: &HostRuntime, path: &str) -> Stop {
+fn no_past(rt: &HostRuntime, path: &str) -> Stop
+    ensures { result ≡ Refused }
+{
     let _ = eprintln!(rt; "desk: {path:?} keeps no past; desk --past PATH begins one");
     Stop::Refused
-}
-
-/// Adds the lines of the events in pages.
-fn add_pages(
-    rt: &HostRuntime,
-    store: &mut LockedStore,
-    shown: &mut Store<MemoryDisk>,
-    reach: Reach,
-    lines: &mut Vec<String>,
-) -> Result<(), Stop> {
-    let mut at = reach.half.base.saturating_add(STORE_SECTORS);
-    while at < reach.next {
-        let Some(page) = page_in(rt.alloc(), store, at, reach.next)? else {
-            return Err(Stop::Trouble(Trouble::Store(Error::Damaged(at))));
-        };
-        add_lines(rt, shown, page.events.as_slice(), lines)?;
-        at = page.next;
-    }
-    Ok(())
-}
-
-/// Adds the lines of the events in the journal in use.
-fn add_journal(
-    rt: &HostRuntime,
-    store: &mut LockedStore,
-    shown: &mut Store<MemoryDisk>,
-    reach: Reach,
-    lines: &mut Vec<String>,
-) -> Result<(), Stop> {
-    let events = store.history(rt.alloc())?;
-    let first = events.len().saturating_sub(reach.journal as usize);
-    add_lines(
-        rt,
-        shown,
-        events.as_slice().get(first..).unwrap_or(&[]),
-        lines,
-    )
-}
-
-/// Adds a line for each event, which is done.
-fn add_lines(
-    rt: &HostRuntime,
-    shown: &mut Store<MemoryDisk>,
-    events: &[Event],
-    lines: &mut Vec<String>,
-) -> Result<(), Stop> {
-    let more = lines_of(rt.alloc(), shown, events)?;
-    for line in more {
-        lines.push(line)?;
-    }
-    Ok(())
 }
 
 /// Forgets the past of the store in a file, which is locked for this program alone, and begins one anew. Where the file has
@@ -198,7 +159,7 @@ pub(crate) fn tell_past(rt: &HostRuntime, store: &mut LockedStore) -> Result<(),
 
 /// Tells how far a past reaches, before whose start so many events came.
 fn tell_reach(rt: &HostRuntime, reach: Reach, before: u64) -> io::Result<()> {
-    let all = reach.now;
+    let all = reach.now();
     let kept = all.saturating_sub(before);
     let first = reach.half.base.saturating_add(STORE_SECTORS);
     let used = reach.next.saturating_sub(first);

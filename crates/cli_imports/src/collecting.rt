@@ -2,6 +2,7 @@
 
 use cli_documents::Stop;
 use desk_journal::{Error, Store};
+use desk_past::post;
 use desktop_definitions::Reply;
 use event_bytes::{Event, Keys};
 use screen_cells::Screen;
@@ -26,7 +27,7 @@ pub(crate) fn collect<D: Disk>(rt: &HostRuntime, store: &mut Store<D>) -> Result
         x1: x,
         y1: y,
     };
-    match store.post(rt.alloc(), &click)? {
+    match post(rt.alloc(), store, &click)? {
         Reply::Done => Ok(()),
         Reply::No(_) => {
             let _ = eprintln!(rt; "desk: System.Collect was refused, so nothing was done");

@@ -85,7 +85,7 @@ fn refused_unfits(
 }
 
 /// Says of the file at an index why it is no document, if it is none.
-fn refuse_unfit(
+pub(crate) fn refuse_unfit(
     rt: &HostRuntime,
     sources: &Sources,
     fill: Option<usize>,

@@ -6,10 +6,13 @@ ghost use Rattle.cli_documents.specs.declared.sentences.Stop.TheVariants.{Refuse
 
 use crate::collecting::collect;
 use crate::fitting::documents_in;
+use crate::notes::tell_notes;
+use crate::skipping::without_unfits;
 use crate::sources::{Wishes, sources_of};
 use cli_documents::{Stop, store_in_memory, word_of};
 use cli_stores::{Trouble, in_memory, make, new_file};
 use desk_journal::{Document, Store};
+use desk_past::go_on;
 use desktop_definitions::codes::TOO_MANY_FILES;
 use desktop_definitions::{MOST_FILES, MOST_HELD, MOST_WRITTEN, Reply};
 use event_bytes::CARRIAGE_RETURN;
@@ -40,6 +43,8 @@ pub struct Manner {
     pub fill: Option<usize>,
     /// A file whose name no document can have gives it the nearest one.
     pub rename: bool,
+    /// Files that can't come are left out.
+    pub skip: bool,
     /// System.Collect is done where the count of written characters alone is in the way.
     pub collect: bool,
 }
@@ -88,7 +93,13 @@ fn documents_for(rt: &HostRuntime, words: &[&str], manner: Manner) -> Result<Vec
         rename: manner.rename,
     };
     let sources = sources_of(rt, words, wishes)?;
+    let sources = if manner.skip {
+        without_unfits(rt, sources, manner.fill)?
+    } else {
+        sources
+    };
     let documents = documents_in(rt, &sources, manner.fill)?;
+    tell_notes(rt, &sources);
     if manner.fill.is_none() {
         tell_wide(rt, documents.as_slice());
     }
@@ -133,7 +144,8 @@ fn tell_wide(rt: &HostRuntime, documents: &[Document]) {
     };
 }
 
-/// Brings documents into the store in a file, or into a new one where there is none.
+/// Brings documents into the store in a file, or into a new one where there is none. Where the store keeps a past, that
+/// goes on, or begins, before they come, as where a sitting begins.
 fn bring_alone(
     rt: &HostRuntime,
     path: &str,
@@ -153,6 +165,7 @@ fn bring_alone(
             "desk: {path:?} has a twin, which gets nothing of this: start with --twin to make them equal again"
         );
     }
+    go_on(rt.alloc(), &mut store, false)?;
     bring_into(rt, &mut store, path, documents, manner)
 }
 

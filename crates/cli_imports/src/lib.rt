@@ -1,7 +1,8 @@
 //! Files of the host's on their way into a store: which files the words of an order mean (`sources`, `folders`), the names
-//! of their documents (`naming`), which of them are no documents (`fitting`), and how they come, all or none
-//! (`importing`), if need be behind a System.Collect (`collecting`). What is refused is said, each on a line. No function
-//! has many exits while it owns memory, since such exits are what a proof costs.
+//! of their documents (`naming`), which of them are no documents (`fitting`) and may be left out (`skipping`), what
+//! becomes of the others (`notes`), and how they come, all or none (`importing`), if need be behind a System.Collect
+//! (`collecting`). What is refused is said, each on a line. No function has many exits while it owns memory, since such
+//! exits are what a proof costs.
 #![tactic(auto)]
 
 mod collecting;
@@ -9,6 +10,8 @@ mod fitting;
 mod folders;
 mod importing;
 mod naming;
+mod notes;
+mod skipping;
 mod sources;
 
 pub use importing::{Manner, import, import_to_pair};

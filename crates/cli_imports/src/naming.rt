@@ -25,16 +25,21 @@ pub(crate) fn named(rt: &HostRuntime, word: &str) -> Result<Name, Stop> {
     }
 }
 
-/// The name of the document that a file is to be: the last part of its path, or what is nearest to that, which is told.
-pub(crate) fn name_after(rt: &HostRuntime, file: &str, nearest: bool) -> Result<Name, Stop> {
+/// The name of the document that a file is to be: the last part of its path, or what is nearest to that; and whether it
+/// is the latter.
+pub(crate) fn name_after(
+    rt: &HostRuntime,
+    file: &str,
+    nearest: bool,
+) -> Result<(Name, bool), Stop> {
     if file == "-" {
         let _ = eprintln!(rt; "desk: what comes on standard input needs a name: NAME=-");
         return Err(Stop::Refused);
     }
     let last = Path::new(file).file_name().unwrap_or(file);
     match Name::new(last.as_bytes()) {
-        Some(name) => Ok(name),
-        None if nearest => name_nearest(rt, file, last),
+        Some(name) => Ok((name, false)),
+        None if nearest => Ok((name_nearest(rt, file, last)?, true)),
         None => Err(no_name(rt, file)),
     }
 }
@@ -47,22 +52,13 @@ fn no_name(rt: &HostRuntime, file: &str) -> Stop {
     Stop::Refused
 }
 
-/// The name that is nearest to the last part of a file's path, which is told.
+/// The name that is nearest to the last part of a file's path.
 fn name_nearest(rt: &HostRuntime, file: &str, last: &str) -> Result<Name, Stop> {
     let bytes = nearest(rt.alloc(), last)?;
     match Name::new(bytes.as_slice()) {
-        Some(name) => {
-            tell_name(rt, file, &name);
-            Ok(name)
-        }
+        Some(name) => Ok(name),
         None => Err(no_name(rt, file)),
     }
-}
-
-/// Tells the name that a file's document gets.
-fn tell_name(rt: &HostRuntime, file: &str, name: &Name) {
-    let name = cli_documents::word_of(name);
-    let _ = eprintln!(rt; "desk: {file:?} becomes the document {name}");
 }
 
 /// The nearest name: each run of characters that no name has is a period, and `File.` stands before it where it would

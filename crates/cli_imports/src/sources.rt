@@ -4,6 +4,7 @@ ghost use Rattle.cli_documents.specs.Stops.{host_stop};
 
 use crate::folders::{EntryKind, FolderEntry, entries_of, reason_left_out};
 use crate::naming::{name_after, named};
+use crate::notes::{Note, returns_in};
 use cli_documents::{Progress, Stop};
 use cli_stores::Trouble;
 use event_bytes::Name;
@@ -35,6 +36,8 @@ pub(crate) struct Sources {
     pub(crate) files: Vec<String>,
     /// The name of each document, and what its file has.
     pub(crate) handed: Vec<Handed>,
+    /// What becomes of each file.
+    pub(crate) notes: Vec<Note>,
     /// How many files can't come, and why the first one can't. It has been said of each.
     pub(crate) refused: Refused,
 }
@@ -80,6 +83,16 @@ impl Refused {
         };
         Err(first)
     }
+
+    /// Says how many there were, if there were any, where the others come.
+    pub(crate) fn leave_out(self, rt: &HostRuntime) {
+        let count = self.count;
+        let _ = match count {
+            0 => Ok(()),
+            1 => eprintln!(rt; "desk: so this was left out"),
+            _ => eprintln!(rt; "desk: so these {count} were left out"),
+        };
+    }
 }
 
 /// The files that the words mean, in the order of the words: FILE, NAME=FILE, a folder, or `-`, standard input. What
@@ -92,6 +105,7 @@ pub(crate) fn sources_of(
     let mut sources = Sources {
         files: Vec::new(rt.alloc()),
         handed: Vec::new(rt.alloc()),
+        notes: Vec::new(rt.alloc()),
         refused: Refused::none(),
     };
     let mut reading = Reading {
@@ -190,20 +204,31 @@ impl Reading<'_> {
 
     /// Reads a file after which its document is to be named.
     fn read_file(&mut self, sources: &mut Sources, file: &str) -> Result<(), Stop> {
-        let name = name_after(self.rt, file, self.wishes.rename)?;
-        self.read(sources, name, file)
+        let (name, renamed) = name_after(self.rt, file, self.wishes.rename)?;
+        self.read(sources, name, renamed, file)
     }
 
     /// Reads a file whose document is to have this name.
     fn read_as(&mut self, sources: &mut Sources, name: &str, file: &str) -> Result<(), Stop> {
         let name = named(self.rt, name)?;
-        self.read(sources, name, file)
+        self.read(sources, name, false, file)
     }
 
-    /// Reads a file.
-    fn read(&mut self, sources: &mut Sources, name: Name, file: &str) -> Result<(), Stop> {
-        let bytes = text_of(self.rt, file, self.wishes.ascii)?;
-        tell_returns(self.rt, file, bytes.as_slice());
+    /// Reads a file whose document is to have this name, which is the file's own or isn't.
+    fn read(
+        &mut self,
+        sources: &mut Sources,
+        name: Name,
+        renamed: bool,
+        file: &str,
+    ) -> Result<(), Stop> {
+        let (bytes, note) = text_of(self.rt, file, self.wishes.ascii)?;
+        let returns = returns_in(bytes.as_slice());
+        sources.notes.push(Note {
+            renamed,
+            returns,
+            ..note
+        })?;
         sources.handed.push(Handed::new(name, bytes))?;
         sources
             .files
@@ -223,42 +248,27 @@ fn sorted_entries(rt: &HostRuntime, folder: &str) -> Result<Vec<FolderEntry>, St
     Ok(entries)
 }
 
-/// What a file has, in ASCII if so asked. Why it can't be had is said.
-fn text_of(rt: &HostRuntime, file: &str, ascii: bool) -> Result<Vec<u8>, Stop> {
+/// What a file has, in ASCII if so asked, and what becomes of it then. Why it can't be had is said.
+fn text_of(rt: &HostRuntime, file: &str, ascii: bool) -> Result<(Vec<u8>, Note), Stop> {
     match bytes_of(rt, file) {
-        Ok(bytes) if ascii => ascii_of(rt, file, bytes.as_slice()),
-        Ok(bytes) => Ok(bytes),
+        Ok(bytes) if ascii => ascii_of(rt, bytes.as_slice()),
+        Ok(bytes) => Ok((bytes, Note::none())),
         Err(fault) => Err(refused_source(rt, file, fault)),
     }
 }
 
-/// Bytes of a file in ASCII. How many characters were replaced is told, and that a mark of UTF-8 was left out.
-fn ascii_of(rt: &HostRuntime, file: &str, bytes: &[u8]) -> Result<Vec<u8>, Stop> {
+/// Bytes of a file in ASCII, how many characters were replaced, and whether a mark of UTF-8 was left out.
+fn ascii_of(rt: &HostRuntime, bytes: &[u8]) -> Result<(Vec<u8>, Note), Stop> {
     let plain = bytes.strip_prefix(MARK_OF_UTF8).unwrap_or(bytes);
-    if plain.len() < bytes.len() {
-        let _ = eprintln!(rt; "desk: {file:?}: the mark of UTF-8 at its beginning was left out");
-    }
+    let unmarked = plain.len() < bytes.len();
     let InAscii { text, near, marks } = in_ascii(rt.alloc(), plain)?;
-    if near > 0 || marks > 0 {
-        let _ = eprintln!(rt;
-            "desk: {file:?}: {near} characters became the nearest of ASCII, and {marks} a question mark"
-        );
-    }
-    Ok(text)
-}
-
-/// Tells of ends of lines that won't come out as they came in.
-fn tell_returns(rt: &HostRuntime, file: &str, bytes: &[u8]) {
-    let both = bytes
-        .windows(2)
-        .filter(|pair| pair.first() == Some(&b'\r') && pair.last() == Some(&b'\n'))
-        .count();
-    let returns = bytes.iter().filter(|byte| **byte == b'\r').count();
-    if returns > both {
-        let _ = eprintln!(rt; "desk: {file:?} has CR at ends of lines: export makes LF of them");
-    } else if both > 0 {
-        let _ = eprintln!(rt; "desk: {file:?} has CR LF at ends of lines: export makes LF of them");
-    }
+    let note = Note {
+        unmarked,
+        near,
+        marks,
+        ..Note::none()
+    };
+    Ok((text, note))
 }
 
 /// Says why the host didn't give what a file has.

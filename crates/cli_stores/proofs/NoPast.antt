@@ -1,5 +1,5 @@
 -- A store that was checkpointed twice has no past.
-use Rattle.std.proofs.Common.{◌≡◌, ℕ, ◌+◌, ◌-◌, List, [], ◌∷◌, ◌++◌, length, refl, ◌∙◌, ap, subst, arith}
+use Rattle.std.proofs.Common.{◌≡◌, ℕ, ◌-◌, List, [], ◌∷◌, ◌++◌, length, refl, ◌∙◌, ap, subst, arith}
 use Rattle.sector_disk.specs.declared.disk.Disk.{Ghosts}
 use Rattle.sector_disk.specs.Trail.{Content, now}
 use Rattle.sector_disk.proofs.Touching.{read_is_an_image}
@@ -24,7 +24,7 @@ closed c slot (event ∷ events) none some = absurd (clash some.1 (none some.0))
 
 nothing_back : (c : Content) (s : Standing) → s.events ≡ [] → StandsBeside c (1 - s.slot) s → (events : List Event)
     → IsHistory c (renewed_from untold s) events → events ≡ []
-nothing_back c s none beside events (alone is) = is
+nothing_back c s none beside events (alone first is) = is
 nothing_back c s none beside events (behind t before is) =
     let slots : s.slot ≡ t.slot = omega (arith, beside.two, before.beside.two) in
     let shut : IsJournal c s.slot 0 [] = subst (λ es. IsJournal c s.slot 0 es) none beside.journal in

@@ -129,11 +129,22 @@ fn refused_file(rt: &HostRuntime, path: &str, fault: HostFault) -> io::Result<()
         HostFault::ReadOnly => eprintln!(rt;
             "desk: {path:?} lies where nothing can be written; desk list, export, check and backup only read it"
         ),
-        HostFault::Refused | HostFault::Taken => eprintln!(rt;
-            "desk: {path:?} is no file that can be read and locked here"
-        ),
+        HostFault::Refused | HostFault::Taken | HostFault::NoHome => no_such_file(rt, path),
+        HostFault::Special | HostFault::TooLong => no_such_file(rt, path),
         HostFault::NoMemory => no_memory(rt),
     }
+}
+
+/// Says that a file isn't one that a store can be in.
+fn no_such_file(rt: &HostRuntime, path: &str) -> io::Result<()> {
+    eprintln!(rt; "desk: {path:?} is no file that can be read and locked here")
+}
+
+/// Says that a store could not be made.
+fn not_made(rt: &HostRuntime, path: &str) -> io::Result<()> {
+    eprintln!(rt;
+        "desk: {path:?} could not be made; it needs 16 MB, and the right to write in its folder"
+    )
 }
 
 /// Why it refused to make one.
@@ -154,9 +165,8 @@ fn refused_making(rt: &HostRuntime, path: &str, fault: HostFault) -> io::Result<
         HostFault::ReadOnly => eprintln!(rt;
             "desk: {path:?} could not be made: nothing can be written there"
         ),
-        HostFault::Refused | HostFault::Folder => eprintln!(rt;
-            "desk: {path:?} could not be made; it needs 16 MB, and the right to write in its folder"
-        ),
+        HostFault::Refused | HostFault::Folder | HostFault::NoHome => not_made(rt, path),
+        HostFault::Special | HostFault::TooLong => not_made(rt, path),
         HostFault::NoMemory => no_memory(rt),
     }
 }

@@ -8,6 +8,12 @@ const PATH: Argument<'static> = Argument {
     kind: Kind::Wanted,
 };
 
+/// A moment of its past, as many events ago.
+const AT: Argument<'static> = Argument {
+    name: "at",
+    kind: Kind::Named,
+};
+
 /// The path of its twin.
 const TWIN: Argument<'static> = Argument {
     name: "twin",
@@ -65,6 +71,7 @@ const CHECK: &[Argument<'static>] = &[PATH, TWIN];
 /// Those of `list`.
 const LIST: &[Argument<'static>] = &[
     PATH,
+    AT,
     Argument {
         name: "json",
         kind: Kind::Choice,
@@ -96,6 +103,7 @@ const EARLIER: &[Argument<'static>] = &[
 /// Those of `export`, the way out.
 const EXPORT: &[Argument<'static>] = &[
     PATH,
+    AT,
     Argument {
         name: "names",
         kind: Kind::Several,
@@ -143,6 +151,10 @@ const IMPORT: &[Argument<'static>] = &[
     },
     Argument {
         name: "rename",
+        kind: Kind::Choice,
+    },
+    Argument {
+        name: "skip",
         kind: Kind::Choice,
     },
     Argument {

@@ -16,10 +16,11 @@ pub enum Order<'a> {
     Export(Export<'a>),
     /// To make documents of files of the host's.
     Import(Import<'a>),
-    /// To list the documents of a store, as JSON if so asked.
+    /// To list the documents of a store, as JSON if so asked, and as they were so many events ago if a number is given.
     List {
         path: &'a str,
         json: bool,
+        at: Option<u32>,
     },
     /// To copy a store into a file that there isn't yet.
     Backup {
@@ -80,6 +81,8 @@ pub struct Export<'a> {
     pub looks: bool,
     /// Whether texts of viewers that no document has come along.
     pub open: bool,
+    /// How many events ago they are to be as they were, if a number is given.
+    pub at: Option<u32>,
 }
 
 /// Documents on their way in.
@@ -101,6 +104,8 @@ pub struct Import<'a> {
     pub rename: bool,
     /// How many columns a line is to have at most, if lines are to be broken.
     pub fill: Option<u8>,
+    /// Whether files that can't come are to be left out.
+    pub skip: bool,
     /// Whether System.Collect is to be done where it makes the room that is wanted.
     pub collect: bool,
 }
@@ -137,6 +142,7 @@ fn short_order<'a>(asked: &Asked<'a>) -> Option<Order<'a>> {
         "list" => Some(Order::List {
             path: asked.word("path")?,
             json: asked.chooses("json"),
+            at: count_of(asked.word("at"))?,
         }),
         "backup" => Some(Order::Backup {
             path: asked.word("path")?,
@@ -190,8 +196,17 @@ fn importing<'a>(alloc: Global, asked: &Asked<'a>) -> Result<Option<Order<'a>>, 
         ascii: asked.chooses("ascii"),
         rename: asked.chooses("rename"),
         fill,
+        skip: asked.chooses("skip"),
         collect: asked.chooses("collect"),
     })))
+}
+
+/// The number of events that a word is, if there is a word. None where it is no such number.
+fn count_of(word: Option<&str>) -> Option<Option<u32>> {
+    match word {
+        None => Some(None),
+        Some(word) => Some(Some(word.parse::<u32>().ok()?)),
+    }
 }
 
 /// The number of columns that a word is, 1 to 255, if there is a word. None where it is no such number.
@@ -212,7 +227,7 @@ fn exporting<'a>(alloc: Global, asked: &Asked<'a>) -> Result<Option<Order<'a>>, 
     if names.is_empty() != all.is_some() || has_looks_in_vain(asked, names.len()) {
         return Ok(None);
     }
-    let Some(path) = asked.word("path") else {
+    let (Some(path), Some(at)) = (asked.word("path"), count_of(asked.word("at"))) else {
         return Ok(None);
     };
     Ok(Some(Order::Export(Export {
@@ -223,6 +238,7 @@ fn exporting<'a>(alloc: Global, asked: &Asked<'a>) -> Result<Option<Order<'a>>, 
         join: asked.chooses("join"),
         looks: asked.chooses("looks"),
         open: asked.chooses("open"),
+        at,
     })))
 }
 

@@ -69,8 +69,16 @@ fn follow(rt: &HostRuntime, order: &Order<'_>) -> u8 {
         Order::Picture(path) => told(rt, path, picture(rt, path)),
         Order::Export(order) => done(rt, order.path, put_out(rt, order)),
         Order::Import(order) => take_in(rt, order),
-        Order::List { path, json: false } => done(rt, path, list(rt, path)),
-        Order::List { path, json: true } => done(rt, path, list_json(rt, path)),
+        Order::List {
+            path,
+            json: false,
+            at,
+        } => done(rt, path, list(rt, path, *at)),
+        Order::List {
+            path,
+            json: true,
+            at,
+        } => done(rt, path, list_json(rt, path, *at)),
         Order::Backup { path, copy } => done(rt, path, backup(rt, path, copy)),
         Order::Check { path, twin: None } => done(rt, path, check(rt, path)),
         Order::Check {
@@ -110,6 +118,7 @@ fn put_out(rt: &HostRuntime, order: &Export<'_>) -> Result<(), Stop> {
         is_joined: order.join,
         looks: order.looks,
         open: order.open,
+        at: order.at,
     };
     match order.all {
         None => export_names(rt, order.path, order.names.as_slice(), putting),
@@ -125,6 +134,7 @@ fn take_in(rt: &HostRuntime, order: &Import<'_>) -> u8 {
         ascii: order.ascii,
         rename: order.rename,
         fill: order.fill.map(usize::from),
+        skip: order.skip,
         collect: order.collect,
     };
     let words = order.words.as_slice();

@@ -8,16 +8,16 @@ pub(crate) fn usage_of(command: &str) -> Option<&'static str> {
         ),
         "picture" => Some("picture PATH"),
         "check" => Some("check PATH [--twin PATH2]"),
-        "list" => Some("list PATH [--json]"),
+        "list" => Some("list PATH [--at K] [--json]"),
         "backup" => Some("backup PATH COPY"),
         "history" => Some("history PATH [--all]"),
         "forget" => Some("forget PATH"),
         "earlier" => Some("earlier PATH K COPY"),
         "export" => Some(
-            "export PATH NAME.. [--join] [--open], or export PATH NAME --looks [--open], or export PATH --all FOLDER [--looks] [--join] [--replace] [--open]",
+            "export PATH NAME.. [--at K] [--join] [--open], or export PATH NAME --looks [--at K] [--open], or export PATH --all FOLDER [--at K] [--looks] [--join] [--replace] [--open]",
         ),
         "import" => Some(
-            "import PATH FILE.. [--replace] [--dry-run] [--ascii] [--rename] [--fill N] [--collect] [--twin PATH2]",
+            "import PATH FILE.. [--replace] [--dry-run] [--ascii] [--rename] [--skip] [--fill N] [--collect] [--twin PATH2]",
         ),
         _ => None,
     }

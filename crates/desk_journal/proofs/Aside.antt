@@ -1,11 +1,11 @@
 -- What is written behind the sectors of a store touches nothing that it rests on. `d` is what is known of a disk.
-use Rattle.std.proofs.Common.{◌≡◌, inr, ◌+◌, ◌-◌, ◌<◌, ◌≤◌, ℕ, sym, ◌∙◌, ap, subst, arith, false}
+use Rattle.std.proofs.Common.{◌≡◌, inr, ◌+◌, ◌-◌, ◌<◌, ◌≤◌, ℕ, List, sym, ◌∙◌, ap, subst, arith, false}
 use Rattle.sector_disk.specs.declared.disk.Disk.{Ghosts}
 use Rattle.sector_disk.specs.Confined.{IsConfined}
-use Rattle.sector_disk.specs.Trail.{Content, Nowhere, Trail, now, LeavesOnly}
+use Rattle.sector_disk.specs.Trail.{Content, Nowhere, now, LeavesOnly}
 use Rattle.sector_disk.proofs.Touching as touching
 use Rattle.sector_disk.proofs.Touching.{spared, still_reads}
-use Rattle.store_layout.specs.declared.layout.TheConstants.{LAYOUT, STORE_SECTORS}
+use Rattle.store_layout.specs.declared.layout.TheConstants.{STORE_SECTORS}
 use Rattle.store_layout.specs.Finding.{StandingLaw}
 use Rattle.desktop_definitions.specs.Desktop.{Desktop}
 use Rattle.document_filing.specs.Bringing.{Documents, brought_in}
@@ -19,7 +19,7 @@ use Rattle.store_layout.proofs.StandingLaws.{IsApart, footprint, journal_short}
 use Rattle.store_slots.specs.declared.live.LiveDesktop.{LiveDesktop}
 use Rattle.store_slots.specs.Live.{seen_live, IsLive}
 use Rattle.store_slots.proofs.Staying.{IsApart as IsAsideOf, live_stays, shown_stays}
-use Rattle.desk_journal.specs.Behind.{brought_from, renewed_from}
+use Rattle.desk_journal.specs.Behind.{KeepsWith, StandsWith, brought_from, renewed_from}
 use Rattle.desk_journal.proofs.Storing.{Knows, beside}
 
 -- a sector behind a store is apart from what a standing rests on
@@ -131,6 +131,15 @@ module _ {D : Type 0} (d : Ghosts D) {slot version epoch events : ℕ} {mid : D}
   next_standings new keeps =
       subst (λ (t : Standing × Standing). LeavesOnly (d.trail mid) (d.trail new) (StandsOneOf (d.size mid) t.0 t.1))
       (λ i. (same i, as_next i)) (keeps honest slot version epoch events shown b)
+
+  -- and bytes behind the store
+  pub next_with : (from : ℕ) (bytes : List ℕ) (new : D) → KeepsWith d place from bytes live mid new
+      → LeavesOnly (d.trail mid) (d.trail new)
+      (StandsWith (d.size mid) s (anew_from s (1 - s.slot) place.past after) from bytes)
+  next_with from bytes new keeps =
+      subst (λ (t : Standing × Standing). LeavesOnly (d.trail mid) (d.trail new)
+      (StandsWith (d.size mid) t.0 t.1 from bytes)) (λ i. (same i, as_next i))
+      (keeps honest slot version epoch events shown b)
 
   pub next_shows : (new : D) → StandsAnew d place live mid new
       → Stands (d.size mid) (now (d.trail new)).reads (anew_from s (1 - s.slot) place.past after)

@@ -1,6 +1,7 @@
 pub mod Due
 pub mod Storing
 pub mod Brought
+pub mod Coming
 pub mod Passing
 pub mod Prefixes
 pub mod Aside

@@ -1,5 +1,5 @@
 -- What a store knows of its disk before and after its last events were taken back. `d` is what is known of a disk.
-use Rattle.std.proofs.Common.{◌≡◌, inl, inr, ◌+◌, ◌<◌, ◌≤◌, ℕ, List, [], ◌++◌, length, refl, sym, ◌∙◌, ap, subst, arith, Bool, false}
+use Rattle.std.proofs.Common.{◌≡◌, inl, inr, ◌<◌, ◌≤◌, ℕ, List, [], length, refl, sym, ◌∙◌, ap, subst, arith, Bool, false}
 use Rattle.std.specs.Prelude.{IfErr, Result, Ok, Err}
 use Rattle.std.proofs.lemmas.Bool.{cases_lt}
 use Rattle.std.proofs.lemmas.List.{append-nil}
@@ -14,7 +14,7 @@ use Rattle.store_layout.specs.Meaning.{Standing, Stands, desktop_of, and_all, fu
 use Rattle.store_layout.specs.Kept.{IsSettled}
 use Rattle.store_layout.specs.Finding.{StandingLaw}
 use Rattle.store_slots.specs.declared.live.LiveDesktop.{LiveDesktop}
-use Rattle.store_slots.specs.Beside.{GoesBackTo, InUndo, IsCountedBack, IsEarlier, IsRest, StandsOneOf, within}
+use Rattle.store_slots.specs.Beside.{GoesBackTo, InUndo, IsCountedBack, IsEarlier, IsRest, NothingBefore, StandsOneOf, within}
 use Rattle.store_slots.specs.Live.{seen_live, IsLive, HasTrueCache}
 use Rattle.store_slots.specs.Written.{IsUpTo}
 use Rattle.store_slots.proofs.Settling.{kept_shows}
@@ -152,11 +152,14 @@ is_left d {old = old} {mid = mid} live version epoch events must_reopen run = re
 pub nothing_taken : {D : Type 0} (d : Ghosts D) {slot version epoch events count slot' number left : ℕ} {old mid : D}
     {live : LiveDesktop} (must_reopen : Bool) (law : StandingLaw) (was : Knows d old slot version epoch events live)
     → (run : IsConfined d.size d.honest d.trail Nowhere old mid)
-    → IsCountedBack slot epoch events count slot' number left 0 → must_reopen ≡ false
+    → IsCountedBack slot epoch events count slot' number left 0
+    → (d.honest old → (s : Standing) → IsUpTo (d.size old) (d.trail old) slot events s → s.epoch ≡ epoch → events < count
+    → number ≡ epoch → NothingBefore (now (d.trail old)).reads s) → must_reopen ≡ false
     → IsLeft d (viewed d old live version epoch events must_reopen) (viewed d mid live version epoch events must_reopen)
     → IsTakenBack d count [] (viewed d old live version epoch events must_reopen)
     (viewed d mid live version epoch events must_reopen)
-nothing_taken d {events = events} {count = count} {mid = mid} {live = live} must_reopen law was run counted usable is_left =
+nothing_taken d {events = events} {count = count} {mid = mid} {live = live} must_reopen law was run counted crosses usable
+    is_left =
     record {
       back = λ honest s at. (
         s,
@@ -185,6 +188,11 @@ nothing_taken d {events = events} {count = count} {mid = mid} {live = live} must
         | inl same ↦ inl (refl, sym same.3, same.3)
         | inr other ↦ absurd (omega (arith, other.2))
       ];
+      crosses = λ honest s at less same. crosses honest s (up_to_any d was honest law s at)
+          (epoch_any d was honest law s at) less (elim (counted.other less) [
+            | inl here ↦ here.1
+            | inr other ↦ absurd (omega (arith, other.2))
+          ]);
       layout = refl;
       usable = usable;
       none = λ _. is_left;
@@ -309,12 +317,15 @@ module _ {D : Type 0} (d : Ghosts D) {slot version epoch events : ℕ} {old mid 
       seen_after (run.still honest) ∙ (earlier honest s stands).shown,
     )
 
-    pub some_taken : (must_reopen : Bool) → (d.honest mid → (s rest : Standing) (events : List Event)
+    pub some_taken : (must_reopen : Bool)
+        → (d.honest old → (s : Standing) → IsUpTo (d.size old) (d.trail old) slot events s → s.epoch ≡ epoch
+        → events < count → number ≡ epoch → NothingBefore (now (d.trail old)).reads s)
+        → (d.honest mid → (s rest : Standing) (events : List Event)
         → GoesBackTo (d.size mid) (d.trail mid) slot slot' left s rest events
         → LeavesOnly (d.trail mid) (d.trail new) (StandsOneOf (d.size mid) s rest))
         → IsTakenBack d count undone (viewed d old live version epoch events must_reopen)
         (viewed d new live' version number left false)
-    some_taken must_reopen moments = record {
+    some_taken must_reopen crosses moments = record {
       back = λ honest s at. (
         (earlier honest s at).rest,
         record {
@@ -334,6 +345,8 @@ module _ {D : Type 0} (d : Ghosts D) {slot version epoch events : ℕ} {old mid 
         | inl same ↦ inl (same.1, same.2, same.3)
         | inr other ↦ inr (other.1, other.2)
       ];
+      crosses = λ honest s at less same. crosses honest s (up_to_any d was honest law s at)
+          (epoch_any d was honest law s at) less same;
       layout = refl;
       usable = refl;
       none = λ none. absurd (omega (arith, some, ap length none));

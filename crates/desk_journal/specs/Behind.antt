@@ -1,19 +1,30 @@
 -- What is written behind the sectors of a store, which nothing that it shows rests on. `d` is what is known of a disk.
-use Rattle.std.specs.Prelude.{◌≡◌, ◌*◌, ◌+◌, ◌-◌, ◌<◌, ◌≤◌, ◌^◌, false, ℕ, List, OnOk, Result}
+use Rattle.std.specs.Prelude.{◌≡◌, ◌⊎◌, ◌*◌, ◌+◌, ◌-◌, ◌<◌, ◌≤◌, ◌^◌, false, ℕ, List, IfOk, OnOk, Result}
 use Rattle.sector_disk.specs.declared.disk.Disk.{Ghosts}
 use Rattle.sector_disk.specs.declared.disk.TheConstants.{SECTOR_BYTES}
 use Rattle.sector_disk.specs.Stored.{HoldsBytes}
-use Rattle.sector_disk.specs.Trail.{now, LeavesOnly}
+use Rattle.sector_disk.specs.Confined.{IsConfined}
+use Rattle.sector_disk.specs.Faults.{FailsAs}
+use Rattle.sector_disk.specs.Trail.{Content, CountsFault, now, LeavesOnly}
 use Rattle.event_bytes.specs.declared.event.Event.{Event}
+use Rattle.desktop_definitions.specs.Desktop.{Desktop}
+use Rattle.desktop_definitions.specs.declared.reply.Reply.{Reply}
+use Rattle.desktop_definitions.specs.declared.reply.Reply.TheVariants.{Done}
 use Rattle.document_filing.specs.Bringing.{Documents, brought_in}
 use Rattle.store_layout.specs.declared.head.PastEnd.{PastEnd}
 use Rattle.store_layout.specs.declared.layout.TheConstants.{STORE_SECTORS}
 use Rattle.store_layout.specs.Meaning.{Standing, Stands, and_then, desktop_of}
 use Rattle.store_slots.specs.Beside.{StandsBeside, StandsOneOf}
-use Rattle.store_slots.specs.Written.{anew_from}
-use Rattle.desk_journal.specs.Posting.{HasJournalRoom}
+use Rattle.store_layout.specs.Filling.{InRange}
+use Rattle.store_slots.specs.Device.{IsSameDevice}
+use Rattle.store_slots.specs.Written.{KeepsShown, anew_from, IsBeside}
+use Rattle.store_slots.specs.Live.{seen_live}
+use Rattle.store_slots.specs.declared.live.LiveDesktop.{LiveDesktop}
+use Rattle.store_slots.specs.declared.place.SlotPlace.{SlotPlace}
+use Rattle.desk_journal.specs.Posting.{AnswersMustReopen, HasJournalRoom}
 use Rattle.desk_journal.specs.Undoing.{IsAdded, ShowsStanding}
 use Rattle.store_slots.specs.declared.error.Error.{Error}
+use Rattle.store_slots.specs.declared.error.Error.TheVariants.{Fault}
 use Rattle.desk_journal.specs.View.{StoreView, IsDurable}
 
 -- So many bytes have room behind a store of so many sectors, in `limit` sectors from this one on.
@@ -32,6 +43,10 @@ renewed_from past s = anew_from s (1 - s.slot) past (desktop_of s)
 abbrev pub brought_from : PastEnd → Documents → Standing → Standing
 brought_from past documents s =
     anew_from s (1 - s.slot) past (brought_in (desktop_of s) documents).desktop
+
+-- the content shows the one, or the other and has these bytes behind the store, from this sector on
+abbrev pub StandsWith : ℕ → Standing → Standing → ℕ → List ℕ → Content → Type 0
+StandsWith size s t from bytes c = (Stands size c t × HoldsBytes c from bytes) ⊎ Stands size c s
 
 module _ {D : Type 0} (d : Ghosts D) where
   -- at every moment of a post to a store with room a crash leaves what the disk showed, or that with
@@ -90,3 +105,67 @@ module _ {D : Type 0} (d : Ghosts D) where
     pub quiet : d.honest old.disk → (n : ℕ) → (now (d.trail new.disk)).pending n ≡ false
     -- what it showed, event by event
     pub shown : d.honest old.disk → (s : Standing) → ShowsStanding d old s → ShowsStanding d new s
+
+  -- ---- bytes that are written behind a store before what comes of it counts
+
+  -- no sector was touched but those of a store and so many from this one on
+  abbrev pub StaysBehind : ℕ → ℕ → D → D → Type 0
+  StaysBehind from limit old new = IsConfined d.size d.honest d.trail
+      (λ n. (n < STORE_SECTORS) ⊎ InRange from limit n) old new
+
+  -- What a write to a store and behind it leaves of the device, whatever it returns: the same one, no other sector
+  -- touched, and an error exactly where a failure was counted.
+  pub record UsesBehind {T E : Type 0} (from limit : ℕ) (answer : Result T E) (old new : D)
+      : Type 0 where
+    pub device : IsSameDevice d old new
+    pub within : StaysBehind from limit old new
+    pub cause : CountsFault answer (d.failures old) (d.failures new)
+
+  -- The same of a call on a store: MustReopen changes nothing, and each error is one of the call's.
+  pub record BehavesBehind {T : Type 0} (OfCall : Error → Type 0) (from limit : ℕ)
+      (answer : Result T Error) (old new : StoreView D)
+      : Type 0 where
+    pub reopen : AnswersMustReopen answer old new
+    pub faults : FailsAs Fault OfCall answer (d.failures old.disk) (d.failures new.disk)
+    pub device : IsSameDevice d old.disk new.disk
+    pub within : StaysBehind from limit old.disk new.disk
+
+  -- At each moment a crash leaves what the disk shows by the slot beside the place, or this desktop at the beginning of
+  -- the next journal, and these bytes.
+  abbrev pub KeepsWith : SlotPlace → ℕ → List ℕ → LiveDesktop → D → D → Type 0
+  KeepsWith place from bytes desktop old new =
+      d.honest old → (live version number count : ℕ) (before : Desktop)
+      → (was : IsBeside place (d.size old) (d.trail old) live version number count before)
+      → LeavesOnly (d.trail old) (d.trail new)
+      (StandsWith (d.size old) was.kept.standing (anew_from was.kept.standing place.slot place.past
+      (seen_live (now (d.trail old)).reads desktop)) from bytes)
+
+  -- and the desktop that it showed, or this one
+  pub record KeepsEitherWith (place : SlotPlace) (from : ℕ) (bytes : List ℕ) (desktop : LiveDesktop)
+      (old new : D)
+      : Type 0 where
+    pub shown : KeepsShown d place desktop old new
+    pub standings : KeepsWith place from bytes desktop old new
+
+  -- at every moment of the call a crash leaves what the disk showed, or what comes of it, and these bytes
+  abbrev pub LeavesNextWith : (Standing → Standing) → ℕ → List ℕ → StoreView D → StoreView D
+      → Type 0
+  LeavesNextWith next from bytes old new = old.must_reopen ≡ false → d.honest old.disk
+      → (s : Standing) → ShowsStanding d old s
+      → LeavesOnly (d.trail old.disk) (d.trail new.disk)
+      (StandsWith (d.size old.disk) s (next s) from bytes)
+
+  -- and when it is done the disk shows the latter, and has them
+  pub record GoesToNextWith (next : Standing → Standing) (from : ℕ) (bytes : List ℕ)
+      (old new : StoreView D)
+      : Type 0 where
+    pub shows : ShowsNext next old new
+    pub former : LeavesFormer old new
+    pub held : d.honest old.disk → HoldsBytes (now (d.trail new.disk)).reads from bytes
+
+  -- where documents stand on the disk: at each moment while they come, and when they have come
+  pub record ComesWith (next : Standing → Standing) (from : ℕ) (bytes : List ℕ)
+      (answer : Result Reply Error) (old new : StoreView D)
+      : Type 0 where
+    pub moments : LeavesNextWith next from bytes old new
+    pub done : IfOk answer (λ reply. reply ≡ Done → GoesToNextWith next from bytes old new)

@@ -16,3 +16,4 @@ pub mod Leading
 pub mod Losses
 pub mod Views
 pub mod Behind
+pub mod Forgetting

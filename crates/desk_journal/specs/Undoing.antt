@@ -8,7 +8,7 @@ use Rattle.desktop_definitions.specs.Step.{steps}
 use Rattle.store_layout.specs.declared.layout.TheConstants.{LAYOUT}
 use Rattle.store_layout.specs.Meaning.{Standing, Stands, desktop_of, and_all, and_then}
 use Rattle.store_slots.specs.declared.error.Error.{Error}
-use Rattle.store_slots.specs.Beside.{InUndo, IsRest, StandsOneOf}
+use Rattle.store_slots.specs.Beside.{InUndo, IsRest, NothingBefore, StandsOneOf}
 use Rattle.store_slots.specs.Device.{IsOnlyRead}
 use Rattle.store_slots.specs.Errors.{OfLook, OfOpen}
 use Rattle.desk_journal.specs.Posting.{HasJournalRoom}
@@ -81,6 +81,9 @@ module _ {D : Type 0} (d : Ghosts D) where
     pub other : old.events < count → (new.epoch ≡ old.epoch) × (new.events ≡ 0)
         × (length events ≡ old.events)
         ⊎ (new.epoch + 1 ≡ old.epoch) × (old.events < length events)
+    -- where it has fewer, it stays in use only if nothing came before it
+    pub crosses : d.honest old.disk → (s : Standing) → ShowsStanding old s → old.events < count
+        → new.epoch ≡ old.epoch → NothingBefore (now (d.trail old.disk)).reads s
     pub layout : new.layout ≡ old.layout
     pub usable : new.must_reopen ≡ false
     -- where there was none nothing is written

@@ -27,7 +27,9 @@ ghost use Rattle.store_slots.specs.Words.{ListsUnread, shown_screen};
 
 mod behind;
 mod bringing;
+mod coming;
 mod copying;
+mod forgetting;
 mod leading;
 mod scrolling;
 mod views;
@@ -35,6 +37,7 @@ mod views;
 use command_table::{NEWEST, Version};
 use desktop_definitions::{Entry, Reply};
 use event_bytes::{Event, Name};
+pub use forgetting::NotingDisk;
 use piece_ring::Look;
 use screen_cells::Screen;
 use sector_disk::{Disk, Fault};
@@ -418,6 +421,13 @@ impl<D: Disk> Store<D> {
     {
         // What every store keeps is known once a part of it is read.
         let _must_reopen = self.must_reopen;
+    }
+
+    /// The disk on which the store stands.
+    pub fn disk(&self) -> &D
+        ensures { result.now ≡ self.now.disk }
+    {
+        &self.disk
     }
 
     /// Hands out the disk. It writes nothing, and works after any error.

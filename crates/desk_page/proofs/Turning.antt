@@ -18,18 +18,17 @@ use Rattle.terminal_presses.specs.declared.press.Heard.{Heard}
 use Rattle.terminal_keyboard.specs.Presses.{at_rest, parser_after, presses_heard}
 use Rattle.desk_sitting.specs.declared.serving.TheConstants.{MOST_TURNS}
 use Rattle.desk_sitting.specs.declared.sitting.Sitting.{Sitting}
-use Rattle.desk_sitting.specs.Sittings.{looked, new_sitting}
+use Rattle.desk_sitting.specs.Sittings.{new_sitting}
 use Rattle.screen_drawing.specs.Drawn.{drawing_of}
-use Rattle.store_documents.proofs.Looks.{read_twice}
 use Rattle.desk_page.specs.Recording.{Recording}
 use Rattle.desk_page.specs.Spelling.{spelling_of_calls}
 use Rattle.desk_page.specs.Hearing.{Hears, heard_of}
-use Rattle.desk_page.specs.Lines.{page_line}
+use Rattle.desk_page.specs.Lines.{page_line, page_shown}
 use Rattle.desk_page.specs.Loading.{HasLoaded}
 use Rattle.desk_page.specs.declared.scene.Scene.{Scene}
 use Rattle.desk_page.specs.contracts.disk.RecordedDiskDisk.TheImpl.{ghosts}
 use Rattle.desk_page.specs.declared.page.TheConstants.{HEIGHT}
-use Rattle.desk_page.specs.Turns.{HostPage, AreTravelled, Begins, IsHanded, IsNotBegun, IsNotPressed, IsOpenedAnew}
+use Rattle.desk_page.specs.Turns.{HostPage, AreTravelled, Begins, IsHanded, IsNotBegun, IsNotPressed, IsToldAll}
 use Rattle.desk_page.specs.Turns.{IsUnbrought, IsWithheld, OfTravels, Presses, damaged, faulty, foreign, starved}
 
 -- ---- why a page isn't handed out
@@ -119,25 +118,24 @@ no_endless result error is why wrong = elim why [
 -- ---- what is handed out
 
 module _ (d : Ghosts Recording) where
-  pub handed_over : (page reopened after : HostPage) (scene : Scene) → IsOpenedAnew d page reopened
-      → scene.drawing.items ≡ drawing_of (shown_screen reopened.store.desktop)
-      → scene.line.items ≡ page_line (shown_screen reopened.store.desktop) after.sitting
+  pub handed_over : (page told_all after : HostPage) (scene : Scene) → IsToldAll d page told_all
+      → scene.drawing.items ≡ drawing_of (shown_screen told_all.store.desktop)
+      → scene.line.items ≡ page_line (shown_screen told_all.store.desktop) after.sitting
       → scene.calls.items ≡ spelling_of_calls page.store.disk.since → scene.rings ≡ page.sitting.rings
-      → after.sitting ≡ looked (shown_screen reopened.store.desktop) reopened.sitting
-      → after.parser ≡ reopened.parser → session_of after.store ≡ session_of reopened.store
-      → after.store.must_reopen ≡ false → IsOnlyRead d reopened.store.disk after.store.disk → IsHanded d page after scene
-  handed_over page reopened after scene same drawn line told rings sitting parser session usable read = record {
+      → after.sitting ≡ page_shown told_all.store.desktop told_all.sitting
+      → after.parser ≡ told_all.parser → session_of after.store ≡ session_of told_all.store
+      → after.store.must_reopen ≡ false → IsOnlyRead d told_all.store.disk after.store.disk → IsHanded d page after scene
+  handed_over page told_all after scene same drawn line told rings sitting parser session usable read = record {
     durable = same.left;
     drawn = drawn ∙ ap (λ (desktop : Desktop). drawing_of (shown_screen desktop)) same.desktop;
     line = line ∙ ap (λ (desktop : Desktop). page_line (shown_screen desktop) after.sitting) same.desktop;
     told = told;
     rings = rings;
     desktop = ap (λ (s : Session). s.desktop) session ∙ same.desktop;
-    sitting = sitting ∙ ap (λ (desktop : Desktop). looked (shown_screen desktop) reopened.sitting) same.desktop
-        ∙ ap (looked (shown_screen page.store.desktop)) same.sitting;
+    sitting = sitting ∙ (λ k. page_shown (same.desktop k) (same.sitting k));
     parser = parser ∙ same.parser;
     usable = usable;
-    forgot = read_twice d same.forgot read;
+    forgot = subst (λ (disk : Recording). IsOnlyRead d disk after.store.disk) same.forgot read;
   }
 
   -- what is asked for isn't done

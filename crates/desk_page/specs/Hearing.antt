@@ -1,5 +1,6 @@
 -- What a page hears, and what comes of it. `d` is what is known of a disk.
-use Rattle.std.specs.Prelude.{◌≡◌, ℕ, List, [], ◌∷◌, false}
+use Rattle.std.specs.Prelude.{◌≡◌, ℕ, List, [], ◌∷◌, Err}
+use Rattle.host_files.specs.declared.HostFault.TheVariants.{Refused}
 use Rattle.sector_disk.specs.declared.disk.Disk.{Ghosts}
 use Rattle.desk_journal.specs.View.{StoreView}
 use Rattle.terminal_presses.specs.declared.press.Heard.{Heard}
@@ -21,4 +22,4 @@ pub record Hears {D : Type 0} (d : Ghosts D) (presses : List Press) (s s' : Sitt
     : Type 0 where
   pub sitting : Sitting
   pub does : DoesPresses the_desk d presses s sitting old new
-  pub unread : s' ≡ after_fetch false sitting
+  pub unread : s' ≡ after_fetch (Err Refused) sitting

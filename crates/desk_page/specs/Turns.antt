@@ -20,7 +20,7 @@ use Rattle.terminal_keyboard.specs.Presses.{at_rest, parser_after, presses_heard
 use Rattle.desk_sitting.specs.declared.serving.TheConstants.{MOST_TURNS}
 use Rattle.desk_sitting.specs.declared.sitting.Sitting.{Sitting}
 use Rattle.status_line.specs.declared.saying.Saying.TheVariants.{Greeting}
-use Rattle.desk_sitting.specs.Sittings.{looked, new_sitting}
+use Rattle.desk_sitting.specs.Sittings.{new_sitting}
 use Rattle.desk_sitting.specs.Travels.{IsTravelled}
 use Rattle.desk_sitting.specs.TheDesk.{the_desk}
 use Rattle.screen_drawing.specs.Drawn.{drawing_of}
@@ -30,7 +30,7 @@ use Rattle.desk_page.specs.declared.page.Page.{Page}
 use Rattle.viewer_tracks.specs.declared.display.TheConstants.{COLUMNS}
 use Rattle.desk_page.specs.declared.page.TheConstants.{HEIGHT}
 use Rattle.desk_page.specs.Hearing.{Hears, heard_of}
-use Rattle.desk_page.specs.Lines.{page_line}
+use Rattle.desk_page.specs.Lines.{page_line, page_shown}
 use Rattle.desk_page.specs.declared.scene.Scene.{Scene}
 use Rattle.desk_page.specs.Loading.{HasLoaded}
 
@@ -53,7 +53,7 @@ IsUnbrought old error = IsWithheld old error ⊎ (error ≡ Worn) × IsLast old.
 
 module _ (d : Ghosts Recording) where
   -- A host is handed the drawing of what the page shows, the line below it, and each call of its disk that it hasn't been
-  -- told, after which a crash leaves what the page shows. It is the same page afterwards, at which somebody has looked.
+  -- told, after which a crash leaves what the page shows. It is the same page afterwards, but that it was shown.
   -- What its disk has still to tell writes nothing.
   pub record IsHanded (page after : HostPage) (scene : Scene) : Type 0 where
     pub durable : IsDurable d page.store
@@ -62,7 +62,7 @@ module _ (d : Ghosts Recording) where
     pub told : scene.calls.items ≡ spelling_of_calls page.store.disk.since
     pub rings : scene.rings ≡ page.sitting.rings
     pub desktop : after.store.desktop ≡ page.store.desktop
-    pub sitting : after.sitting ≡ looked (shown_screen page.store.desktop) page.sitting
+    pub sitting : after.sitting ≡ page_shown page.store.desktop page.sitting
     pub parser : after.parser ≡ page.parser
     pub usable : after.store.must_reopen ≡ false
     pub forgot : IsOnlyRead d (forgotten page.store.disk) after.store.disk
@@ -90,16 +90,15 @@ module _ (d : Ghosts Recording) where
     damaged : (disk : Recording) (n : ℕ) → bytes ≢ [] → HasLoaded bytes disk
         → IsDamagedAt (d.size disk) (now (d.trail disk)).reads n → IsNotBegun bytes (Damaged n)
 
-  -- The same page, with the store opened anew: a crash had left what it shows. What its disk has still to tell writes
-  -- nothing.
-  pub record IsOpenedAnew (old new : HostPage) : Type 0 where
+  -- The same page, all calls of whose disk are told: a crash had left what it shows.
+  pub record IsToldAll (old new : HostPage) : Type 0 where
     pub left : IsDurable d old.store
     pub desktop : new.store.desktop ≡ old.store.desktop
     pub sitting : new.sitting ≡ old.sitting
     pub parser : new.parser ≡ old.parser
     pub durable : IsDurable d new.store
     pub usable : new.store.must_reopen ≡ false
-    pub forgot : IsOnlyRead d (forgotten old.store.disk) new.store.disk
+    pub forgot : new.store.disk ≡ forgotten old.store.disk
 
   -- what is asked for beside the presses is done, so many steps one after another
   pub data AreTravelled : ℕ → Sitting → Sitting → StoreView Recording → StoreView Recording

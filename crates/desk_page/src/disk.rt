@@ -9,6 +9,7 @@ ghost use Rattle.sector_disk.specs.Trail.{now, CountsFault};
 ghost use Rattle.desk_page.specs.Recording.{blank_recording, forgotten, recorded, trail_since};
 ghost use Rattle.desk_page.specs.Spelling.{spelling_of_calls};
 
+use desk_journal::NotingDisk;
 use ghost_traces::{Count, Trace};
 use sector_disk::{Disk, DiskCall, Fault, MemoryDisk, NoMemory, Sector};
 use std::alloc::Global;
@@ -79,11 +80,13 @@ impl RecordedDisk {
     {
         self.whole
     }
+}
+
+impl NotingDisk for RecordedDisk {
+    ghost forgetting = { forgotten };
 
     /// Forgets what is spelled. The disk stays as it is, and its next call is the first one that is spelled.
-    pub fn forget(&mut self)
-        ensures { self.new ≡ forgotten self.old }
-    {
+    fn forget(&mut self) {
         self.spelled.clear();
         self.since = Trace::new();
         self.whole = false;

@@ -11,6 +11,7 @@ ghost use Rattle.desk_page.specs.Hearing.{Hears, heard_of};
 use crate::page::Page;
 use desk_journal::Error;
 use desk_sitting::do_presses;
+use host_files::HostFault;
 use sector_disk::{Disk, NoMemory};
 use std::alloc::Global;
 use terminal_presses::Heard;
@@ -55,6 +56,6 @@ pub fn hear<D: Disk>(alloc: Global, page: &mut Page<D>, heard: &[Heard]) -> Resu
         heard,
         &mut page.store,
     )?;
-    page.sitting.bring(false);
+    page.sitting.bring(Err(HostFault::Refused));
     Ok(())
 }

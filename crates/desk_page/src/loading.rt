@@ -5,6 +5,7 @@ ghost use Rattle.desk_page.specs.Loading.{HasLoaded, sector_of, whole_sectors};
 ghost use Rattle.desk_page.specs.Recording.{trail_since};
 
 use crate::disk::RecordedDisk;
+use desk_journal::NotingDisk;
 use sector_disk::{Disk, FILE_SECTORS, NoMemory, Sector};
 use std::alloc::Global;
 

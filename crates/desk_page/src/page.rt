@@ -8,7 +8,7 @@ ghost use Rattle.desk_journal.specs.Errors.{OfOpen};
 ghost use Rattle.desk_journal.specs.Opening.{IsNoStore, IsOpened};
 ghost use Rattle.desk_journal.specs.Session.{session_of};
 ghost use Rattle.desk_journal.specs.View.{IsDurable};
-ghost use Rattle.desk_page.specs.Lines.{page_line};
+ghost use Rattle.desk_page.specs.Lines.{page_line, page_shown};
 ghost use Rattle.desk_sitting.specs.Sittings.{looked, new_sitting};
 ghost use Rattle.starter_desktop.specs.StarterDesktop.{furnishing};
 ghost use Rattle.screen_drawing.specs.Drawn.{drawing_of};
@@ -16,7 +16,7 @@ ghost use Rattle.terminal_keyboard.specs.Presses.{at_rest};
 ghost use Rattle.viewer_tracks.specs.declared.display.TheConstants.{COLUMNS};
 
 use desk_journal::{Error, Store};
-use desk_sitting::{Saying, Sitting};
+use desk_sitting::{Saying, Sitting, mark};
 use screen_cells::Screen;
 use screen_drawing::draw;
 use sector_disk::Disk;
@@ -93,11 +93,38 @@ pub fn begin_new<D: Disk + Drop>(alloc: Global, disk: D) -> Result<Page<D>, Erro
     Ok(page)
 }
 
-/// Adds the drawing of what the desktop shows, and the line below it. All events of what it shows are acknowledged, and
-/// nothing is posted.
+/// Adds the drawing of what the desktop shows, and the line below it. Where that rests, it says whether the text with the
+/// caret isn't stored. All events of what is shown are acknowledged, and nothing is posted.
 ///
 /// Errors: `NoMemory`; `Fault`. The drawing and the line may then have a front of it.
 pub fn show<D: Disk>(
+    alloc: Global,
+    page: &mut Page<D>,
+    drawing: &mut Vec<u8>,
+    line: &mut Vec<u8>,
+) -> Result<(), Error>
+    requires { page.old.store.must_reopen ≡ false }
+    ensures drawn { OnOk result (D.honest page.old.store.disk
+        → drawing.new.items ≡ drawing.old.items
+        ++ drawing_of (shown_screen page.old.store.desktop)) }
+    ensures line { OnOk result (D.honest page.old.store.disk → line.new.items
+        ≡ line.old.items ++ page_line (shown_screen page.old.store.desktop) page.new.sitting) }
+    ensures sitting { OnOk result (D.honest page.old.store.disk
+        → page.new.sitting ≡ page_shown page.old.store.desktop page.old.sitting) }
+    ensures kept { (page.new.parser ≡ page.old.parser) × (page.new.store.must_reopen ≡ false) }
+    ensures session { D.honest page.old.store.disk
+        → session_of page.new.store ≡ session_of page.old.store }
+    ensures disk { IsOnlyRead D.Disk page.old.store.disk page.new.store.disk }
+    ensures errors { IfErr result (λ error. (error ≡ Error.NoMemory) ⊎ (error ≡ Error.Fault)) }
+{
+    mark(alloc, &mut page.sitting, &mut page.store)?;
+    show_marked(alloc, page, drawing, line)
+}
+
+/// Adds the drawing of what the desktop shows, and the line below it as it is to be.
+///
+/// Errors: those of `show`.
+fn show_marked<D: Disk>(
     alloc: Global,
     page: &mut Page<D>,
     drawing: &mut Vec<u8>,

@@ -1,12 +1,9 @@
 //! What a host is handed of a page, and what a call does to a page.
 ghost use Rattle.std.specs.Prelude.{◌≡◌, ℕ, [], is_none, true, false, IfOk, IfErr, IfSome, IsErrOf, IsOk, OnOk};
-ghost use Rattle.desk_journal.specs.Device.{IsOnlyRead};
-ghost use Rattle.desk_journal.specs.Errors.{OfOpen};
-ghost use Rattle.desk_journal.specs.Opening.{IsNoStore, IsOpened};
 ghost use Rattle.desk_journal.specs.View.{IsDurable};
 ghost use Rattle.desk_sitting.specs.declared.serving.TheConstants.{MOST_TURNS};
 ghost use Rattle.desk_page.specs.Spelling.{spelling_of_calls};
-ghost use Rattle.desk_page.specs.Turns.{AreTravelled, Begins, BringsOrTurnsDown, Presses, IsOpenedAnew, IsHanded, IsNotBegun};
+ghost use Rattle.desk_page.specs.Turns.{AreTravelled, Begins, BringsOrTurnsDown, Presses, IsToldAll, IsHanded, IsNotBegun};
 ghost use Rattle.desk_page.specs.Turns.{IsUnbrought, IsNotPressed, IsWithheld, OfTravels};
 
 use crate::disk::RecordedDisk;
@@ -20,8 +17,7 @@ use desktop_definitions::Reply;
 use document_filing::Document;
 use sector_disk::{Disk, FILE_SECTORS};
 use std::alloc::Global;
-use store_layout::{finding_law, showing_law};
-use terminal_keyboard::Parser;
+use store_layout::showing_law;
 
 /// A page over the disk whose calls the host repeats.
 pub type HostPage = Page<RecordedDisk>;
@@ -174,55 +170,24 @@ pub(crate) fn settled(alloc: Global, page: HostPage) -> Turn
     ))
 }
 
-/// The calls of a page's disk, which then forgets them: the store is closed, and opened again.
+/// The calls of a page's disk, which then forgets them. The store is in use as before.
 ///
-/// Errors: those of `Store::open`; `MustReopen`.
+/// Errors: `NoMemory`; `MustReopen`.
 fn told(alloc: Global, page: HostPage) -> Result<(HostPage, Vec<u8>), Error>
-    ensures page { IfOk result (λ both. IsOpenedAnew ⟦<RecordedDisk as Disk>⟧ page both.0) }
+    ensures page { IfOk result (λ both. IsToldAll ⟦<RecordedDisk as Disk>⟧ page both.0) }
     ensures calls { IfOk result (λ both. both.1.items ≡ spelling_of_calls page.store.disk.since) }
     ensures withheld { IfErr result (IsWithheld page) }
 {
+    let mut page = page;
     usable(&page.store)?;
-    showing_law();
-    finding_law();
-    let Page {
-        store,
-        sitting,
-        parser,
-    } = page;
     let mut calls = Vec::new(alloc);
-    let mut disk = store.close();
-    if calls.extend_from_slice(disk.spelled()).is_err() {
+    let noted = page.store.disk().spelled();
+    if calls.extend_from_slice(noted).is_err() {
         return Err(Error::NoMemory);
     }
-    disk.forget();
-    let page = opened(alloc, disk, sitting, parser)?;
+    page.store.forget_noted();
+    page.store.shows_what_crashes_leave();
     Ok((page, calls))
-}
-
-/// A page before the store on the disk, with that sitting and that parser.
-fn opened(
-    alloc: Global,
-    disk: RecordedDisk,
-    sitting: Sitting,
-    parser: Parser,
-) -> Result<HostPage, Error>
-    ensures opened { IfOk result (λ page. IsOpened ⟦<RecordedDisk as Disk>⟧ disk page.store) }
-    ensures read { IfOk result (λ page.
-        IsOnlyRead ⟦<RecordedDisk as Disk>⟧ disk page.store.disk) }
-    ensures no_store { IfErr result (IsNoStore ⟦<RecordedDisk as Disk>⟧ disk) }
-    ensures errors { IfErr result OfOpen }
-    ensures sitting { IfOk result (λ page. page.sitting ≡ sitting) }
-    ensures parser { IfOk result (λ page. page.parser ≡ parser) }
-{
-    match Store::open(alloc, disk) {
-        Ok(store) => Ok(Page {
-            store,
-            sitting,
-            parser,
-        }),
-        Err((error, _)) => Err(error),
-    }
 }
 
 /// Whether the store needn't be opened again: what it shows is then what every crash leaves.

@@ -7,7 +7,6 @@ use Rattle.sector_disk.specs.declared.disk.Disk.{Ghosts}
 use Rattle.sector_disk.specs.Confined.{IsConfined}
 use Rattle.sector_disk.specs.Trail.{Content, now, LeavesOnly}
 use Rattle.sector_disk.proofs.Touching.{at_last, chained, read_is_an_image, spared, still_reads as reads_stay, weakened}
-use Rattle.event_bytes.specs.declared.event.Event.{Event}
 use Rattle.desktop_definitions.specs.Desktop.{Desktop}
 use Rattle.store_layout.specs.declared.layout.TheConstants.{STORE_SECTORS}
 use Rattle.store_layout.specs.declared.head.PastEnd.{PastEnd}
@@ -22,9 +21,11 @@ use Rattle.desk_journal.specs.Looking.{OnlyLooks}
 use Rattle.desk_journal.specs.Undoing.{IsLeft, ShowsStanding}
 use Rattle.desk_journal.specs.View.{StoreView, IsDurable}
 use Rattle.desk_past.specs.Beginning.{GoesOnFrom, IsApart, IsAside, SparesAllBut, SparesOthers, begun_at, copied_back}
-use Rattle.desk_past.specs.Past.{HoldsPages, KeepsAll, Remembers, StandsFrom, Start, events_of}
+use Rattle.desk_past.specs.Deeds.{PastDeed, all_posted}
+use Rattle.desk_past.specs.Past.{HoldsPages, KeepsAll, Remembers, StandsFrom, Start, all_deeds}
 use Rattle.desk_past.specs.Reading.{IsOnlyReadFrom}
 use Rattle.desk_past.proofs.Carrying.{both_leave, written_stays}
+use Rattle.desk_past.proofs.Moments.{many_posted}
 use Rattle.desk_past.proofs.Remembering.{IsQuiet, remembers_on}
 use Rattle.desk_past.proofs.StillReads.{nothing_written, resized}
 
@@ -248,15 +249,15 @@ module _ (size base : ℕ) (x c : Content) (s : Standing) (room : base + STORE_S
     | inr high ↦ ap (λ (b : Bool). if b then c (base + n) else c n) (le-ltb n STORE_SECTORS high) ∙ still n high
   ]
 
-  pub former_there : {start : Start} {events : List Event} {desktop : Desktop} → Remembers size start events desktop x
-      → Remembers size start events desktop (copied_back base c)
-  former_there {start = start} {events = events} {desktop = desktop} r =
-      subst (Remembers size start events desktop) (sym (λ i n. same_back n i)) r
+  pub former_there : {start : Start} {deeds : List PastDeed} {desktop : Desktop} → Remembers size start deeds desktop x
+      → Remembers size start deeds desktop (copied_back base c)
+  former_there {start = start} {deeds = deeds} {desktop = desktop} r =
+      subst (Remembers size start deeds desktop) (sym (λ i n. same_back n i)) r
 
 -- ---- a past that stays while a start is copied
 
-module _ {D : Type 0} (d : Ghosts D) {start : Start} {events : List Event} {desktop : Desktop} {old : StoreView D}
-    (keeps : KeepsAll d start events desktop old) (honest : d.honest old.disk) (base : ℕ) (behind : STORE_SECTORS ≤ base)
+module _ {D : Type 0} (d : Ghosts D) {start : Start} {deeds : List PastDeed} {desktop : Desktop} {old : StoreView D}
+    (keeps : KeepsAll d start deeds desktop old) (honest : d.honest old.disk) (base : ℕ) (behind : STORE_SECTORS ≤ base)
     (apart : IsApart d base keeps) {mid : StoreView D} (device : IsSameDevice d old.disk mid.disk)
     (spares : SparesOthers d base old mid) where
   -- the past is there at each moment up to this one
@@ -270,7 +271,7 @@ module _ {D : Type 0} (d : Ghosts D) {start : Start} {events : List Event} {desk
       ])) keeps.remembers.past.written))
 
   pub still_remembered : LeavesOnly (d.trail old.disk) (d.trail mid.disk)
-      (λ c. Remembers (d.size old.disk) start events desktop c ⊎ GoesOnFrom (d.size old.disk) base start events desktop c)
+      (λ c. Remembers (d.size old.disk) start deeds desktop c ⊎ GoesOnFrom (d.size old.disk) base start deeds desktop c)
   still_remembered = weakened there (λ c x. inl (remembers_on keeps.remembers refl x.0 x.1))
 
   at_mid : Stands (d.size old.disk) (now (d.trail mid.disk)).reads keeps.remembers.standing
@@ -287,24 +288,25 @@ module _ {D : Type 0} (d : Ghosts D) {start : Start} {events : List Event} {desk
       → (now (d.trail mid.disk)).reads (base + n) ≡ (now (d.trail mid.disk)).reads n)
       (before : ℕ) (end : PastEnd) (counted : before ≡ keeps.remembers.standing.past.before + length keeps.remembers.standing.events)
       (next : end.next ≡ base + STORE_SECTORS) (told : end.before ≡ before) where
-    before_is : before ≡ start.before + length events
+    before_is : before ≡ start.before + length deeds
     before_is = let all = ap length keeps.remembers.all in
-        let long = length-append (events_of keeps.remembers.pages) keeps.remembers.standing.events in
-        omega (arith, counted, keeps.remembers.past.counted, all, long)
+        let long = length-append (all_deeds keeps.remembers.pages) (all_posted keeps.remembers.standing.events) in
+        let many = many_posted keeps.remembers.standing.events in
+        omega (arith, counted, keeps.remembers.past.counted, all, long, many)
 
     goes_on_there : (c : Content) → ((n : ℕ) → STORE_SECTORS ≤ n → c n ≡ (now (d.trail mid.disk)).reads n)
         → Stands (d.size old.disk) c (renewed_from end keeps.remembers.standing)
-        → GoesOnFrom (d.size old.disk) base start events desktop c
+        → GoesOnFrom (d.size old.disk) base start deeds desktop c
     goes_on_there c still anew = record {
       anew = begun_there (d.size old.disk) base (now (d.trail mid.disk)).reads c keeps.remembers.standing room behind same still
-          at_mid.0 desktop (start.before + length events) end keeps.remembers.is (sym before_is ∙ counted) next (told ∙ before_is) anew;
+          at_mid.0 desktop (start.before + length deeds) end keeps.remembers.is (sym before_is ∙ counted) next (told ∙ before_is) anew;
       former = former_there (d.size old.disk) base (now (d.trail mid.disk)).reads c keeps.remembers.standing room behind same
           still at_mid.0 (remembers_on keeps.remembers refl at_mid.0 at_mid.1);
     }
 
     pub begins_anew : LeavesNext d (renewed_from end) mid new
         → LeavesOnly (d.trail old.disk) (d.trail new.disk)
-        (λ c. Remembers (d.size old.disk) start events desktop c ⊎ GoesOnFrom (d.size old.disk) base start events desktop c)
+        (λ c. Remembers (d.size old.disk) start deeds desktop c ⊎ GoesOnFrom (d.size old.disk) base start deeds desktop c)
     begins_anew renewed =
         let at_each : LeavesOnly (d.trail mid.disk) (d.trail new.disk)
         (λ c. (n : ℕ) → STORE_SECTORS ≤ n → c n ≡ (now (d.trail mid.disk)).reads n) =
@@ -322,7 +324,7 @@ module _ {D : Type 0} (d : Ghosts D) {start : Start} {events : List Event} {desk
         ]))
 
     pub goes_on_now : ShowsNext d (renewed_from end) mid new
-        → GoesOnFrom (d.size old.disk) base start events desktop (now (d.trail new.disk)).reads
+        → GoesOnFrom (d.size old.disk) base start deeds desktop (now (d.trail new.disk)).reads
     goes_on_now shows = goes_on_there (now (d.trail new.disk)).reads
         (λ n far. reads_stay (d.trail mid.disk) (d.trail new.disk) (within.moments (device.still honest)) n
         (λ low. omega (arith, low, far)))

@@ -9,11 +9,11 @@ use Rattle.store_layout.specs.declared.layout.TheConstants.{LAYOUT}
 use Rattle.store_layout.specs.declared.head.PastEnd.{PastEnd}
 use Rattle.store_layout.specs.Meaning.{IsJournal, Standing, Stands}
 use Rattle.store_layout.proofs.StandingLaws.{journal_short}
-use Rattle.store_slots.specs.Bodies.{spellings}
 use Rattle.desk_journal.proofs.Aside.{stands_behind}
 use Rattle.event_bytes.specs.declared.event.Event.{Event}
-use Rattle.desk_past.specs.declared.page.TheConstants.{EVENTS_PAGE, MOST_SPELLED}
-use Rattle.desk_past.specs.Page.{Page, HasPages, end_of_pages, number, page_bytes, page_sectors}
+use Rattle.desk_past.specs.declared.page.TheConstants.{MOST_SPELLED}
+use Rattle.desk_past.specs.Page.{Page, HasPages, page_body, page_count, behind_length, end_of_pages, page_kind, number}
+use Rattle.desk_past.specs.Page.{page_bytes, page_sectors, page_version}
 use Rattle.desk_past.specs.Past.{AreEvents, AreGood, HoldsPast, HasStart, IsGoodPage, HoldsPages, Start, first_page, journal_of}
 
 held_stays : (c c' : Content) (at : ℕ) (bytes : List ℕ)
@@ -145,14 +145,12 @@ page_short a b c e f bytes first second third fourth few is =
       length-append e f,
     )
 
-spelled_short : (p : Page) → length (spellings p.events) ≤ length (page_bytes p)
+spelled_short : (p : Page) → length (page_body p) ≤ length (page_bytes p)
 spelled_short p =
-    let spelled = behind (number (length (spellings p.events))) (spellings p.events) in
-    let some = behind (number (length p.events)) (number (length (spellings p.events)) ++ spellings p.events) in
-    let version = behind (number p.version)
-    (number (length p.events) ++ (number (length (spellings p.events)) ++ spellings p.events)) in
-    let all = behind (number EVENTS_PAGE) (number p.version
-    ++ (number (length p.events) ++ (number (length (spellings p.events)) ++ spellings p.events))) in
+    let spelled = behind (number (length (page_body p))) (page_body p) in
+    let some = behind (number (page_count p)) (behind_length (page_body p)) in
+    let version = behind (number (page_version p)) (number (page_count p) ++ behind_length (page_body p)) in
+    let all = behind (number (page_kind p)) (number (page_version p) ++ (number (page_count p) ++ behind_length (page_body p))) in
     omega (arith, spelled, some, version, all)
 
 pub good_journal : {size : ℕ} (c : Content) (s : Standing) → Stands size c s → s.version ≡ LAYOUT

@@ -3,13 +3,13 @@ use Rattle.std.proofs.Common.{◌≡◌, ◌⊎◌, inl, inr, ◌+◌, ◌^◌, 
 use Rattle.sector_disk.specs.declared.disk.Disk.{Ghosts}
 use Rattle.sector_disk.specs.Trail.{LeavesOnly}
 use Rattle.sector_disk.proofs.Touching.{chained, weakened}
-use Rattle.event_bytes.specs.declared.event.Event.{Event}
 use Rattle.desktop_definitions.specs.Desktop.{Desktop}
 use Rattle.store_layout.specs.declared.layout.TheConstants.{STORE_SECTORS}
 use Rattle.store_layout.specs.declared.head.PastEnd.{PastEnd}
 use Rattle.desk_journal.specs.Checkpointing.{LeavesDesktop}
 use Rattle.desk_journal.specs.View.{StoreView, IsDurable}
 use Rattle.desk_past.specs.Beginning.{ForgetsNoneBefore, GoesOnFrom, HasStartRoom, IsApart, begun_at}
+use Rattle.desk_past.specs.Deeds.{PastDeed}
 use Rattle.desk_past.specs.Going.{BeginsNow, ForgetsNone, LiesInHalf}
 use Rattle.desk_past.specs.Halves.{HasHalves, LiesBeside, IsHalf, middle}
 use Rattle.desk_past.specs.declared.halves.TheConstants.{HALVES}
@@ -65,7 +65,7 @@ module _ {D : Type 0} (d : Ghosts D) where
 
   pub forgets_read : (old new : StoreView D) → (old.must_reopen ≡ false → d.honest old.disk → IsQuiet d old)
       → IsOnlyReadFrom d old new → ForgetsNone d old new
-  forgets_read old new quiet still honest start events desktop keeps lies =
+  forgets_read old new quiet still honest start deeds desktop keeps lies =
       weakened (read_moments d keeps honest (quiet keeps.usable honest) new still.left.disk) (λ c was. inl was)
 
   pub leaves_begun : {old mid : StoreView D} (new : StoreView D) → (old.must_reopen ≡ false → IsDurable d old)
@@ -84,8 +84,8 @@ module _ {D : Type 0} (d : Ghosts D) where
       )
 
   -- a start beside the half in which the past lies is apart from it
-  pub apart_from : {start : Start} {events : List Event} {desktop : Desktop} {old : StoreView D}
-      (keeps : KeepsAll d start events desktop old) (sectors base : ℕ) (told : PastEnd) → sectors ≡ d.size old.disk
+  pub apart_from : {start : Start} {deeds : List PastDeed} {desktop : Desktop} {old : StoreView D}
+      (keeps : KeepsAll d start deeds desktop old) (sectors base : ℕ) (told : PastEnd) → sectors ≡ d.size old.disk
       → told ≡ keeps.remembers.standing.past → LiesInHalf d keeps → LiesBeside sectors told.next base → IsApart d base keeps
   apart_from {start = start} keeps sectors base told large is lies beside =
       let next = ap (λ (p : PastEnd). p.next) is in
@@ -97,19 +97,19 @@ module _ {D : Type 0} (d : Ghosts D) where
         | inr above ↦ inr (omega (arith, above, next))
       ]
 
-  module _ {start : Start} {events : List Event} {desktop : Desktop} {old mid : StoreView D} (new : StoreView D)
-      (keeps : KeepsAll d start events desktop old) (honest : d.honest old.disk) (quiet : IsQuiet d old)
+  module _ {start : Start} {deeds : List PastDeed} {desktop : Desktop} {old mid : StoreView D} (new : StoreView D)
+      (keeps : KeepsAll d start deeds desktop old) (honest : d.honest old.disk) (quiet : IsQuiet d old)
       (still : IsOnlyReadFrom d old mid) where
     pub forgets_begun : (base : ℕ) → ForgetsNoneBefore d base mid new → IsApart d base keeps
         → LeavesOnly (d.trail old.disk) (d.trail new.disk)
-        (λ c. Remembers (d.size old.disk) start events desktop c
-        ⊎ ((base : ℕ) × GoesOnFrom (d.size old.disk) base start events desktop c))
+        (λ c. Remembers (d.size old.disk) start deeds desktop c
+        ⊎ ((base : ℕ) × GoesOnFrom (d.size old.disk) base start deeds desktop c))
     forgets_begun base forgets apart =
         chained (weakened (read_moments d keeps honest quiet mid still.left.disk) (λ c was. inl was))
         (apart_still d keeps honest quiet mid still.left.disk still.usable base apart (λ now_keeps now_apart.
         weakened (subst (λ n. LeavesOnly (d.trail mid.disk) (d.trail new.disk)
-        (λ c. Remembers n start events desktop c ⊎ GoesOnFrom n base start events desktop c)) still.left.disk.device.as_large
-        (forgets (still.left.disk.device.still honest) start events desktop now_keeps now_apart))
+        (λ c. Remembers n start deeds desktop c ⊎ GoesOnFrom n base start deeds desktop c)) still.left.disk.device.as_large
+        (forgets (still.left.disk.device.still honest) start deeds desktop now_keeps now_apart))
         (λ c x. elim x [
           | inl was ↦ inl was
           | inr on ↦ inr (base, on)

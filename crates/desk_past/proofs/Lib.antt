@@ -6,6 +6,9 @@ pub mod Undoing
 pub mod OnePast
 pub mod StillReads
 pub mod PageReads
+pub mod DocumentReads
+pub mod Brought
+pub mod ImportWays
 pub mod Stepping
 pub mod Opened
 pub mod Copied

@@ -1,5 +1,6 @@
 -- Moments of a past.
-use Rattle.std.proofs.Common.{◌≡◌, ◌+◌, ◌-◌, ◌≤◌, ℕ, List, [], ◌∷◌, ◌++◌, length, take, refl, sym, ◌∙◌, ap, arith}
+use Rattle.std.proofs.Common.{◌≡◌, ◌+◌, ◌-◌, ◌≤◌, ℕ, zero, suc, List, [], ◌∷◌, ◌++◌, length, take, refl, sym, ◌∙◌, ap}
+use Rattle.std.proofs.Common.{arith}
 use Rattle.std.proofs.lemmas.List.{take_all}
 use Rattle.event_bytes.specs.declared.event.Event.{Event}
 use Rattle.desktop_definitions.specs.Desktop.{Desktop}
@@ -8,26 +9,49 @@ use Rattle.sector_disk.specs.Trail.{Content}
 use Rattle.store_layout.specs.declared.layout.TheConstants.{LAYOUT}
 use Rattle.store_layout.specs.Meaning.{Standing, desktop_of}
 use Rattle.store_slots.proofs.Recording.{in_newest}
-use Rattle.desk_past.specs.Page.{Page}
-use Rattle.desk_past.specs.Past.{Remembers, Start, events_of, moment, journal_of}
+use Rattle.desk_past.specs.Deeds.{PastDeed, posted, after_deeds, after_deed, all_posted}
+use Rattle.desk_past.specs.Page.{Page, deeds_in}
+use Rattle.desk_past.specs.Past.{Remembers, Start, all_deeds, moment}
 
-pub joined : (a b c : List Event) → (a ++ b) ++ c ≡ a ++ (b ++ c)
+pub joined : (a b c : List PastDeed) → (a ++ b) ++ c ≡ a ++ (b ++ c)
 joined [] b c = refl
 joined (e ∷ a) b c = ap (λ r. e ∷ r) (joined a b c)
 
--- one page more
-pub events_on : (pages : List Page) (p : Page) → events_of (pages ++ p ∷ []) ≡ events_of pages ++ p.events
-events_on [] p = nil_right p.events
-  where
-    nil_right : (l : List Event) → l ++ [] ≡ l
-    nil_right [] = refl
-    nil_right (e ∷ l) = ap (λ r. e ∷ r) (nil_right l)
-events_on (q ∷ pages) p = ap (λ l. q.events ++ l) (events_on pages p) ∙ sym (joined q.events (events_of pages) p.events)
+nil_right : (l : List PastDeed) → l ++ [] ≡ l
+nil_right [] = refl
+nil_right (e ∷ l) = ap (λ r. e ∷ r) (nil_right l)
 
--- the desktop after events behind others
-pub steps_both : (d : Desktop) (some more : List Event) → steps d (some ++ more) ≡ steps (steps d some) more
-steps_both d [] more = refl
-steps_both d (event ∷ some) more = steps_both (step d event).desktop some more
+-- one page more
+pub deeds_on : (pages : List Page) (p : Page) → all_deeds (pages ++ p ∷ []) ≡ all_deeds pages ++ deeds_in p
+deeds_on [] p = nil_right (deeds_in p)
+deeds_on (q ∷ pages) p =
+    ap (λ l. deeds_in q ++ l) (deeds_on pages p) ∙ sym (joined (deeds_in q) (all_deeds pages) (deeds_in p))
+
+-- ---- events that are posted
+
+pub many_posted : (events : List Event) → length (all_posted events) ≡ length events
+many_posted [] = refl
+many_posted (event ∷ events) = ap suc (many_posted events)
+
+pub posted_both : (some more : List Event) → all_posted (some ++ more) ≡ all_posted some ++ all_posted more
+posted_both [] more = refl
+posted_both (event ∷ some) more = ap (λ l. posted event ∷ l) (posted_both some more)
+
+pub posted_first : (n : ℕ) (events : List Event) → take n (all_posted events) ≡ all_posted (take n events)
+posted_first zero events = refl
+posted_first (suc n) [] = refl
+posted_first (suc n) (event ∷ events) = ap (λ l. posted event ∷ l) (posted_first n events)
+
+pub after_posted : (d : Desktop) (events : List Event) → after_deeds d (all_posted events) ≡ steps d events
+after_posted d [] = refl
+after_posted d (event ∷ events) = after_posted (step d event).desktop events
+
+-- ---- the desktop after deeds behind others
+
+pub after_both : (d : Desktop) (some more : List PastDeed)
+    → after_deeds d (some ++ more) ≡ after_deeds (after_deeds d some) more
+after_both d [] more = refl
+after_both d (deed ∷ some) more = after_both (after_deed d deed) some more
 
 pub all_newest : (d : Desktop) (events : List Event) → steps_in LAYOUT d events ≡ steps d events
 all_newest d [] = refl
@@ -35,20 +59,22 @@ all_newest d (event ∷ events) =
     ap (λ (o : Outcome). steps_in LAYOUT o.desktop events) (in_newest d event)
     ∙ all_newest (step d event).desktop events
 
--- events behind those of the pages, in the version of the slot in use
+-- events behind the deeds of the pages, in the version of the slot in use
 pub stepped_on : (d : Desktop) (pages : List Page) (s : Standing) (events : List Event) → s.version ≡ LAYOUT
-    → steps d (events_of pages) ≡ s.start → steps d (events_of pages ++ events) ≡ steps_in s.version s.start events
+    → after_deeds d (all_deeds pages) ≡ s.start
+    → after_deeds d (all_deeds pages ++ all_posted events) ≡ steps_in s.version s.start events
 stepped_on d pages s events newest leads =
-    steps_both d (events_of pages) events
-    ∙ ap (λ x. steps x events) leads
+    after_both d (all_deeds pages) (all_posted events)
+    ∙ ap (λ x. after_deeds x (all_posted events)) leads
+    ∙ after_posted s.start events
     ∙ sym (all_newest s.start events)
     ∙ ap (λ v. steps_in v s.start events) (sym newest)
 
 -- the present is the last moment
-pub the_present : {size : ℕ} {start : Start} {events : List Event} {desktop : Desktop} {c : Content}
-    → Remembers size start events desktop c → moment start events (start.before + length events) ≡ desktop
-the_present {start = start} {events = events} r =
-    ap (steps start.desktop) (take_all (start.before + length events - start.before) events (omega arith))
-    ∙ ap (steps start.desktop) (sym r.all)
+pub the_present : {size : ℕ} {start : Start} {deeds : List PastDeed} {desktop : Desktop} {c : Content}
+    → Remembers size start deeds desktop c → moment start deeds (start.before + length deeds) ≡ desktop
+the_present {start = start} {deeds = deeds} r =
+    ap (after_deeds start.desktop) (take_all (start.before + length deeds - start.before) deeds (omega arith))
+    ∙ ap (after_deeds start.desktop) (sym r.all)
     ∙ stepped_on start.desktop r.pages r.standing r.standing.events r.past.newest r.past.leads
     ∙ r.is

@@ -1,20 +1,25 @@
 -- A content has one past at most.
-use Rattle.std.proofs.Common.{◌≡◌, inl, inr, ◌+◌, ◌≤◌, ℕ, List, [], ◌∷◌, ◌++◌, length, take, drop, refl, sym}
+use Rattle.std.proofs.Common.{◌≡◌, Bool, true, false, inl, inr, ◌+◌, ◌≤◌, ◌<◌, ◌^◌, ℕ, List, [], ◌∷◌, ◌++◌, length, take, drop, refl, sym}
 use Rattle.std.proofs.Common.{◌∙◌, ap, subst, arith}
 use Rattle.std.specs.Int.{w32, from_be_bytes}
-use Rattle.std.proofs.lemmas.Bool.{cases_lt}
+use Rattle.std.specs.Prelude.{IsTrue, ◌&&◌}
+use Rattle.std.proofs.lemmas.Bool.{cases_lt, leb-true}
 use Rattle.std.proofs.lemmas.Nat.{from_be_bytes-to_be_bytes_4}
 use Rattle.sector_disk.specs.Stored.{HoldsBytes}
 use Rattle.sector_disk.specs.Trail.{Content}
 use Rattle.sector_disk.proofs.StoredLaws.{stored_held, take-stored}
 use Rattle.event_bytes.specs.declared.event.Event.{Event}
+use Rattle.event_bytes.specs.Bytes.{is_name}
 use Rattle.event_bytes.specs.Spelling.{BeginsWithEvent, spelling}
+use Rattle.document_filing.specs.Bringing.{Documents}
 use Rattle.store_layout.specs.Finding.{StandingLaw}
 use Rattle.store_slots.specs.Bodies.{spellings}
-use Rattle.desk_past.specs.Page.{Page, HasPages, end_of_pages, page_bytes, page_sectors}
+use Rattle.desk_past.specs.Deeds.{all_posted}
+use Rattle.desk_past.specs.Page.{Page, of_events, of_import, HasPages, page_count, behind_length, document_spelling}
+use Rattle.desk_past.specs.Page.{document_spellings, end_of_pages, page_kind, page_bytes, page_sectors}
 use Rattle.desk_past.proofs.Carrying.{end_above}
 use Rattle.store_layout.specs.Meaning.{desktop_of}
-use Rattle.desk_past.specs.Past.{AreEvents, AreGood, IsGoodPage, OnePastLaw, events_of, first_page}
+use Rattle.desk_past.specs.Past.{AreDocuments, AreEvents, AreGood, IsGoodPage, OnePastLaw, all_deeds, first_page}
 use Rattle.std.proofs.lemmas.List.{take-append-drop}
 
 abbrev pub BeginLaw : Type 0
@@ -24,9 +29,13 @@ joined : (a b c : List ℕ) → (a ++ b) ++ c ≡ a ++ (b ++ c)
 joined [] b c = refl
 joined (x ∷ a) b c = ap (λ r. x ∷ r) (joined a b c)
 
-dropped_bytes : (a b : List ℕ) → drop (length a) (a ++ b) ≡ b
+pub dropped_bytes : (a b : List ℕ) → drop (length a) (a ++ b) ≡ b
 dropped_bytes [] b = refl
 dropped_bytes (x ∷ a) b = dropped_bytes a b
+
+pub taken_bytes : (a b : List ℕ) → take (length a) (a ++ b) ≡ a
+taken_bytes [] b = refl
+taken_bytes (x ∷ a) b = ap (λ r. x ∷ r) (taken_bytes a b)
 
 -- events of which the bytes begin alike, as many of both, are the same
 events_same : BeginLaw → (events events' : List Event) (rest : List ℕ) → AreEvents events → AreEvents events'
@@ -45,17 +54,79 @@ events_same law (e ∷ l) (e' ∷ l') rest valid valid' long same =
     ∙ dropped_bytes (spelling e) (spellings l ++ rest) in
     λ i. first i ∷ events_same law l l' rest valid.1 valid'.1 (omega (arith, long)) tails i
 
+-- bytes behind their number, of which others begin alike, are the same
+pub counted_same : (a a' rest rest' : List ℕ) → length a < 2 ^ 32 → length a' < 2 ^ 32
+    → behind_length a ++ rest ≡ behind_length a' ++ rest' → (a ≡ a') × (rest ≡ rest')
+counted_same a a' rest rest' short short' same =
+    let long : length a ≡ length a' =
+    sym (from_be_bytes-to_be_bytes_4 (length a) short)
+    ∙ ap (λ l. from_be_bytes w32 (take 4 l)) same
+    ∙ from_be_bytes-to_be_bytes_4 (length a') short' in
+    let tails : a ++ rest ≡ a' ++ rest' = ap (drop 4) same in (
+      sym (taken_bytes a rest) ∙ ap (take (length a)) tails ∙ ap (λ n. take n (a' ++ rest')) long ∙ taken_bytes a' rest',
+      sym (dropped_bytes a rest) ∙ ap (drop (length a)) tails ∙ ap (λ n. drop n (a' ++ rest')) long
+          ∙ dropped_bytes a' rest',
+    )
+
+-- a name is short
+first_of : (a b : Bool) → a && b ≡ true → a ≡ true
+first_of true b h = refl
+first_of false b h = absurd cc
+
+pub short_name : (name : List ℕ) → IsTrue (is_name name) → length name < 2 ^ 32
+short_name name is = let few = leb-true (length name) 31 (first_of _ _ is) in omega (arith, few)
+
+-- documents of which the bytes begin alike, as many of both, are the same
+documents_same : (documents documents' : Documents) (rest : List ℕ) → AreDocuments documents → AreDocuments documents'
+    → length documents ≡ length documents' → document_spellings documents' ≡ document_spellings documents ++ rest
+    → documents ≡ documents'
+documents_same [] [] rest valid valid' long same = refl
+documents_same [] (e ∷ l) rest valid valid' long same = absurd (omega (arith, long))
+documents_same (e ∷ l) [] rest valid valid' long same = absurd (omega (arith, long))
+documents_same (e ∷ l) (e' ∷ l') rest valid valid' long same =
+    let parts : behind_length e'.0 ++ (behind_length e'.1 ++ document_spellings l')
+    ≡ behind_length e.0 ++ (behind_length e.1 ++ (document_spellings l ++ rest)) =
+    sym (joined (behind_length e'.0) (behind_length e'.1) (document_spellings l')) ∙ same
+    ∙ joined (document_spelling e) (document_spellings l) rest
+    ∙ joined (behind_length e.0) (behind_length e.1) (document_spellings l ++ rest) in
+    let first = counted_same e'.0 e.0 _ _ (short_name e'.0 valid'.0.name) (short_name e.0 valid.0.name) parts in
+    let second = counted_same e'.1 e.1 _ _ valid'.0.short valid.0.short first.1 in
+    λ i. (sym first.0 i, sym second.0 i) ∷ documents_same l l' rest valid.1 valid'.1 (omega (arith, long)) second.1 i
+
 -- pages of which the bytes begin alike are the same
+pub small_kind : (p : Page) → page_kind p < 2 ^ 32
+small_kind (of_events version events) = omega arith
+small_kind (of_import version documents) = omega arith
+
+same_kind : (p p' : Page) (rest : List ℕ) → page_bytes p' ≡ page_bytes p ++ rest → page_kind p ≡ page_kind p'
+same_kind p p' rest same =
+    sym (from_be_bytes-to_be_bytes_4 (page_kind p) (small_kind p))
+    ∙ sym (ap (λ l. from_be_bytes w32 (take 4 l)) same)
+    ∙ from_be_bytes-to_be_bytes_4 (page_kind p') (small_kind p')
+
+same_count : (p p' : Page) (rest : List ℕ) → IsGoodPage p → IsGoodPage p' → page_bytes p' ≡ page_bytes p ++ rest
+    → page_count p ≡ page_count p'
+same_count p p' rest good good' same =
+    sym (from_be_bytes-to_be_bytes_4 (page_count p) good.few)
+    ∙ sym (ap (λ l. from_be_bytes w32 (take 4 (drop 8 l))) same)
+    ∙ from_be_bytes-to_be_bytes_4 (page_count p') good'.few
+
 page_of_front : BeginLaw → (p p' : Page) (rest : List ℕ) → IsGoodPage p → IsGoodPage p'
     → page_bytes p' ≡ page_bytes p ++ rest → p ≡ p'
-page_of_front law p p' rest good good' same =
-    let version : p.version ≡ p'.version = good.newest ∙ sym good'.newest in
-    let long : length p.events ≡ length p'.events =
-    sym (from_be_bytes-to_be_bytes_4 (length p.events) good.few)
-    ∙ sym (ap (λ l. from_be_bytes w32 (take 4 (drop 8 l))) same)
-    ∙ from_be_bytes-to_be_bytes_4 (length p'.events) good'.few in
-    let events = events_same law p.events p'.events rest good.valid good'.valid long (ap (drop 16) same) in
-    λ i. record { version = version i; events = events i }
+page_of_front law (of_events version events) (of_events version' events') rest good good' same =
+    let versions : version ≡ version' = good.newest ∙ sym good'.newest in
+    let long = same_count (of_events version events) (of_events version' events') rest good good' same in
+    let all = events_same law events events' rest good.valid good'.valid long (ap (drop 16) same) in
+    λ i. of_events (versions i) (all i)
+page_of_front law (of_events version events) (of_import version' documents) rest good good' same =
+    absurd (let kinds = same_kind (of_events version events) (of_import version' documents) rest same in omega (arith, kinds))
+page_of_front law (of_import version documents) (of_events version' events) rest good good' same =
+    absurd (let kinds = same_kind (of_import version documents) (of_events version' events) rest same in omega (arith, kinds))
+page_of_front law (of_import version documents) (of_import version' documents') rest good good' same =
+    let versions : version ≡ version' = good.newest ∙ sym good'.newest in
+    let long = same_count (of_import version documents) (of_import version' documents') rest good good' same in
+    let all = documents_same documents documents' rest good.valid good'.valid long (ap (drop 16) same) in
+    λ i. of_import (versions i) (all i)
 
 front_of : (c : Content) (at : ℕ) (l l' : List ℕ) → HoldsBytes c at l → HoldsBytes c at l' → length l ≤ length l'
     → l' ≡ l ++ drop (length l) l'
@@ -90,10 +161,10 @@ pages_same law c at (p ∷ l) (p' ∷ l') good good' ends has has' =
     (subst (λ q. HasPages c (at + page_sectors q) l') (sym first) has'.1) i
 
 pub one_past : BeginLaw → StandingLaw → OnePastLaw
-one_past law standing size start events events' desktop desktop' c r r' =
+one_past law standing size start deeds deeds' desktop desktop' c r r' =
     let same = standing size c r.standing r'.standing r.past.stands r'.past.stands in
     let pages = pages_same law c (first_page start) r.pages r'.pages r.past.good r'.past.good
     (r.past.up_to ∙ ap (λ x. x.past.next) same ∙ sym r'.past.up_to) r.past.written.1 r'.past.written.1 in (
-      sym r.all ∙ (λ i. events_of (pages i) ++ (same i).events) ∙ r'.all,
+      sym r.all ∙ (λ i. all_deeds (pages i) ++ all_posted (same i).events) ∙ r'.all,
       sym r.is ∙ ap desktop_of same ∙ r'.is,
     )

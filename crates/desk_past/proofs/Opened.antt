@@ -18,8 +18,9 @@ use Rattle.desk_journal.proofs.Aside.{stands_behind}
 use Rattle.desk_journal.specs.Opening.{IsOpened}
 use Rattle.desk_journal.specs.Undoing.{IsTakenBack, ShowsStanding}
 use Rattle.desk_journal.specs.View.{StoreView, IsDurable}
+use Rattle.desk_past.specs.Deeds.{PastDeed, after_deeds}
 use Rattle.desk_past.specs.Page.{HasPages, end_of_pages}
-use Rattle.desk_past.specs.Past.{KeepsAll, StandsFrom, Start, events_of, first_page}
+use Rattle.desk_past.specs.Past.{KeepsAll, StandsFrom, Start, all_deeds, first_page}
 use Rattle.desk_past.specs.Reading.{ShowsNow}
 use Rattle.desk_past.proofs.StillReads.{resized}
 use Rattle.desk_past.proofs.Carrying.{end_above}
@@ -74,8 +75,8 @@ stands_first c s at = resized STORE_SECTORS (λ n. c (0 + n)) s (omega arith)
 
 -- ---- pages behind a start
 
-module _ {D : Type 0} (d : Ghosts D) {start : Start} {events : List Event} {desktop : Desktop} {old : StoreView D}
-    (keeps : KeepsAll d start events desktop old) (base : ℕ) (is : start.base ≡ base) where
+module _ {D : Type 0} (d : Ghosts D) {start : Start} {deeds : List PastDeed} {desktop : Desktop} {old : StoreView D}
+    (keeps : KeepsAll d start deeds desktop old) (base : ℕ) (is : start.base ≡ base) where
   pub start_there : StandsFrom (now (d.trail old.disk)).reads base keeps.remembers.past.written.0.standing
   start_there = subst (λ n. StandsFrom (now (d.trail old.disk)).reads n keeps.remembers.past.written.0.standing) is
       keeps.remembers.past.written.0.stands

@@ -11,11 +11,14 @@ use Rattle.sector_disk.specs.Trail.{Content}
 use Rattle.sector_disk.proofs.StoredLaws.{stored_held, take-stored}
 use Rattle.event_bytes.specs.declared.event.Event.{Event}
 use Rattle.event_bytes.specs.Spelling.{BeginsWithEvent, spelling}
+use Rattle.document_filing.specs.Bringing.{Documents}
 use Rattle.store_layout.specs.declared.layout.TheConstants.{LAYOUT}
 use Rattle.store_slots.specs.Bodies.{spellings}
-use Rattle.desk_past.specs.declared.page.TheConstants.{EVENTS_PAGE}
-use Rattle.desk_past.specs.Page.{Page, number, page_bytes, page_sectors}
-use Rattle.desk_past.specs.Past.{AreEvents, IsGoodPage}
+use Rattle.desk_past.specs.declared.page.TheConstants.{EVENTS_PAGE, IMPORT_PAGE}
+use Rattle.desk_past.specs.Page.{Page, of_events, of_import, behind_length, document_spellings, number, page_body}
+use Rattle.desk_past.specs.Page.{page_bytes, page_count, page_kind, page_sectors, page_version}
+use Rattle.desk_past.specs.Past.{AreDoable, AreDocuments, AreEvents, IsGoodPage}
+use Rattle.desk_past.proofs.OnePast.{small_kind}
 use Rattle.desk_past.proofs.StillReads.{page_there}
 
 joined : (a b c : List ℕ) → (a ++ b) ++ c ≡ a ++ (b ++ c)
@@ -39,43 +42,44 @@ drop_both (suc n) m (x ∷ l) =
 four : (n : ℕ) → length (number n) ≡ 4
 four n = refl
 
-pub page_long : (p : Page) → length (page_bytes p) ≡ 16 + length (spellings p.events)
+pub page_long : (p : Page) → length (page_bytes p) ≡ 16 + length (page_body p)
 page_long p =
-    let e = spellings p.events in
+    let e = page_body p in
     omega (
       arith,
-      four EVENTS_PAGE,
-      four p.version,
-      four (length p.events),
+      four (page_kind p),
+      four (page_version p),
+      four (page_count p),
       four (length e),
       length-append (number (length e)) e,
-      length-append (number (length p.events)) (number (length e) ++ e),
-      length-append (number p.version) (number (length p.events) ++ (number (length e) ++ e)),
-      length-append (number EVENTS_PAGE) (number p.version ++ (number (length p.events) ++ (number (length e) ++ e))),
+      length-append (number (page_count p)) (behind_length e),
+      length-append (number (page_version p)) (number (page_count p) ++ behind_length e),
+      length-append (number (page_kind p)) (number (page_version p) ++ (number (page_count p) ++ behind_length e)),
     )
 
 module _ (c : Content) (at : ℕ) (p : Page) (held : HoldsBytes c at (page_bytes p)) (good : IsGoodPage p) where
   module _ (front first : List ℕ) (is : front ≡ take 16 first) (read : first ≡ stored c at (SECTOR_BYTES * 1)) where
-    front_is : front ≡ number EVENTS_PAGE ++ (number p.version
-        ++ (number (length p.events) ++ number (length (spellings p.events))))
+    front_is : front ≡ number (page_kind p) ++ (number (page_version p)
+        ++ (number (page_count p) ++ number (length (page_body p))))
     front_is = is ∙ ap (take 16) read ∙ take-stored c at (SECTOR_BYTES * 1) 16 (omega arith)
         ∙ sym (take-stored c at (length (page_bytes p)) 16 (omega (arith, page_long p)))
         ∙ ap (take 16) (stored_held c at (page_bytes p) held)
 
-    pub kind_is : from_be_bytes w32 (take 4 front) ≡ EVENTS_PAGE
-    kind_is = ap (λ l. from_be_bytes w32 (take 4 l)) front_is ∙ from_be_bytes-to_be_bytes_4 EVENTS_PAGE (omega arith)
+    pub kind_is : (n : ℕ) → n ≡ from_be_bytes w32 (take 4 front) → n ≡ page_kind p
+    kind_is n told = told ∙ ap (λ l. from_be_bytes w32 (take 4 l)) front_is
+        ∙ from_be_bytes-to_be_bytes_4 (page_kind p) (small_kind p)
 
     pub version_is : from_be_bytes w32 (take 4 (drop 4 front)) ≡ LAYOUT
     version_is = ap (λ l. from_be_bytes w32 (take 4 (drop 4 l))) front_is
-        ∙ from_be_bytes-to_be_bytes_4 p.version (omega (arith, good.newest)) ∙ good.newest
+        ∙ from_be_bytes-to_be_bytes_4 (page_version p) (omega (arith, good.newest)) ∙ good.newest
 
-    pub count_is : (n : ℕ) → n ≡ from_be_bytes w32 (take 4 (drop 8 front)) → n ≡ length p.events
+    pub count_is : (n : ℕ) → n ≡ from_be_bytes w32 (take 4 (drop 8 front)) → n ≡ page_count p
     count_is n told = told ∙ ap (λ l. from_be_bytes w32 (take 4 (drop 8 l))) front_is
-        ∙ from_be_bytes-to_be_bytes_4 (length p.events) good.few
+        ∙ from_be_bytes-to_be_bytes_4 (page_count p) good.few
 
-    pub spelled_is : (n : ℕ) → n ≡ from_be_bytes w32 (take 4 (drop 12 front)) → n ≡ length (spellings p.events)
+    pub spelled_is : (n : ℕ) → n ≡ from_be_bytes w32 (take 4 (drop 12 front)) → n ≡ length (page_body p)
     spelled_is n told = told ∙ ap (λ l. from_be_bytes w32 (take 4 (drop 12 l))) front_is
-        ∙ from_be_bytes-to_be_bytes_4 (length (spellings p.events)) good.short
+        ∙ from_be_bytes-to_be_bytes_4 (length (page_body p)) good.short
 
     -- in how many sectors it stands
     pub sectors_are : (n sectors : ℕ) → n ≡ from_be_bytes w32 (take 4 (drop 12 front))
@@ -86,10 +90,37 @@ module _ (c : Content) (at : ℕ) (p : Page) (held : HoldsBytes c at (page_bytes
   -- and what comes behind its front
   pub spelled_there : (bytes left : List ℕ) (sectors : ℕ) → sectors ≡ page_sectors p
       → bytes ≡ stored c at (SECTOR_BYTES * sectors) → left ≡ drop 16 bytes
-      → left ≡ spellings p.events ++ drop (length (page_bytes p)) (stored c at (SECTOR_BYTES * sectors))
+      → left ≡ page_body p ++ drop (length (page_bytes p)) (stored c at (SECTOR_BYTES * sectors))
   spelled_there bytes left sectors are read is = is ∙ ap (drop 16) read
       ∙ ap (drop 16) (page_there c at (SECTOR_BYTES * sectors) p held
       (let wide : length (page_bytes p) ≤ SECTOR_BYTES * page_sectors p = omega arith in omega (arith, are, wide)))
+
+-- ---- what it says was done
+
+-- of a page of events
+pub of_events_page : (X : Page → Type 0) (p : Page) (kind count : ℕ) (bytes rest : List ℕ) → kind ≡ EVENTS_PAGE
+    → kind ≡ page_kind p → count ≡ page_count p → AreDoable p → bytes ≡ page_body p ++ rest
+    → ((version : ℕ) (events : List Event) → length events ≡ count → AreEvents events → bytes ≡ spellings events ++ rest
+    → X (of_events version events)) → X p
+of_events_page X (of_events version events) kind count bytes rest one is many valid spelled f =
+    f version events (sym many) valid spelled
+of_events_page X (of_import version documents) kind count bytes rest one is many valid spelled f =
+    absurd (omega (arith, one, is))
+
+-- of a page of an import
+pub of_import_page : (X : Page → Type 0) (p : Page) (kind count : ℕ) (bytes rest : List ℕ) → kind ≡ IMPORT_PAGE
+    → kind ≡ page_kind p → count ≡ page_count p → AreDoable p → bytes ≡ page_body p ++ rest
+    → ((version : ℕ) (documents : Documents) → length documents ≡ count → AreDocuments documents
+    → bytes ≡ document_spellings documents ++ rest → X (of_import version documents)) → X p
+of_import_page X (of_events version events) kind count bytes rest two is many valid spelled f =
+    absurd (omega (arith, two, is))
+of_import_page X (of_import version documents) kind count bytes rest two is many valid spelled f =
+    f version documents (sym many) valid spelled
+
+-- there is no other one
+pub of_no_page : (p : Page) (kind : ℕ) → ¬ (kind ≡ EVENTS_PAGE) → ¬ (kind ≡ IMPORT_PAGE) → kind ≡ page_kind p → ⊥
+of_no_page (of_events version events) kind one two is = one is
+of_no_page (of_import version documents) kind one two is = two is
 
 -- ---- events
 

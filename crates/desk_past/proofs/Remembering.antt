@@ -9,7 +9,8 @@ use Rattle.sector_disk.specs.Trail.{Content, now, LeavesOnly}
 use Rattle.sector_disk.proofs.Touching.{at_last, chained, read_is_an_image, weakened}
 use Rattle.event_bytes.specs.declared.event.Event.{Event}
 use Rattle.desktop_definitions.specs.Desktop.{Desktop}
-use Rattle.desktop_definitions.specs.Step.{Outcome, step, step_in, steps}
+use Rattle.desktop_definitions.specs.Step.{Outcome, step, step_in}
+use Rattle.document_filing.specs.Bringing.{Documents}
 use Rattle.store_layout.specs.declared.head.PastEnd.{PastEnd}
 use Rattle.store_layout.specs.Filling.{InRange}
 use Rattle.store_layout.specs.Meaning.{Standing, Stands, and_then}
@@ -20,12 +21,14 @@ use Rattle.desk_journal.specs.Posting.{HasJournalRoom}
 use Rattle.desk_journal.specs.Undoing.{ShowsStanding}
 use Rattle.desk_journal.specs.View.{StoreView}
 use Rattle.desk_past.specs.Beginning.{IsApart}
+use Rattle.desk_past.specs.Bringing.{IsAhead}
 use Rattle.desk_past.specs.Page.{Page, page_bytes, page_sectors}
 use Rattle.desk_past.specs.Keeping.{HasPageRoom}
-use Rattle.desk_past.specs.Past.{HasNewPage, HoldsPast, IsHeadTold, HoldsPages, KeepsAll, LeavesAll, Remembers, Start, events_of}
+use Rattle.desk_past.specs.Past.{HasNewPage, HoldsPast, IsHeadTold, HoldsPages, KeepsAll, LeavesAll, Remembers, Start, all_deeds}
 use Rattle.desk_past.specs.Past.{first_page, journal_of}
 use Rattle.desk_past.proofs.Carrying.{both_leave, end_on, good_journal, good_on, past_of, written_front, written_kept, written_on}
-use Rattle.desk_past.proofs.Moments.{events_on, joined, stepped_on}
+use Rattle.desk_past.specs.Deeds.{PastDeed, posted, after_deeds, all_posted}
+use Rattle.desk_past.proofs.Moments.{deeds_on, joined, many_posted, posted_both, stepped_on}
 
 -- nothing is pending on the disk of a store
 abbrev pub IsQuiet : {D : Type 0} → Ghosts D → StoreView D → Type 0
@@ -53,30 +56,31 @@ turned {start = start} {s = s} {pages = pages} {c = c} past end next before shor
   up_to = end_on pages (first_page start) (journal_of s)
       ∙ ap (λ n. n + page_sectors (journal_of s)) past.up_to ∙ next;
   room = room;
-  counted = let all = ap length (events_on pages (journal_of s)) in
-      let long = length-append (events_of pages) s.events in omega (arith, all, long, past.counted, before);
-  leads = ap (steps start.desktop) (events_on pages (journal_of s))
+  counted = let all = ap length (deeds_on pages (journal_of s)) in
+      let long = length-append (all_deeds pages) (all_posted s.events) in
+      omega (arith, all, long, many_posted s.events, past.counted, before);
+  leads = ap (after_deeds start.desktop) (deeds_on pages (journal_of s))
       ∙ stepped_on start.desktop pages s s.events past.newest past.leads;
 }
 
-abbrev remembers_turned : {size size' : ℕ} {start : Start} {events : List Event} {desktop : Desktop} {c c' : Content}
-    (r : Remembers size start events desktop c) (end : PastEnd)
+abbrev remembers_turned : {size size' : ℕ} {start : Start} {deeds : List PastDeed} {desktop : Desktop} {c c' : Content}
+    (r : Remembers size start deeds desktop c) (end : PastEnd)
     → r.standing.past.next + page_sectors (journal_of r.standing) ≡ end.next
     → r.standing.past.before + length r.standing.events ≡ end.before
     → length (page_bytes (journal_of r.standing)) < 2 ^ 32 → end.next ≤ size'
     → Stands size' c' (renewed_from end r.standing)
-    → HoldsPages c' start (r.pages ++ journal_of r.standing ∷ []) → Remembers size' start events desktop c'
+    → HoldsPages c' start (r.pages ++ journal_of r.standing ∷ []) → Remembers size' start deeds desktop c'
 remembers_turned r end next before short room stands written = record {
   standing = renewed_from end r.standing;
   pages = r.pages ++ journal_of r.standing ∷ [];
   past = turned r.past end next before short room stands written;
-  all = append-nil (events_of (r.pages ++ journal_of r.standing ∷ [])) ∙ events_on r.pages (journal_of r.standing) ∙ r.all;
+  all = append-nil (all_deeds (r.pages ++ journal_of r.standing ∷ [])) ∙ deeds_on r.pages (journal_of r.standing) ∙ r.all;
   is = r.is;
 }
 
-abbrev pub remembers_on : {size size' : ℕ} {start : Start} {events : List Event} {desktop : Desktop} {c c' : Content}
-    (r : Remembers size start events desktop c) → size' ≡ size → Stands size' c' r.standing → HoldsPages c' start r.pages
-    → Remembers size' start events desktop c'
+abbrev pub remembers_on : {size size' : ℕ} {start : Start} {deeds : List PastDeed} {desktop : Desktop} {c c' : Content}
+    (r : Remembers size start deeds desktop c) → size' ≡ size → Stands size' c' r.standing → HoldsPages c' start r.pages
+    → Remembers size' start deeds desktop c'
 remembers_on r large stands written = record {
   standing = r.standing;
   pages = r.pages;
@@ -85,30 +89,32 @@ remembers_on r large stands written = record {
   is = r.is;
 }
 
-abbrev remembers_more : {size size' : ℕ} {start : Start} {events : List Event} {desktop : Desktop} {c c' : Content}
-    (r : Remembers size start events desktop c) (event : Event) → size' ≡ size
+abbrev remembers_more : {size size' : ℕ} {start : Start} {deeds : List PastDeed} {desktop : Desktop} {c c' : Content}
+    (r : Remembers size start deeds desktop c) (event : Event) → size' ≡ size
     → Stands size' c' (and_then r.standing event) → HoldsPages c' start r.pages
-    → Remembers size' start (events ++ event ∷ []) (step desktop event).desktop c'
+    → Remembers size' start (deeds ++ posted event ∷ []) (step desktop event).desktop c'
 remembers_more {desktop = desktop} r event large stands written = record {
   standing = and_then r.standing event;
   pages = r.pages;
   past = past_of (and_then r.standing event) r.past refl refl refl large stands written;
-  all = sym (joined (events_of r.pages) r.standing.events (event ∷ [])) ∙ ap (λ l. l ++ event ∷ []) r.all;
+  all = ap (λ l. all_deeds r.pages ++ l) (posted_both r.standing.events (event ∷ []))
+      ∙ sym (joined (all_deeds r.pages) (all_posted r.standing.events) (posted event ∷ []))
+      ∙ ap (λ l. l ++ posted event ∷ []) r.all;
   is = steps_in_on r.standing.version r.standing.start r.standing.events event
       ∙ (λ i. (step_in (r.past.newest i) (r.is i) event).desktop)
       ∙ ap (λ (o : Outcome). o.desktop) (in_newest desktop event);
 }
 
-module _ {D : Type 0} (d : Ghosts D) {start : Start} {events : List Event} {desktop : Desktop}
-    {old : StoreView D} (was : KeepsAll d start events desktop old) (honest : d.honest old.disk)
+module _ {D : Type 0} (d : Ghosts D) {start : Start} {deeds : List PastDeed} {desktop : Desktop}
+    {old : StoreView D} (was : KeepsAll d start deeds desktop old) (honest : d.honest old.disk)
     (quiet : IsQuiet d old) where
   -- ---- a call that only reads
-  pub read_moments : (new : StoreView D) → IsOnlyRead d old.disk new.disk → LeavesAll d start events desktop old new
+  pub read_moments : (new : StoreView D) → IsOnlyRead d old.disk new.disk → LeavesAll d start deeds desktop old new
   read_moments new run = weakened (run.unwritten honest) (λ c image.
-      subst (Remembers (d.size old.disk) start events desktop) (sym (λ i n. image n (quiet n) i)) was.remembers)
+      subst (Remembers (d.size old.disk) start deeds desktop) (sym (λ i n. image n (quiet n) i)) was.remembers)
 
   pub read_keeps : {new : StoreView D} → IsOnlyRead d old.disk new.disk → new.must_reopen ≡ false
-      → KeepsAll d start events desktop new
+      → KeepsAll d start deeds desktop new
   read_keeps {new = new} run usable =
       let image = at_last (run.unwritten honest) (now (d.trail new.disk)).reads (read_is_an_image (now (d.trail new.disk))) in
       record {
@@ -126,14 +132,14 @@ module _ {D : Type 0} (d : Ghosts D) {start : Start} {events : List Event} {desk
   -- what the head told before a read it tells behind it
   pub told_still : {X : Type 0} (new : StoreView D) (run : IsOnlyRead d old.disk new.disk)
       (usable : new.must_reopen ≡ false) (told : PastEnd) → IsHeadTold d told was
-      → ((keeps : KeepsAll d start events desktop new) → IsHeadTold d told keeps → X) → X
+      → ((keeps : KeepsAll d start deeds desktop new) → IsHeadTold d told keeps → X) → X
   unfolding read_keeps
   told_still new run usable told is f = f (read_keeps {new = new} run usable) is
 
   -- and the room for its page stays
   pub room_still : {X : Type 0} (new : StoreView D) (run : IsOnlyRead d old.disk new.disk)
       (usable : new.must_reopen ≡ false) (end : ℕ) → HasPageRoom d end was
-      → ((keeps : KeepsAll d start events desktop new) → HasPageRoom d end keeps → X) → X
+      → ((keeps : KeepsAll d start deeds desktop new) → HasPageRoom d end keeps → X) → X
   unfolding read_keeps
   room_still new run usable end room f = f (read_keeps {new = new} run usable) (record {
     page = room.page;
@@ -144,18 +150,35 @@ module _ {D : Type 0} (d : Ghosts D) {start : Start} {events : List Event} {desk
   -- and a start that is apart from it
   pub apart_still : {X : Type 0} (new : StoreView D) (run : IsOnlyRead d old.disk new.disk)
       (usable : new.must_reopen ≡ false) (base : ℕ) → IsApart d base was
-      → ((keeps : KeepsAll d start events desktop new) → IsApart d base keeps → X) → X
+      → ((keeps : KeepsAll d start deeds desktop new) → IsApart d base keeps → X) → X
   unfolding read_keeps
   apart_still new run usable base apart f = f (read_keeps {new = new} run usable) apart
 
   pub told_room_still : {X : Type 0} (new : StoreView D) (run : IsOnlyRead d old.disk new.disk)
       (usable : new.must_reopen ≡ false) (end : ℕ) (told : PastEnd) → IsHeadTold d told was → HasPageRoom d end was
-      → ((keeps : KeepsAll d start events desktop new) → IsHeadTold d told keeps → HasPageRoom d end keeps → X) → X
+      → ((keeps : KeepsAll d start deeds desktop new) → IsHeadTold d told keeps → HasPageRoom d end keeps → X) → X
   unfolding read_keeps
   told_room_still new run usable end told is room f = f (read_keeps {new = new} run usable) is (record {
     page = room.page;
     inside = omega (arith, room.inside, run.device.as_large);
     few = room.few;
+  })
+
+  -- and what is to be written before an import
+  pub ahead_still : {X : Type 0} (new : StoreView D) (run : IsOnlyRead d old.disk new.disk)
+      (usable : new.must_reopen ≡ false) (documents : Documents) (past : PastEnd) (from limit : ℕ) (bytes : List ℕ)
+      → IsAhead d documents past from limit bytes was
+      → ((keeps : KeepsAll d start deeds desktop new) → IsAhead d documents past from limit bytes keeps → X) → X
+  unfolding read_keeps
+  ahead_still new run usable documents past from limit bytes ahead f = f (read_keeps {new = new} run usable) (record {
+    at = ahead.at;
+    are = ahead.are;
+    up_to = ahead.up_to;
+    limit_is = ahead.limit_is;
+    room = omega (arith, ahead.room, run.device.as_large);
+    counted = ahead.counted;
+    short = ahead.short;
+    good = ahead.good;
   })
 
   -- ---- a page is written
@@ -165,7 +188,7 @@ module _ {D : Type 0} (d : Ghosts D) {start : Start} {events : List Event} {desk
     kept_there = written_kept was.remembers.pages start was.behind (λ n far. quiet n) (only.moments honest)
         (λ n low high within. omega (arith, high, within.0, at, was.remembers.past.up_to)) was.remembers.past.written
 
-    pub page_moments : KeepsStanding d old new → LeavesAll d start events desktop old new
+    pub page_moments : KeepsStanding d old new → LeavesAll d start deeds desktop old new
     page_moments keeps = weakened
         (both_leave (keeps was.usable honest was.remembers.standing was.remembers.past.stands) kept_there)
         (λ c x. remembers_on was.remembers refl x.0 x.1)
@@ -174,7 +197,7 @@ module _ {D : Type 0} (d : Ghosts D) {start : Start} {events : List Event} {desk
         → bytes ≡ page_bytes (journal_of was.remembers.standing) → length bytes < 2 ^ 32
         → from + page_sectors (journal_of was.remembers.standing) ≡ end.next → end.next ≤ d.size old.disk
         → was.remembers.standing.past.before + length was.remembers.standing.events ≡ end.before
-        → HasNewPage d start events desktop end new
+        → HasNewPage d start deeds desktop end new
     page_keeps end done same short up_to room counted = record {
       keeps = record {
         usable = done.usable;
@@ -200,17 +223,17 @@ module _ {D : Type 0} (d : Ghosts D) {start : Start} {events : List Event} {desk
         (λ n low high store. omega (arith, low, was.behind, store)) was.remembers.past.written
 
     pub post_moments : LeavesPosted d event old new
-        → LeavesOnly (d.trail old.disk) (d.trail new.disk) (λ c. Remembers (d.size old.disk) start events desktop c
-        ⊎ Remembers (d.size old.disk) start (events ++ event ∷ []) (step desktop event).desktop c)
-    post_moments posted = weakened
-        (both_leave (posted has was.usable honest was.remembers.standing was.remembers.past.stands) still_there)
+        → LeavesOnly (d.trail old.disk) (d.trail new.disk) (λ c. Remembers (d.size old.disk) start deeds desktop c
+        ⊎ Remembers (d.size old.disk) start (deeds ++ posted event ∷ []) (step desktop event).desktop c)
+    post_moments leaves = weakened
+        (both_leave (leaves has was.usable honest was.remembers.standing was.remembers.past.stands) still_there)
         (λ c x. elim x.0 [
           | inl added ↦ inr (remembers_more was.remembers event refl added x.1)
           | inr still ↦ inl (remembers_on was.remembers refl still x.1)
         ])
 
     pub post_keeps : new.must_reopen ≡ false → ShowsStanding d new (and_then was.remembers.standing event)
-        → KeepsAll d start (events ++ event ∷ []) (step desktop event).desktop new
+        → KeepsAll d start (deeds ++ posted event ∷ []) (step desktop event).desktop new
     post_keeps usable shows = record {
       usable = usable;
       behind = was.behind;
@@ -219,10 +242,10 @@ module _ {D : Type 0} (d : Ghosts D) {start : Start} {events : List Event} {desk
     }
 
 -- ---- a checkpoint ends the epoch, whose page is written
-module _ {D : Type 0} (d : Ghosts D) {start : Start} {events : List Event} {desktop : Desktop} {end : PastEnd}
-    {old : StoreView D} (was : HasNewPage d start events desktop end old) (honest : d.honest old.disk)
+module _ {D : Type 0} (d : Ghosts D) {start : Start} {deeds : List PastDeed} {desktop : Desktop} {end : PastEnd}
+    {old : StoreView D} (was : HasNewPage d start deeds desktop end old) (honest : d.honest old.disk)
     (quiet : IsQuiet d old) (new : StoreView D) (within : StaysWithin d old.disk new.disk) where
-  abbrev r : Remembers (d.size old.disk) start events desktop (now (d.trail old.disk)).reads
+  abbrev r : Remembers (d.size old.disk) start deeds desktop (now (d.trail old.disk)).reads
   r = was.keeps.remembers
 
   all_pages : HoldsPages (now (d.trail old.disk)).reads start (r.pages ++ journal_of r.standing ∷ [])
@@ -235,7 +258,7 @@ module _ {D : Type 0} (d : Ghosts D) {start : Start} {events : List Event} {desk
   pages_there = written_kept (r.pages ++ journal_of r.standing ∷ []) start was.keeps.behind (λ n far. quiet n)
       (within.moments honest) (λ n low high store. omega (arith, low, was.keeps.behind, store)) all_pages
 
-  pub turn_moments : LeavesNext d (renewed_from end) old new → LeavesAll d start events desktop old new
+  pub turn_moments : LeavesNext d (renewed_from end) old new → LeavesAll d start deeds desktop old new
   turn_moments renewed = weakened (both_leave (renewed was.keeps.usable honest r.standing r.past.stands) pages_there)
       (λ c x. elim x.0 [
         | inl anew ↦ remembers_turned r end was.up_to was.counted was.short was.room anew x.1
@@ -243,7 +266,7 @@ module _ {D : Type 0} (d : Ghosts D) {start : Start} {events : List Event} {desk
       ])
 
   pub turn_keeps : new.must_reopen ≡ false → ShowsNext d (renewed_from end) old new
-      → KeepsAll d start events desktop new
+      → KeepsAll d start deeds desktop new
   turn_keeps usable shows = record {
     usable = usable;
     behind = was.keeps.behind;
@@ -255,50 +278,50 @@ module _ {D : Type 0} (d : Ghosts D) {start : Start} {events : List Event} {desk
 -- ---- calls one after another
 
 -- reads, and then a page is written
-module _ {D : Type 0} (d : Ghosts D) {start : Start} {events : List Event} {desktop : Desktop}
-    {old : StoreView D} (mid new : StoreView D) (was : KeepsAll d start events desktop old) (honest : d.honest old.disk)
+module _ {D : Type 0} (d : Ghosts D) {start : Start} {deeds : List PastDeed} {desktop : Desktop}
+    {old : StoreView D} (mid new : StoreView D) (was : KeepsAll d start deeds desktop old) (honest : d.honest old.disk)
     (quiet : IsQuiet d old) (run : IsOnlyRead d old.disk mid.disk) (usable : mid.must_reopen ≡ false)
     (still : IsQuiet d mid) (from limit : ℕ) (at : from ≡ was.remembers.standing.past.next)
     (only : IsConfined d.size d.honest d.trail (InRange from limit) mid.disk new.disk) where
-  pub read_then_moments : KeepsStanding d mid new → LeavesAll d start events desktop old new
+  pub read_then_moments : KeepsStanding d mid new → LeavesAll d start deeds desktop old new
   unfolding read_keeps
   read_then_moments keeps = chained (read_moments d was honest quiet mid run)
-      (subst (λ n. LeavesOnly (d.trail mid.disk) (d.trail new.disk) (Remembers n start events desktop)) run.device.as_large
+      (subst (λ n. LeavesOnly (d.trail mid.disk) (d.trail new.disk) (Remembers n start deeds desktop)) run.device.as_large
       (page_moments d (read_keeps d was honest quiet {new = mid} run usable) (run.device.still honest) still new from limit at only keeps))
 
   pub read_then_page : {bytes : List ℕ} (end : PastEnd) → IsWrittenBehind d from bytes mid new
       → bytes ≡ page_bytes (journal_of was.remembers.standing) → length bytes < 2 ^ 32
       → from + page_sectors (journal_of was.remembers.standing) ≡ end.next → end.next ≤ d.size mid.disk
       → was.remembers.standing.past.before + length was.remembers.standing.events ≡ end.before
-      → HasNewPage d start events desktop end new
+      → HasNewPage d start deeds desktop end new
   unfolding read_keeps
   read_then_page end done same short up_to room counted =
       page_keeps d (read_keeps d was honest quiet {new = mid} run usable) (run.device.still honest) still
       new from limit at only end done same short up_to room counted
 
 -- a part of a call that leaves all, and another one behind it
-pub leaves_then : {D : Type 0} (d : Ghosts D) {start : Start} {events : List Event} {desktop : Desktop}
-    (old mid new : StoreView D) → IsSameDevice d old.disk mid.disk → LeavesAll d start events desktop old mid
-    → LeavesAll d start events desktop mid new → LeavesAll d start events desktop old new
-leaves_then d {start = start} {events = events} {desktop = desktop} old mid new device first second =
-    chained first (subst (λ n. LeavesOnly (d.trail mid.disk) (d.trail new.disk) (Remembers n start events desktop))
+pub leaves_then : {D : Type 0} (d : Ghosts D) {start : Start} {deeds : List PastDeed} {desktop : Desktop}
+    (old mid new : StoreView D) → IsSameDevice d old.disk mid.disk → LeavesAll d start deeds desktop old mid
+    → LeavesAll d start deeds desktop mid new → LeavesAll d start deeds desktop old new
+leaves_then d {start = start} {deeds = deeds} {desktop = desktop} old mid new device first second =
+    chained first (subst (λ n. LeavesOnly (d.trail mid.disk) (d.trail new.disk) (Remembers n start deeds desktop))
     device.as_large second)
 
-abbrev pub LeavesMore : {D : Type 0} → Ghosts D → ℕ → Event → Start → List Event → Desktop → D → D → Type 0
-LeavesMore d size event start events desktop old new = LeavesOnly (d.trail old) (d.trail new)
-    (λ c. Remembers size start events desktop c
-    ⊎ Remembers size start (events ++ event ∷ []) (step desktop event).desktop c)
+abbrev pub LeavesMore : {D : Type 0} → Ghosts D → ℕ → Event → Start → List PastDeed → Desktop → D → D → Type 0
+LeavesMore d size event start deeds desktop old new = LeavesOnly (d.trail old) (d.trail new)
+    (λ c. Remembers size start deeds desktop c
+    ⊎ Remembers size start (deeds ++ posted event ∷ []) (step desktop event).desktop c)
 
-pub leaves_more : {D : Type 0} (d : Ghosts D) {start : Start} {events : List Event} {desktop : Desktop}
-    (old mid : StoreView D) (event : Event) → LeavesAll d start events desktop old mid
-    → LeavesMore d (d.size old.disk) event start events desktop old.disk mid.disk
+pub leaves_more : {D : Type 0} (d : Ghosts D) {start : Start} {deeds : List PastDeed} {desktop : Desktop}
+    (old mid : StoreView D) (event : Event) → LeavesAll d start deeds desktop old mid
+    → LeavesMore d (d.size old.disk) event start deeds desktop old.disk mid.disk
 leaves_more d old mid event first = weakened first (λ c r. inl r)
 
-pub leaves_more_then : {D : Type 0} (d : Ghosts D) {start : Start} {events : List Event} {desktop : Desktop}
+pub leaves_more_then : {D : Type 0} (d : Ghosts D) {start : Start} {deeds : List PastDeed} {desktop : Desktop}
     (old mid new : StoreView D) (event : Event) → IsSameDevice d old.disk mid.disk
-    → LeavesAll d start events desktop old mid
-    → LeavesMore d (d.size mid.disk) event start events desktop mid.disk new.disk
-    → LeavesMore d (d.size old.disk) event start events desktop old.disk new.disk
-leaves_more_then d {start = start} {events = events} {desktop = desktop} old mid new event device first
+    → LeavesAll d start deeds desktop old mid
+    → LeavesMore d (d.size mid.disk) event start deeds desktop mid.disk new.disk
+    → LeavesMore d (d.size old.disk) event start deeds desktop old.disk new.disk
+leaves_more_then d {start = start} {deeds = deeds} {desktop = desktop} old mid new event device first
     second = chained (weakened first (λ c r. inl r))
-    (subst (λ n. LeavesMore d n event start events desktop mid.disk new.disk) device.as_large second)
+    (subst (λ n. LeavesMore d n event start deeds desktop mid.disk new.disk) device.as_large second)

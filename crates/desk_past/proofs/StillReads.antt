@@ -30,7 +30,7 @@ nothing_written t = record {
 }
 
 module _ {D : Type 0} (d : Ghosts D) where
-  read_twice : {old mid new : D} → IsOnlyRead d old mid → IsOnlyRead d mid new → IsOnlyRead d old new
+  pub read_twice : {old mid new : D} → IsOnlyRead d old mid → IsOnlyRead d mid new → IsOnlyRead d old new
   read_twice first second = record {
     device = record {
       as_large = second.device.as_large ∙ first.device.as_large;
@@ -83,6 +83,10 @@ module _ {D : Type 0} (d : Ghosts D) where
     };
     usable = second.usable;
   }
+
+  pub still_left : {old mid new : StoreView D} → IsOnlyReadFrom d old mid → IsLeft d mid new
+      → new.must_reopen ≡ mid.must_reopen → IsOnlyReadFrom d old new
+  still_left first left same = still_both first (record { left = left; usable = same ∙ first.usable })
 
   -- what is read stays
   pub still_reads : {old new : StoreView D} → IsOnlyReadFrom d old new → IsQuiet d old → d.honest old.disk

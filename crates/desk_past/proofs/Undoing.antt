@@ -15,9 +15,10 @@ use Rattle.store_slots.specs.Beside.{IsRest, within, across}
 use Rattle.store_slots.specs.Device.{StaysWithin}
 use Rattle.desk_journal.specs.Undoing.{IsTakenBack, LeavesUndone}
 use Rattle.desk_journal.specs.View.{StoreView, IsDurable}
-use Rattle.desk_past.specs.Past.{HoldsPages, KeepsAll, Remembers, Start, events_of}
+use Rattle.desk_past.specs.Past.{HoldsPages, KeepsAll, Remembers, Start, all_deeds}
 use Rattle.desk_past.proofs.Carrying.{both_leave, past_of, written_kept}
-use Rattle.desk_past.proofs.Moments.{joined}
+use Rattle.desk_past.specs.Deeds.{PastDeed, all_posted}
+use Rattle.desk_past.proofs.Moments.{joined, posted_both}
 use Rattle.desk_past.proofs.Told.{shown_as}
 
 -- no more than there are in the journal in use: they are its last ones
@@ -27,10 +28,10 @@ rest_within events s rest few (within same) = same
 rest_within events s rest few (across t event more came is same) =
     let long = ap length same in absurd (omega (arith, few, long, length-append more s.events))
 
-abbrev remembers_rest : {size size' : ℕ} {start : Start} {events : List Event} {desktop : Desktop} {c c' : Content}
-    (r : Remembers size start events desktop c) (rest : Standing) (back : List Event) → r.standing ≡ and_all rest back
+abbrev remembers_rest : {size size' : ℕ} {start : Start} {deeds : List PastDeed} {desktop : Desktop} {c c' : Content}
+    (r : Remembers size start deeds desktop c) (rest : Standing) (back : List Event) → r.standing ≡ and_all rest back
     → size' ≡ size → Stands size' c' rest → HoldsPages c' start r.pages
-    → Remembers size' start (events_of r.pages ++ rest.events) (desktop_of rest) c'
+    → Remembers size' start (all_deeds r.pages ++ all_posted rest.events) (desktop_of rest) c'
 remembers_rest r rest back same large stands written = record {
   standing = rest;
   pages = r.pages;
@@ -40,32 +41,33 @@ remembers_rest r rest back same large stands written = record {
   is = refl;
 }
 
-rest_all : {size : ℕ} {start : Start} {events : List Event} {desktop : Desktop} {c : Content}
-    (r : Remembers size start events desktop c) (rest : Standing) (back : List Event) → r.standing ≡ and_all rest back
-    → (events_of r.pages ++ rest.events) ++ back ≡ events
-rest_all r rest back same = joined (events_of r.pages) rest.events back
-    ∙ ap (λ x. events_of r.pages ++ x.events) (sym same) ∙ r.all
+rest_all : {size : ℕ} {start : Start} {deeds : List PastDeed} {desktop : Desktop} {c : Content}
+    (r : Remembers size start deeds desktop c) (rest : Standing) (back : List Event) → r.standing ≡ and_all rest back
+    → (all_deeds r.pages ++ all_posted rest.events) ++ all_posted back ≡ deeds
+rest_all r rest back same = joined (all_deeds r.pages) (all_posted rest.events) (all_posted back)
+    ∙ ap (λ l. all_deeds r.pages ++ l) (sym (posted_both rest.events back))
+    ∙ ap (λ x. all_deeds r.pages ++ all_posted x.events) (sym same) ∙ r.all
 
-module _ {D : Type 0} (d : Ghosts D) {start : Start} {events : List Event} {desktop : Desktop}
-    {old : StoreView D} (was : KeepsAll d start events desktop old) (honest : d.honest old.disk)
+module _ {D : Type 0} (d : Ghosts D) {start : Start} {deeds : List PastDeed} {desktop : Desktop}
+    {old : StoreView D} (was : KeepsAll d start deeds desktop old) (honest : d.honest old.disk)
     (quiet : (n : ℕ) → (now (d.trail old.disk)).pending n ≡ false) where
   abbrev s : Standing
   s = was.remembers.standing
 
   -- nothing was written
-  pub none_undone : (count : ℕ) → (left : List Event) × (back : List Event) × (before : Desktop)
-      × (left ++ back ≡ events) × (length back ≤ count)
+  pub none_undone : (count : ℕ) → (left : List PastDeed) × (back : List Event) × (before : Desktop)
+      × (left ++ all_posted back ≡ deeds) × (length back ≤ count)
       × LeavesOnly (d.trail old.disk) (d.trail old.disk) (λ c. Remembers (d.size old.disk) start left before c
-      ⊎ Remembers (d.size old.disk) start events desktop c)
+      ⊎ Remembers (d.size old.disk) start deeds desktop c)
   none_undone count = (
-    events,
+    deeds,
     [],
     desktop,
-    append-nil events,
+    append-nil deeds,
     omega arith,
-    spared (λ c. Remembers (d.size old.disk) start events desktop c ⊎ Remembers (d.size old.disk) start events desktop c)
+    spared (λ c. Remembers (d.size old.disk) start deeds desktop c ⊎ Remembers (d.size old.disk) start deeds desktop c)
         quiet (touching.stays_put Nowhere (d.trail old.disk))
-        (λ c same. inr (subst (Remembers (d.size old.disk) start events desktop) (sym (λ i n. same n (λ none. none) i))
+        (λ c same. inr (subst (Remembers (d.size old.disk) start deeds desktop) (sym (λ i n. same n (λ none. none) i))
         was.remembers)),
   )
 
@@ -78,14 +80,14 @@ module _ {D : Type 0} (d : Ghosts D) {start : Start} {events : List Event} {desk
     many : length s.events ≡ old.events
     many = (shown_as (now (d.trail old.disk)) s law (durable honest) was.remembers.past.stands).events
 
-    pub some_undone : LeavesUndone d count old new → (left : List Event) × (back : List Event) × (before : Desktop)
-        × (left ++ back ≡ events) × (length back ≤ count)
+    pub some_undone : LeavesUndone d count old new → (left : List PastDeed) × (back : List Event) × (before : Desktop)
+        × (left ++ all_posted back ≡ deeds) × (length back ≤ count)
         × LeavesOnly (d.trail old.disk) (d.trail new.disk) (λ c. Remembers (d.size old.disk) start left before c
-        ⊎ Remembers (d.size old.disk) start events desktop c)
+        ⊎ Remembers (d.size old.disk) start deeds desktop c)
     some_undone undone =
         let x = undone was.usable honest s was.remembers.past.stands in
         let same = rest_within x.0 s x.1 (omega (arith, x.2, low, many)) x.3.is_rest in (
-          events_of was.remembers.pages ++ x.1.events,
+          all_deeds was.remembers.pages ++ all_posted x.1.events,
           x.0,
           desktop_of x.1,
           rest_all was.remembers x.1 x.0 same,
@@ -103,11 +105,11 @@ module _ {D : Type 0} (d : Ghosts D) {start : Start} {events : List Event} {desk
         )
 
     pub others_kept : {back : List Event} → IsTakenBack d count back old new
-        → (left : List Event) × (before : Desktop) × (left ++ back ≡ events) × KeepsAll d start left before new
+        → (left : List PastDeed) × (before : Desktop) × (left ++ all_posted back ≡ deeds) × KeepsAll d start left before new
     others_kept {back = back} taken =
         let x = taken.back honest s was.remembers.past.stands in
         let same = rest_within back s x.0 (omega (arith, taken.few, low, many)) x.1.leaves.is_rest in (
-          events_of was.remembers.pages ++ x.0.events,
+          all_deeds was.remembers.pages ++ all_posted x.0.events,
           desktop_of x.0,
           rest_all was.remembers x.0 back same,
           record {

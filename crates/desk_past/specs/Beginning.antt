@@ -5,7 +5,6 @@ use Rattle.sector_disk.specs.declared.disk.Disk.{Ghosts}
 use Rattle.sector_disk.specs.declared.disk.TheConstants.{SECTOR_BYTES}
 use Rattle.sector_disk.specs.Faults.{FailsAs}
 use Rattle.sector_disk.specs.Trail.{Content, now, LeavesOnly}
-use Rattle.event_bytes.specs.declared.event.Event.{Event}
 use Rattle.desktop_definitions.specs.Desktop.{Desktop}
 use Rattle.store_layout.specs.declared.layout.TheConstants.{LAST_EPOCH, STORE_SECTORS}
 use Rattle.store_layout.specs.Filling.{InRange}
@@ -16,6 +15,7 @@ use Rattle.store_slots.specs.Errors.{OfPost}
 use Rattle.desk_journal.specs.Device.{IsSameDevice}
 use Rattle.desk_journal.specs.Undoing.{ShowsStanding}
 use Rattle.desk_journal.specs.View.{StoreView}
+use Rattle.desk_past.specs.Deeds.{PastDeed}
 use Rattle.desk_past.specs.Past.{KeepsAll, Remembers, Start}
 
 -- the start of a past that begins with this desktop, behind so many events
@@ -88,16 +88,16 @@ abbrev pub copied_back : ℕ → Content → Content
 copied_back base c n = if nat_lt n STORE_SECTORS then c (base + n) else c n
 
 -- The content has the former past, up to the start from this sector on: copied back, that would have it.
-abbrev pub RemembersFormer : ℕ → ℕ → Start → List Event → Desktop → Content → Type 0
-RemembersFormer size base start events desktop c =
-    Remembers size start events desktop (copied_back base c)
+abbrev pub RemembersFormer : ℕ → ℕ → Start → List PastDeed → Desktop → Content → Type 0
+RemembersFormer size base start deeds desktop c =
+    Remembers size start deeds desktop (copied_back base c)
 
 -- The content has a past that begins behind the former one, and that one too.
-pub record GoesOnFrom (size base : ℕ) (start : Start) (events : List Event) (desktop : Desktop)
+pub record GoesOnFrom (size base : ℕ) (start : Start) (deeds : List PastDeed) (desktop : Desktop)
     (c : Content)
     : Type 0 where
-  pub anew : Remembers size (begun_at desktop (start.before + length events) base) [] desktop c
-  pub former : RemembersFormer size base start events desktop c
+  pub anew : Remembers size (begun_at desktop (start.before + length deeds) base) [] desktop c
+  pub former : RemembersFormer size base start deeds desktop c
 
 module _ {D : Type 0} (d : Ghosts D) where
   -- A past begins with what the store shows, from this sector on, and its start has copies of all sectors of the store.
@@ -109,22 +109,22 @@ module _ {D : Type 0} (d : Ghosts D) where
         (now (d.trail new.disk)).reads
 
   -- a start from this sector on touches no sector of the past
-  abbrev pub IsApart : {start : Start} {events : List Event} {desktop : Desktop}
-      {store : StoreView D} → ℕ → KeepsAll d start events desktop store → Type 0
+  abbrev pub IsApart : {start : Start} {deeds : List PastDeed} {desktop : Desktop}
+      {store : StoreView D} → ℕ → KeepsAll d start deeds desktop store → Type 0
   IsApart {start = start} base keeps =
       (base + STORE_SECTORS ≤ start.base) ⊎ (keeps.remembers.standing.past.next ≤ base)
 
   -- Nothing is forgotten: at every moment of the call a crash leaves the past that there was, or that and one that
   -- begins behind it.
   abbrev pub ForgetsNoneBefore : ℕ → StoreView D → StoreView D → Type 0
-  ForgetsNoneBefore base old new = d.honest old.disk → (start : Start) (events : List Event)
-      (desktop : Desktop) → (keeps : KeepsAll d start events desktop old) → IsApart base keeps
+  ForgetsNoneBefore base old new = d.honest old.disk → (start : Start) (deeds : List PastDeed)
+      (desktop : Desktop) → (keeps : KeepsAll d start deeds desktop old) → IsApart base keeps
       → LeavesOnly (d.trail old.disk) (d.trail new.disk)
-      (λ c. Remembers (d.size old.disk) start events desktop c
-      ⊎ GoesOnFrom (d.size old.disk) base start events desktop c)
+      (λ c. Remembers (d.size old.disk) start deeds desktop c
+      ⊎ GoesOnFrom (d.size old.disk) base start deeds desktop c)
 
   -- Ok: the latter
   abbrev pub BeginsBehind : ℕ → StoreView D → StoreView D → Type 0
-  BeginsBehind base old new = d.honest old.disk → (start : Start) (events : List Event)
-      (desktop : Desktop) → (keeps : KeepsAll d start events desktop old) → IsApart base keeps
-      → GoesOnFrom (d.size old.disk) base start events desktop (now (d.trail new.disk)).reads
+  BeginsBehind base old new = d.honest old.disk → (start : Start) (deeds : List PastDeed)
+      (desktop : Desktop) → (keeps : KeepsAll d start deeds desktop old) → IsApart base keeps
+      → GoesOnFrom (d.size old.disk) base start deeds desktop (now (d.trail new.disk)).reads

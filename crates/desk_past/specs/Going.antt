@@ -2,13 +2,13 @@
 use Rattle.std.specs.Prelude.{◌≡◌, ◌⊎◌, ◌+◌, ◌<◌, ◌≤◌, ℕ, [], List, Bool, true, max, if◌then◌else◌}
 use Rattle.sector_disk.specs.declared.disk.Disk.{Ghosts}
 use Rattle.sector_disk.specs.Trail.{Content, LeavesOnly, now}
-use Rattle.event_bytes.specs.declared.event.Event.{Event}
 use Rattle.desktop_definitions.specs.Desktop.{Desktop}
 use Rattle.store_layout.specs.declared.layout.TheConstants.{LABEL, STORE_SECTORS}
 use Rattle.store_layout.specs.Layout.{head_of, is_label, is_open, slot_gate, slot_head}
 use Rattle.store_layout.specs.Meaning.{Standing}
 use Rattle.desk_journal.specs.View.{StoreView}
 use Rattle.desk_past.specs.Beginning.{AreUncounted, GoesOnFrom, begun_at}
+use Rattle.desk_past.specs.Deeds.{PastDeed}
 use Rattle.desk_past.specs.Halves.{HasHalves, IsHalf, middle}
 use Rattle.desk_past.specs.Past.{KeepsAll, Remembers, Start}
 use Rattle.desk_past.specs.declared.going_on.Outset.{Outset}
@@ -52,8 +52,8 @@ pub record CanGoOn (size next : ℕ) (c : Content) : Type 0 where
 
 module _ {D : Type 0} (d : Ghosts D) where
   -- the past lies in a half, up to the sector that the head names
-  pub record LiesInHalf {start : Start} {events : List Event} {desktop : Desktop}
-      {store : StoreView D} (keeps : KeepsAll d start events desktop store)
+  pub record LiesInHalf {start : Start} {deeds : List PastDeed} {desktop : Desktop}
+      {store : StoreView D} (keeps : KeepsAll d start deeds desktop store)
       : Type 0 where
     pub end : ℕ
     pub half : IsHalf (d.size store.disk) start.base end
@@ -62,11 +62,11 @@ module _ {D : Type 0} (d : Ghosts D) where
   -- Nothing is forgotten of a past in a half: at every moment of the call a crash leaves it, or it and one that begins
   -- behind it.
   abbrev pub ForgetsNone : StoreView D → StoreView D → Type 0
-  ForgetsNone old new = d.honest old.disk → (start : Start) (events : List Event)
-      (desktop : Desktop) → (keeps : KeepsAll d start events desktop old) → LiesInHalf keeps
+  ForgetsNone old new = d.honest old.disk → (start : Start) (deeds : List PastDeed)
+      (desktop : Desktop) → (keeps : KeepsAll d start deeds desktop old) → LiesInHalf keeps
       → LeavesOnly (d.trail old.disk) (d.trail new.disk)
-      (λ c. Remembers (d.size old.disk) start events desktop c
-      ⊎ ((base : ℕ) × GoesOnFrom (d.size old.disk) base start events desktop c))
+      (λ c. Remembers (d.size old.disk) start deeds desktop c
+      ⊎ ((base : ℕ) × GoesOnFrom (d.size old.disk) base start deeds desktop c))
 
   -- a past begins with what the store shows
   abbrev pub BeginsNow : StoreView D → StoreView D → Type 0

@@ -12,6 +12,7 @@ use Rattle.store_slots.specs.declared.error.Error.TheVariants.{Fault}
 use Rattle.desk_journal.specs.Device.{IsSameDevice}
 use Rattle.desk_journal.specs.Posting.{IsDueBefore}
 use Rattle.desk_journal.specs.View.{StoreView}
+use Rattle.desk_past.specs.Deeds.{PastDeed, posted}
 use Rattle.desk_past.specs.Halves.{IsHalf}
 use Rattle.desk_past.specs.Page.{page_sectors}
 use Rattle.desk_past.specs.Past.{KeepsAll, Remembers, Start, journal_of}
@@ -52,8 +53,8 @@ module _ {D : Type 0} (d : Ghosts D) where
     pub turn : IsUnturned old new ⊎ IsTurned old new
 
   -- up to this sector there is room for the page of the journal in use, and its events can be counted
-  pub record HasPageRoom (end : ℕ) {start : Start} {events : List Event} {desktop : Desktop}
-      {store : StoreView D} (keeps : KeepsAll d start events desktop store)
+  pub record HasPageRoom (end : ℕ) {start : Start} {deeds : List PastDeed} {desktop : Desktop}
+      {store : StoreView D} (keeps : KeepsAll d start deeds desktop store)
       : Type 0 where
     pub page : keeps.remembers.standing.past.next
         + page_sectors (journal_of keeps.remembers.standing) ≤ end
@@ -61,8 +62,8 @@ module _ {D : Type 0} (d : Ghosts D) where
     pub few : keeps.remembers.standing.past.before + length keeps.remembers.standing.events < 2 ^ 64
 
   -- the past lies in a half that has such room, and an epoch comes behind the one in use
-  pub record CanKeep {start : Start} {events : List Event} {desktop : Desktop}
-      {store : StoreView D} (keeps : KeepsAll d start events desktop store)
+  pub record CanKeep {start : Start} {deeds : List PastDeed} {desktop : Desktop}
+      {store : StoreView D} (keeps : KeepsAll d start deeds desktop store)
       : Type 0 where
     pub end : ℕ
     pub half : IsHalf (d.size store.disk) start.base end
@@ -70,19 +71,20 @@ module _ {D : Type 0} (d : Ghosts D) where
     pub later : ¬ (store.epoch ≡ LAST_EPOCH)
 
   -- Nothing is forgotten, unless a checkpoint is due and the half has no room for the page: at every moment of the call a
-  -- crash leaves all events from before it, and the desktop to which they led, or these and the one that is posted, and
+  -- crash leaves all deeds from before it, and the desktop to which they led, or these and the event that is posted, and
   -- the desktop after that.
   abbrev pub KeepsOn : Event → StoreView D → StoreView D → Type 0
-  KeepsOn event old new = d.honest old.disk → (start : Start) (events : List Event)
-      (desktop : Desktop) → (keeps : KeepsAll d start events desktop old)
+  KeepsOn event old new = d.honest old.disk → (start : Start) (deeds : List PastDeed)
+      (desktop : Desktop) → (keeps : KeepsAll d start deeds desktop old)
       → (IsDueBefore old → CanKeep keeps)
       → LeavesOnly (d.trail old.disk) (d.trail new.disk)
-      (λ c. Remembers (d.size old.disk) start events desktop c
-      ⊎ Remembers (d.size old.disk) start (events ++ event ∷ []) (step desktop event).desktop c)
+      (λ c. Remembers (d.size old.disk) start deeds desktop c
+      ⊎ Remembers (d.size old.disk) start (deeds ++ posted event ∷ [])
+      (step desktop event).desktop c)
 
   -- Ok: the latter
   abbrev pub HasKept : Event → StoreView D → StoreView D → Type 0
-  HasKept event old new = d.honest old.disk → (start : Start) (events : List Event)
-      (desktop : Desktop) → (keeps : KeepsAll d start events desktop old)
+  HasKept event old new = d.honest old.disk → (start : Start) (deeds : List PastDeed)
+      (desktop : Desktop) → (keeps : KeepsAll d start deeds desktop old)
       → (IsDueBefore old → CanKeep keeps)
-      → KeepsAll d start (events ++ event ∷ []) (step desktop event).desktop new
+      → KeepsAll d start (deeds ++ posted event ∷ []) (step desktop event).desktop new

@@ -1,3 +1,4 @@
+pub mod Deeds
 pub mod Page
 pub mod Past
 pub mod Reading
@@ -6,3 +7,4 @@ pub mod Going
 pub mod Forgetting
 pub mod Halves
 pub mod Keeping
+pub mod Bringing

@@ -1,25 +1,65 @@
--- A page: the events of one journal, as they stand in sectors behind a store.
+-- A page: the events of one journal, or the documents of an import, as they stand in sectors behind a store.
 use Rattle.std.specs.Prelude.{ℕ, ◌+◌, List, [], ◌∷◌, ◌++◌, length}
 use Rattle.std.specs.Int.{w32, to_be_bytes}
 use Rattle.sector_disk.specs.Stored.{HoldsBytes, last_sector}
 use Rattle.sector_disk.specs.Trail.{Content}
 use Rattle.event_bytes.specs.declared.event.Event.{Event}
+use Rattle.document_filing.specs.Bringing.{Documents}
 use Rattle.store_slots.specs.Bodies.{spellings}
-use Rattle.desk_past.specs.declared.page.TheConstants.{EVENTS_PAGE}
+use Rattle.desk_past.specs.Deeds.{PastDeed, all_posted, brought}
+use Rattle.desk_past.specs.declared.page.TheConstants.{EVENTS_PAGE, IMPORT_PAGE}
 
--- the events that a journal had when its epoch ended, and the version by which they were stepped
-pub record Page : Type 0 where
-  pub version : ℕ
-  pub events : List Event
+-- the events that a journal had when its epoch ended, or the documents of an import, and the version by which they were
+-- stepped or brought
+pub data Page : Type 0 where
+  of_events : ℕ → List Event → Page
+  of_import : ℕ → Documents → Page
+
+-- what it says was done
+abbrev pub deeds_in : Page → List PastDeed
+deeds_in (of_events version events) = all_posted events
+deeds_in (of_import version documents) = brought documents ∷ []
+
+-- ---- its bytes
 
 -- a number in four bytes, the highest first
 abbrev pub number : ℕ → List ℕ
 number n = to_be_bytes w32 n
 
--- a page's bytes: its kind, the version, how many events, in how many bytes they are spelled, and these
+-- bytes behind their number
+abbrev pub behind_length : List ℕ → List ℕ
+behind_length bytes = number (length bytes) ++ bytes
+
+-- a document: its name, and its bytes
+abbrev pub document_spelling : List ℕ × List ℕ → List ℕ
+document_spelling document = behind_length document.0 ++ behind_length document.1
+
+abbrev pub document_spellings : Documents → List ℕ
+document_spellings [] = []
+document_spellings (document ∷ documents) =
+    document_spelling document ++ document_spellings documents
+
+-- its kind, its version, how many events or documents it has, and how they are spelled
+abbrev pub page_kind : Page → ℕ
+page_kind (of_events version events) = EVENTS_PAGE
+page_kind (of_import version documents) = IMPORT_PAGE
+
+abbrev pub page_version : Page → ℕ
+page_version (of_events version events) = version
+page_version (of_import version documents) = version
+
+abbrev pub page_count : Page → ℕ
+page_count (of_events version events) = length events
+page_count (of_import version documents) = length documents
+
+abbrev pub page_body : Page → List ℕ
+page_body (of_events version events) = spellings events
+page_body (of_import version documents) = document_spellings documents
+
+-- a page's bytes: these numbers, in how many bytes that is spelled, and these
 abbrev pub page_bytes : Page → List ℕ
-page_bytes p = number EVENTS_PAGE ++ (number p.version ++ (number (length p.events)
-    ++ (number (length (spellings p.events)) ++ spellings p.events)))
+page_bytes p = number (page_kind p) ++ (number (page_version p) ++ (number (page_count p)
+    ++ behind_length (page_body p)))
 
 -- in how many sectors they stand
 abbrev pub page_sectors : Page → ℕ

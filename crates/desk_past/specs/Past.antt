@@ -1,20 +1,23 @@
 -- The past of a store: a start, and behind it the pages up to the sector that the head of the slot in use names.
-use Rattle.std.specs.Prelude.{◌≡◌, ◌⊎◌, ◌<◌, ◌≤◌, ◌^◌, ℕ, ◌+◌, ◌-◌, List, [], ◌∷◌, ◌++◌, length, take, false}
+use Rattle.std.specs.Prelude.{◌≡◌, ◌⊎◌, ◌<◌, ◌≤◌, ◌^◌, ℕ, ◌+◌, ◌-◌, List, [], ◌∷◌, ◌++◌, length, take, false, IsTrue}
+use Rattle.std.specs.List.{list_all}
 use Rattle.sector_disk.specs.Trail.{Content, now, LeavesOnly}
 use Rattle.sector_disk.specs.Stored.{HoldsBytes}
 use Rattle.sector_disk.specs.declared.disk.Disk.{Ghosts}
 use Rattle.event_bytes.specs.declared.event.Event.{Event}
+use Rattle.event_bytes.specs.Bytes.{is_name, is_text_byte}
 use Rattle.event_bytes.specs.Spelling.{IsEvent}
 use Rattle.desktop_definitions.specs.Desktop.{Desktop}
-use Rattle.desktop_definitions.specs.Step.{steps}
+use Rattle.document_filing.specs.Bringing.{Documents}
 use Rattle.store_layout.specs.declared.head.PastEnd.{PastEnd}
 use Rattle.store_layout.specs.declared.layout.TheConstants.{LAYOUT, STORE_SECTORS}
 use Rattle.store_layout.specs.Meaning.{Standing, Stands, desktop_of}
-use Rattle.store_slots.specs.Bodies.{spellings}
 use Rattle.desk_journal.specs.View.{StoreView}
-use Rattle.desk_past.specs.Page.{Page, HasPages, end_of_pages, page_bytes, page_sectors}
+use Rattle.desk_past.specs.Deeds.{PastDeed, after_deeds, all_posted}
+use Rattle.desk_past.specs.Page.{Page, of_events, of_import, HasPages, deeds_in, end_of_pages}
+use Rattle.desk_past.specs.Page.{page_body, page_bytes, page_count, page_sectors, page_version}
 
--- Where a past begins: this desktop, before which so many events came. It stands as a store of its own from sector
+-- Where a past begins: this desktop, before which so many deeds came. It stands as a store of its own from sector
 -- `base` on, and the first page right behind that.
 pub record Start : Type 0 where
   pub desktop : Desktop
@@ -39,21 +42,21 @@ pub record HasStart (c : Content) (start : Start) : Type 0 where
 abbrev pub HoldsPages : Content → Start → List Page → Type 0
 HoldsPages c start pages = HasStart c start × HasPages c (first_page start) pages
 
--- all events of some pages, in order
-abbrev pub events_of : List Page → List Event
-events_of [] = []
-events_of (p ∷ pages) = p.events ++ events_of pages
+-- all that some pages say was done, in order
+abbrev pub all_deeds : List Page → List PastDeed
+all_deeds [] = []
+all_deeds (p ∷ pages) = deeds_in p ++ all_deeds pages
 
 -- ---- moments
 
--- moment k of a past: the desktop after the events that came before it
-abbrev pub moment : Start → List Event → ℕ → Desktop
-moment start events k = steps start.desktop (take (k - start.before) events)
+-- Moment k of a past: the desktop after the deeds that came before it. An import is one of them.
+abbrev pub moment : Start → List PastDeed → ℕ → Desktop
+moment start deeds k = after_deeds start.desktop (take (k - start.before) deeds)
 
 -- there is such a moment
-pub record HasMoment (start : Start) (events : List Event) (k : ℕ) : Type 0 where
+pub record HasMoment (start : Start) (deeds : List PastDeed) (k : ℕ) : Type 0 where
   pub low : start.before ≤ k
-  pub high : k ≤ start.before + length events
+  pub high : k ≤ start.before + length deeds
 
 -- ---- which pages count
 
@@ -62,18 +65,34 @@ abbrev pub AreEvents : List Event → Type 0
 AreEvents [] = Unit {0}
 AreEvents (event ∷ events) = IsEvent event × AreEvents events
 
--- A page that can be spelled, whose events are stepped as a post steps them.
+-- a document that can come, and can be spelled
+pub record IsDocument (document : List ℕ × List ℕ) : Type 0 where
+  pub name : IsTrue (is_name document.0)
+  pub bytes : IsTrue (list_all is_text_byte document.1)
+  pub short : length document.1 < 2 ^ 32
+
+abbrev pub AreDocuments : Documents → Type 0
+AreDocuments [] = Unit {0}
+AreDocuments (document ∷ documents) = IsDocument document × AreDocuments documents
+
+-- what it says can be done
+abbrev pub AreDoable : Page → Type 0
+AreDoable (of_events version events) = AreEvents events
+AreDoable (of_import version documents) = AreDocuments documents
+
+-- A page that can be spelled, whose events are stepped as a post steps them, and whose documents are brought as an import
+-- brings them.
 pub record IsGoodPage (p : Page) : Type 0 where
-  pub newest : p.version ≡ LAYOUT
-  pub few : length p.events < 2 ^ 32
-  pub short : length (spellings p.events) < 2 ^ 32
-  pub valid : AreEvents p.events
+  pub newest : page_version p ≡ LAYOUT
+  pub few : page_count p < 2 ^ 32
+  pub short : length (page_body p) < 2 ^ 32
+  pub valid : AreDoable p
 
 abbrev pub AreGood : List Page → Type 0
 AreGood [] = Unit {0}
 AreGood (p ∷ pages) = IsGoodPage p × AreGood pages
 
--- The content shows this, and has this past: the start, and pages up to the sector that the head names. As many events
+-- The content shows this, and has this past: the start, and pages up to the sector that the head names. As many deeds
 -- came before as the head says, and they lead from the start to what the slot in use starts from.
 pub record HoldsPast (size : ℕ) (start : Start) (s : Standing) (pages : List Page) (c : Content)
     : Type 0 where
@@ -83,46 +102,46 @@ pub record HoldsPast (size : ℕ) (start : Start) (s : Standing) (pages : List P
   pub good : AreGood pages
   pub up_to : end_of_pages (first_page start) pages ≡ s.past.next
   pub room : s.past.next ≤ size
-  pub counted : start.before + length (events_of pages) ≡ s.past.before
-  pub leads : steps start.desktop (events_of pages) ≡ s.start
+  pub counted : start.before + length (all_deeds pages) ≡ s.past.before
+  pub leads : after_deeds start.desktop (all_deeds pages) ≡ s.start
 
 -- the journal in use is the last page of the past
 abbrev pub journal_of : Standing → Page
-journal_of s = record { version = s.version; events = s.events }
+journal_of s = of_events s.version s.events
 
--- The content has a past from this start: these are all its events up to the present, and this is the desktop that it
+-- The content has a past from this start: these are all its deeds up to the present, and this is the desktop that it
 -- shows.
-pub record Remembers (size : ℕ) (start : Start) (events : List Event) (desktop : Desktop)
+pub record Remembers (size : ℕ) (start : Start) (deeds : List PastDeed) (desktop : Desktop)
     (c : Content)
     : Type 0 where
   pub standing : Standing
   pub pages : List Page
   pub past : HoldsPast size start standing pages c
-  pub all : events_of pages ++ standing.events ≡ events
+  pub all : all_deeds pages ++ all_posted standing.events ≡ deeds
   pub is : desktop_of standing ≡ desktop
 
 -- ---- stores
 
--- A store in use shows this desktop, and has all these events behind this start.
-pub record KeepsAll {D : Type 0} (d : Ghosts D) (start : Start) (events : List Event)
+-- A store in use shows this desktop, and has all these deeds behind this start.
+pub record KeepsAll {D : Type 0} (d : Ghosts D) (start : Start) (deeds : List PastDeed)
     (desktop : Desktop) (store : StoreView D)
     : Type 0 where
   pub usable : store.must_reopen ≡ false
   pub behind : STORE_SECTORS ≤ start.base
-  pub remembers : Remembers (d.size store.disk) start events desktop
+  pub remembers : Remembers (d.size store.disk) start deeds desktop
       (now (d.trail store.disk)).reads
 
 -- this is what the head in use tells of the past
-abbrev pub IsHeadTold : {D : Type 0} (d : Ghosts D) {start : Start} {events : List Event}
-    {desktop : Desktop} {store : StoreView D} → PastEnd → KeepsAll d start events desktop store
+abbrev pub IsHeadTold : {D : Type 0} (d : Ghosts D) {start : Start} {deeds : List PastDeed}
+    {desktop : Desktop} {store : StoreView D} → PastEnd → KeepsAll d start deeds desktop store
     → Type 0
 IsHeadTold d told keeps = told ≡ keeps.remembers.standing.past
 
 -- The same, and behind those pages stands the page of the journal in use, up to this end, which doesn't count yet.
-pub record HasNewPage {D : Type 0} (d : Ghosts D) (start : Start) (events : List Event)
+pub record HasNewPage {D : Type 0} (d : Ghosts D) (start : Start) (deeds : List PastDeed)
     (desktop : Desktop) (end : PastEnd) (store : StoreView D)
     : Type 0 where
-  pub keeps : KeepsAll d start events desktop store
+  pub keeps : KeepsAll d start deeds desktop store
   pub held : HoldsBytes (now (d.trail store.disk)).reads keeps.remembers.standing.past.next
       (page_bytes (journal_of keeps.remembers.standing))
   pub short : length (page_bytes (journal_of keeps.remembers.standing)) < 2 ^ 32
@@ -132,37 +151,38 @@ pub record HasNewPage {D : Type 0} (d : Ghosts D) (start : Start) (events : List
   pub counted : keeps.remembers.standing.past.before + length keeps.remembers.standing.events
       ≡ end.before
 
--- At every moment between the two a crash leaves all of these events, and the desktop to which they led.
-abbrev pub LeavesAll : {D : Type 0} → Ghosts D → Start → List Event → Desktop → StoreView D
+-- At every moment between the two a crash leaves all of these deeds, and the desktop to which they led.
+abbrev pub LeavesAll : {D : Type 0} → Ghosts D → Start → List PastDeed → Desktop → StoreView D
     → StoreView D → Type 0
-LeavesAll d start events desktop old new = LeavesOnly (d.trail old.disk) (d.trail new.disk)
-    (Remembers (d.size old.disk) start events desktop)
+LeavesAll d start deeds desktop old new = LeavesOnly (d.trail old.disk) (d.trail new.disk)
+    (Remembers (d.size old.disk) start deeds desktop)
 
 -- Some of the last events are taken back, at most so many: at every moment of the call a crash leaves the others, or all.
 abbrev pub UndoesSome : {D : Type 0} → Ghosts D → ℕ → StoreView D → StoreView D → Type 0
-UndoesSome d count old new = d.honest old.disk → (start : Start) (events : List Event)
-    (desktop : Desktop) → KeepsAll d start events desktop old
-    → (left : List Event) × (back : List Event) × (before : Desktop) × (left ++ back ≡ events)
+UndoesSome d count old new = d.honest old.disk → (start : Start) (deeds : List PastDeed)
+    (desktop : Desktop) → KeepsAll d start deeds desktop old
+    → (left : List PastDeed) × (back : List Event) × (before : Desktop)
+    × (left ++ all_posted back ≡ deeds)
     × (length back ≤ count)
     × LeavesOnly (d.trail old.disk) (d.trail new.disk)
     (λ c. Remembers (d.size old.disk) start left before c
-    ⊎ Remembers (d.size old.disk) start events desktop c)
+    ⊎ Remembers (d.size old.disk) start deeds desktop c)
 
 -- These events, the last ones, were taken back, and the others are kept.
 abbrev pub KeepsOthers : {D : Type 0} → Ghosts D → List Event → StoreView D → StoreView D → Type 0
-KeepsOthers d back old new = d.honest old.disk → (start : Start) (events : List Event)
-    (desktop : Desktop) → KeepsAll d start events desktop old
-    → (left : List Event) × (before : Desktop) × (left ++ back ≡ events)
+KeepsOthers d back old new = d.honest old.disk → (start : Start) (deeds : List PastDeed)
+    (desktop : Desktop) → KeepsAll d start deeds desktop old
+    → (left : List PastDeed) × (before : Desktop) × (left ++ all_posted back ≡ deeds)
     × KeepsAll d start left before new
 
 -- the present is the last moment
 abbrev pub PresentLaw : Type 0
-PresentLaw = (size : ℕ) (start : Start) (events : List Event) (desktop : Desktop) (c : Content)
-    → Remembers size start events desktop c
-    → moment start events (start.before + length events) ≡ desktop
+PresentLaw = (size : ℕ) (start : Start) (deeds : List PastDeed) (desktop : Desktop) (c : Content)
+    → Remembers size start deeds desktop c
+    → moment start deeds (start.before + length deeds) ≡ desktop
 
 -- a content has one past at most from a start
 abbrev pub OnePastLaw : Type 0
-OnePastLaw = (size : ℕ) (start : Start) (events events' : List Event) (desktop desktop' : Desktop)
-    (c : Content) → Remembers size start events desktop c
-    → Remembers size start events' desktop' c → (events ≡ events') × (desktop ≡ desktop')
+OnePastLaw = (size : ℕ) (start : Start) (deeds deeds' : List PastDeed) (desktop desktop' : Desktop)
+    (c : Content) → Remembers size start deeds desktop c
+    → Remembers size start deeds' desktop' c → (deeds ≡ deeds') × (desktop ≡ desktop')

@@ -1,19 +1,40 @@
 -- What is read of a past.
-use Rattle.std.specs.Prelude.{◌≡◌, ◌+◌, ◌≤◌, ℕ, false}
+use Rattle.std.specs.Prelude.{◌≡◌, ◌+◌, ◌≤◌, ℕ, List, length, false}
 use Rattle.sector_disk.specs.Stored.{HoldsBytes}
 use Rattle.sector_disk.specs.Trail.{Content}
 use Rattle.sector_disk.specs.declared.disk.Disk.{Ghosts}
 use Rattle.store_layout.specs.Meaning.{Standing, desktop_of}
 use Rattle.desk_journal.specs.Undoing.{IsLeft, ShowsStanding}
 use Rattle.desk_journal.specs.View.{StoreView}
-use Rattle.desk_past.specs.Page.{Page, page_bytes, page_sectors}
+use Rattle.desk_past.specs.Deeds.{PastDeed, after_deeds}
+use Rattle.desk_past.specs.Page.{Page, of_events, of_import, page_bytes, page_sectors}
 use Rattle.desk_past.specs.Past.{IsGoodPage}
+use Rattle.desk_past.specs.declared.pages.PageDeeds.{PageDeeds}
+use Rattle.desk_past.specs.declared.pages.PageDeeds.TheVariants.{Events, Import}
 
 -- the page stands there, and ends before that sector
 pub record HasPage (c : Content) (at end : ℕ) (p : Page) : Type 0 where
   pub held : HoldsBytes c at (page_bytes p)
   pub good : IsGoodPage p
   pub within : at + page_sectors p ≤ end
+
+-- this was read of the page
+abbrev pub IsRead : PageDeeds → Page → Type 0
+IsRead (Events events) (of_events version all) = events.items ≡ all
+IsRead (Events events) (of_import version all) = ⊥
+IsRead (Import documents) (of_events version all) = ⊥
+IsRead (Import documents) (of_import version all) = documents.items ≡ all
+
+-- how much a page says was done: an import is one deed
+abbrev pub many_deeds : PageDeeds → ℕ
+many_deeds (Events events) = length events.items
+many_deeds (Import documents) = 1
+
+-- from the one store to the other this was done
+pub record IsLed {D : Type 0} (d : Ghosts D) (deeds : List PastDeed) (old new : StoreView D)
+    : Type 0 where
+  pub still : d.honest old.disk → d.honest new.disk
+  pub desktop : d.honest old.disk → new.desktop ≡ after_deeds old.desktop deeds
 
 -- nothing was written, and the store is in use
 pub record IsOnlyReadFrom {D : Type 0} (d : Ghosts D) (old new : StoreView D) : Type 0 where

@@ -1,5 +1,5 @@
 //! A past that is forgotten.
-ghost use Rattle.std.specs.Prelude.{◌≡◌, ◌⊎◌, ◌+◌, ◌-◌, ◌*◌, ◌^◌, ◌≤◌, ◌<◌, true, false, replicate, IfOk, OnOk};
+ghost use Rattle.std.specs.Prelude.{◌≡◌, ◌⊎◌, ◌+◌, ◌-◌, ◌*◌, ◌^◌, ◌≤◌, ◌<◌, true, false, IfOk, OnOk};
 ghost use Rattle.sector_disk.specs.declared.disk.TheConstants.{SECTOR_BYTES};
 ghost use Rattle.sector_disk.specs.Trail.{now};
 ghost use Rattle.store_layout.specs.declared.layout.TheConstants.{STORE_SECTORS};
@@ -14,20 +14,13 @@ ghost use Rattle.desk_past.specs.declared.halves.TheConstants.{HALVES};
 use crate::beginning::begin;
 use crate::going_on::base_beside;
 use crate::halves::{HALVES, half_at, has_halves, middle_of};
+use crate::sectors::zeros;
 use desk_journal::{Error, STORE_SECTORS, Store};
 use sector_disk::{Disk, SECTOR_BYTES};
-use std::alloc::{AllocError, Global};
+use std::alloc::Global;
 
 /// How many sectors are overwritten in one call, which syncs.
 const AT_ONCE: u32 = 1024;
-
-/// So many zeros.
-fn zeros(alloc: Global, count: usize) -> Result<Vec<u8>, AllocError>
-    ensures { IfOk result (λ zeros. zeros.items ≡ replicate count 0) }
-{
-    let zeros = vec![in alloc; 0; count]?;
-    Ok(zeros)
-}
 
 /// Overwrites so many sectors behind the store with zeros, from `from` on, at most 1024, and settles them.
 ///

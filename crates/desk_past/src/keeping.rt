@@ -2,13 +2,13 @@
 ghost use Rattle.std.specs.Prelude.{◌≡◌, ◌≢◌, ◌+◌, ◌*◌, ◌^◌, ◌≤◌, ◌<◌, List, true, false, IfErr, IfOk, IsErrOf, OnOk, IfSome, IfNone};
 ghost use Rattle.sector_disk.specs.declared.disk.TheConstants.{SECTOR_BYTES};
 ghost use Rattle.sector_disk.specs.Stored.{last_sector};
-ghost use Rattle.event_bytes.specs.declared.event.Event.{Event};
 ghost use Rattle.desktop_definitions.specs.Desktop.{Desktop};
 ghost use Rattle.store_layout.specs.declared.layout.TheConstants.{STORE_SECTORS};
 ghost use Rattle.store_slots.specs.Errors.{OfDesktop, OfLook, OfPost};
 ghost use Rattle.desk_journal.specs.Checkpointing.{IsRenewed, LeavesDesktop};
 ghost use Rattle.desk_journal.specs.Posting.{AnswersMustReopen, AnswersWorn, HasJournalRoom, IsAcknowledged, IsDueBefore, LeavesEither};
 ghost use Rattle.desk_past.specs.Beginning.{IsAside};
+ghost use Rattle.desk_past.specs.Deeds.{PastDeed};
 ghost use Rattle.desk_past.specs.Keeping.{CanKeep, CanTurn, HasKept, HasPageRoom, IsWayMade, KeepsOn, UsesDevice};
 ghost use Rattle.desk_past.specs.Past.{HasNewPage, IsHeadTold, KeepsAll, KeepsOthers, LeavesAll, Start, UndoesSome};
 
@@ -55,20 +55,20 @@ fn write_page_at<D: Disk>(
     end: u32,
 ) -> Result<Option<PastEnd>, Error>
     ensures any_moment { D.honest store.old.disk
-        → (start : Start) (events : List Event) (desktop : Desktop)
-        → (keeps : KeepsAll D.Disk start events desktop store.old) → IsHeadTold D.Disk told keeps
-        → LeavesAll D.Disk start events desktop store.old store.new }
+        → (start : Start) (deeds : List PastDeed) (desktop : Desktop)
+        → (keeps : KeepsAll D.Disk start deeds desktop store.old) → IsHeadTold D.Disk told keeps
+        → LeavesAll D.Disk start deeds desktop store.old store.new }
     ensures written { IfOk result (λ end. IfSome end (λ n. D.honest store.old.disk
-        → (start : Start) (events : List Event) (desktop : Desktop)
-        → (keeps : KeepsAll D.Disk start events desktop store.old) → IsHeadTold D.Disk told keeps
-        → HasNewPage D.Disk start events desktop n store.new)) }
+        → (start : Start) (deeds : List PastDeed) (desktop : Desktop)
+        → (keeps : KeepsAll D.Disk start deeds desktop store.old) → IsHeadTold D.Disk told keeps
+        → HasNewPage D.Disk start deeds desktop n store.new)) }
     ensures none { IfOk result (λ end. IfNone end (D.honest store.old.disk
-        → (start : Start) (events : List Event) (desktop : Desktop)
-        → KeepsAll D.Disk start events desktop store.old
-        → KeepsAll D.Disk start events desktop store.new)) }
+        → (start : Start) (deeds : List PastDeed) (desktop : Desktop)
+        → KeepsAll D.Disk start deeds desktop store.old
+        → KeepsAll D.Disk start deeds desktop store.new)) }
     ensures full { IfOk result (λ found. IfNone found (D.honest store.old.disk
-        → (start : Start) (events : List Event) (desktop : Desktop)
-        → (keeps : KeepsAll D.Disk start events desktop store.old) → IsHeadTold D.Disk told keeps
+        → (start : Start) (deeds : List PastDeed) (desktop : Desktop)
+        → (keeps : KeepsAll D.Disk start deeds desktop store.old) → IsHeadTold D.Disk told keeps
         → HasPageRoom D.Disk end keeps → ⊥)) }
     ensures moments { LeavesDesktop D.Disk store.old store.new }
     ensures aside { OnOk result (IsAside D.Disk store.old store.new) }
@@ -100,20 +100,20 @@ fn write_page<D: Disk>(
     end: u32,
 ) -> Result<Option<PastEnd>, Error>
     ensures any_moment { D.honest store.old.disk
-        → (start : Start) (events : List Event) (desktop : Desktop)
-        → KeepsAll D.Disk start events desktop store.old
-        → LeavesAll D.Disk start events desktop store.old store.new }
+        → (start : Start) (deeds : List PastDeed) (desktop : Desktop)
+        → KeepsAll D.Disk start deeds desktop store.old
+        → LeavesAll D.Disk start deeds desktop store.old store.new }
     ensures written { IfOk result (λ end. IfSome end (λ n. D.honest store.old.disk
-        → (start : Start) (events : List Event) (desktop : Desktop)
-        → KeepsAll D.Disk start events desktop store.old
-        → HasNewPage D.Disk start events desktop n store.new)) }
+        → (start : Start) (deeds : List PastDeed) (desktop : Desktop)
+        → KeepsAll D.Disk start deeds desktop store.old
+        → HasNewPage D.Disk start deeds desktop n store.new)) }
     ensures none { IfOk result (λ end. IfNone end (D.honest store.old.disk
-        → (start : Start) (events : List Event) (desktop : Desktop)
-        → KeepsAll D.Disk start events desktop store.old
-        → KeepsAll D.Disk start events desktop store.new)) }
+        → (start : Start) (deeds : List PastDeed) (desktop : Desktop)
+        → KeepsAll D.Disk start deeds desktop store.old
+        → KeepsAll D.Disk start deeds desktop store.new)) }
     ensures full { IfOk result (λ found. IfNone found (D.honest store.old.disk
-        → (start : Start) (events : List Event) (desktop : Desktop)
-        → (keeps : KeepsAll D.Disk start events desktop store.old)
+        → (start : Start) (deeds : List PastDeed) (desktop : Desktop)
+        → (keeps : KeepsAll D.Disk start deeds desktop store.old)
         → HasPageRoom D.Disk end keeps → ⊥)) }
     ensures moments { LeavesDesktop D.Disk store.old store.new }
     ensures aside { OnOk result (IsAside D.Disk store.old store.new) }
@@ -132,16 +132,16 @@ fn write_page<D: Disk>(
 /// Errors: those of `write_page` and `Store::checkpoint`.
 pub fn end_epoch<D: Disk>(alloc: Global, store: &mut Store<D>, end: u32) -> Result<bool, Error>
     ensures any_moment { D.honest store.old.disk
-        → (start : Start) (events : List Event) (desktop : Desktop)
-        → KeepsAll D.Disk start events desktop store.old
-        → LeavesAll D.Disk start events desktop store.old store.new }
+        → (start : Start) (deeds : List PastDeed) (desktop : Desktop)
+        → KeepsAll D.Disk start deeds desktop store.old
+        → LeavesAll D.Disk start deeds desktop store.old store.new }
     ensures ended { OnOk result (D.honest store.old.disk
-        → (start : Start) (events : List Event) (desktop : Desktop)
-        → KeepsAll D.Disk start events desktop store.old
-        → KeepsAll D.Disk start events desktop store.new) }
+        → (start : Start) (deeds : List PastDeed) (desktop : Desktop)
+        → KeepsAll D.Disk start deeds desktop store.old
+        → KeepsAll D.Disk start deeds desktop store.new) }
     ensures full { IfOk result (λ done. done ≡ false → D.honest store.old.disk
-        → (start : Start) (events : List Event) (desktop : Desktop)
-        → (keeps : KeepsAll D.Disk start events desktop store.old)
+        → (start : Start) (deeds : List PastDeed) (desktop : Desktop)
+        → (keeps : KeepsAll D.Disk start deeds desktop store.old)
         → HasPageRoom D.Disk end keeps → ⊥) }
     ensures moments { LeavesDesktop D.Disk store.old store.new }
     ensures renewed { IfOk result (λ done. done ≡ true → IsRenewed D.Disk store.old store.new) }
@@ -164,16 +164,16 @@ fn turn_over<D: Disk>(alloc: Global, store: &mut Store<D>) -> Result<(), Error>
     requires able { CanTurn store.old }
     requires due { IsDueBefore store.old }
     ensures any_moment { D.honest store.old.disk
-        → (start : Start) (events : List Event) (desktop : Desktop)
-        → KeepsAll D.Disk start events desktop store.old
-        → LeavesAll D.Disk start events desktop store.old store.new }
+        → (start : Start) (deeds : List PastDeed) (desktop : Desktop)
+        → KeepsAll D.Disk start deeds desktop store.old
+        → LeavesAll D.Disk start deeds desktop store.old store.new }
     ensures ended { OnOk result (D.honest store.old.disk
-        → (start : Start) (events : List Event) (desktop : Desktop)
-        → KeepsAll D.Disk start events desktop store.old
-        → KeepsAll D.Disk start events desktop store.new) }
+        → (start : Start) (deeds : List PastDeed) (desktop : Desktop)
+        → KeepsAll D.Disk start deeds desktop store.old
+        → KeepsAll D.Disk start deeds desktop store.new) }
     ensures empty { OnOk result (D.honest store.old.disk
-        → (start : Start) (events : List Event) (desktop : Desktop)
-        → (keeps : KeepsAll D.Disk start events desktop store.old) → CanKeep D.Disk keeps
+        → (start : Start) (deeds : List PastDeed) (desktop : Desktop)
+        → (keeps : KeepsAll D.Disk start deeds desktop store.old) → CanKeep D.Disk keeps
         → HasJournalRoom store.new) }
     ensures moments { LeavesDesktop D.Disk store.old store.new }
     ensures made { OnOk result (IsWayMade D.Disk store.old store.new) }
@@ -208,16 +208,16 @@ fn can_turn<D: Disk>(store: &Store<D>) -> bool
 /// Errors: `NoMemory` and `Fault`.
 fn make_way<D: Disk>(alloc: Global, store: &mut Store<D>) -> Result<(), Error>
     ensures any_moment { D.honest store.old.disk
-        → (start : Start) (events : List Event) (desktop : Desktop)
-        → KeepsAll D.Disk start events desktop store.old
-        → LeavesAll D.Disk start events desktop store.old store.new }
+        → (start : Start) (deeds : List PastDeed) (desktop : Desktop)
+        → KeepsAll D.Disk start deeds desktop store.old
+        → LeavesAll D.Disk start deeds desktop store.old store.new }
     ensures ended { OnOk result (D.honest store.old.disk
-        → (start : Start) (events : List Event) (desktop : Desktop)
-        → KeepsAll D.Disk start events desktop store.old
-        → KeepsAll D.Disk start events desktop store.new) }
+        → (start : Start) (deeds : List PastDeed) (desktop : Desktop)
+        → KeepsAll D.Disk start deeds desktop store.old
+        → KeepsAll D.Disk start deeds desktop store.new) }
     ensures empty { OnOk result (D.honest store.old.disk
-        → (start : Start) (events : List Event) (desktop : Desktop)
-        → (keeps : KeepsAll D.Disk start events desktop store.old)
+        → (start : Start) (deeds : List PastDeed) (desktop : Desktop)
+        → (keeps : KeepsAll D.Disk start deeds desktop store.old)
         → (IsDueBefore store.old → CanKeep D.Disk keeps) → HasJournalRoom store.new) }
     ensures moments { LeavesDesktop D.Disk store.old store.new }
     ensures made { OnOk result (IsWayMade D.Disk store.old store.new) }

@@ -1,12 +1,14 @@
-//! A past behind a store: the events of all epochs, in pages.
+//! A past behind a store: the events of all epochs, and the documents of all imports, in pages.
 //!
-//! The journal of an epoch becomes a page when the epoch ends: it is written and settled, and then a checkpoint begins the
-//! next one, whose head names the sector behind that page. So the gate that opens a slot also says which pages count, and
-//! nobody reads a page before the checkpoint is whole. `specs/Past.antt` says what a past is, and
-//! what a store keeps of it; `moment` lays any moment of it on another disk.
+//! The journal of an epoch becomes a page when the epoch ends: it is written and settled, and then a checkpoint begins
+//! the next one, whose head names the sector behind that page. An import ends its epoch too, by a page of its own. So the
+//! gate that opens a slot also says which pages count, and nobody reads a page before the checkpoint is whole.
+//! `specs/Past.antt` says what a past is, and what a store keeps of it; `moment` lays any moment of it on another disk.
 #![tactic(auto)]
 
 mod beginning;
+mod bringing;
+mod documents;
 mod forgetting;
 mod going_on;
 mod halves;
@@ -18,11 +20,12 @@ mod reading;
 mod sectors;
 
 pub use beginning::begin;
+pub use bringing::bring;
 pub use forgetting::forget;
 pub use going_on::{LEAST_ROOM, Outset, go_on};
 pub use halves::{HALVES, Half, half_at};
 pub use keeping::{end_epoch, post, undo};
 pub use laws::{one_past_law, present_law};
-pub use page::{EVENTS_PAGE, PAGE_FRONT};
-pub use pages::{PageRead, page_in};
+pub use page::{EVENTS_PAGE, IMPORT_PAGE, PAGE_FRONT};
+pub use pages::{PageDeeds, PageRead, page_in};
 pub use reading::{moment, start_of};

@@ -6,40 +6,51 @@ ghost use Rattle.store_layout.specs.Meaning.{Standing};
 ghost use Rattle.sector_disk.specs.Faults.{FailsAs};
 ghost use Rattle.store_slots.specs.Errors.{OfLook};
 ghost use Rattle.desk_journal.specs.Undoing.{IsLeft, OfUndo, ShowsStanding};
-ghost use Rattle.desk_past.specs.declared.page.TheConstants.{EVENTS_PAGE, MOST_SPELLED};
-ghost use Rattle.desk_past.specs.Page.{number, page_bytes};
-ghost use Rattle.desk_past.specs.Past.{journal_of};
+ghost use Rattle.desk_past.specs.Bringing.{FitPage, import_of};
+ghost use Rattle.desk_past.specs.declared.page.TheConstants.{MOST_SPELLED};
+ghost use Rattle.desk_past.specs.Page.{behind_length, number, page_bytes};
+ghost use Rattle.desk_past.specs.Past.{IsGoodPage, journal_of};
 
-use desk_journal::{Error, Store};
+use crate::documents::spelled_documents;
+use desk_journal::{Document, Error, Store};
 use sector_disk::{Disk, NoMemory, SECTOR_BYTES};
 use std::alloc::Global;
-use store_layout::standing_law;
+use store_layout::{LAYOUT, standing_law};
 
 /// The number with which a page of events begins.
 pub const EVENTS_PAGE: u32 = 1;
 
-/// How many bytes stand before the first event of a page.
+/// The number with which a page of the documents of an import begins.
+pub const IMPORT_PAGE: u32 = 2;
+
+/// How many bytes stand before the first event or document of a page.
 pub const PAGE_FRONT: u32 = 16;
 
-/// In how many bytes the events of a page may be spelled.
+/// In how many bytes the events or documents of a page may be spelled.
 pub const MOST_SPELLED: usize = 0xFFFF_0000;
 
-/// The bytes of a page whose events are spelled so. `NoMemory` where these are more than a page may have, too.
-fn page_of(alloc: Global, version: u32, count: u32, events: &[u8]) -> Result<Vec<u8>, NoMemory>
+/// The bytes of a page of a kind, whose events or documents are spelled so. `NoMemory` where these are more than a page
+/// may have, too.
+fn page_of(
+    alloc: Global,
+    kind: u32,
+    version: u32,
+    count: u32,
+    spelled: &[u8],
+) -> Result<Vec<u8>, NoMemory>
     ensures bytes { IfOk result (λ bytes. bytes.items
-        ≡ number EVENTS_PAGE ++ (number version ++ (number count
-        ++ (number (length events.now) ++ events.now)))) }
-    ensures few { OnOk result (length events.now ≤ MOST_SPELLED) }
+        ≡ number kind ++ (number version ++ (number count ++ behind_length spelled.now))) }
+    ensures few { OnOk result (length spelled.now ≤ MOST_SPELLED) }
 {
-    if events.len() > MOST_SPELLED {
+    if spelled.len() > MOST_SPELLED {
         return Err(NoMemory);
     }
     let mut bytes = Vec::new(alloc);
-    bytes.extend_from_slice(&EVENTS_PAGE.to_be_bytes())?;
+    bytes.extend_from_slice(&kind.to_be_bytes())?;
     bytes.extend_from_slice(&version.to_be_bytes())?;
     bytes.extend_from_slice(&count.to_be_bytes())?;
-    bytes.extend_from_slice(&(events.len() as u32).to_be_bytes())?;
-    bytes.extend_from_slice(events)?;
+    bytes.extend_from_slice(&(spelled.len() as u32).to_be_bytes())?;
+    bytes.extend_from_slice(spelled)?;
     Ok(bytes)
 }
 
@@ -61,7 +72,13 @@ pub fn journal_page<D: Disk>(alloc: Global, store: &mut Store<D>) -> Result<Vec<
     standing_law();
     let info = store.info()?;
     let events = store.journal(alloc)?;
-    Ok(page_of(alloc, info.layout, info.events, events.as_slice())?)
+    Ok(page_of(
+        alloc,
+        EVENTS_PAGE,
+        info.layout,
+        info.events,
+        events.as_slice(),
+    )?)
 }
 
 /// The same, or none where the journal can't be read, over a disk that isn't honest.
@@ -89,6 +106,25 @@ pub(crate) fn page_read<D: Disk>(
         Err(Error::Fault) => Err(Error::Fault),
         Err(_) => Ok(None),
     }
+}
+
+/// The page of the documents of an import. None where a page has no room for them.
+pub(crate) fn import_page(
+    alloc: Global,
+    documents: &[Document],
+) -> Result<Option<Vec<u8>>, NoMemory>
+    ensures page { IfOk result (λ found. IfSome found (λ bytes. bytes.items
+        ≡ page_bytes (import_of documents.now))) }
+    ensures good { IfOk result (λ found. IfSome found (λ bytes. IsGoodPage
+        (import_of documents.now))) }
+    ensures none { IfOk result (λ found. IfNone found (FitPage documents.now → ⊥)) }
+{
+    let Some(spelled) = spelled_documents(alloc, documents)? else {
+        return Ok(None);
+    };
+    let count = documents.len() as u32;
+    let page = page_of(alloc, IMPORT_PAGE, LAYOUT, count, spelled.as_slice())?;
+    Ok(Some(page))
 }
 
 /// In how many sectors so many bytes stand. None where there are too many to be counted.

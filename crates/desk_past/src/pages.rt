@@ -5,49 +5,63 @@ ghost use Rattle.sector_disk.specs.Trail.{now};
 ghost use Rattle.event_bytes.specs.declared.event.Event.{Event};
 ghost use Rattle.store_layout.specs.declared.layout.TheConstants.{LAYOUT};
 ghost use Rattle.store_slots.specs.Bodies.{spellings};
-ghost use Rattle.desk_past.specs.declared.page.TheConstants.{EVENTS_PAGE, PAGE_FRONT};
-ghost use Rattle.desk_past.specs.Page.{Page, page_sectors};
-ghost use Rattle.desk_past.specs.Past.{AreEvents};
-ghost use Rattle.desk_past.specs.Reading.{HasPage, IsOnlyReadFrom};
+ghost use Rattle.desk_past.specs.declared.page.TheConstants.{EVENTS_PAGE, IMPORT_PAGE, PAGE_FRONT};
+ghost use Rattle.desk_past.specs.Page.{Page, page_body, page_count, page_kind, page_sectors};
+ghost use Rattle.desk_past.specs.Past.{AreDoable, AreEvents};
+ghost use Rattle.desk_past.specs.Reading.{HasPage, IsOnlyReadFrom, IsRead};
 
-use crate::page::{EVENTS_PAGE, PAGE_FRONT, sectors_for};
+use crate::documents::documents_in;
+use crate::page::{EVENTS_PAGE, IMPORT_PAGE, PAGE_FRONT, sectors_for};
 use crate::sectors::bytes_at;
 use byteorder::{BigEndian, ByteOrder};
-use desk_journal::{Error, Store};
+use desk_journal::{Document, Error, Store};
 use event_bytes::Event;
 use sector_disk::{Disk, NoMemory};
 use std::alloc::Global;
 use store_layout::LAYOUT;
 
-/// A page that was read: its events, and the sector behind it.
+/// What a page says was done: events that were posted, or an import.
+#[derive(Drop)]
+pub enum PageDeeds {
+    Events(Vec<Event>),
+    Import(Vec<Document>),
+}
+
+/// A page that was read: what it says was done, and the sector behind it.
 #[derive(Drop)]
 pub struct PageRead {
-    pub events: Vec<Event>,
+    pub deeds: PageDeeds,
     pub next: u32,
 }
 
-/// What stands before the events of a page: how many there are, and in how many bytes they are spelled.
+/// What stands before the events or documents of a page: its kind, how many there are, and in how many bytes they are
+/// spelled.
 #[derive(Clone, Copy)]
 struct Front {
+    kind: u32,
     count: u32,
     spelled: u32,
 }
 
-/// The front of a page of events of the newest version, which these bytes are. None where they are none.
+/// The front of a page of the newest version, which these bytes are. None where they are none.
 fn front_of(bytes: &[u8]) -> Option<Front>
     requires { length bytes.now ≡ PAGE_FRONT }
+    ensures kind { IfSome result (λ f. f.kind ≡ from_be_bytes w32 (take 4 bytes.now)) }
     ensures count { IfSome result (λ f. f.count ≡ from_be_bytes w32 (take 4 (drop 8 bytes.now))) }
     ensures spelled { IfSome result (λ f.
         f.spelled ≡ from_be_bytes w32 (take 4 (drop 12 bytes.now))) }
-    ensures none { IfNone result (from_be_bytes w32 (take 4 bytes.now) ≡ EVENTS_PAGE
-        → from_be_bytes w32 (take 4 (drop 4 bytes.now)) ≡ LAYOUT → ⊥) }
+    ensures none { IfNone result (from_be_bytes w32 (take 4 (drop 4 bytes.now)) ≡ LAYOUT → ⊥) }
 {
     let kind = BigEndian::read_u32(&bytes[..4]);
     let version = BigEndian::read_u32(&bytes[4..8]);
     let count = BigEndian::read_u32(&bytes[8..12]);
     let spelled = BigEndian::read_u32(&bytes[12..16]);
-    if kind == EVENTS_PAGE && version == LAYOUT {
-        Some(Front { count, spelled })
+    if version == LAYOUT {
+        Some(Front {
+            kind,
+            count,
+            spelled,
+        })
     } else {
         None
     }
@@ -72,6 +86,27 @@ fn events_in(alloc: Global, bytes: &[u8], count: u32) -> Result<Option<Vec<Event
     Ok(Some(events))
 }
 
+/// What the bytes say was done, which are spelled behind the front of a page. None where they say nothing of its kind.
+fn deeds_of(alloc: Global, front: Front, bytes: &[u8]) -> Result<Option<PageDeeds>, NoMemory>
+    ensures { IfOk result (λ found. (p : Page) (rest : List ℕ) → front.kind ≡ page_kind p
+        → front.count ≡ page_count p → AreDoable p → bytes.now ≡ page_body p ++ rest
+        → IsSomeAnd found (λ deeds. IsRead deeds p)) }
+{
+    if front.kind == EVENTS_PAGE {
+        match events_in(alloc, bytes, front.count)? {
+            Some(events) => Ok(Some(PageDeeds::Events(events))),
+            None => Ok(None),
+        }
+    } else if front.kind == IMPORT_PAGE {
+        match documents_in(alloc, bytes, front.count)? {
+            Some(documents) => Ok(Some(PageDeeds::Import(documents))),
+            None => Ok(None),
+        }
+    } else {
+        Ok(None)
+    }
+}
+
 /// The page in sector `at`. None where none stands there that ends before sector `end`.
 ///
 /// Errors: those of `Store::read_behind`; `NoMemory`.
@@ -85,7 +120,7 @@ pub(crate) fn page_at<D: Disk>(
     requires room { end ≤ D.size store.old.disk }
     ensures found { IfOk result (λ found. D.honest store.old.disk → (p : Page)
         → HasPage (now (D.trail store.old.disk)).reads at end p
-        → IsSomeAnd found (λ x. (x.events.items ≡ p.events) × (x.next ≡ at + page_sectors p))) }
+        → IsSomeAnd found (λ x. IsRead x.deeds p × (x.next ≡ at + page_sectors p))) }
     ensures later { IfOk result (λ found. IfSome found (λ x. (at < x.next) × (x.next ≤ end))) }
     ensures still { IsOnlyReadFrom D.Disk store.old store.new }
 {
@@ -106,11 +141,11 @@ pub(crate) fn page_at<D: Disk>(
     }
     let bytes = bytes_at(alloc, store, at, sectors)?;
     let (_front, spelled) = bytes.as_slice().split_at(PAGE_FRONT as usize);
-    let Some(events) = events_in(alloc, spelled, front.count)? else {
+    let Some(deeds) = deeds_of(alloc, front, spelled)? else {
         return Ok(None);
     };
     Ok(Some(PageRead {
-        events,
+        deeds,
         next: at + sectors,
     }))
 }
@@ -126,7 +161,7 @@ pub fn page_in<D: Disk>(
 ) -> Result<Option<PageRead>, Error>
     ensures found { IfOk result (λ found. D.honest store.old.disk → (p : Page)
         → HasPage (now (D.trail store.old.disk)).reads at end p → end ≤ D.size store.old.disk
-        → IsSomeAnd found (λ x. (x.events.items ≡ p.events) × (x.next ≡ at + page_sectors p))) }
+        → IsSomeAnd found (λ x. IsRead x.deeds p × (x.next ≡ at + page_sectors p))) }
     ensures later { IfOk result (λ found. IfSome found (λ x. (at < x.next) × (x.next ≤ end))) }
     ensures still { OnOk result (IsOnlyReadFrom D.Disk store.old store.new) }
 {

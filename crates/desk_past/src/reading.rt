@@ -1,21 +1,21 @@
-//! Any moment of a past: its start is opened as a store on another disk, and the events of its pages are posted to that.
+//! Any moment of a past: its start is opened as a store on another disk, and what its pages say is done there once more.
 ghost use Rattle.std.specs.Prelude.{◌≡◌, ◌+◌, ◌-◌, ◌*◌, ◌≤◌, ◌<◌, ◌++◌, ◌^◌, ℕ, List, length, take, drop, true, false, IfOk, IfSome, IsErrOf, IsSomeAnd, MatchOption, OnOk, Some};
 ghost use Rattle.sector_disk.specs.Faults.{FailsAs};
 ghost use Rattle.sector_disk.specs.Trail.{now};
-ghost use Rattle.event_bytes.specs.declared.event.Event.{Event};
 ghost use Rattle.desktop_definitions.specs.Desktop.{Desktop};
-ghost use Rattle.desktop_definitions.specs.Step.{steps, steps_in};
+ghost use Rattle.desktop_definitions.specs.Step.{steps_in};
 ghost use Rattle.store_layout.specs.declared.layout.TheConstants.{LAYOUT, STORE_SECTORS};
 ghost use Rattle.store_layout.specs.declared.head.PastEnd.{PastEnd};
 ghost use Rattle.store_layout.specs.Meaning.{Standing};
 ghost use Rattle.store_slots.specs.Errors.{OfLook};
 ghost use Rattle.desk_journal.specs.Device.{IsOnlyRead};
 ghost use Rattle.desk_journal.specs.Undoing.{IsLedOn, ShowsStanding};
-ghost use Rattle.desk_past.specs.Page.{Page, HasPages, end_of_pages};
-ghost use Rattle.desk_past.specs.Past.{AreGood, IsHeadTold, HasMoment, KeepsAll, StandsFrom, Start, events_of, first_page, moment as moment_of};
-ghost use Rattle.desk_past.specs.Reading.{ShowsNow, IsOnlyReadFrom};
+ghost use Rattle.desk_past.specs.Deeds.{PastDeed, after_deeds};
+ghost use Rattle.desk_past.specs.Page.{Page, HasPages, deeds_in, end_of_pages};
+ghost use Rattle.desk_past.specs.Past.{AreGood, IsHeadTold, HasMoment, KeepsAll, StandsFrom, Start, all_deeds, first_page, moment as moment_of};
+ghost use Rattle.desk_past.specs.Reading.{IsLed, IsOnlyReadFrom, IsRead, ShowsNow, many_deeds};
 
-use crate::pages::page_at;
+use crate::pages::{PageDeeds, page_at};
 use crate::sectors::copy_to;
 use desk_journal::{Error, STORE_SECTORS, Store};
 use event_bytes::Event;
@@ -49,7 +49,7 @@ fn opened_at<D: Disk, E: Disk + Drop>(
     }
 }
 
-/// How many events came before what the store shows, as its head tells. None where they are too many to be counted.
+/// How many deeds came before what the store shows, as its head tells. None where they are too many to be counted.
 ///
 /// Errors: those of `Store::past`.
 pub(crate) fn events_before<D: Disk>(store: &mut Store<D>) -> Result<Option<u64>, Error>
@@ -71,7 +71,7 @@ pub(crate) fn events_before<D: Disk>(store: &mut Store<D>) -> Result<Option<u64>
     Ok(told.before.checked_add(info.events as u64))
 }
 
-/// The start in sector `base` as a store on another disk, and how many events came before it. None where the disk is too
+/// The start in sector `base` as a store on another disk, and how many deeds came before it. None where the disk is too
 /// short, or where they are too many to be counted.
 ///
 /// Errors: those of `Store::read_behind` and `Store::open`: `NotAStore` and `Damaged` where none stands there.
@@ -111,9 +111,47 @@ fn post_all<E: Disk>(alloc: Global, shown: &mut Store<E>, events: &[Event]) -> R
     Ok(())
 }
 
-/// Posts the first `count` events of the pages from sector `at` up to sector `end`. False where these have fewer.
+/// How much a page says was done: an import is one deed.
+fn count_of(deeds: &PageDeeds) -> usize
+    ensures { result ≡ many_deeds deeds.now }
+{
+    match deeds {
+        PageDeeds::Events(events) => events.len(),
+        PageDeeds::Import(_) => 1,
+    }
+}
+
+/// Does once more what a page says was done first, so much of it.
 ///
-/// Errors: those of `Store::read_behind` and `Store::post`.
+/// Errors: those of `Store::post` and `Store::bring`.
+fn do_first<E: Disk>(
+    alloc: Global,
+    shown: &mut Store<E>,
+    deeds: &PageDeeds,
+    count: usize,
+) -> Result<(), Error>
+    requires { count ≤ many_deeds deeds.now }
+    ensures led { OnOk result ((p : Page) → IsRead deeds.now p
+        → IsLed E.Disk (take count (deeds_in p)) shown.old shown.new) }
+{
+    match deeds {
+        PageDeeds::Events(events) => {
+            let (first, _rest) = events.as_slice().split_at(count);
+            post_all(alloc, shown, first)
+        }
+        PageDeeds::Import(documents) => {
+            if count > 0 {
+                let _ = shown.bring(alloc, documents.as_slice())?;
+            }
+            Ok(())
+        }
+    }
+}
+
+/// Does once more the first `count` deeds of the pages from sector `at` up to sector `end`. False where these have
+/// fewer.
+///
+/// Errors: those of `Store::read_behind` and `do_first`.
 fn step_pages<D: Disk, E: Disk>(
     alloc: Global,
     store: &mut Store<D>,
@@ -126,9 +164,9 @@ fn step_pages<D: Disk, E: Disk>(
     requires room { end ≤ D.size store.old.disk }
     ensures led { IfOk result (λ done. D.honest store.old.disk → E.honest shown.old.disk
         → (pages : List Page) → HasPages (now (D.trail store.old.disk)).reads at pages
-        → AreGood pages → end_of_pages at pages ≡ end → count ≤ length (events_of pages)
+        → AreGood pages → end_of_pages at pages ≡ end → count ≤ length (all_deeds pages)
         → (done ≡ true)
-        × (shown.new.desktop ≡ steps shown.old.desktop (take count (events_of pages)))) }
+        × (shown.new.desktop ≡ after_deeds shown.old.desktop (take count (all_deeds pages)))) }
     ensures still { OnOk result (IsOnlyReadFrom D.Disk store.old store.new) }
 {
     store.shows_what_crashes_leave();
@@ -138,14 +176,13 @@ fn step_pages<D: Disk, E: Disk>(
         let Some(page) = page_at(alloc, store, at, end)? else {
             return Ok(false);
         };
-        let events = page.events.as_slice();
-        if left <= events.len() as u64 {
-            let (first, _rest) = events.split_at(left as usize);
-            post_all(alloc, shown, first)?;
+        let count = count_of(&page.deeds);
+        if left <= count as u64 {
+            do_first(alloc, shown, &page.deeds, left as usize)?;
             return Ok(true);
         }
-        post_all(alloc, shown, events)?;
-        left -= events.len() as u64;
+        do_first(alloc, shown, &page.deeds, count)?;
+        left -= count as u64;
         at = page.next;
     }
     Ok(true)
@@ -179,7 +216,8 @@ fn in_journal<D: Disk, E: Disk + Drop>(
     Ok(Some(shown))
 }
 
-/// The desktop of moment `k` of the pages behind a start, which end where `told` says. None where they have no such moment.
+/// The desktop of moment `k` of the pages behind a start, which end where `told` says. None where they have no such
+/// moment.
 ///
 /// Errors: those of `Store::read_behind`, `Store::open` and `Store::post`.
 fn in_pages<D: Disk, E: Disk + Drop>(
@@ -193,10 +231,10 @@ fn in_pages<D: Disk, E: Disk + Drop>(
     requires usable { store.old.must_reopen ≡ false }
     requires room { STORE_SECTORS ≤ E.size disk }
     ensures is_one { IfOk result (λ found. D.honest store.old.disk → E.honest disk
-        → (start : Start) (events : List Event) (desktop : Desktop)
-        → (keeps : KeepsAll D.Disk start events desktop store.old) → IsHeadTold D.Disk told keeps
+        → (start : Start) (deeds : List PastDeed) (desktop : Desktop)
+        → (keeps : KeepsAll D.Disk start deeds desktop store.old) → IsHeadTold D.Disk told keeps
         → start.base ≡ base → start.before ≤ k → k < told.before
-        → IsSomeAnd found (λ shown. shown.desktop ≡ moment_of start events k)) }
+        → IsSomeAnd found (λ shown. shown.desktop ≡ moment_of start deeds k)) }
     ensures still { OnOk result (IsOnlyReadFrom D.Disk store.old store.new) }
 {
     store.shows_what_crashes_leave();
@@ -220,7 +258,7 @@ fn in_pages<D: Disk, E: Disk + Drop>(
     Ok(Some(shown))
 }
 
-/// The desktop of moment `k` of the past that begins in sector `base`, as a store on another disk: what the first events
+/// The desktop of moment `k` of the past that begins in sector `base`, as a store on another disk: what the first deeds
 /// give, so many as came before it. None where the past has no such moment.
 ///
 /// Errors: those of `Store::read_behind`, of `Store::open` where no start stands there, and of `Store::post`.
@@ -233,10 +271,10 @@ pub fn moment<D: Disk, E: Disk + Drop>(
 ) -> Result<Option<Store<E>>, Error>
     requires { STORE_SECTORS ≤ E.size disk }
     ensures comes_back { IfOk result (λ found. D.honest store.old.disk → E.honest disk
-        → (start : Start) (events : List Event) (desktop : Desktop)
-        → KeepsAll D.Disk start events desktop store.old → start.base ≡ base
-        → HasMoment start events k
-        → IsSomeAnd found (λ shown. shown.desktop ≡ moment_of start events k)) }
+        → (start : Start) (deeds : List PastDeed) (desktop : Desktop)
+        → KeepsAll D.Disk start deeds desktop store.old → start.base ≡ base
+        → HasMoment start deeds k
+        → IsSomeAnd found (λ shown. shown.desktop ≡ moment_of start deeds k)) }
     ensures still { OnOk result (IsOnlyReadFrom D.Disk store.old store.new) }
 {
     store.shows_what_crashes_leave();

@@ -1,5 +1,5 @@
 //! Sectors behind a store: read, copied and compared.
-ghost use Rattle.std.specs.Prelude.{◌≡◌, ◌+◌, ◌*◌, ◌^◌, ◌<◌, ◌≤◌, ℕ, true, false, length, IfOk, OnOk};
+ghost use Rattle.std.specs.Prelude.{◌≡◌, ◌+◌, ◌*◌, ◌^◌, ◌<◌, ◌≤◌, ℕ, true, false, length, replicate, IfOk, OnOk};
 ghost use Rattle.sector_disk.specs.declared.disk.TheConstants.{SECTOR_BYTES};
 ghost use Rattle.sector_disk.specs.Faults.{FailsAs};
 ghost use Rattle.sector_disk.specs.Stored.{stored};
@@ -13,11 +13,19 @@ ghost use Rattle.desk_past.specs.Reading.{IsOnlyReadFrom};
 
 use desk_journal::{Error, STORE_SECTORS, Store};
 use sector_disk::{Disk, SECTOR_BYTES, Sector};
-use std::alloc::Global;
+use std::alloc::{AllocError, Global};
 
 /// A sector of zeros, to be filled. Its callers know no byte of it.
 fn blank_sector() -> Sector {
     [0; SECTOR_BYTES as usize]
+}
+
+/// So many zeros.
+pub(crate) fn zeros(alloc: Global, count: usize) -> Result<Vec<u8>, AllocError>
+    ensures { IfOk result (λ zeros. zeros.items ≡ replicate count 0) }
+{
+    let zeros = vec![in alloc; 0; count]?;
+    Ok(zeros)
 }
 
 /// What sector `n` of the store's disk holds.

@@ -16,13 +16,13 @@ use Rattle.desk_sitting.specs.Sittings.{meant_by}
 use Rattle.press_plans.specs.declared.task.Task.{Task}
 use Rattle.desk_sitting.specs.Sittings.{most_plans}
 use Rattle.desk_sitting.specs.Questions.{unasked}
-use Rattle.press_plans.specs.Plans.{Plan, Aims, Events, PutsAway, Refused as NotDone, Says, Shows, plan_of}
+use Rattle.press_plans.specs.Plans.{Plan, Aims, Asks, Events, Keeps, PutsAway, Refused as NotDone, Says, Shows, Tells, plan_of}
 use Rattle.desk_sitting.specs.Sittings.{Seat, accepted_as, accepted_by, accepted_in, accepted_one, accepted_stage}
 use Rattle.desk_sitting.specs.Sittings.{acted}
 use Rattle.desk_sitting.specs.Sittings.{accepted_unasked, after_planned, after_post, after_posts, after_press}
 use Rattle.desk_sitting.specs.Sittings.{after_stage}
 use Rattle.desk_sitting.specs.Sittings.{after_task, asks_first, does, does_all, done_by, done_so, noted_at, task_in}
-use Rattle.desk_sitting.specs.Sittings.{task_left, planned, with_hand}
+use Rattle.desk_sitting.specs.Sittings.{with_marks, task_left, planned, with_hand}
 use Rattle.desk_sitting.specs.Sittings.{accepted_of}
 use Rattle.desk_sitting.specs.Desk.{accepted_events}
 use Rattle.desk_sitting.specs.TheDesk.{PressesAreSteps, the_desk}
@@ -146,6 +146,9 @@ planned_steps (Events events next) d = all_steps events d
 planned_steps (Says line) d = refl
 planned_steps (Aims cell) d = refl
 planned_steps (Shows cell) d = refl
+planned_steps (Tells saying) d = refl
+planned_steps (Asks before) d = refl
+planned_steps (Keeps words next) d = refl
 planned_steps (PutsAway next) d = refl
 
 stage_steps : (left : Option Task) (d : Seat)
@@ -177,9 +180,9 @@ unfolding done_by accepted_as
 action_steps a d = so_steps (task_in d.sitting a) a (noted_at a d)
 
 -- the hand is nothing to a question
-pub hand_asks : (a : Action) (next : Hand × Action) (d : Seat)
-    → asks_first a (record d { sitting = with_hand next d.sitting }) ≡ asks_first a d
-hand_asks a next d = refl
+pub hand_asks : (a : Action) (press : Press) (next : Hand × Action) (d : Seat)
+    → asks_first a (record d { sitting = with_hand next (with_marks press d.sitting) }) ≡ asks_first a d
+hand_asks a press next d = refl
 
 -- a question is asked, or else it is done
 acted_steps : (a : Action) (d : Seat) → (acted a d).session.desktop ≡ steps d.session.desktop (accepted_unasked a d)
@@ -199,7 +202,7 @@ press_steps : (press : Press) (d : Seat)
 unfolding after_press
 press_steps press d =
     let made = meant_by press d.sitting in
-    let held = record d { sitting = with_hand made d.sitting } in
+    let held = record d { sitting = with_hand made (with_marks press d.sitting) } in
     let events = accepted_unasked made.1 held in
     elim (true_or_false d.sitting.leaves) [
       | inl left ↦ ap (λ (t : Seat). t.session.desktop) (cond-true d.sitting.leaves d (acted made.1 held) left)

@@ -14,7 +14,7 @@ use Rattle.desk_sitting.specs.Sittings.{most_plans}
 use Rattle.desk_sitting.specs.Doing.{DoesAction, DoesPress, seat_of}
 use Rattle.desk_sitting.specs.Sittings.{Seat, accepted_as, accepted_in, accepted_of, accepted_unasked, acted}
 use Rattle.desk_sitting.specs.Sittings.{acted_alone}
-use Rattle.desk_sitting.specs.Sittings.{after_press, after_task, done_by, done_so, noted_in, task_in, with_hand}
+use Rattle.desk_sitting.specs.Sittings.{after_press, after_task, with_marks, done_by, done_so, noted_in, task_in, with_hand}
 use Rattle.desk_sitting.proofs.Accepted.{none_accepted}
 use Rattle.desk_sitting.proofs.Pressed.{alone_press, press_same}
 use Rattle.desk_sitting.proofs.Taking.{left_seat, pressed_seat}
@@ -31,7 +31,7 @@ module _ {D : Type 0} (d : Ghosts D) where
 
   -- before that the hand says what it comes to
   pub hand_press : {T : Type 0} (press : Press) (a : Action) (result : Result T Error) (s mid s' : Sitting)
-      (old new : StoreView D) → s.leaves ≡ false → mid ≡ with_hand (meant_by press s) s
+      (old new : StoreView D) → s.leaves ≡ false → mid ≡ with_hand (meant_by press s) (with_marks press s)
       → a ≡ (meant_by press s).1
       → DoesPress d (accepted_unasked a (seat_of mid old)) (acted a (seat_of mid old)) result s' old new
       → DoesPress d (accepted_of press (seat_of s old)) (after_press press (seat_of s old)) result s' old new

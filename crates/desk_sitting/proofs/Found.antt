@@ -8,7 +8,7 @@ use Rattle.desktop_definitions.specs.Desktop.{Desktop}
 use Rattle.terminal_presses.specs.declared.action.Action.{Action}
 use Rattle.desk_journal.specs.Errors.{Error}
 use Rattle.desk_journal.specs.Looking.{OnlyLooks}
-use Rattle.desk_journal.specs.Session.{Session}
+use Rattle.desk_journal.specs.Session.{Session, session_of}
 use Rattle.desk_journal.specs.View.{StoreView, IsDurable}
 use Rattle.status_line.specs.declared.question.Question.{Question}
 use Rattle.desk_sitting.specs.declared.sitting.Sitting.{Sitting}
@@ -20,10 +20,9 @@ use Rattle.status_line.specs.Named.{named_question}
 use Rattle.status_line.specs.Opened.{menu_reopened}
 use Rattle.desk_sitting.specs.Questions.{asked_at, click_made, is_leave, click_question, named_at, or_asked}
 use Rattle.desk_sitting.specs.Stored.{open_question, reopening}
-use Rattle.status_line.specs.Question.{left_behind}
 use Rattle.status_line.specs.Question.{comes_first}
-use Rattle.status_line.specs.Sayings.{is_in_memory}
-use Rattle.desk_sitting.specs.Questions.{loss_of, question_of, questioned, unasked}
+use Rattle.done_presses.specs.declared.again.StorePlace.{StorePlace}
+use Rattle.desk_sitting.specs.Questions.{leaving_loses, loss_of, session_place, question_of, questioned, unasked}
 use Rattle.desk_sitting.specs.Sittings.{Seat, accepted_as, accepted_unasked, acted, asks_first, done_by, question_at}
 use Rattle.desk_sitting.proofs.Pressed.{alone_press, look_press, press_both, press_same, press_short, unseen_press}
 use Rattle.desk_sitting.proofs.Taking.{same_session}
@@ -138,24 +137,21 @@ found_as d said other result s old new same finds = record {
   looks = finds.looks;
 }
 
-module _ (a : Action) (s : Sitting) (desktop : Desktop) where
-  pub asks_nothing : s.questions ≡ false → None ≡ question_of a s desktop
-  asks_nothing silent = sym (cond-false s.questions (loss_of a (is_in_memory s.resting) desktop) None silent)
+module _ (a : Action) (s : Sitting) (place : StorePlace) (desktop : Desktop) where
+  pub asks_nothing : s.questions ≡ false → None ≡ question_of a s place desktop
+  asks_nothing silent = sym (cond-false s.questions (loss_of a (leaving_loses place s) desktop) None silent)
 
-  pub asks_leave : (found : Option Question) (in_memory : Bool) → s.questions ≡ true → is_leave a ≡ true
-      → in_memory ≡ is_in_memory s.resting → found ≡ left_behind in_memory → found ≡ question_of a s desktop
-  asks_leave found in_memory asks leaves memory is =
-      is ∙ ap left_behind memory
-      ∙ sym (cond-true s.questions (loss_of a (is_in_memory s.resting) desktop) None asks
-      ∙ cond-true (is_leave a) (left_behind (is_in_memory s.resting)) (click_question (click_made a desktop) desktop)
-      leaves)
+  pub asks_leave : (found : Option Question) → s.questions ≡ true → is_leave a ≡ true
+      → found ≡ leaving_loses place s → found ≡ question_of a s place desktop
+  asks_leave found asks leaves is =
+      is ∙ sym (cond-true s.questions (loss_of a (leaving_loses place s) desktop) None asks
+      ∙ cond-true (is_leave a) (leaving_loses place s) (click_question (click_made a desktop) desktop) leaves)
 
   pub asks_click : s.questions ≡ true → is_leave a ≡ false
-      → click_question (click_made a desktop) desktop ≡ question_of a s desktop
+      → click_question (click_made a desktop) desktop ≡ question_of a s place desktop
   asks_click asks stays =
-      sym (cond-true s.questions (loss_of a (is_in_memory s.resting) desktop) None asks
-      ∙ cond-false (is_leave a) (left_behind (is_in_memory s.resting))
-      (click_question (click_made a desktop) desktop) stays)
+      sym (cond-true s.questions (loss_of a (leaving_loses place s) desktop) None asks
+      ∙ cond-false (is_leave a) (leaving_loses place s) (click_question (click_made a desktop) desktop) stays)
 
 -- what a click would lose, where one was found, or none
 module _ (made : Option MiddleClick) (desktop : Desktop) (found : Option MiddleClick) (is : found ≡ made) where
@@ -208,7 +204,7 @@ module _ (a : Action) (d : Seat) (s : Sitting) where
 
 module _ {D : Type 0} (d : Ghosts D) (a : Action) (s : Sitting) (old mid : StoreView D) where
   abbrev Seeks : Result (Option Question) Error → Type 0
-  Seeks result = Finds d result (question_of a s) s old mid
+  Seeks result = Finds d result (question_of a s (session_place (session_of old))) s old mid
 
   -- a question was looked for, and that fails
   pub unsought_press : (s' : Sitting) (error : Error) → Seeks (Err error)

@@ -19,7 +19,7 @@ use Rattle.status_line.specs.Choosing.{rest_saying, rests}
 use Rattle.desk_sitting.specs.declared.sitting.Sitting.{Sitting}
 use Rattle.desk_sitting.specs.Sittings.{is_scene_due}
 use Rattle.desk_sitting.specs.Stored.{names_unstored, menu_begin, unstored_at, unstored_caret}
-use Rattle.desk_sitting.specs.Telling.{mark_told}
+use Rattle.desk_sitting.specs.Telling.{mark_told, rest_marked, rest_told}
 
 module _ {D : Type 0} (d : Ghosts D) where
   -- nobody looks
@@ -117,14 +117,21 @@ unfolding unstored_caret
 caret_so place d found is so = so ∙ ap (λ (p : Option Place). unstored_at p (shown_screen d) d) is
 
 module _ (d : Desktop) (s : Sitting) where
-  pub unmarked : (is_scene_due s && rests s.saying) ≡ false → s ≡ mark_told d s
+  pub unmarked : rests s.saying ≡ false → s ≡ rest_marked d s
   unmarked is = λ k. record s {
-    saying = sym (cond-false (is_scene_due s && rests s.saying) (rest_saying (unstored_caret d)) s.saying is) k;
+    saying = sym (cond-false (rests s.saying) (rest_saying (unstored_caret d)) s.saying is) k;
   }
 
-  pub marked : (said : Saying) (found : Option (ℕ × ℕ)) → (is_scene_due s && rests s.saying) ≡ true
-      → said ≡ rest_saying found → found ≡ unstored_caret d → record s { saying = said } ≡ mark_told d s
-  marked said found is says so = λ k. record s {
+  pub says_mark : (said : Saying) (found : Option (ℕ × ℕ)) → rests s.saying ≡ true → said ≡ rest_saying found
+      → found ≡ unstored_caret d → record s { saying = said } ≡ rest_marked d s
+  says_mark said found is says so = λ k. record s {
     saying = (says ∙ ap rest_saying so
-        ∙ sym (cond-true (is_scene_due s && rests s.saying) (rest_saying (unstored_caret d)) s.saying is)) k;
+        ∙ sym (cond-true (rests s.saying) (rest_saying (unstored_caret d)) s.saying is)) k;
   }
+
+  -- nothing is told where no scene is due
+  pub not_due : is_scene_due s ≡ false → s ≡ mark_told d s
+  not_due is = λ k. record s { saying = sym (cond-false (is_scene_due s) (rest_told d s.saying) s.saying is) k }
+
+  pub due : is_scene_due s ≡ true → rest_marked d s ≡ mark_told d s
+  due is = λ k. record s { saying = sym (cond-true (is_scene_due s) (rest_told d s.saying) s.saying is) k }

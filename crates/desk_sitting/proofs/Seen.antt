@@ -1,8 +1,9 @@
 -- What was sent last has the terminal show the scene of the desktop that stands, unless a scene is due.
 use Rattle.std.proofs.Common.{◌≡◌, ◌∙◌, ℕ, zero, suc, Bool, true, false, List, [], ◌∷◌, Option, Some, None, inl, inr}
 use Rattle.std.proofs.Common.{refl, sym, ap, subst}
-use Rattle.std.specs.Prelude.{◌||◌, ◌&&◌, ◌==◌, ◌⊎◌, not, is_some, length, if◌then◌else◌}
-use Rattle.std.proofs.lemmas.Bool.{cond-true, cond-false, or_parts, or_from, or_left, or_right, and_left, and_parts, true≢false}
+use Rattle.std.specs.Prelude.{◌||◌, ◌&&◌, ◌==◌, ◌⊎◌, not, is_some, length, if◌then◌else◌, Result, Ok, Err, ⊤}
+use Rattle.host_files.specs.declared.HostFault.{HostFault}
+use Rattle.std.proofs.lemmas.Bool.{cond-true, cond-false, or_parts, or_from, or_left, or_right, and_parts, true≢false}
 use Rattle.store_layout.proofs.Bits.{true_or_false}
 use Rattle.sector_disk.specs.declared.disk.Disk.{Ghosts}
 use Rattle.event_bytes.specs.declared.event.Event.{Event}
@@ -16,6 +17,7 @@ use Rattle.screen_drawing.specs.declared.face.Face.{Face}
 use Rattle.screen_drawing.specs.declared.scene.Scene.{Scene}
 use Rattle.terminal_presses.specs.declared.action.Action.{Action}
 use Rattle.terminal_presses.specs.declared.action.Action.TheVariants as action
+use Rattle.terminal_presses.specs.declared.asks.Asks.{Asks as AskedFor}
 use Rattle.terminal_presses.specs.declared.hand.Hand.{Hand}
 use Rattle.terminal_presses.specs.declared.press.Press.{Press}
 use Rattle.desk_sitting.specs.Sittings.{meant_by}
@@ -26,11 +28,12 @@ use Rattle.desk_journal.specs.Session.{Session, is_worn}
 use Rattle.desk_journal.specs.View.{StoreView}
 use Rattle.done_presses.specs.declared.again.StorePlace.{StorePlace}
 use Rattle.status_line.specs.declared.deed.Deed.{Deed}
-use Rattle.done_presses.specs.Past.{with_refused}
-use Rattle.press_plans.specs.Replacing.{noted}
+use Rattle.done_presses.specs.Past.{back_deed, left_past, with_refused}
+use Rattle.earlier_presses.specs.Replacing.{noted}
 use Rattle.status_line.specs.declared.question.Question.{Question}
 use Rattle.status_line.specs.declared.saying.Saying.{Saying}
-use Rattle.status_line.specs.declared.saying.Saying.TheVariants.{Asks, NothingBack, Worn}
+use Rattle.status_line.specs.declared.saying.Saying.TheVariants.{Worn}
+use Rattle.status_line.specs.declared.saying.Saying.TheVariants as sayings
 use Rattle.status_line.specs.Choosing.{refused_saying, rest_saying, rests}
 use Rattle.status_line.specs.Question.{asks_to_leave, comes_first}
 use Rattle.status_line.specs.Sayings.{line_of, said_by_pointer}
@@ -40,7 +43,8 @@ use Rattle.desk_sitting.specs.Doing.{DoesPresses, seat_of}
 use Rattle.desk_sitting.specs.Doing.{none as no_press, one_more as one_press}
 use Rattle.desk_sitting.specs.Questions.{click_made}
 use Rattle.press_plans.specs.Tasks.{calling_wish}
-use Rattle.desk_sitting.specs.Questions.{forgetful, is_nothing, is_of_terminal, questioned, unasked}
+use Rattle.desk_sitting.specs.Questions.{forgetful, questioned, unasked}
+use Rattle.earlier_presses.specs.Twice.{is_nothing, is_of_terminal}
 use Rattle.desk_sitting.specs.Scenes.{IsSceneOf, IsSeen, known_by}
 use Rattle.desk_sitting.specs.Serving.{Exchange, IsSeenUnlessDue, IsShownIfDue, TurnState, Turns, anew, sitting_shown}
 use Rattle.desk_sitting.specs.Serving.{still, store_screen}
@@ -50,16 +54,17 @@ use Rattle.desk_sitting.specs.Sittings.{after_stage, after_task, asks_first, doe
 use Rattle.desk_sitting.specs.Sittings.{followed_cell, is_scene_due}
 use Rattle.desk_sitting.specs.Sittings.{is_still, is_unseen, looked, most_plans, noted_at, question_at}
 use Rattle.desk_sitting.specs.Sittings.{refused, replied}
-use Rattle.desk_sitting.specs.Sittings.{task_in, task_left, turned_away, turned_by, unplaced, with_hand}
+use Rattle.desk_sitting.specs.Sittings.{with_marks, task_in, task_left, turned_away, turned_by, unplaced, with_hand}
 use Rattle.press_plans.specs.Tasks.{task_of}
-use Rattle.press_plans.specs.Plans.{Plan, Aims, Events, PutsAway, Refused as NotDone, Says, Shows, plan_of}
+use Rattle.press_plans.specs.Plans.{Plan, Aims, Asks, Events, Keeps, PutsAway, Refused as NotDone, Says, Shows, Tells, plan_of}
 use Rattle.desk_sitting.specs.Travelling.{IsBetween}
-use Rattle.desk_sitting.specs.Travels.{Travelled, did_again, goes_again, is_unmoved, none_again, settled, store_place, took_back}
+use Rattle.desk_sitting.specs.Travels.{Travelled, did_again, goes_again, is_unmoved, none_again, none_back, settled, store_place}
+use Rattle.desk_sitting.specs.Travels.{took_deed, took_back}
 use Rattle.desk_sitting.specs.Travels.{none as not_asked, back, nothing, again}
-use Rattle.desk_sitting.specs.Twice.{is_missed}
+use Rattle.desk_sitting.specs.Sittings.{is_missed}
 use Rattle.desk_sitting.specs.Clips.{clip_saying, clip_sent, copied_text}
 use Rattle.desk_sitting.specs.Stored.{unstored_caret}
-use Rattle.desk_sitting.specs.Telling.{scene_told, told_saying}
+use Rattle.desk_sitting.specs.Telling.{rest_told, scene_told, told_saying}
 use Rattle.desk_sitting.specs.TheDesk.{◌>>=◌, the_desk}
 
 -- ---- a scene that isn't due
@@ -100,8 +105,7 @@ changed_due s changed = record { is = or_left _ _ (or_left _ _ (or_left _ _ (or_
 
 -- nothing is to be done at a look then, and nothing to be told
 told_same : (d : Desktop) (s : Sitting) → is_scene_due s ≡ false → told_saying d s ≡ s.saying
-told_same d s due = cond-false (is_scene_due s && rests s.saying) (rest_saying (unstored_caret d)) s.saying
-    (and_left (is_scene_due s) (rests s.saying) due)
+told_same d s due = cond-false (is_scene_due s) (rest_told d s.saying) s.saying due
 
 pub looks_same : (d : Desktop) (s : Sitting) → is_scene_due s ≡ false → looked (shown_screen d) (scene_told d s) ≡ s
 unfolding looked scene_told
@@ -190,6 +194,9 @@ planned_keeps (Events events next) seat = posts_keep events seat
 planned_keeps (Says line) seat = refl
 planned_keeps (Aims cell) seat = refl
 planned_keeps (Shows cell) seat = refl
+planned_keeps (Tells saying) seat = refl
+planned_keeps (Asks before) seat = refl
+planned_keeps (Keeps words next) seat = refl
 planned_keeps (PutsAway next) seat = refl
 
 stage_keeps : (left : Option Task) (seat : Seat) → (after_stage left seat).sitting.changed ≡ seat.sitting.changed
@@ -296,28 +303,30 @@ nothing_seen hand is =
       pointer = none_of (pointer_cell hand.pointer) two.1;
     }
 
--- where nothing is asked for it is nothing whether that is a line
-no_line : (screen : List (List Cell)) (log : List ℕ) (saying : Saying) (line line' : Bool)
-    → line_of screen log None line None saying ≡ line_of screen log None line' None saying
+-- where nothing is asked for it is nothing what that would be
+no_line : (w : ℕ) (screen : List (List Cell)) (log : List ℕ) (saying : Saying) (asks asks' : AskedFor) (sought : List ℕ)
+    → line_of w screen log None asks sought None saying ≡ line_of w screen log None asks' sought None saying
 unfolding line_of
-no_line screen log (Asks question) line line' = refl
-no_line screen log _ line line' = refl
+no_line w screen log (sayings.Asks question) asks asks' sought = refl
+no_line w screen log _ asks asks' sought = refl
 
 -- the line below where nothing of the hand is seen
-line_unseen : (screen : List (List Cell)) (log : List ℕ) (saying : Saying) (hand hand' : Hand) → NothingSeen hand
-    → NothingSeen hand'
-    → line_of screen log hand.asked hand.asks_line hand.armed (said_by_pointer (is_some (pointer_cell hand.pointer)) saying)
-    ≡ line_of screen log hand'.asked hand'.asks_line hand'.armed
+line_unseen : (w : ℕ) (screen : List (List Cell)) (log sought : List ℕ) (saying : Saying) (hand hand' : Hand)
+    → NothingSeen hand → NothingSeen hand'
+    → line_of w screen log hand.asked hand.asks sought hand.armed
+    (said_by_pointer (is_some (pointer_cell hand.pointer)) saying)
+    ≡ line_of w screen log hand'.asked hand'.asks sought hand'.armed
     (said_by_pointer (is_some (pointer_cell hand'.pointer)) saying)
-line_unseen screen log saying hand hand' is is' =
+line_unseen w screen log sought saying hand hand' is is' =
     let said = said_by_pointer false saying in
     rw (is.asked, is.armed, is.pointer, is'.asked, is'.armed, is'.pointer)
-    (no_line screen log said hand.asks_line hand'.asks_line)
+    (no_line w screen log said hand.asks hand'.asks sought)
 
 -- the same scene is due
-scene_stays : (next : Hand × Action) (s : Sitting) (screen : List (List Cell)) (scene : Scene) → NothingSeen s.hand
-    → NothingSeen next.0 → IsSceneOf the_desk s screen scene → IsSceneOf the_desk (with_hand next s) screen scene
-scene_stays next s screen scene none none' is = record {
+scene_stays : (press : Press) (next : Hand × Action) (s : Sitting) (screen : List (List Cell)) (scene : Scene)
+    → NothingSeen s.hand → NothingSeen next.0 → IsSceneOf the_desk s screen scene
+    → IsSceneOf the_desk (with_hand next (with_marks press s)) screen scene
+scene_stays press next s screen scene none none' is = record {
   cells = is.cells;
   first = is.first;
   rows = is.rows;
@@ -326,7 +335,7 @@ scene_stays next s screen scene none none' is = record {
   width = is.width;
   has_line = is.has_line;
   pointer = is.pointer ∙ ap (λ p. p >>= terminal_place s.sight) (none.pointer ∙ sym none'.pointer);
-  line = is.line ∙ line_unseen screen s.logged.items s.saying s.hand next.0 none none';
+  line = is.line ∙ line_unseen s.sight.width screen s.logged.items s.sought s.saying s.hand next.0 none none';
 }
 
 -- ---- presses
@@ -336,12 +345,12 @@ module _ (known : List (List Face)) (held : Option (List ℕ)) where
   abbrev Stands : Sitting → Desktop → Type 0
   Stands s desktop = is_scene_due s ≡ false → IsSeen the_desk s (shown_screen desktop) known held
 
-  hand_stands : (next : Hand × Action) (seat : Seat) → Stands seat.sitting seat.session.desktop
-      → (let after : Seat = acted next.1 (record seat { sitting = with_hand next seat.sitting }) in
+  hand_stands : (press : Press) (next : Hand × Action) (seat : Seat) → Stands seat.sitting seat.session.desktop
+      → (let after : Seat = acted next.1 (record seat { sitting = with_hand next (with_marks press seat.sitting) }) in
       Stands after.sitting after.session.desktop)
-  hand_stands next seat stands due =
+  hand_stands press next seat stands due =
       let s : Sitting = seat.sitting in
-      let there : Seat = record seat { sitting = with_hand next s } in
+      let there : Seat = record seat { sitting = with_hand next (with_marks press s) } in
       let unchanged : s.changed || not (is_still next s) ≡ false =
       sym (acted_keeps next.1 there) ∙ (quiet (acted next.1 there).sitting due).changed in
       let parts = or_parts s.changed (not (is_still next s)) unchanged in
@@ -352,7 +361,7 @@ module _ (known : List (List Face)) (held : Option (List ℕ)) where
       let same : acted next.1 there ≡ there =
       ap (λ a. acted a there) (is_that next.1 one.0)
       ∙ nothing_acted there (not_true (asks_to_leave s.question) three.1) in
-      let now : IsQuiet (with_hand next s) = quiet (with_hand next s)
+      let now : IsQuiet (with_hand next (with_marks press s)) = quiet (with_hand next (with_marks press s))
       (subst (λ (t : Seat). is_scene_due t.sitting ≡ false) same due) in
       let before : IsSeen the_desk s (shown_screen seat.session.desktop) known held =
       stands (not_due s (record {
@@ -365,7 +374,7 @@ module _ (known : List (List Face)) (held : Option (List ℕ)) where
       })) in
       subst (λ (t : Seat). IsSeen the_desk t.sitting (shown_screen t.session.desktop) known held) (sym same) (record {
         scene = before.scene;
-        is = scene_stays next s (shown_screen seat.session.desktop) before.scene (nothing_seen s.hand two.1)
+        is = scene_stays press next s (shown_screen seat.session.desktop) before.scene (nothing_seen s.hand two.1)
             (nothing_seen next.0 one.1) before.is;
         rows = before.rows;
         was_known = before.was_known;
@@ -383,12 +392,12 @@ module _ (known : List (List Face)) (held : Option (List ℕ)) where
   unfolding after_press
   press_stands press seat stands =
       let next : Hand × Action = meant_by press seat.sitting in
-      let after : Seat = acted next.1 (record seat { sitting = with_hand next seat.sitting }) in
+      let after : Seat = acted next.1 (record seat { sitting = with_hand next (with_marks press seat.sitting) }) in
       elim (true_or_false seat.sitting.leaves) [
         | inl left ↦ subst (λ (t : Seat). Stands t.sitting t.session.desktop)
             (sym (cond-true seat.sitting.leaves seat after left)) stands
         | inr here ↦ subst (λ (t : Seat). Stands t.sitting t.session.desktop)
-            (sym (cond-false seat.sitting.leaves seat after here)) (hand_stands next seat stands)
+            (sym (cond-false seat.sitting.leaves seat after here)) (hand_stands press next seat stands)
       ]
 
   presses_stand : {D : Type 0} (d : Ghosts D) {presses : List Press} {s s' : Sitting} {old new : StoreView D}
@@ -399,17 +408,17 @@ module _ (known : List (List Face)) (held : Option (List ℕ)) where
       (press_stands press (seat_of s' mid) (presses_stand d before stands))
 
   -- a text of the host is to be heard, or it can't be read
-  fetched_stands : (heard : Bool) (s : Sitting) (desktop : Desktop) → Stands (fetched heard s) desktop
-  fetched_stands true s desktop due = absurd (true≢false due)
-  fetched_stands false s desktop due = absurd (true≢false
-      (sym (rings_due (fetched false s) refl).is ∙ due))
+  fetched_stands : (answer : Result ⊤ HostFault) (s : Sitting) (desktop : Desktop) → Stands (fetched answer s) desktop
+  fetched_stands (Ok done) s desktop due = absurd (true≢false due)
+  fetched_stands (Err why) s desktop due = absurd (true≢false
+      (sym (rings_due (fetched (Err why) s) refl).is ∙ due))
 
-  fetch_stands : (heard : Bool) (s : Sitting) (desktop : Desktop) → Stands s desktop → Stands (after_fetch heard s) desktop
+  fetch_stands : (answer : Result ⊤ HostFault) (s : Sitting) (desktop : Desktop) → Stands s desktop → Stands (after_fetch answer s) desktop
   unfolding after_fetch
-  fetch_stands heard s desktop stands = elim (true_or_false (is_some s.wanted)) [
-    | inl wants ↦ subst (λ t. Stands t desktop) (sym (cond-true (is_some s.wanted) (fetched heard s) s wants))
-        (fetched_stands heard s desktop)
-    | inr none ↦ subst (λ t. Stands t desktop) (sym (cond-false (is_some s.wanted) (fetched heard s) s none)) stands
+  fetch_stands answer s desktop stands = elim (true_or_false (is_some s.wanted)) [
+    | inl wants ↦ subst (λ t. Stands t desktop) (sym (cond-true (is_some s.wanted) (fetched answer s) s wants))
+        (fetched_stands answer s desktop)
+    | inr none ↦ subst (λ t. Stands t desktop) (sym (cond-false (is_some s.wanted) (fetched answer s) s none)) stands
   ]
 
 -- ---- turns
@@ -422,7 +431,7 @@ module _ {D : Type 0} (d : Ghosts D) {old new : TurnState D} where
       (sym (ap (λ (s : Session). s.desktop) turn.scene.looked.session)) turn.scene.seen in
       let after : Stands new.known new.held new.sitting new.store.desktop =
       subst (λ t. Stands new.known new.held t new.store.desktop) (sym turn.brings.brings)
-      (fetch_stands new.known new.held turn.brings.will_be_heard turn.sitting new.store.desktop
+      (fetch_stands new.known new.held turn.brings.answer turn.sitting new.store.desktop
       (presses_stand new.known new.held d turn.does start)) in
       λ due. (after due, turn.scene.handed)
 
@@ -452,9 +461,15 @@ post_due event seat = either_due (is_worn seat.session) (turned_away Worn seat.s
     (turned_due seat.sitting.typed Worn (unplaced seat.sitting))
     (replied_due event (step seat.session.desktop event).reply seat.sitting)
 
+told_due : (deed : Option Deed) (events : List Event) (from to : StorePlace) (s : Sitting)
+    → IsDue (took_deed deed events from to s)
+told_due None events from to s = rings_due (took_deed None events from to s) refl
+told_due (Some deed) events from to s = follows_due (took_deed (Some deed) events from to s) refl
+
 back_due : (events : List Event) (from to : StorePlace) (s : Sitting) → IsDue (took_back events from to s)
 back_due events from to s =
-    either_due (length events == 0) (refused NothingBack s) _ (rings_due (refused NothingBack s) refl) (follows_due _ refl)
+    either_due (length events == 0) (refused (none_back to) s) _ (rings_due (refused (none_back to) s) refl)
+    (told_due (back_deed events s.past) events from to (record s { past = left_past (length events) s.past }))
 
 again_due : (deed : Deed) (from to : StorePlace) (s : Sitting) → IsDue s → IsDue (did_again deed from to s)
 again_due deed from to s due = either_due (is_unmoved from to) s _ due (changed_due _ refl)

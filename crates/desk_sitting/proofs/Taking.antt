@@ -30,7 +30,7 @@ use Rattle.status_line.specs.declared.saying.Saying.TheVariants as saying
 use Rattle.desk_sitting.specs.declared.sitting.Sitting.{Sitting}
 use Rattle.desk_sitting.specs.Doing.{OfPresses, ComesToSeat, seat_of}
 use Rattle.desk_sitting.specs.Sittings.{Seat, acted, after_press, after_post, does, is_done, replied, turned_away}
-use Rattle.desk_sitting.specs.Sittings.{with_hand}
+use Rattle.desk_sitting.specs.Sittings.{with_marks, with_hand}
 use Rattle.desk_sitting.proofs.Sessions.{session_parts, is_it_worn, not_worn, taken_steps, is_taken}
 
 -- a seat by its two parts
@@ -323,13 +323,13 @@ left_seat press d leaves = sym (cond-true d.sitting.leaves d _ leaves)
 
 -- before that the hand says what a press comes to
 pub pressed_seat : (press : Press) (d : Seat) (s : Sitting) (act : Action) → d.sitting.leaves ≡ false
-    → s ≡ with_hand (meant_by press d.sitting) d.sitting
+    → s ≡ with_hand (meant_by press d.sitting) (with_marks press d.sitting)
     → act ≡ (meant_by press d.sitting).1
     → acted act (record d { sitting = s }) ≡ after_press press d
 unfolding after_press
 pressed_seat press d s act stays is is_act =
     ap (λ t. acted act (record d { sitting = t })) is
     ∙ ap (λ a. acted a (record d {
-      sitting = with_hand (meant_by press d.sitting) d.sitting;
+      sitting = with_hand (meant_by press d.sitting) (with_marks press d.sitting);
     })) is_act
     ∙ sym (cond-false d.sitting.leaves d _ stays)

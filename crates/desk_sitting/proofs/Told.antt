@@ -22,12 +22,12 @@ use Rattle.caret_moves.specs.declared.wish.WhyNot.{WhyNot}
 use Rattle.caret_moves.specs.declared.wish.WhyNot.TheVariants.{NoBreak, NoCaret, NoRow, NoWord, NothingBehind, NothingThere}
 use Rattle.caret_moves.specs.declared.wish.WhyNot.TheVariants.{NotInSight, PastEdge, TooFar}
 use Rattle.caret_moves.specs.Calling.{call_by, call_led, line_word, mark_cell, middle_press, word_cell}
-use Rattle.caret_moves.specs.Stretches.{drag_by, selected_up_to}
+use Rattle.caret_moves.specs.Stretches.{drag_by}
 use Rattle.caret_moves.proofs.NearLaws.{near_click}
 use Rattle.caret_moves.specs.Leading.{near_events, org_in, click_for, text_click, has_column}
 use Rattle.caret_moves.specs.Leading.{line_end, and_line_end, ended_led, break_led, break_in, place_wished}
 use Rattle.caret_moves.specs.Leading.{character_cell, led, led_from, led_with, line_led, marker_cell, text_width, word_led}
-use Rattle.caret_moves.specs.Leading.{cell_from, cut_led, drawn, then_drawn}
+use Rattle.caret_moves.specs.Leading.{cell_from, cut_all_led, cut_led, drawn, selected_up_to, then_drawn, without_hidden_end}
 use Rattle.desk_journal.specs.Session.{Session, is_worn, taken}
 use Rattle.desk_journal.specs.Views.{DeskInfo, ShownViewer, desk_info, last_log_line}
 use Rattle.status_line.specs.Deeds.{deed_of, is_middle}
@@ -41,26 +41,31 @@ use Rattle.press_plans.specs.declared.task.Stage.TheVariants.{First, Back, On}
 use Rattle.press_plans.specs.declared.task.Task.{Task}
 use Rattle.press_plans.specs.declared.task.Task.TheVariants as kind
 use Rattle.press_plans.specs.Listed.{event_meant, lacks_tool}
-use Rattle.press_plans.specs.Plans.{Plan, Aims, Events, PutsAway, Refused as NotDone, Says, Shows, answer_plan}
+use Rattle.press_plans.specs.Plans.{Plan, Aims, Asks, Events, Keeps, PutsAway, Refused as NotDone, Says, Shows, answer_plan}
+use Rattle.press_plans.specs.Plans.{Tells as SaysMore}
 use Rattle.screen_reading.specs.Picked.{picked_word}
 use Rattle.press_plans.specs.Plans.{caret_seen, comeback_plan, go_plan, has_lost_caret, word_plan}
 use Rattle.press_plans.specs.Plans.{call_plan, erase_plan, erasing, lead_plan, over_plan}
 use Rattle.press_plans.specs.Plans.{click_of, enter_plan, is_call, opened_viewer, plan_of, plan_on}
-use Rattle.press_plans.specs.Tasks.{calling_wish, posted, posting, posting_over, task_of, typed_task}
+use Rattle.press_plans.specs.Tasks.{calling_wish, lead_deed, posted, posting, posting_over, task_of, typed_task}
 use Rattle.desk_sitting.specs.Questions.{click_led, click_made}
 use Rattle.press_plans.specs.Plans.{posted_plan, type_plan, unbroken_plan, broken_plan, placed_plan}
 use Rattle.press_plans.specs.Plans.{column_clicked, from_column, front_plan, poured_plan, room_plan, standing, typable}
 use Rattle.filled_pastes.specs.Poured.{poured_at, word_length}
 use Rattle.press_plans.specs.Filling.{room_if, place_behind, is_place}
-use Rattle.press_plans.specs.Replacing.{TypingView, first_typed, first_byte_typed, rest_typed, typed_behind, nothing_typed}
-use Rattle.press_plans.specs.Replacing.{replacement}
+use Rattle.earlier_presses.specs.Replacing.{TypingView, first_typed, first_byte_typed, rest_typed, typed_behind, nothing_typed}
+use Rattle.earlier_presses.specs.Replacing.{replacement}
 use Rattle.done_presses.specs.Past.{selects}
 use Rattle.terminal_presses.specs.Sights.{Sight}
 use Rattle.status_line.specs.declared.deed.Deed.{Deed}
 use Rattle.desk_sitting.specs.Sittings.{Seat, ClicksAreTold, IsClickTold, accepted_as, accepted_by, accepted_in}
 use Rattle.desk_sitting.specs.Sittings.{accepted_stage, after_stage, filling, task_or_word}
-use Rattle.desk_sitting.specs.Twice.{cell_again, cell_clicked}
-use Rattle.desk_sitting.specs.Sittings.{does, does_all, left_by, most_plans, noted_at, planned, task_left}
+use Rattle.earlier_presses.specs.Twice.{cell_again, cell_clicked}
+use Rattle.desk_sitting.specs.Sittings.{after_planned, does, does_all, left_by, most_plans, noted_at, planned, task_left}
+use Rattle.press_plans.specs.declared.finding.Finding.TheVariants as finding
+use Rattle.press_plans.specs.Plans.{begin_plan}
+use Rattle.desktop_definitions.specs.Words.{Text}
+use Rattle.desktop_definitions.specs.Viewers.{newest, selected}
 
 module _ (told : Option MiddleClick) where
   abbrev Told : Event → Type 0
@@ -69,6 +74,7 @@ module _ (told : Option MiddleClick) where
   -- tasks that post what was told, and nothing else of that button
   data Posts : Task → Type 0 where
     post : (e : Event) → Told e → Posts (kind.Post e)
+    calls : (e : Event) (deed : Option Deed) → Told e → Posts (kind.Call e deed)
     after : (before : DeskInfo) (cell : Option (ℕ × ℕ)) → Posts (kind.After before cell)
     word : (at : ℕ × ℕ) → Posts (kind.Word at)
     enter : (cell : ℕ × ℕ) → Posts (kind.Enter cell)
@@ -85,6 +91,9 @@ module _ (told : Option MiddleClick) where
   next_of (Says line) = None
   next_of (Aims cell) = None
   next_of (Shows cell) = None
+  next_of (SaysMore saying) = None
+  next_of (Asks before) = None
+  next_of (Keeps words next) = Some next
   next_of (PutsAway next) = Some next
 
   record IsTelling (plan : Plan) : Type 0 where
@@ -109,6 +118,9 @@ module _ (told : Option MiddleClick) where
   left_telling (Says line) s g = tt
   left_telling (Aims cell) s g = tt
   left_telling (Shows cell) s g = tt
+  left_telling (SaysMore saying) s g = tt
+  left_telling (Asks before) s g = tt
+  left_telling (Keeps words next) s g = g
   left_telling (PutsAway next) s g = g
 
   one_if : (b : Bool) (e : Event) → Told e → All Told (if b then [] else e ∷ [])
@@ -310,9 +322,9 @@ module _ (told : Option MiddleClick) where
   drawn_told (Some from) None = tt
   drawn_told None to = tt
 
-  cut_told : (d : Desktop) (s : Selection) → IfOk (cut_led d s) (λ events. All Told events)
-  unfolding cut_led drawn
-  cut_told d s =
+  cut_all_told : (d : Desktop) (s : Selection) → IfOk (cut_all_led d s) (λ events. All Told events)
+  unfolding cut_all_led drawn
+  cut_all_told d s =
       let org : ℕ = (viewer_of d s.viewer).org in
       elim (nat_lt s.beg s.end) as (λ (b : Bool). IfOk (if b then then_drawn (Some [])
       (drag_by keys.RightLeft (cell_from d s.viewer org s.beg) (cell_from d s.viewer org (s.end - 1)))
@@ -320,6 +332,10 @@ module _ (told : Option MiddleClick) where
         | true ↦ drawn_told (cell_from d s.viewer org s.beg) (cell_from d s.viewer org (s.end - 1))
         | false ↦ tt
       ]
+
+  cut_told : (d : Desktop) (s : Selection) → IfOk (cut_led d s) (λ events. All Told events)
+  unfolding cut_led
+  cut_told d s = cut_all_told d (without_hidden_end d s)
 
   cut_wish_told : (d : Desktop) → IfOk (led d CutSelected) (λ events. All Told events)
   unfolding led led_from
@@ -356,6 +372,10 @@ module _ (told : Option MiddleClick) where
   telling : (task : Task) (d : Desktop) → Posts task → IsTelling (plan_of task d)
   unfolding plan_of plan_on posted_plan
   telling _ d (post e t) = record {
+    events = one (event_meant d e) (meant_told d e t);
+    next = after_if (is_call (event_meant d e)) (desk_info d) (caret_seen d e);
+  }
+  telling _ d (calls e deed t) = record {
     events = one (event_meant d e) (meant_told d e t);
     next = after_if (is_call (event_meant d e)) (desk_info d) (caret_seen d e);
   }
@@ -400,6 +420,58 @@ module _ (told : Option MiddleClick) where
       (accepted_told seat.session (planned (plan_of task seat.session.desktop)) made.events)
       (all_told n (task_left (Some task) seat.session) (after_stage (Some task) seat)
       (left_telling (plan_of task seat.session.desktop) seat.session made.next))
+
+  -- ---- a task that only looks, and what is left of it over the same desktop
+
+  -- a plan without events, and what it leaves to do tells what was told over that desktop
+  abbrev TellsNext : Desktop → Option Task → Type 0
+  TellsNext d next = IfSome next (λ (task : Task). IsTelling (plan_of task d))
+
+  record IsLooking (plan : Plan) (d : Desktop) : Type 0 where
+    none : planned plan ≡ []
+    next : TellsNext d (next_of plan)
+
+  next_if : (b : Bool) (d : Desktop) (next : Option Task) → TellsNext d next → TellsNext d (if b then next else None)
+  next_if true d next g = g
+  next_if false d next g = tt
+
+  left_looking : (plan : Plan) (s : Session) (d : Desktop) → TellsNext d (next_of plan) → TellsNext d (left_by plan s)
+  left_looking (NotDone why) s d g = tt
+  left_looking (Events events next) s d g = next_if (does_all s events) d next g
+  left_looking (Says line) s d g = tt
+  left_looking (Aims cell) s d g = tt
+  left_looking (Shows cell) s d g = tt
+  left_looking (SaysMore saying) s d g = tt
+  left_looking (Asks before) s d g = tt
+  left_looking (Keeps words next) s d g = g
+  left_looking (PutsAway next) s d g = g
+
+  same_session : (plan : Plan) (seat : Seat) → planned plan ≡ [] → (after_planned plan seat).session ≡ seat.session
+  same_session (NotDone why) seat is = refl
+  same_session (Events [] next) seat is = refl
+  same_session (Events (e ∷ events) next) seat is = absurd (cc is)
+  same_session (Says line) seat is = refl
+  same_session (Aims cell) seat is = refl
+  same_session (Shows cell) seat is = refl
+  same_session (SaysMore saying) seat is = refl
+  same_session (Asks before) seat is = refl
+  same_session (Keeps words next) seat is = refl
+  same_session (PutsAway next) seat is = refl
+
+  looked_next : (n : ℕ) (left : Option Task) (seat : Seat) → TellsNext seat.session.desktop left → All Told (accepted_in n left seat)
+  looked_next n None seat made = all_told n None seat tt
+  looked_next n (Some task) seat made = first_told n task seat made
+
+  looked_told : (n : ℕ) (task : Task) (seat : Seat) → IsLooking (plan_of task seat.session.desktop) seat.session.desktop
+      → All Told (accepted_in n (Some task) seat)
+  looked_told zero task seat made = nothing
+  looked_told (suc n) task seat made = All-append Told (accepted_stage (Some task) seat)
+      (accepted_in n (task_left (Some task) seat.session) (after_stage (Some task) seat))
+      (subst (λ (events : List Event). All Told (accepted_by seat.session events)) (sym made.none) nothing)
+      (looked_next n (task_left (Some task) seat.session) (after_stage (Some task) seat)
+      (subst (λ (s : Session). TellsNext s.desktop (task_left (Some task) seat.session))
+      (sym (same_session (plan_of task seat.session.desktop) seat made.none))
+      (left_looking (plan_of task seat.session.desktop) seat.session seat.session.desktop made.next)))
 
 -- ---- the first plan of each kind
 
@@ -450,29 +522,31 @@ refused : (wish : KeyWish) (why : WhyNot) → Tells wish (Err why)
 refused wish why = record { events = nothing None; next = tt }
 
 -- a click, and one after the marker is set
-pressed : (cell : ℕ × ℕ) → IsTelling (middle_click (middle_press cell)) (call_plan (middle_press cell ∷ []))
-pressed cell = record {
+pressed : (deed : Option Deed) (cell : ℕ × ℕ)
+    → IsTelling (middle_click (middle_press cell)) (call_plan deed (middle_press cell ∷ []))
+pressed deed cell = record {
   events = nothing (middle_click (middle_press cell));
-  next = post (middle_press cell) (itself (middle_press cell));
+  next = calls (middle_press cell) deed (itself (middle_press cell));
 }
 
-pressed_marked : (at cell : ℕ × ℕ) → IsTelling (click_in (event.Mark at.0 at.1 ∷ middle_press cell ∷ []))
-    (call_plan (event.Mark at.0 at.1 ∷ middle_press cell ∷ []))
-pressed_marked at cell = record {
+pressed_marked : (deed : Option Deed) (at cell : ℕ × ℕ)
+    → IsTelling (click_in (event.Mark at.0 at.1 ∷ middle_press cell ∷ []))
+    (call_plan deed (event.Mark at.0 at.1 ∷ middle_press cell ∷ []))
+pressed_marked deed at cell = record {
   events = one (click_in (event.Mark at.0 at.1 ∷ middle_press cell ∷ [])) (event.Mark at.0 at.1) tt;
-  next = post (middle_press cell) refl;
+  next = calls (middle_press cell) deed refl;
 }
 
 call_told : (d : Desktop) (command : CaretCommand) (v : ℕ) (menu text : Option (ℕ × ℕ))
     → Tells (Call command) (call_by d v menu text)
-call_told d command v (Some cell) text = pressed cell
-call_told d command v None (Some cell) = pressed_marked (mark_cell d v) cell
+call_told d command v (Some cell) text = pressed (lead_deed (Call command)) cell
+call_told d command v None (Some cell) = pressed_marked (lead_deed (Call command)) (mark_cell d v) cell
 call_told d command v None None = refused (Call command) NoWord
 
 press_told : (cell : Option (ℕ × ℕ))
     → Tells CallLine (ok_or (option_map (λ (c : ℕ × ℕ). middle_press c ∷ []) cell) NotInSight)
 press_told None = refused CallLine NotInSight
-press_told (Some cell) = pressed cell
+press_told (Some cell) = pressed (lead_deed CallLine) cell
 
 word_told : (d : Desktop) (v : ℕ) (word : Option ℕ) → Tells CallLine (word_led d v word)
 word_told d v None = refused CallLine NoWord
@@ -524,13 +598,26 @@ mark_wish_told : (d : Desktop) → IsTelling None (lead_plan MarkWish (led d Mar
 unfolding led
 mark_wish_told d = marks (led_with d d.caret MarkWish) (mark_told d d.caret)
 
+-- what is selected is searched by the command, and else it is asked for words
+search_looks : (d : Desktop) (viewer : Option ℕ) (selected : Option (Text ℕ))
+    → IsLooking (click_led (led d (Call caret.Search))) (begin_plan false viewer selected) d
+unfolding plan_of
+search_looks d None selected = record { none = refl; next = tt }
+search_looks d (Some viewer) None = record { none = refl; next = tt }
+search_looks d (Some viewer) (Some text) = record { none = refl; next = command_told d caret.Search }
+
+search_told : (d : Desktop) (b : Bool)
+    → IsLooking (click_led (led d (Call caret.Search))) (plan_of (kind.Find (finding.Search b false)) d) d
+unfolding plan_of
+search_told d b = search_looks d (desk_info d).caret_viewer (if b then option_map (selected d) (newest d) else None)
+
 pub clicks_told : ClicksAreTold
 unfolding accepted_as task_of click_made calling_wish plan_of plan_on
 clicks_told (action.Post e) seat is = all_told (middle_click e) most_plans _ (noted_at (action.Post e) seat)
     (or_word_posts e (cell_again (cell_clicked (action.Post e)) seat.sitting.clicked) (filling seat.sitting)
     (selects seat.sitting.past) (replacement seat.sitting.replacing) seat.sitting.sight)
-clicks_told action.Search seat is = first_told _ most_plans _ (noted_at action.Search seat)
-    (command_told seat.session.desktop caret.Search)
+clicks_told action.Search seat is = looked_told _ most_plans (kind.Find (finding.Search (selects seat.sitting.past) false))
+    (noted_at action.Search seat) (search_told seat.session.desktop (selects seat.sitting.past))
 clicks_told action.Store seat is = first_told _ most_plans _ (noted_at action.Store seat)
     (command_told seat.session.desktop caret.Store)
 clicks_told action.CallLine seat is = first_told _ most_plans _ (noted_at action.CallLine seat)
@@ -544,6 +631,8 @@ clicks_told action.Leave seat is = absurd cc
 clicks_told action.Undo seat is = absurd cc
 clicks_told action.Redo seat is = absurd cc
 clicks_told (action.TypeFile name) seat is = absurd cc
+clicks_told action.SearchBefore seat is = absurd cc
+clicks_told (action.Find words before) seat is = absurd cc
 clicks_told (action.Move page) seat is = absurd cc
 clicks_told (action.Scroll at scroll) seat is = absurd cc
 clicks_told (action.GoTo line) seat is = absurd cc
@@ -554,6 +643,8 @@ clicks_told (action.Step arrow) seat is = absurd cc
 clicks_told action.Delete seat is = absurd cc
 clicks_told (action.Select arrow) seat is = absurd cc
 clicks_told action.SelectAll seat is = absurd cc
+clicks_told (action.Extend start at) seat is = absurd cc
 clicks_told action.CutLine seat is = absurd cc
+clicks_told action.Refill seat is = absurd cc
 clicks_told (action.Fit rows columns) seat is = absurd cc
 clicks_told action.FileFailed seat is = absurd cc

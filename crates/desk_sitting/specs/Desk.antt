@@ -1,6 +1,7 @@
 -- A desk, as far as the crash promise of a sitting knows it: any functions of these types. What they are at this desk is
 -- said in Sittings and Travels, and `the_desk` has them together.
-use Rattle.std.specs.Prelude.{ℕ, Bool, List, [], ◌∷◌, ◌++◌, Option}
+use Rattle.std.specs.Prelude.{ℕ, Bool, List, [], ◌∷◌, ◌++◌, Option, Result, ⊤}
+use Rattle.host_files.specs.declared.HostFault.{HostFault}
 use Rattle.event_bytes.specs.declared.event.Event.{Event}
 use Rattle.screen_pictures.specs.declared.cell.Cell.{Cell}
 use Rattle.desktop_definitions.specs.Desktop.{Desktop}
@@ -36,8 +37,8 @@ pub record Desk : Type 0 where
   -- is to be told of the desktop
   pub gives : Desktop → Sitting → Option (List ℕ)
   pub tells : Desktop → Sitting → Sitting
-  -- after the keyboard was asked for the text of a host file, which will be heard or not
-  pub fetches : Bool → Sitting → Sitting
+  -- after the keyboard was asked for the text of a host file, which will be heard, or why it won't be
+  pub fetches : Result ⊤ HostFault → Sitting → Sitting
   -- how many events are taken back, and the sitting after these were, from one place of the store to another
   pub counts : Sitting → ℕ
   pub takes_back : List Event → StorePlace → StorePlace → Sitting → Sitting

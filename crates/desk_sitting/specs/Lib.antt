@@ -15,4 +15,3 @@ pub mod Telling
 pub mod TheDesk
 pub mod Travelling
 pub mod Travels
-pub mod Twice

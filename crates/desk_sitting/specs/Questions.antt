@@ -5,6 +5,9 @@ use Rattle.desktop_definitions.specs.Desktop.{Desktop}
 use Rattle.desktop_definitions.specs.Shown.{shown_screen}
 use Rattle.desk_journal.specs.Leading.{KeyWish, WhyNot, led}
 use Rattle.desk_journal.specs.Losses.{Loss, Closed, Rivalled, Taken, loss_at}
+use Rattle.desk_journal.specs.Session.{Session}
+use Rattle.done_presses.specs.Again.{has_again}
+use Rattle.done_presses.specs.declared.again.StorePlace.{StorePlace}
 use Rattle.terminal_presses.specs.declared.action.Action.{Action}
 use Rattle.terminal_presses.specs.declared.action.Action.TheVariants as action
 use Rattle.status_line.specs.declared.question.Question.{Question}
@@ -15,6 +18,7 @@ use Rattle.status_line.specs.Question.{asks_to_leave, left_behind}
 use Rattle.status_line.specs.Sayings.{is_in_memory}
 use Rattle.status_line.specs.declared.clicks.MiddleClick.{MiddleClick}
 use Rattle.status_line.specs.Clicks.{click_in, click_posted}
+use Rattle.earlier_presses.specs.Twice.{is_nothing, is_of_terminal}
 use Rattle.press_plans.specs.Tasks.{calling_wish}
 use Rattle.status_line.specs.Named.{named_question}
 use Rattle.desk_sitting.specs.declared.sitting.Sitting.{Sitting}
@@ -65,30 +69,27 @@ abbrev pub is_leave : Action → Bool
 is_leave action.Leave = true
 is_leave _ = false
 
--- what a press would lose
-abbrev pub loss_of : Action → Bool → Desktop → Option Question
-loss_of a in_memory d =
-    if is_leave a then left_behind in_memory else click_question (click_made a d) d
+-- where a store stands
+abbrev pub session_place : Session → StorePlace
+session_place session = record { epoch = session.epoch; events = session.events }
+
+-- what leaving would lose at this place of the store: a desktop in memory, or what can be done again
+abbrev pub leaving_loses : StorePlace → Sitting → Option Question
+leaving_loses place s = left_behind (is_in_memory s.resting) (has_again place s.again)
+
+-- what a press would lose, where leaving would lose that
+abbrev pub loss_of : Action → Option Question → Desktop → Option Question
+loss_of a left d = if is_leave a then left else click_question (click_made a d) d
 
 -- and what is asked about it, in a sitting that asks
-abbrev pub question_of : Action → Sitting → Desktop → Option Question
-question_of a s d = if s.questions then loss_of a (is_in_memory s.resting) d else None
+abbrev pub question_of : Action → Sitting → StorePlace → Desktop → Option Question
+question_of a s place d = if s.questions then loss_of a (leaving_loses place s) d else None
 
 -- the question is asked: the terminal rings, and the line below says it
 abbrev pub questioned : Option Question → Sitting → Sitting
 questioned None s = s
 questioned (Some question) s =
     record s { question = Some question; saying = Asks question; rings = true }
-
--- what is done to the terminal alone: it tells its size, or is painted anew
-abbrev pub is_of_terminal : Action → Bool
-is_of_terminal (action.Fit rows columns) = true
-is_of_terminal action.LookAnew = true
-is_of_terminal _ = false
-
-abbrev pub is_nothing : Action → Bool
-is_nothing action.Nothing = true
-is_nothing _ = false
 
 abbrev pub forgetful : Sitting → Sitting
 forgetful s = record s { question = None; saying = s.resting }

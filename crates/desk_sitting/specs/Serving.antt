@@ -1,7 +1,8 @@
 -- A sitting over a store, turn by turn: the scene is shown where one is due, something is heard, and what is pressed is
 -- done. `d` is what is known of a disk.
 use Rattle.std.specs.Prelude.{◌≡◌, ◌≢◌, ◌<◌, ◌+◌, ◌-◌, ◌^◌, ℕ, Bool, true, false, List, [], ◌++◌, Option}
-use Rattle.std.specs.Prelude.{Result, MatchResult, OnOk, IfErr, Some, None, is_none, length, ◌≤◌}
+use Rattle.std.specs.Prelude.{Result, MatchResult, OnOk, IfErr, Some, None, is_none, length, ◌≤◌, ⊤}
+use Rattle.host_files.specs.declared.HostFault.{HostFault}
 use Rattle.byte_streams.specs.Counting.{RisesWhere}
 use Rattle.sector_disk.specs.declared.disk.Disk.{Ghosts}
 use Rattle.event_bytes.specs.declared.event.Event.{Event}
@@ -75,9 +76,9 @@ turn_state_of parser sitting store known out = record {
 }
 
 -- the host file that is asked for, where one is wanted, and the answer
-abbrev pub asking_for : Option (List ℕ) → Bool → List ℕ
-asking_for None will_be_heard = []
-asking_for (Some name) will_be_heard = asked_for name will_be_heard
+abbrev pub asking_for : Option (List ℕ) → Result ⊤ HostFault → List ℕ
+asking_for None answer = []
+asking_for (Some name) answer = asked_for name answer
 
 -- where neither the disk nor the memory failed, the store needn't be opened again
 abbrev pub IsUsableAt : {D : Type 0} → SittingEnd → StoreView D → Type 0
@@ -159,9 +160,9 @@ module _ (desk : Desk) where
 
   -- the keyboard was asked for the text of the host file that is wanted, and of no other
   pub record IsFetched (old new : Sitting) (asked asked' : List ℕ) : Type 0 where
-    pub will_be_heard : Bool
-    pub brings : new ≡ desk.fetches will_be_heard old
-    pub asks : asked' ≡ asked ++ asking_for old.wanted will_be_heard
+    pub answer : Result ⊤ HostFault
+    pub brings : new ≡ desk.fetches answer old
+    pub asks : asked' ≡ asked ++ asking_for old.wanted answer
 
 module _ (desk : Desk) {D : Type 0} (d : Ghosts D) where
   -- The terminal shows the desktop, be it anew or still: all that was sent was handed on. Then this is heard.

@@ -1,19 +1,25 @@
 -- What presses come to, one after another: a sitting, and the session of the store before which it is.
-use Rattle.std.specs.Prelude.{◌≡◌, ℕ, zero, suc, ◌-◌, Bool, true, false, ◌&&◌, ◌||◌, not, if◌then◌else◌, List, []}
+use Rattle.std.specs.Prelude.{◌≡◌, ℕ, zero, suc, ◌-◌, Bool, true, false, ◌==◌, ◌&&◌, ◌||◌, not}
+use Rattle.std.specs.Prelude.{if◌then◌else◌, List, []}
 use Rattle.std.specs.Prelude.{◌∷◌, ◌++◌}
 use Rattle.std.specs.Prelude.{Option, Some, None, All, IfSome, is_some, min, option_map, unwrap_or}
+use Rattle.std.specs.Prelude.{Result, Ok, Err, ⊤, ◌+◌, ◌^◌}
 use Rattle.event_bytes.specs.declared.event.Event.{Event}
+use Rattle.host_files.specs.declared.HostFault.{HostFault}
 use Rattle.screen_pictures.specs.declared.cell.Cell.{Cell}
 use Rattle.desktop_definitions.specs.Shown.{shown_screen}
 use Rattle.desktop_definitions.specs.declared.reply.Reply.{Reply}
 use Rattle.desktop_definitions.specs.declared.reply.Reply.TheVariants.{Done, No}
+use Rattle.desktop_definitions.specs.Limits.{not_found}
 use Rattle.desktop_definitions.specs.Step.{step}
 use Rattle.terminal_presses.specs.declared.press.Press.{Press}
 use Rattle.terminal_presses.specs.declared.action.Action.{Action}
 use Rattle.terminal_presses.specs.declared.action.Action.TheVariants as action
 use Rattle.terminal_presses.specs.declared.hand.Hand.{Hand}
 use Rattle.terminal_presses.specs.Pointers.{pointer_cell}
-use Rattle.terminal_presses.specs.Hands.{dropping, handled, new_hand, pastes_text, with_pointer, without_pointer}
+use Rattle.terminal_presses.specs.Hands.{hand_asking, dropping, handled, new_hand, pastes_text, with_pointer, without_pointer}
+use Rattle.terminal_presses.specs.Hands.{words_asked}
+use Rattle.terminal_presses.specs.Pastes.{becomes_mark}
 use Rattle.viewer_tracks.specs.declared.display.TheConstants.{COLUMNS, ROWS}
 use Rattle.viewer_tracks.specs.declared.display.Track.TheVariants.{System}
 use Rattle.terminal_presses.specs.Sights.{Sight}
@@ -21,7 +27,7 @@ use Rattle.status_line.specs.declared.clicks.MiddleClick.{MiddleClick}
 use Rattle.status_line.specs.Clicks.{middle_click}
 use Rattle.status_line.specs.declared.question.Question.{Question}
 use Rattle.status_line.specs.declared.saying.Saying.{Saying}
-use Rattle.status_line.specs.declared.saying.Saying.TheVariants.{NoKey, Worn, Unread, Unfinished, Logged, NoSearch}
+use Rattle.status_line.specs.declared.saying.Saying.TheVariants.{NoKey, Worn, Unread, Marked, Unfinished, Logged, NoSearch}
 use Rattle.status_line.specs.declared.saying.Saying.TheVariants.{NothingTyped}
 use Rattle.desk_sitting.specs.declared.sitting.Sitting.{Sitting}
 pub use Rattle.desk_sitting.specs.Desk.{Seat}
@@ -29,11 +35,12 @@ use Rattle.desk_sitting.specs.declared.sitting.Travel.TheVariants.{Back, Again}
 use Rattle.done_presses.specs.Again.{no_again}
 use Rattle.status_line.specs.declared.deed.Deed.{Deed}
 use Rattle.status_line.specs.Deeds.{typed_more}
-use Rattle.press_plans.specs.Replacing.{TypingView, ReplacingView, is_untouched, left_place, no_replacing, noted, replacement}
+use Rattle.earlier_presses.specs.Replacing.{TypingView, ReplacingView, is_replaced, is_untouched, left_place, no_replacing, noted}
+use Rattle.earlier_presses.specs.Replacing.{replacement}
 use Rattle.done_presses.specs.Past.{PastView, past_after, named, no_past, selects, with_refused}
 use Rattle.desk_sitting.specs.Clips.{is_copying}
-use Rattle.desk_sitting.specs.Twice.{action_meant, cell_again, cell_clicked, cell_kept, is_missed, is_no_deed}
-use Rattle.desk_sitting.specs.Questions.{click_made, is_nothing, questioned, question_of, unasked}
+use Rattle.earlier_presses.specs.Twice.{action_meant, cell_again, cell_clicked, cell_kept, is_no_deed, is_nothing, words_remembered}
+use Rattle.desk_sitting.specs.Questions.{click_made, question_of, questioned, session_place, unasked}
 use Rattle.status_line.specs.Question.{asks_to_leave, comes_first}
 use Rattle.status_line.specs.Choosing.{came_to, done_saying, first_saying, fitted_saying, fill_saying, refused_saying}
 use Rattle.status_line.specs.Sayings.{resting_of}
@@ -45,7 +52,7 @@ use Rattle.press_plans.specs.declared.task.Task.TheVariants.{Word}
 use Rattle.press_plans.specs.declared.task.TheConstants.{MOST_PLANS}
 use Rattle.press_plans.specs.Tasks.{calling_wish, deed_of_task, keeps_sight, task_of}
 use Rattle.press_plans.specs.Plans.{Plan, plan_of}
-use Rattle.press_plans.specs.Plans.{Aims, Events, PutsAway, Refused as NotDone, Says, Shows}
+use Rattle.press_plans.specs.Plans.{Aims, Asks, Events, Keeps, PutsAway, Refused as NotDone, Says, Shows, Tells}
 use Rattle.desk_journal.specs.Session.{Session, is_worn, taken}
 use Rattle.screen_reading.specs.Windows.{fitted, following_sight, height_told, is_low, is_narrow, moved_sight}
 use Rattle.screen_reading.specs.Windows.{width_told}
@@ -73,6 +80,7 @@ new_sitting height width greeting questions = record {
   wanted = None;
   asks = false;
   typed = None;
+  marks = 0;
   travels = None;
   again = no_again;
   past = no_past;
@@ -83,6 +91,7 @@ new_sitting height width greeting questions = record {
   copies = false;
   clicked = None;
   missed = false;
+  sought = [];
   changed = true;
 }
 
@@ -103,10 +112,19 @@ unplaced s = record s { replacing = left_place s.replacing }
 abbrev pub turned_away : Saying → Sitting → Sitting
 turned_away saying s = turned_by s.typed saying (unplaced s)
 
+-- what is said where so many characters became question marks, or where none did
+abbrev pub marked_saying : ℕ → Saying → Saying
+marked_saying marks resting = if marks == 0 then resting else Marked marks
+
+-- whether an event was a search that found nothing from the caret on
+abbrev pub is_missed : Reply → Bool
+is_missed (No code) = code == not_found
+is_missed _ = false
+
 -- after the reply to an event: what was done is followed by the rows in sight, and can be taken back
 unfoldable pub replied : Event → Reply → Sitting → Sitting
 replied event Done s = record s {
-  saying = done_saying event s.resting;
+  saying = done_saying event (marked_saying s.marks s.resting);
   follows = true;
   typed = option_map (typed_more event) s.typed;
   past = past_after s.joins (is_some s.typed) event s.past;
@@ -140,13 +158,14 @@ looked screen s = record s {
 abbrev pub is_scene_due : Sitting → Bool
 is_scene_due s = s.changed || s.follows || s.rings || s.forgets || s.asks || s.copies
 
--- after the keyboard was asked for the text of a host file, where one is wanted: it will be heard, or it can't be read
-abbrev pub fetched : Bool → Sitting → Sitting
-fetched true s = record s { wanted = None; saying = s.resting; changed = true }
-fetched false s = refused Unread (record s { wanted = None })
+-- after the keyboard was asked for the text of a host file, where one is wanted: it will be heard, or the line below says
+-- why it won't be
+abbrev pub fetched : Result ⊤ HostFault → Sitting → Sitting
+fetched (Ok done) s = record s { wanted = None; saying = s.resting; changed = true }
+fetched (Err why) s = refused (Unread why) (record s { wanted = None })
 
-unfoldable pub after_fetch : Bool → Sitting → Sitting
-after_fetch will_be_heard s = if is_some s.wanted then fetched will_be_heard s else s
+unfoldable pub after_fetch : Result ⊤ HostFault → Sitting → Sitting
+after_fetch answer s = if is_some s.wanted then fetched answer s else s
 
 -- ---- a press
 
@@ -209,12 +228,17 @@ brought_in_sight cell s = record s {
   follows = false;
 }
 
+-- It is asked for words that are sought. What was typed after a search isn't known any more.
+abbrev pub asked_words : Bool → Sitting → Sitting
+asked_words before s =
+    record (unplaced s) { hand = hand_asking (words_asked before) s.hand }
+
 -- nothing is pointed at any more, by keys or by the mouse
 abbrev pub pointed_no_more : Sitting → Sitting
 pointed_no_more s = record s { hand = without_pointer s.hand }
 
--- what is done by a plan: the terminal rings for the reason, events are posted, a line of the log is said, the pointer or
--- the rows in sight go to a cell, or nothing is pointed at any more
+-- what is done by a plan: the terminal rings for the reason, events are posted, a line of the log or something else is said,
+-- the pointer or the rows in sight go to a cell, it is asked for words, or some are kept, or nothing is pointed at any more
 abbrev pub after_planned : Plan → Seat → Seat
 after_planned (NotDone why) seat =
     record seat { sitting = refused why (unplaced seat.sitting) }
@@ -222,6 +246,11 @@ after_planned (Events events next) seat = after_posts events seat
 after_planned (Says line) seat = record seat { sitting = with_log_line line seat.sitting }
 after_planned (Aims cell) seat = record seat { sitting = aimed_at cell seat.sitting }
 after_planned (Shows cell) seat = record seat { sitting = brought_in_sight cell seat.sitting }
+after_planned (Tells saying) seat =
+    record seat { sitting = record seat.sitting { saying = saying } }
+after_planned (Asks before) seat = record seat { sitting = asked_words before seat.sitting }
+after_planned (Keeps words next) seat =
+    record seat { sitting = record seat.sitting { sought = words } }
 after_planned (PutsAway next) seat = record seat { sitting = pointed_no_more seat.sitting }
 
 -- and by a task of which that is the plan
@@ -240,6 +269,9 @@ left_by (Events events next) session = if does_all session events then next else
 left_by (Says line) session = None
 left_by (Aims cell) session = None
 left_by (Shows cell) session = None
+left_by (Tells saying) session = None
+left_by (Asks before) session = None
+left_by (Keeps words next) session = Some next
 left_by (PutsAway next) session = Some next
 
 -- what is left of a task goes one plan further
@@ -269,7 +301,26 @@ ring_reason s = if is_some s.hand.asked then s.resting else NoKey
 abbrev pub why_unreplaced : ReplacingView → Saying
 why_unreplaced r = if is_untouched r.typed then NothingTyped else NoSearch
 
--- what a press comes to that posts nothing
+-- ---- a size of the window that is told
+
+abbrev pub told_sight : ℕ → ℕ → Sight → Sight
+told_sight rows columns sight =
+    fitted (height_told rows columns) (width_told rows columns) sight
+
+abbrev pub is_other_size : Sight → Sight → Bool
+is_other_size old new = not ((old.rows == new.rows) && (old.width == new.width))
+
+-- where it is another size the rows in sight follow the caret
+abbrev pub fitted_in : ℕ → ℕ → Sitting → Sitting
+fitted_in rows columns s = record s {
+  sight = told_sight rows columns s.sight;
+  saying = fitted_saying (is_narrow rows columns) (is_low rows columns) s.resting s.saying;
+  follows = s.follows || is_other_size s.sight (told_sight rows columns s.sight);
+  forgets = true;
+}
+
+-- ---- a press that posts nothing
+
 unfoldable pub acted_alone : Action → Sitting → Sitting
 acted_alone action.Ring s = refused (ring_reason s) s
 acted_alone action.LookAnew s = record s { forgets = true; asks = true }
@@ -278,11 +329,7 @@ acted_alone action.Undo s = record s { travels = Some Back }
 acted_alone action.Redo s = record s { travels = Some Again }
 acted_alone (action.TypeFile name) s = record s { wanted = Some name }
 acted_alone (action.Move page) s = record s { sight = moved_sight page s.sight; follows = false }
-acted_alone (action.Fit rows columns) s = record s {
-  sight = fitted (height_told rows columns) (width_told rows columns) s.sight;
-  saying = fitted_saying (is_narrow rows columns) (is_low rows columns) s.resting s.saying;
-  forgets = true;
-}
+acted_alone (action.Fit rows columns) s = fitted_in rows columns s
 acted_alone action.Fill s = record s { fills = not s.fills; saying = fill_saying (not s.fills) }
 acted_alone action.FileFailed s = refused Unfinished s
 acted_alone action.Replace s = refused (why_unreplaced s.replacing) s
@@ -311,9 +358,16 @@ abbrev pub task_in : Sitting → Action → Option Task
 task_in s a = task_or_word (cell_again (cell_clicked a) s.clicked) (filling s)
     (selects s.past) (replacement s.replacing) s.sight a
 
+-- the words that a press seeks are those that were sought last
+abbrev pub with_words : Action → Sitting → Sitting
+with_words a s = record s { sought = words_remembered a s.sought }
+
 -- what is typed where the pattern was found is kept, and where something was clicked
 abbrev pub noted_in : Action → Sitting → Sitting
-noted_in a s = record s { replacing = noted a s.replacing; clicked = cell_kept a s.clicked }
+noted_in a s = record (with_words a s) {
+  replacing = noted a s.replacing;
+  clicked = cell_kept a s.clicked;
+}
 
 abbrev pub noted_at : Action → Seat → Seat
 noted_at a seat = record seat { sitting = noted_in a seat.sitting }
@@ -323,7 +377,7 @@ done_by a seat = done_so (task_in seat.sitting a) a (noted_at a seat)
 
 -- what is asked about a press here
 abbrev pub question_at : Action → Seat → Option Question
-question_at a seat = question_of a seat.sitting seat.session.desktop
+question_at a seat = question_of a seat.sitting (session_place seat.session) seat.session.desktop
 
 -- whether a question is asked, and no more is done
 abbrev pub asks_first : Action → Seat → Bool
@@ -362,16 +416,27 @@ with_hand next s = record s {
   changed = s.changed || not (is_still next s);
 }
 
--- what the hand makes of a press is a way to the beginning of the text, where it is a search behind one that found nothing
+-- how many characters of a text that is pasted became question marks, with a press more
+abbrev pub marks_more : Bool → Press → ℕ → ℕ
+marks_more false press marks = 0
+marks_more true press marks =
+    if becomes_mark press then min (marks + 1) (2 ^ 32 - 1) else marks
+
+abbrev pub with_marks : Press → Sitting → Sitting
+with_marks press s = record s { marks = marks_more (pastes_text s.hand) press s.marks }
+
+-- what the hand makes of a press is a way to the beginning of the text, where it is a search behind one that found nothing,
+-- it goes on behind a replacement, and words that aren't typed are those that were sought last
 abbrev pub meant_by : Press → Sitting → Hand × Action
 meant_by press s =
-    let next = handled s.sight press s.hand in (next.0, action_meant s.missed next.1)
+    let next = handled s.sight press s.hand in
+    (next.0, action_meant s.missed (is_replaced s.replacing) s.sought next.1)
 
 -- nothing is done after the person has left
 unfoldable pub after_press : Press → Seat → Seat
 after_press press seat = if seat.sitting.leaves then seat else
     (let next = meant_by press seat.sitting in
-    acted next.1 (record seat { sitting = with_hand next seat.sitting }))
+    acted next.1 (record seat { sitting = with_hand next (with_marks press seat.sitting) }))
 
 -- ---- its events
 
@@ -391,6 +456,9 @@ planned (Events events next) = events
 planned (Says line) = []
 planned (Aims cell) = []
 planned (Shows cell) = []
+planned (Tells saying) = []
+planned (Asks before) = []
+planned (Keeps words next) = []
 planned (PutsAway next) = []
 
 -- the events of a task that are accepted, by one plan, and by so many at most
@@ -416,7 +484,9 @@ accepted_unasked a seat = if asks_first a seat then []
 abbrev pub accepted_of : Press → Seat → List Event
 accepted_of press seat = if seat.sitting.leaves then [] else
     (let next = meant_by press seat.sitting in
-    accepted_unasked next.1 (record seat { sitting = with_hand next seat.sitting }))
+    accepted_unasked next.1 (record seat {
+      sitting = with_hand next (with_marks press seat.sitting);
+    }))
 
 -- ---- questions
 

@@ -22,7 +22,8 @@ pointer_of s = pointer_cell s.hand.pointer >>= terminal_place s.sight
 
 -- the line below a screen
 abbrev pub sitting_line : List (List Cell) → Sitting → List ℕ
-sitting_line screen s = line_of screen s.logged.items s.hand.asked s.hand.asks_line s.hand.armed
+sitting_line screen s =
+    line_of s.sight.width screen s.logged.items s.hand.asked s.hand.asks s.sought s.hand.armed
     (said_by_pointer (is_some (pointer_cell s.hand.pointer)) s.saying)
 
 abbrev pub the_desk : Desk

@@ -11,13 +11,15 @@ use Rattle.desk_journal.specs.Errors.{Error, Fault}
 use Rattle.desk_journal.specs.Undoing.{IsLeft, IsTakenBack, LeavesUndone}
 use Rattle.desk_journal.specs.View.{StoreView, IsDurable}
 use Rattle.done_presses.specs.declared.again.StorePlace.{StorePlace}
-use Rattle.status_line.specs.declared.saying.Saying.TheVariants.{TookBack, DidAgain, NotBack, NothingBack, NothingAgain}
+use Rattle.status_line.specs.declared.saying.Saying.{Saying}
+use Rattle.status_line.specs.declared.saying.Saying.TheVariants.{TookBack, DidAgain, NotBack, NothingBack, NoFurtherBack}
+use Rattle.status_line.specs.declared.saying.Saying.TheVariants.{NothingAgain}
 use Rattle.desk_sitting.specs.declared.sitting.Sitting.{Sitting}
 use Rattle.desk_sitting.specs.declared.sitting.Travel.TheVariants.{Back, Again}
 use Rattle.done_presses.specs.declared.again.NextEvent.{NextEvent}
 use Rattle.status_line.specs.declared.deed.Deed.{Deed}
 use Rattle.desk_sitting.specs.declared.sitting.Travel.{Travel}
-use Rattle.done_presses.specs.Again.{kept_at, next_event, rest_at, taken_press}
+use Rattle.done_presses.specs.Again.{is_first, kept_at, carried_again, next_event, rest_at, taken_press}
 use Rattle.done_presses.specs.Past.{back_count, back_deed, gathered, left_past, named}
 use Rattle.desk_sitting.specs.Doing.{IsUndone, OfPresses}
 use Rattle.desk_journal.specs.Session.{Session, session_of, taken as meant_by}
@@ -39,14 +41,25 @@ settled s = record s { travels = None; past = gathered s.past }
 abbrev pub step_count : Sitting → ℕ
 step_count s = back_count (settled s).past
 
+-- Nothing is taken back, where this place is left: nothing was done before it, or more than can be taken back.
+abbrev pub none_back : StorePlace → Saying
+none_back place = if is_first place then NothingBack else NoFurtherBack
+
+-- Events were taken back that did this, which led from one place to another. What was refused did nothing.
+abbrev pub took_deed : Option Deed → List Event → StorePlace → StorePlace → Sitting → Sitting
+took_deed None events from to s =
+    refused (none_back to) (record s { again = carried_again from to s.again })
+took_deed (Some deed) events from to s = record s {
+  saying = TookBack deed;
+  follows = true;
+  again = kept_at (taken_press events deed) from to s.again;
+}
+
 -- the sitting after these events were taken back, which led from one place to another
 abbrev pub took_back : List Event → StorePlace → StorePlace → Sitting → Sitting
-took_back events from to s = if length events == 0 then refused NothingBack s else record s {
-  saying = TookBack (back_deed events s.past);
-  follows = true;
-  past = left_past (length events) s.past;
-  again = kept_at (taken_press events (back_deed events s.past)) from to s.again;
-}
+took_back events from to s = if length events == 0 then refused (none_back to) s
+    else took_deed (back_deed events s.past) events from to
+    (record s { past = left_past (length events) s.past })
 
 -- what is asked for once the next event is done again: the other events of its press, if any are left
 abbrev pub on_to : Option NextEvent → Option Travel

@@ -4,14 +4,17 @@ ghost use Rattle.std.specs.Result.{result_map_both};
 ghost use Rattle.desk_journal.specs.Losses.{loss_at};
 ghost use Rattle.desk_sitting.specs.Doing.{Finds};
 ghost use Rattle.desk_journal.specs.Leading.{led};
+ghost use Rattle.desk_journal.specs.Session.{session_of};
 ghost use Rattle.status_line.specs.declared.question.Question.TheVariants.{Reopening};
 ghost use Rattle.desk_sitting.specs.Questions.{asked_at, click_led, click_made, click_question, is_leave, loss_question};
-ghost use Rattle.desk_sitting.specs.Questions.{named_at, question_of};
+ghost use Rattle.desk_sitting.specs.Questions.{leaving_loses, named_at, session_place, question_of};
 ghost use Rattle.desk_sitting.specs.Stored.{open_question, reopening};
 
 use crate::sitting::Sitting;
+use crate::travels::place;
 use crate::unstored::names_unstored;
 use desk_journal::{Error, KeyWish, Loss, Store, WhyNot};
+use done_presses::StorePlace;
 use event_bytes::Event;
 use press_plans::calling_wish;
 use screen_cells::Screen;
@@ -38,16 +41,24 @@ impl Sitting {
         store: &mut Store<D>,
     ) -> Asking
         requires { store.old.must_reopen ≡ false }
-        ensures { Finds D.Disk result (question_of action.now self.now) self.now store.old
-            store.new }
+        ensures { Finds D.Disk result
+            (question_of action.now self.now (session_place (session_of store.old)))
+            self.now store.old store.new }
     {
         if !self.questions {
             return Ok(None);
         }
         if is_leave(action) {
-            return Ok(left_behind(is_in_memory(self.resting)));
+            return Ok(self.leaving_loses(place(store)));
         }
         self.lost_by(alloc, action, store)
+    }
+
+    /// What leaving would lose, where the store stands at this place.
+    fn leaving_loses(&self, place: StorePlace) -> Option<Question>
+        ensures { result ≡ leaving_loses place self.now }
+    {
+        left_behind(is_in_memory(self.resting), self.again.has_again(place))
     }
 
     /// What the click of the middle button would lose that a press makes. It only looks at the store.

@@ -8,7 +8,7 @@ ghost use Rattle.desk_sitting.specs.Clips.{unless_asked};
 ghost use Rattle.desk_sitting.specs.Scenes.{clip_bytes, clip_order};
 ghost use Rattle.desk_sitting.specs.Telling.{scene_told};
 
-use crate::unstored::mark;
+use crate::unstored::mark_if_due;
 use crate::{Saying, Sitting};
 use base64::engine::general_purpose::STANDARD;
 use desk_journal::{Error, Store};
@@ -67,7 +67,7 @@ pub(crate) fn tell<D: Disk>(
         × (sitting.new ≡ scene_told store.old.desktop sitting.old)) }
     ensures looks { OnlyLooks D.Disk result store.old store.new }
 {
-    mark(alloc, sitting, store)?;
+    mark_if_due(alloc, sitting, store)?;
     clip(alloc, sitting, store)
 }
 

@@ -21,9 +21,10 @@ mod laws;
 mod serving;
 mod serving_laws;
 mod sitting;
+mod tasks;
 mod travels;
-mod twice;
 mod unstored;
+mod window;
 
 pub use clips::MOST_CLIPPED;
 pub use doing::do_presses;
@@ -35,3 +36,4 @@ pub use serving_laws::{sittings_survive, sittings_survive_in_files};
 pub use sitting::{Sitting, Travel};
 pub use status_line::{Question, Saying, SayingLine};
 pub use travels::travel;
+pub use unstored::mark;

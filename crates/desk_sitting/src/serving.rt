@@ -1,5 +1,6 @@
 //! A sitting over a store, turn by turn.
-ghost use Rattle.std.specs.Prelude.{◌≡◌, ◌≢◌, ◌++◌, Bool, true, false, OnOk, OnErr, IfErr, IfSome, List};
+ghost use Rattle.std.specs.Prelude.{◌≡◌, ◌≢◌, ◌++◌, true, false, OnOk, OnErr, IfErr, IfSome, List, Result, ⊤};
+ghost use Rattle.host_files.specs.declared.HostFault.{HostFault};
 ghost use Rattle.terminal_keyboard.specs.declared.parser.Parser.{Parser as AParser};
 ghost use Rattle.screen_drawing.specs.declared.face.Face.{Face};
 ghost use Rattle.byte_streams.specs.Counting.{CountsFault, RisesWhere};
@@ -183,16 +184,16 @@ fn turn<K: Keyboard, W: AnswerWriter, D: Disk>(
 fn bring<K: Keyboard>(sitting: &mut Sitting, keyboard: &mut K)
     ensures brought { IsFetched the_desk sitting.old sitting.new (K.asked keyboard.old)
         (K.asked keyboard.new) }
-    ensures asked { IfSome sitting.old.wanted (λ name. (will_be_heard : Bool)
-        × K.answers keyboard.old keyboard.new name will_be_heard
-        × (sitting.new ≡ after_fetch will_be_heard sitting.old)) }
+    ensures asked { IfSome sitting.old.wanted (λ name. (answer : Result ⊤ HostFault)
+        × K.answers keyboard.old keyboard.new name answer
+        × (sitting.new ≡ after_fetch answer sitting.old)) }
     ensures silent { K.heard keyboard.new ≡ K.heard keyboard.old }
 {
-    let will_be_heard = match &sitting.wanted {
+    let answer = match &sitting.wanted {
         Some(name) => keyboard.bring(name.as_bytes()),
-        None => false,
+        None => Ok(()),
     };
-    sitting.bring(will_be_heard);
+    sitting.bring(answer);
 }
 
 /// Shows the desktop where a scene is due. Else the terminal shows it already: nobody looks at the store, and nothing is

@@ -1,45 +1,37 @@
 //! A person at a terminal, before a store.
-ghost use Rattle.std.specs.Prelude.{◌≡◌, ◌≢◌, [], false, Some, None, if◌then◌else◌, OnOk, IfOk, IfErr, IfSome, ◌<◌};
-ghost use Rattle.desk_journal.specs.Session.{session_of};
-ghost use Rattle.desk_sitting.specs.Doing.{ComesToSeat, DoesAction, DoesPress, TellsDone, seat_of};
-ghost use Rattle.desk_sitting.specs.Pasts.{KeepsPast};
+ghost use Rattle.std.specs.Prelude.{◌≡◌, false, Some, None, IfOk, IfErr, IfSome, ◌<◌};
+ghost use Rattle.desk_sitting.specs.Doing.{DoesAction, DoesPress, seat_of};
 ghost use Rattle.desk_sitting.specs.TheDesk.{sitting_line};
-ghost use Rattle.desk_sitting.specs.Questions.{is_nothing, is_of_terminal, questioned, unasked};
-ghost use Rattle.desk_journal.specs.View.{IsDurable};
+ghost use Rattle.desk_sitting.specs.Questions.{questioned, unasked};
 ghost use Rattle.desk_sitting.specs.Sittings.{followed_cell, acted, acted_alone, after_press, after_fetch, looked};
-ghost use Rattle.desk_sitting.specs.Sittings.{new_sitting};
-ghost use Rattle.desk_sitting.specs.Sittings.{after_post, filling, is_done, refused, replied, ring_reason};
-ghost use Rattle.desk_sitting.specs.Sittings.{turned_away};
-ghost use Rattle.desk_sitting.specs.Sittings.{accepted_by, accepted_of, accepted_unasked, after_posts, does_all};
-ghost use Rattle.desk_sitting.specs.Sittings.{went_on};
-ghost use Rattle.desk_sitting.specs.Sittings.{accepted_in, accepted_stage, after_planned, after_stage, after_task};
-ghost use Rattle.desk_sitting.specs.Sittings.{kept_follows, left_by};
-ghost use Rattle.desk_sitting.specs.Sittings.{aimed_at, most_plans, noted_in, task_left, unplaced, why_unreplaced};
-ghost use Rattle.desk_sitting.specs.Sittings.{with_log_line};
-ghost use Rattle.desk_sitting.specs.Sittings.{brought_in_sight, is_scene_due, is_unseen, planned, pointed_no_more};
-ghost use Rattle.desk_sitting.specs.Sittings.{meant_by, task_or_word, with_hand};
-ghost use Rattle.press_plans.specs.Plans.{seen_plan};
+ghost use Rattle.desk_sitting.specs.Sittings.{new_sitting, filling, is_done, refused, replied, ring_reason};
+ghost use Rattle.desk_sitting.specs.Sittings.{turned_away, accepted_of, accepted_unasked, aimed_at, noted_in, unplaced};
+ghost use Rattle.desk_sitting.specs.Sittings.{why_unreplaced, with_log_line, brought_in_sight, is_scene_due, is_unseen};
+ghost use Rattle.desk_sitting.specs.Sittings.{pointed_no_more, asked_words, with_words, meant_by, task_or_word};
+ghost use Rattle.desk_sitting.specs.Sittings.{with_hand, with_marks, marked_saying, marks_more};
 
 use crate::clips::is_copying;
-use crate::twice::{cell_again, cell_clicked, cell_kept, hand_meant, still_missed};
 use desk_journal::{Error, Store};
 use desktop_definitions::Reply;
 use desktop_definitions::codes::NOT_FOUND;
 use done_presses::{Again, Past};
-use event_bytes::Event;
-use press_plans::{Filling, MOST_PLANS, Plan, Replacing, Task, Typing};
-use screen_cells::Screen;
-use screen_reading::{
-    caret_of, fitted, followed, height_told, is_low, is_narrow, moved, width_told,
+use earlier_presses::{
+    Replacing, Typing, cell_again, cell_clicked, cell_kept, hand_meant, is_nothing, is_of_terminal,
+    still_missed,
 };
+use event_bytes::Event;
+use host_files::HostFault;
+use host_names::HostName;
+use press_plans::{Filling, Task};
+use screen_cells::Screen;
+use screen_reading::{caret_of, fitted, followed, moved};
 use sector_disk::Disk;
 use status_line::{
-    Deed, Question, Saying, SayingLine, asks_to_leave, came_to, comes_first, done_saying,
-    fill_saying, first_saying, fitted_saying, line_of, refused_saying, resting_of, said_by_pointer,
-    typed_more,
+    Question, Saying, SayingLine, asks_to_leave, came_to, comes_first, done_saying, fill_saying,
+    first_saying, line_of, refused_saying, resting_of, said_by_pointer, typed_more,
 };
 use std::alloc::Global;
-use terminal_presses::{Action, Hand, HostName, Press, Sight};
+use terminal_presses::{Action, Hand, Press, Sight, becomes_mark};
 use viewer_tracks::{ROWS, Track};
 
 /// What is asked for beside a press: to take the last one back, or to do again what was taken back last.
@@ -82,6 +74,8 @@ pub struct Sitting {
     pub asks: bool,
     /// How many characters are typed of the text that was pasted when something was pressed last. None where none was.
     pub typed: Option<u32>,
+    /// How many characters of that text became question marks.
+    pub marks: u32,
     /// A press is to be taken back, or an event to be done again.
     pub travels: Option<Travel>,
     /// What was taken back, as far as it can be done again.
@@ -103,6 +97,8 @@ pub struct Sitting {
     pub clicked: Option<(u8, u8)>,
     /// A search found nothing right before.
     pub missed: bool,
+    /// The words that were sought last, where they can be typed.
+    pub sought: HostName,
     /// What is seen may have changed since the last scene.
     pub changed: bool,
 }
@@ -128,6 +124,7 @@ impl Sitting {
             wanted: None,
             asks: false,
             typed: None,
+            marks: 0,
             travels: None,
             again: Again::none(),
             past: Past::none(),
@@ -138,20 +135,23 @@ impl Sitting {
             copies: false,
             clicked: None,
             missed: false,
+            sought: HostName::none(),
             changed: true,
         }
     }
 
-    /// The line below this screen, of 80 characters at most.
+    /// The line below this screen, of 80 characters at most, and no more than the window has columns.
     pub fn line(&self, screen: &Screen) -> SayingLine
         ensures { result.items ≡ sitting_line screen.now self.now }
     {
         let saying = said_by_pointer(self.hand.pointer().is_some(), self.saying);
         line_of(
+            self.sight.width(),
             screen,
             &self.logged,
             self.hand.asked(),
-            self.hand.asks_line,
+            self.hand.asks,
+            self.sought.as_bytes(),
             self.hand.armed(),
             saying,
         )
@@ -167,7 +167,7 @@ impl Sitting {
 
     /// A press can't be done: the terminal rings, and the line below says why. What was typed after a search isn't known
     /// any more.
-    fn give_up(&mut self, why: Saying)
+    pub(crate) fn give_up(&mut self, why: Saying)
         ensures { self.new ≡ refused why (unplaced self.old) }
     {
         self.replacing.leave();
@@ -175,7 +175,7 @@ impl Sitting {
     }
 
     /// The line below says a line of the log.
-    fn say_logged(&mut self, line: SayingLine)
+    pub(crate) fn say_logged(&mut self, line: SayingLine)
         ensures { self.new ≡ with_log_line line.items self.old }
     {
         self.saying = Saying::Logged;
@@ -183,7 +183,7 @@ impl Sitting {
     }
 
     /// The pointer that keys move is shown at a cell, and the rows in sight follow it.
-    fn aim(&mut self, cell: (u8, u8))
+    pub(crate) fn aim(&mut self, cell: (u8, u8))
         ensures { self.new ≡ aimed_at cell self.old }
     {
         self.hand.move_pointer(cell);
@@ -191,7 +191,7 @@ impl Sitting {
     }
 
     /// The rows in sight go to a cell, and don't follow the caret.
-    fn show_cell(&mut self, cell: (u8, u8))
+    pub(crate) fn show_cell(&mut self, cell: (u8, u8))
         ensures { self.new ≡ brought_in_sight cell self.old }
     {
         let (x, y) = cell;
@@ -199,8 +199,30 @@ impl Sitting {
         self.follows = false;
     }
 
+    /// The line below says that.
+    pub(crate) fn say(&mut self, saying: Saying)
+        ensures { self.new ≡ record self.old { saying = saying } }
+    {
+        self.saying = saying;
+    }
+
+    /// These are the words that were sought last.
+    pub(crate) fn remember(&mut self, words: HostName)
+        ensures { self.new ≡ record self.old { sought = words } }
+    {
+        self.sought = words;
+    }
+
+    /// It is asked for words that are sought. What was typed after a search isn't known any more.
+    pub(crate) fn ask_words(&mut self, before: bool)
+        ensures { self.new ≡ asked_words before self.old }
+    {
+        self.replacing.leave();
+        self.hand.ask_words(before);
+    }
+
     /// The pointer that keys move is put away.
-    fn put_pointer_away(&mut self)
+    pub(crate) fn put_pointer_away(&mut self)
         ensures { self.new ≡ pointed_no_more self.old }
     {
         self.hand.point_nowhere();
@@ -240,25 +262,27 @@ impl Sitting {
         self.changed || self.follows || self.rings || self.forgets || self.asks || self.copies
     }
 
-    /// The keyboard was asked for the text of the host file that is wanted, and says whether it will be heard.
+    /// The keyboard was asked for the text of the host file that is wanted, and answers that it will be heard, or why it
+    /// won't be.
     #[tactic(auto, unfolding(crate::specs::Sittings::after_fetch))]
-    pub fn bring(&mut self, will_be_heard: bool)
-        ensures { self.new ≡ after_fetch will_be_heard self.old }
+    pub fn bring(&mut self, answer: Result<(), HostFault>)
+        ensures { self.new ≡ after_fetch answer self.old }
     {
         if self.wanted.is_some() {
             self.wanted = None;
-            if will_be_heard {
-                self.saying = self.resting;
-                self.changed = true;
-            } else {
-                self.refuse(Saying::Unread);
+            match answer {
+                Ok(()) => {
+                    self.saying = self.resting;
+                    self.changed = true;
+                }
+                Err(why) => self.refuse(Saying::Unread(why)),
             }
         }
     }
 
     /// An event is turned away. Amid a paste the rest of that is dropped, and the line below says how far it came.
     #[tactic(auto, unfolding(crate::specs::Sittings::turned_by))]
-    fn turn_away(&mut self, why: Saying)
+    pub(crate) fn turn_away(&mut self, why: Saying)
         ensures { self.new ≡ turned_away why self.old }
     {
         self.replacing.leave();
@@ -273,13 +297,13 @@ impl Sitting {
 
     /// What a reply says of the event: whether it is done.
     #[tactic(auto, unfolding(crate::specs::Sittings::replied))]
-    fn reply(&mut self, event: &Event, reply: Reply) -> bool
+    pub(crate) fn reply(&mut self, event: &Event, reply: Reply) -> bool
         ensures state { self.new ≡ replied event.now reply self.old }
         ensures done { result ≡ is_done reply }
     {
         match reply {
             Reply::Done => {
-                self.saying = done_saying(event, self.resting);
+                self.saying = done_saying(event, marked_saying(self.marks, self.resting));
                 self.follows = true;
                 self.past.add(event, self.joins, self.typed.is_some());
                 self.joins = true;
@@ -322,7 +346,7 @@ impl Sitting {
     /// The hand takes a press. Amid a text that is pasted it is counted how many of its characters are typed, and its
     /// events are those of one press.
     fn take(&mut self, press: Press) -> Action
-        ensures state { self.new ≡ with_hand (meant_by press self.old) self.old }
+        ensures state { self.new ≡ with_hand (meant_by press self.old) (with_marks press self.old) }
         ensures answer { result ≡ (meant_by press self.old).1 }
     {
         let stays = is_unseen(&self.hand) && !asks_to_leave(self.question);
@@ -332,8 +356,17 @@ impl Sitting {
         } else {
             None
         };
+        self.marks = marks_more(pastes, press, self.marks);
         self.joins = pastes && self.joins;
-        let action = hand_meant(&mut self.hand, self.missed, self.sight, press);
+        let goes_on = self.replacing.is_replaced();
+        let action = hand_meant(
+            &mut self.hand,
+            self.missed,
+            goes_on,
+            &self.sought,
+            self.sight,
+            press,
+        );
         self.missed = still_missed(self.missed, &action);
         self.follows = self.hand.pointer().is_some() || self.follows;
         let is_still = is_nothing(&action) && is_unseen(&self.hand) && stays;
@@ -408,6 +441,16 @@ impl Sitting {
     {
         self.replacing.note(action);
         self.clicked = cell_kept(action, self.clicked);
+        self.keep_words(action);
+    }
+
+    /// The words that a press seeks are those that were sought last.
+    fn keep_words(&mut self, action: &Action)
+        ensures { self.new ≡ with_words action.now self.old }
+    {
+        if let Action::Find(words, _) = action {
+            self.sought = words.copied();
+        }
     }
 
     /// Why there is nothing to be typed in the place of what was found.
@@ -454,11 +497,15 @@ impl Sitting {
             | Action::GoTo(_)
             | Action::Delete
             | Action::Search
+            | Action::SearchBefore
+            | Action::Find(_, _)
             | Action::Store
             | Action::Seek(_)
             | Action::Select(_)
             | Action::SelectAll
+            | Action::Extend(_, _)
             | Action::CutLine
+            | Action::Refill
             | Action::CallLine
             | Action::Mark => {}
             Action::Ring => {
@@ -486,209 +533,7 @@ impl Sitting {
                 self.sight = moved(page, self.sight);
                 self.follows = false;
             }
-            Action::Fit(rows, columns) => {
-                self.sight = fitted(
-                    height_told(rows, columns),
-                    width_told(rows, columns),
-                    self.sight,
-                );
-                self.saying = fitted_saying(
-                    is_narrow(rows, columns),
-                    is_low(rows, columns),
-                    self.resting,
-                    self.saying,
-                );
-                self.forgets = true;
-            }
-        }
-    }
-
-    /// Does a task, and what is left of it then.
-    fn carry_out<D: Disk>(&mut self, alloc: Global, task: Task, store: &mut Store<D>) -> Doing
-        requires { store.old.must_reopen ≡ false }
-        ensures { DoesPress D.Disk
-            (accepted_in most_plans (Some task) (seat_of self.old store.old))
-            (after_task most_plans (Some task) (seat_of self.old store.old))
-            result self.new store.old store.new }
-    {
-        let mut left = Some(task);
-        for _count in 0..MOST_PLANS {
-            left = self.go_on(alloc, left, store)?;
-            if left.is_none() {
-                return Ok(());
-            }
-        }
-        Ok(())
-    }
-
-    /// Does what is left of a task, as far as one plan goes, and returns what is left then.
-    fn go_on<D: Disk>(
-        &mut self,
-        alloc: Global,
-        left: Option<Task>,
-        store: &mut Store<D>,
-    ) -> Result<Option<Task>, Error>
-        requires { store.old.must_reopen ≡ false }
-        ensures does { DoesPress D.Disk (accepted_stage left (seat_of self.old store.old))
-            (after_stage left (seat_of self.old store.old)) result self.new store.old store.new }
-        ensures left { IfOk result (λ next. D.honest store.old.disk → IsDurable D.Disk store.old
-            → next ≡ task_left left (session_of store.old)) }
-    {
-        match left {
-            None => Ok(None),
-            Some(task) => self.advance(alloc, task, store),
-        }
-    }
-
-    /// Does a task as far as one plan goes, and returns what is left then.
-    fn advance<D: Disk>(
-        &mut self,
-        alloc: Global,
-        task: Task,
-        store: &mut Store<D>,
-    ) -> Result<Option<Task>, Error>
-        requires { store.old.must_reopen ≡ false }
-        ensures does { DoesPress D.Disk (accepted_stage (Some task) (seat_of self.old store.old))
-            (after_stage (Some task) (seat_of self.old store.old)) result self.new store.old
-            store.new }
-        ensures left { IfOk result (λ next. D.honest store.old.disk → IsDurable D.Disk store.old
-            → next ≡ task_left (Some task) (session_of store.old)) }
-    {
-        let deed = task.deed();
-        let follows = self.kept_follows(&task);
-        let plan = task.plan(alloc, store)?;
-        let next = self.post_planned(alloc, plan, store)?;
-        self.went_on(deed, follows);
-        Ok(next)
-    }
-
-    /// Whether the rows in sight were to follow the caret, where they don't for a task.
-    fn kept_follows(&self, task: &Task) -> Option<bool>
-        ensures { result ≡ kept_follows task.now self.now }
-    {
-        if task.keeps_sight() {
-            Some(self.follows)
-        } else {
-            None
-        }
-    }
-
-    /// Does a plan, whose events are posted one after another, and returns what is left to do.
-    fn post_planned<D: Disk>(
-        &mut self,
-        alloc: Global,
-        plan: Plan,
-        store: &mut Store<D>,
-    ) -> Result<Option<Task>, Error>
-        requires { store.old.must_reopen ≡ false }
-        ensures does { DoesPress D.Disk
-            (accepted_by (session_of store.old) (planned (seen_plan plan)))
-            (after_planned (seen_plan plan) (seat_of self.old store.old))
-            result self.new store.old store.new }
-        ensures left { IfOk result (λ next. D.honest store.old.disk → IsDurable D.Disk store.old
-            → next ≡ left_by (seen_plan plan) (session_of store.old)) }
-    {
-        match plan {
-            Plan::Refused(why) => {
-                self.give_up(why);
-                Ok(None)
-            }
-            Plan::Says(line) => {
-                self.say_logged(line);
-                Ok(None)
-            }
-            Plan::Aims(cell) => {
-                self.aim(cell);
-                Ok(None)
-            }
-            Plan::Shows(cell) => {
-                self.show_cell(cell);
-                Ok(None)
-            }
-            Plan::PutsAway(next) => {
-                self.put_pointer_away();
-                Ok(Some(next))
-            }
-            Plan::Next(next) => Ok(next),
-            Plan::Event(event, next) => {
-                let done = self.post(alloc, &event, store)?;
-                Ok(left_if(done, next))
-            }
-            Plan::Events(events, next) => {
-                let all = self.post_all(alloc, events.as_slice(), store)?;
-                Ok(left_if(all, next))
-            }
-        }
-    }
-
-    /// Events of a task were posted. What was done, if anything, is named so.
-    fn went_on(&mut self, deed: Option<Deed>, follows: Option<bool>)
-        ensures { self.new ≡ went_on deed follows self.old }
-    {
-        self.follows = follows.unwrap_or(self.follows);
-        if let Some(deed) = deed
-            && self.joins
-        {
-            self.past.name(deed);
-        }
-    }
-
-    /// Posts events, one after another, each acknowledged before the next one. Where one isn't done, those behind it aren't
-    /// posted. Returns whether all are done.
-    fn post_all<D: Disk>(
-        &mut self,
-        alloc: Global,
-        events: &[Event],
-        store: &mut Store<D>,
-    ) -> Result<bool, Error>
-        requires { store.old.must_reopen ≡ false }
-        ensures does { DoesPress D.Disk (accepted_by (session_of store.old) events.now)
-            (after_posts events.now (seat_of self.old store.old)) result self.new store.old
-            store.new }
-        ensures done { IfOk result (λ done. D.honest store.old.disk → IsDurable D.Disk store.old
-            → done ≡ does_all (session_of store.old) events.now) }
-    {
-        for event in events {
-            let done = self.post(alloc, event, store)?;
-            if !done {
-                return Ok(false);
-            }
-        }
-        Ok(true)
-    }
-
-    /// Posts an event, and returns whether it is done. Where the store keeps a past, that goes on.
-    pub(crate) fn post<D: Disk>(
-        &mut self,
-        alloc: Global,
-        event: &Event,
-        store: &mut Store<D>,
-    ) -> Result<bool, Error>
-        requires { store.old.must_reopen ≡ false }
-        ensures comes { ComesToSeat D.Disk (after_post event.now (seat_of self.old store.old))
-            result self.new store.old store.new }
-        ensures done { TellsDone D.Disk event.now result store.old }
-        ensures past { KeepsPast D.Disk event.now result store.old store.new }
-    {
-        match desk_past::post(alloc, store, event) {
-            Ok(reply) => Ok(self.reply(event, reply)),
-            Err(error) => self.turned_away(error),
-        }
-    }
-
-    /// What an error of a post comes to: a worn store rings, and the event isn't done; any other error is passed on.
-    fn turned_away(&mut self, error: Error) -> Result<bool, Error>
-        ensures worn { OnOk result ((error ≡ Error.Worn)
-            × (self.new ≡ turned_away Saying.Worn self.old)) }
-        ensures never { IfOk result (λ done. done ≡ false) }
-        ensures other { IfErr result (λ passed. (error ≢ Error.Worn) × (passed ≡ error)) }
-    {
-        match error {
-            Error::Worn => {
-                self.turn_away(Saying::Worn);
-                Ok(false)
-            }
-            other => Err(other),
+            Action::Fit(rows, columns) => self.fit(rows, columns),
         }
     }
 }
@@ -713,11 +558,28 @@ fn task_of(
     }
 }
 
-/// What is left to do where events are done, or one of them isn't.
-fn left_if(done: bool, next: Option<Task>) -> Option<Task>
-    ensures { result ≡ (if done then next else None) }
+/// How many characters became question marks, with a press more amid a text that is pasted. None where none is.
+fn marks_more(pastes: bool, press: Press, marks: u32) -> u32
+    ensures { result ≡ marks_more pastes press marks }
 {
-    if done { next } else { None }
+    if !pastes {
+        0
+    } else if becomes_mark(press) {
+        marks.saturating_add(1)
+    } else {
+        marks
+    }
+}
+
+/// What is said where so many characters became question marks, or where none did.
+fn marked_saying(marks: u32, resting: Saying) -> Saying
+    ensures { result ≡ marked_saying marks resting }
+{
+    if marks == 0 {
+        resting
+    } else {
+        Saying::Marked(marks)
+    }
 }
 
 /// Whether nothing of a hand is seen.
@@ -725,18 +587,4 @@ fn is_unseen(hand: &Hand) -> bool
     ensures { result ≡ is_unseen hand.now }
 {
     hand.asked().is_none() && hand.armed().is_none() && hand.pointer().is_none()
-}
-
-/// Whether a press comes to nothing.
-fn is_nothing(action: &Action) -> bool
-    ensures { result ≡ is_nothing action.now }
-{
-    matches!(action, Action::Nothing)
-}
-
-/// Whether it is done to the terminal alone.
-fn is_of_terminal(action: &Action) -> bool
-    ensures { result ≡ is_of_terminal action.now }
-{
-    matches!(action, Action::Fit(_, _) | Action::LookAnew)
 }

@@ -5,7 +5,8 @@ ghost use Rattle.status_line.specs.declared.saying.Saying.TheVariants.{NotBack};
 ghost use Rattle.done_presses.specs.Again.{next_event};
 ghost use Rattle.desk_sitting.specs.Doing.{OfPresses, ComesToSeat, seat_of};
 ghost use Rattle.desk_sitting.specs.Sittings.{after_post, refused};
-ghost use Rattle.desk_sitting.specs.Travels.{Travels, did_again, goes_again, on_to, settled, step_count, store_place, took_back};
+ghost use Rattle.desk_sitting.specs.Travels.{Travels, did_again, goes_again, none_back, on_to, settled, step_count, store_place};
+ghost use Rattle.desk_sitting.specs.Travels.{took_deed, took_back};
 ghost use Rattle.desk_sitting.specs.TheDesk.{the_desk};
 
 use crate::sitting::{Doing, Sitting, Travel};
@@ -31,7 +32,7 @@ pub fn travel<D: Disk>(alloc: Global, sitting: &mut Sitting, store: &mut Store<D
 }
 
 /// Where a store stands.
-fn place<D: Disk>(store: &Store<D>) -> StorePlace
+pub(crate) fn place<D: Disk>(store: &Store<D>) -> StorePlace
     requires { store.now.must_reopen ≡ false }
     ensures { result ≡ store_place store.now }
 {
@@ -108,7 +109,7 @@ impl Sitting {
         ensures { self.new ≡ took_back events.items from to self.old }
     {
         if events.as_slice().is_empty() {
-            self.refuse(Saying::NothingBack);
+            self.refuse(none_back(to));
         } else {
             self.took_some(events, from, to);
         }
@@ -122,9 +123,30 @@ impl Sitting {
         ensures { self.new ≡ took_back events.items from to self.old }
     {
         let deed = self.past.take_back(events.as_slice());
-        self.saying = Saying::TookBack(deed);
-        self.follows = true;
-        self.again.keep(TakenPress::of(events, deed), from, to);
+        self.tell_back(deed, events, from, to);
+    }
+
+    /// What they did is said, and they can be done again. Where they did nothing, that is said.
+    fn tell_back(
+        &mut self,
+        deed: Option<Deed>,
+        events: Vec<Event>,
+        from: StorePlace,
+        to: StorePlace,
+    )
+        ensures { self.new ≡ took_deed deed events.items from to self.old }
+    {
+        match deed {
+            None => {
+                self.again.move_on(from, to);
+                self.refuse(none_back(to));
+            }
+            Some(deed) => {
+                self.saying = Saying::TookBack(deed);
+                self.follows = true;
+                self.again.keep(TakenPress::of(events, deed), from, to);
+            }
+        }
     }
 
     /// Nothing was taken back, for this reason. Out of memory and a failure of the disk are passed on.
@@ -155,6 +177,17 @@ impl Sitting {
         self.changed = true;
         self.again.come_to(to);
         self.past.name(deed);
+    }
+}
+
+/// Why nothing is taken back, where a store stands at this place.
+fn none_back(place: StorePlace) -> Saying
+    ensures { result ≡ none_back place }
+{
+    if place.is_first() {
+        Saying::NothingBack
+    } else {
+        Saying::NoFurtherBack
     }
 }
 

@@ -1,11 +1,9 @@
 //! Whether a text that is open is stored, as far as the menu of its viewer is seen.
-ghost use Rattle.std.specs.Prelude.{◌≡◌, ◌&&◌, false, Some, None, IfOk, OnOk, if◌then◌else◌};
+ghost use Rattle.std.specs.Prelude.{◌≡◌, false, Some, None, IfOk, OnOk, if◌then◌else◌};
 ghost use Rattle.desk_journal.specs.Looking.{OnlyLooks};
 ghost use Rattle.desk_sitting.specs.Stored.{is_closed_at, names_unstored, menu_begin, unstored_at, unstored_caret};
-ghost use Rattle.desk_sitting.specs.Telling.{mark_told};
-ghost use Rattle.desk_sitting.specs.Sittings.{is_scene_due};
+ghost use Rattle.desk_sitting.specs.Telling.{mark_told, rest_marked};
 ghost use Rattle.desktop_definitions.specs.Shown.{shown_screen};
-ghost use Rattle.status_line.specs.Choosing.{rests};
 
 use crate::Sitting;
 use desk_journal::{Error, Loss, Store};
@@ -92,19 +90,31 @@ fn unstored_caret<D: Disk>(alloc: Global, store: &mut Store<D>) -> Result<Option
     }
 }
 
-impl Sitting {
-    /// Whether the line below is to say whether a text isn't stored.
-    fn is_to_mark(&self) -> bool
-        ensures { result ≡ (is_scene_due self.now && rests self.now.saying) }
-    {
-        self.is_scene_due() && rests(self.saying)
-    }
-}
-
 /// Where the line below rests, it says whether the text with the caret isn't stored. It only looks at the store.
 ///
 /// Errors: `NoMemory`; `Fault`.
-pub(crate) fn mark<D: Disk>(
+pub fn mark<D: Disk>(
+    alloc: Global,
+    sitting: &mut Sitting,
+    store: &mut Store<D>,
+) -> Result<(), Error>
+    requires { store.old.must_reopen ≡ false }
+    ensures marked { OnOk result (D.honest store.old.disk
+        → sitting.new ≡ rest_marked store.old.desktop sitting.old) }
+    ensures looks { OnlyLooks D.Disk result store.old store.new }
+{
+    if !rests(sitting.saying) {
+        return Ok(());
+    }
+    let found = unstored_caret(alloc, store)?;
+    sitting.saying = rest_saying(found);
+    Ok(())
+}
+
+/// Where a scene is due, the line below says whether the text with the caret isn't stored, as `mark` has it.
+///
+/// Errors: `NoMemory`; `Fault`.
+pub(crate) fn mark_if_due<D: Disk>(
     alloc: Global,
     sitting: &mut Sitting,
     store: &mut Store<D>,
@@ -114,10 +124,8 @@ pub(crate) fn mark<D: Disk>(
         → sitting.new ≡ mark_told store.old.desktop sitting.old) }
     ensures looks { OnlyLooks D.Disk result store.old store.new }
 {
-    if !sitting.is_to_mark() {
+    if !sitting.is_scene_due() {
         return Ok(());
     }
-    let found = unstored_caret(alloc, store)?;
-    sitting.saying = rest_saying(found);
-    Ok(())
+    mark(alloc, sitting, store)
 }

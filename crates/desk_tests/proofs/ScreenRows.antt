@@ -1,5 +1,5 @@
 -- Rows of screens of one viewer, with texts, a caret, a selection and the marker, proved by computing.
-use Rattle.std.specs.Prelude.{◌≡◌, ℕ, List, [], ◌∷◌, ◌++◌, map, Option, Some, None, codes, refl}
+use Rattle.std.specs.Prelude.{◌≡◌, ℕ, List, [], ◌∷◌, ◌++◌, map, take, Option, Some, None, codes, refl}
 use Rattle.viewer_tracks.specs.Viewers.{viewer_at}
 use Rattle.viewer_tracks.specs.Columns.{track_of}
 use Rattle.screen_pictures.specs.Picture.{picture}
@@ -10,7 +10,7 @@ use Rattle.desktop_definitions.specs.Change.{plain_text}
 use Rattle.desktop_definitions.specs.Shown.{shown_screen}
 use Rattle.desk_tests.proofs.StepWords.{empty, entry, columns, viewer, caret, selection, Row, rows_of, shown}
 use Rattle.desk_tests.proofs.StepWords.{row_wanted, filler, bar, menu, hyphens, body, blanks, selected, at_caret}
-use Rattle.desk_tests.proofs.StepWords.{at_marker}
+use Rattle.desk_tests.proofs.StepWords.{at_edge, at_marker}
 
 -- viewer 1 with its menu and its text from a character on, in the user's column
 abbrev pub in_user : List ℕ → List ℕ → ℕ → Desktop
@@ -52,8 +52,12 @@ texts_of_viewers =
     []) ++
     rows_of (in_user [] long 0) (
     (31, hyphens 50 ++ filler 30) ∷
-    (30, bar ++ body "0123456789012345678901234567890123456789012345678" ++ filler 30) ∷
+    (30, bar ++ body "012345678901234567890123456789012345678901234567" ++ at_edge (body "8") ++ filler 30) ∷
     (29, bar ++ blanks 49 ++ filler 30) ∷
+    []) ++
+    rows_of (in_user [] (take 49 long ++ codes "\r" ++ take 48 long ++ codes "\t") 0) (
+    (30, bar ++ body "0123456789012345678901234567890123456789012345678" ++ filler 30) ∷
+    (29, bar ++ body "012345678901234567890123456789012345678901234567" ++ at_edge (body " ") ++ filler 30) ∷
     []) ++
     rows_of (in_user line (codes "Hello\rWorld") 6) (
     (30, bar ++ body "World" ++ blanks 44 ++ filler 30) ∷
@@ -91,10 +95,10 @@ marks_of_viewers =
     (0, bar ++ blanks 49 ++ filler 29 ++ at_marker " ") ∷
     []) ++
     rows_of (marked long (Some 48) (Some (47, 50)) None) (
-    (30, bar ++ body "01234567890123456789012345678901234567890123456" ++ selected "7" ++ at_caret "8" ++ filler 30) ∷
+    (30, bar ++ body "01234567890123456789012345678901234567890123456" ++ selected "7" ++ at_edge (at_caret "8") ++ filler 30) ∷
     []) ++
     rows_of (marked long (Some 49) None None) (
-    (30, bar ++ body "0123456789012345678901234567890123456789012345678" ++ filler 30) ∷
+    (30, bar ++ body "012345678901234567890123456789012345678901234567" ++ at_edge (body "8") ++ filler 30) ∷
     []) ++
     rows_of (marked (codes "Hello") (Some 6) None None) (
     (30, bar ++ body "Hello" ++ blanks 44 ++ filler 30) ∷

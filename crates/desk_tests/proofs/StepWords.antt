@@ -1,6 +1,6 @@
 -- Words for steps that are worked out and proved by computing: short names for the parts of a desktop, desktops that
 -- differ from another one in a part, and what a step is compared with.
-use Rattle.std.specs.Prelude.{ℕ, suc, ℤ, ◌==◌, not, if◌then◌else◌, List, [], ◌∷◌, ◌++◌, map, filter, replicate, codes}
+use Rattle.std.specs.Prelude.{ℕ, suc, ℤ, ◌==◌, not, if◌then◌else◌, Bool, true, false, List, [], ◌∷◌, ◌++◌, map, filter, replicate, codes}
 use Rattle.std.specs.Prelude.{Option, Some}
 use Rattle.std.specs.List.{slice_index_or, list_any}
 use Rattle.std.specs.Map.{set_value}
@@ -165,7 +165,7 @@ list_wanted l = l.1
 -- ---- the screen
 
 abbrev pub cells : Look → Mark → List ℕ → List Cell
-cells look mark bytes = map (λ b. record { ch = b; look = look; mark = mark }) bytes
+cells look mark bytes = map (λ b. record { ch = b; look = look; mark = mark; goes_on = false }) bytes
 
 -- cells of the default look by what they belong to, and so many that show nothing
 abbrev pub filler : ℕ → List Cell
@@ -182,6 +182,10 @@ hyphens n = cells default_look Menu (replicate n 45)
 
 abbrev pub body : String → List Cell
 body shown = cells default_look InText (codes shown)
+
+-- cells beyond which the line goes on
+abbrev pub at_edge : List Cell → List Cell
+at_edge row = map {A = Cell} (λ c. record c { goes_on = true }) row
 
 abbrev pub blanks : ℕ → List Cell
 blanks n = cells default_look InText (replicate n 32)

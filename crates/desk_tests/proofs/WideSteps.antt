@@ -10,7 +10,7 @@ use Rattle.desktop_definitions.specs.Limits.{no_selection}
 use Rattle.desktop_definitions.specs.Desktop.{Desktop}
 use Rattle.desk_tests.proofs.StepWords.{Case, done, refused, unchanged, click, clicks_for_caret, empty, chars, entry}
 use Rattle.desk_tests.proofs.StepWords.{columns, viewer, caret, selection, edited, Listing, Row, rows_of, filler, bar}
-use Rattle.desk_tests.proofs.StepWords.{menu, hyphens, body, at_caret}
+use Rattle.desk_tests.proofs.StepWords.{menu, hyphens, body, at_caret, at_edge}
 
 -- a line longer than its row, up to the caret and behind it, and one with a tabulator at the end of the row
 abbrev pub front : Text ℕ
@@ -69,7 +69,7 @@ wide_steps = keys ++ texts
 abbrev pub wide_rows : List Row
 wide_rows = rows_of wide (
     (2, filler 50 ++ bar ++ body "abcdefghijklmnopqrstuvwxyz  x") ∷
-    (3, filler 50 ++ bar ++ body "abcdefghijklmnopqrstuvwxyzab" ++ at_caret "c") ∷
+    (3, filler 50 ++ bar ++ body "abcdefghijklmnopqrstuvwxyzab" ++ at_edge (at_caret "c")) ∷
     (4, filler 50 ++ menu "W" ++ hyphens 29) ∷
     [])
 

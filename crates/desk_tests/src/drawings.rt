@@ -32,6 +32,14 @@ fn marked(ch: u8, mark: Mark) -> Cell {
     }
 }
 
+/// A cell beyond which a line goes on.
+fn at_edge(cell: Cell) -> Cell {
+    Cell {
+        goes_on: true,
+        ..cell
+    }
+}
+
 /// What is drawn for a screen whose top row begins with these cells.
 fn drawn(alloc: Global, first: Cell, second: Cell) -> Result<Vec<u8>, OutputFault> {
     let mut bytes = Vec::new(alloc);
@@ -47,10 +55,10 @@ fn whole(alloc: Global, elements: &[u8]) -> Result<Vec<u8>, AllocError> {
     Ok(bytes)
 }
 
-/// Nothing; fonts, colours and offsets, with what a drawing must escape; each mark.
+/// Nothing; fonts, colours and offsets, with what a drawing must escape; each mark; lines that go on.
 #[test]
 fn drawings(rt: HostRuntime) -> Result<(), Fail> {
-    let rows: [(Cell, Cell, &[u8]); 6] = [
+    let rows: [(Cell, Cell, &[u8]); 7] = [
         (blank(), blank(), b""),
         (
             letter(b'<', 2, 1, 0),
@@ -84,6 +92,13 @@ fn drawings(rt: HostRuntime) -> Result<(), Fail> {
             b"<rect x='0' y='0' width='9' height='19' fill='#000000'/>\n\
             <text x='0' y='14' textLength='9' fill='#ffffff'>M</text>\n\
             <rect x='9' y='0' width='9' height='19' fill='#d70000'/>\n",
+        ),
+        (
+            at_edge(letter(b'x', 0, 1, 0)),
+            at_edge(marked(b'y', Mark::Selected)),
+            b"<text x='0' y='14' textLength='9' fill='#949494'>&gt;</text>\n\
+            <rect x='9' y='0' width='9' height='19' fill='#afd7ff'/>\n\
+            <text x='9' y='14' textLength='9' fill='#949494'>&gt;</text>\n",
         ),
     ];
     for (first, second, elements) in rows {

@@ -61,10 +61,23 @@ fn pressed(alloc: Global, bytes: &[u8], piece: usize) -> Result<Vec<Press>, Allo
 }
 
 fn mouse(button: Button, is_down: bool, column: u16, row: u16) -> Press {
+    held(button, is_down, false, false, column, row)
+}
+
+/// The same with Shift, with Alt, or with both.
+fn held(
+    button: Button,
+    is_down: bool,
+    with_shift: bool,
+    with_alt: bool,
+    column: u16,
+    row: u16,
+) -> Press {
     Press::Mouse(MouseReport {
         button,
         is_down,
-        with_alt: false,
+        with_shift,
+        with_alt,
         with_control: false,
         column,
         row,
@@ -77,7 +90,7 @@ fn wheel(is_up: bool, column: u16, row: u16) -> Press {
 
 #[test]
 fn bytes_press(rt: HostRuntime) -> Result<(), Fail> {
-    let table: [(&[u8], &[Press]); 22] = [
+    let table: [(&[u8], &[Press]); 23] = [
         (
             b"aZ ~",
             &[
@@ -195,6 +208,13 @@ fn bytes_press(rt: HostRuntime) -> Result<(), Fail> {
             ],
         ),
         (
+            b"\x1b[<6;1;1M\x1b[<10;2;3m",
+            &[
+                held(Button::Right, true, true, false, 1, 1),
+                held(Button::Right, false, false, true, 2, 3),
+            ],
+        ),
+        (
             b"\x1b[<64;5;6M\x1b[<69;7;8M\x1b[<89;1;1M",
             &[wheel(true, 5, 6), wheel(false, 7, 8), wheel(false, 1, 1)],
         ),
@@ -245,9 +265,13 @@ fn letter(action: &Action) -> Option<u8> {
         Action::Mark => Some(b'm'),
         Action::Select(_) => Some(b'H'),
         Action::SelectAll => Some(b'a'),
+        Action::Extend(_, _) => Some(b'x'),
         Action::CutLine => Some(b'K'),
+        Action::Refill => Some(b'P'),
         Action::Delete => Some(b'X'),
         Action::Search => Some(b's'),
+        Action::SearchBefore => Some(b'b'),
+        Action::Find(_, before) => Some(if *before { b'B' } else { b'f' }),
         Action::Store => Some(b't'),
         Action::Replace => Some(b'r'),
         Action::Fill => Some(b'w'),
@@ -284,6 +308,9 @@ fn add_action(found: &mut Vec<u8>, action: &Action) -> Result<(), AllocError> {
     if let Action::Scroll(Some(Spot { x, y }), _) = action {
         found.extend_from_slice(&[*x, *y])?;
     }
+    if let Action::Extend(start, at) = action {
+        found.extend_from_slice(&[start.x, start.y, at.x, at.y])?;
+    }
     if let Action::Seek(Spot { x, y }) = action {
         found.extend_from_slice(&[*x, *y])?;
     }
@@ -316,20 +343,21 @@ fn acted(alloc: Global, bytes: &[u8], sight: Sight) -> Result<Vec<u8>, AllocErro
 
 #[test]
 fn presses_make_events(rt: HostRuntime) -> Result<(), Fail> {
-    let table: [(&[u8], &[u8]); 42] = [
+    let table: [(&[u8], &[u8]); 45] = [
         (b"a", b"\x01\x00\x01a"),
         (b"\n", b"\x01\x00\x01\x0d"),
+        (b"\x15", b"P"),
         (b"\x08\x03\x18\x16", b"\x02\x00\x02\x01\x02\x03\x02\x02"),
         (b"\x1b\xff\x1b[3~", b"\x02\x04X"),
         // Escape after F2 calls that off, and does no more.
         (b"\x1bOQ\x1b\xff\x1b\xff", b"\x02\x04"),
-        (b"\x0c\x11\x02", b"NLR"),
+        (b"\x0c\x11\x04", b"NLR"),
         (b"\x05\x14", b"em"),
         // Shift with an arrow selects, where no pointer is shown.
         (b"\x1b[1;2D\x1b[1;2F\x01\x0b", b"HHaK"),
         // A letter puts the pointer away.
         (b"\x1b[23~x\t", b"\x01\x00\x01x\x01\x00\x01\x09"),
-        (b"\x06\x12\x13\x17", b"srtw"),
+        (b"\x06\x02\x1bf\x12\x13\x17", b"sbbrtw"),
         // A tabulator is typed, and where the pointer is shown it seeks the next command from there on.
         (
             b"\t\x1b[23~\t\x1b\xff\t",
@@ -371,6 +399,15 @@ fn presses_make_events(rt: HostRuntime) -> Result<(), Fail> {
         // A click, and a drag from a corner to beyond the opposite one.
         (b"\x1b[<0;2;2M\x1b[<0;2;2m", b"\x04\x00\x01\x1e\x01\x1e"),
         (b"\x1b[<2;1;1M\x1b[<2;200;99m", b"\x04\x06\x00\x1f\x4f\x00"),
+        // The right button with Shift, with Alt, and as Ctrl and the left one with both; two buttons with Shift.
+        (
+            b"\x1b[<6;2;2M\x1b[<6;4;3m\x1b[<2;1;1M\x1b[<10;1;1m\x1b[<16;1;1M\x1b[<28;2;1m",
+            b"\x01\x1e\x03\x1dx\x00\x1f\x00\x1fx\x00\x1f\x01\x1fx",
+        ),
+        (
+            b"\x1b[<6;2;2M\x1b[<4;2;2M\x1b[<4;2;2m\x1b[<6;2;2m",
+            b"\x04\x07\x01\x1e\x01\x1e",
+        ),
         // Two buttons, then three.
         (
             b"\x1b[<0;1;1M\x1b[<1;3;1M\x1b[<1;3;1m\x1b[<0;5;2m",

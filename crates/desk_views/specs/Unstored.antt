@@ -12,10 +12,12 @@ use Rattle.desktop_definitions.specs.Effects.{menu_name}
 
 -- ---- texts
 
+abbrev pub looks_alike : Look → Look → Bool
+looks_alike a b = (a.font == b.font) && ((a.colour == b.colour) && int_eq a.voff b.voff)
+
 -- whether two characters are the same, with their looks
 abbrev pub is_same_character : ℕ × Look → ℕ × Look → Bool
-is_same_character c k = (c.0 == k.0)
-    && ((c.1.font == k.1.font) && ((c.1.colour == k.1.colour) && int_eq c.1.voff k.1.voff))
+is_same_character c k = (c.0 == k.0) && looks_alike c.1 k.1
 
 -- whether two texts have the same characters
 unfoldable pub is_same_text : Text ℕ → Text ℕ → Bool

@@ -5,6 +5,7 @@
 mod info;
 mod losses;
 mod rivals;
+mod same_texts;
 mod unstored;
 mod views;
 

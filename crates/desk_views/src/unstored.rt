@@ -2,15 +2,16 @@
 ghost use Rattle.std.specs.Prelude.{◌≡◌, ◌↔◌, ℕ, true, List, length, IfOk, option_map};
 ghost use Rattle.piece_ring.specs.Text.{Text as AText};
 ghost use Rattle.readers_scanners.specs.Form.{symbol};
-ghost use Rattle.readers_scanners.specs.Words.{ReadsOrFails, bytes_of_text, contents};
+ghost use Rattle.readers_scanners.specs.Words.{ReadsOrFails, bytes_of_text};
 ghost use Rattle.command_table.specs.Parameters.{name_in};
 ghost use Rattle.desktop_definitions.specs.Desktop.{file_of as file_of_desktop};
 ghost use Rattle.desktop_definitions.specs.Viewers.{main_of};
 ghost use Rattle.desktop_definitions.specs.Effects.{menu_name};
 ghost use Rattle.desk_core.specs.Words.{flat, AreWithin, IsOnTop, IsKeptWhole, IsOver, kept_desktop, seen, TellsValue};
-ghost use Rattle.desk_views.specs.Unstored.{is_same_character, is_same_text, is_in_file, is_stored, was_closed};
+ghost use Rattle.desk_views.specs.Unstored.{is_same_text, is_in_file, is_stored, was_closed};
 ghost use Rattle.desk_views.specs.Unstored.{closed_id, shows_too, is_shown_too, is_single, is_its_own, is_unstored};
 
+use crate::same_texts::is_same_text;
 use char_file::{CharSource, Fault};
 use command_table::{name_in, symbol_at};
 use desk_core::desk::Desk;
@@ -18,49 +19,12 @@ use desk_core::files::file_of;
 use desk_core::viewers::viewer_or_none;
 use desktop_definitions::{ClosedViewer, Viewer};
 use event_bytes::Name;
-use piece_ring::Look;
-use readers_scanners::Reader;
 use text_core::Text;
-
-/// Whether two characters are the same, with their looks.
-fn is_same_character(one: (u8, Look), other: (u8, Look)) -> bool
-    ensures { result ≡ is_same_character one other }
-{
-    one.0 == other.0
-        && one.1.font == other.1.font
-        && one.1.colour == other.1.colour
-        && one.1.voff == other.1.voff
-}
 
 /// Texts have the same characters just where they are one and the same list of characters with their looks.
 pub fn same_texts_are_equal()
     ensures { (text other : AText ℕ) → is_same_text text other ≡ true ↔ text ≡ other }
 {}
-
-/// Whether two texts have the same characters in the same looks. `Fault`: the source failed in this call.
-fn is_same_text<S: CharSource>(text: &Text, other: &Text, source: &mut S) -> Result<bool, Fault>
-    requires offsets { AreWithin (length (S.characters source.old)) (flat text.now) }
-    requires others { AreWithin (length (S.characters source.old)) (flat other.now) }
-    ensures same { IfOk result (λ same. S.honest source.old
-        → same ≡ is_same_text (contents (S.characters source.old) (flat text.now))
-        (contents (S.characters source.old) (flat other.now))) }
-    ensures source { ReadsOrFails S.CharSource result source.old source.new }
-{
-    let len = text.len();
-    if len != other.len() {
-        return Ok(false);
-    }
-    let mut reader = Reader::open(text, 0);
-    let mut beside = Reader::open(other, 0);
-    for at in 0..len {
-        let character = reader.next_character(source)?;
-        let there = beside.next_character(source)?;
-        if !is_same_character(character, there) {
-            return Ok(false);
-        }
-    }
-    Ok(true)
-}
 
 /// Whether the file of that name is there and has a viewer's main text. `Fault`: the source failed in this call.
 pub(crate) fn is_in_file<S: CharSource>(

@@ -1,11 +1,11 @@
 -- What was taken back, as far as it can be done again.
-use Rattle.std.specs.Prelude.{◌-◌, Bool, ◌==◌, ◌&&◌, if◌then◌else◌, List, [], ◌∷◌, ◌++◌, length, take}
+use Rattle.std.specs.Prelude.{◌-◌, Bool, ◌==◌, ◌&&◌, not, nat_le, if◌then◌else◌, List, [], ◌∷◌, ◌++◌, length, take}
 use Rattle.std.specs.Prelude.{Option, Some, None, option_map, reverse, slice_get}
 use Rattle.event_bytes.specs.declared.event.Event.{Event}
 use Rattle.status_line.specs.declared.deed.Deed.{Deed}
 use Rattle.done_presses.specs.declared.again.NextEvent.{NextEvent}
 use Rattle.done_presses.specs.declared.again.StorePlace.{StorePlace}
-use Rattle.done_presses.specs.declared.again.TheConstants.{MOST_AGAIN}
+use Rattle.done_presses.specs.declared.again.TheConstants.{FIRST_EPOCH, MOST_AGAIN}
 use Rattle.done_presses.specs.Past.{with_room}
 
 pub record TakenPressView : Type 0 where
@@ -18,6 +18,10 @@ pub record AgainView : Type 0 where
   pub presses : List (Option TakenPressView)
   -- to which taking them back has led
   pub place : StorePlace
+
+-- nobody has done anything before this epoch
+abbrev pub is_first : StorePlace → Bool
+is_first place = nat_le place.epoch FIRST_EPOCH
 
 abbrev pub no_again : AgainView
 no_again = record { presses = []; place = record { epoch = 0; events = 0 } }
@@ -32,6 +36,14 @@ holds_at place a = (a.place.epoch == place.epoch) && (a.place.events == place.ev
 -- those that can be done again at this place
 abbrev pub presses_at : StorePlace → AgainView → List (Option TakenPressView)
 presses_at place a = if holds_at place a then a.presses else []
+
+-- whether there is any
+abbrev pub has_again : StorePlace → AgainView → Bool
+has_again place a = holds_at place a && not (length a.presses == 0)
+
+-- what led from one place to another changed nothing: what could be done again there can be done here
+unfoldable pub carried_again : StorePlace → StorePlace → AgainView → AgainView
+carried_again from to a = record a { presses = presses_at from a; place = to }
 
 -- a press more; of as many as there may be the oldest is forgotten
 abbrev pub with_press : TakenPressView → AgainView → AgainView

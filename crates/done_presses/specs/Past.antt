@@ -147,11 +147,12 @@ abbrev pub first_deed : List Event → Deed
 first_deed [] = Part
 first_deed (event ∷ more) = deed_of event
 
--- what these events did, which were taken back
-abbrev pub deed_back : List Event → Option DonePress → Deed
-deed_back events None = first_deed events
-deed_back events (Some press) =
-    if nat_le press.events (counted (length events)) then press.deed else Part
+-- what these events did, which were taken back; where no press is known, nothing, if all of them were refused
+abbrev pub deed_back : List Event → Option DonePress → ℕ → Option Deed
+deed_back events None refused =
+    if nat_le (counted (length events)) refused then None else Some (first_deed events)
+deed_back events (Some press) refused =
+    if nat_le press.events (counted (length events)) then Some press.deed else Some Part
 
-unfoldable pub back_deed : List Event → PastView → Deed
-back_deed events past = deed_back events (last_press past)
+unfoldable pub back_deed : List Event → PastView → Option Deed
+back_deed events past = deed_back events (last_press past) past.refused

@@ -1,7 +1,7 @@
 //! What was taken back, as far as it can be done again.
 ghost use Rattle.std.specs.Prelude.{◌≡◌, ◌-◌, length, take, slice_get};
-ghost use Rattle.done_presses.specs.Again.{events_behind, holds_at, kept_at, next_event, next_of_press, no_again};
-ghost use Rattle.done_presses.specs.Again.{put_back};
+ghost use Rattle.done_presses.specs.Again.{carried_again, events_behind, has_again, holds_at, is_first, kept_at};
+ghost use Rattle.done_presses.specs.Again.{next_event, next_of_press, no_again, put_back};
 ghost use Rattle.done_presses.specs.Again.{rest_at, taken_press, with_press, with_rest};
 
 use arrayvec::ArrayVec;
@@ -12,11 +12,24 @@ use std::marker::Model;
 /// How many presses can be done again at most.
 pub const MOST_AGAIN: usize = 512;
 
+/// The epoch in which a new store is when somebody sits down at it first: two checkpoints lie behind it, from before which
+/// nothing is taken back.
+pub const FIRST_EPOCH: u32 = 3;
+
 /// Where a store stands: its epoch, and how many events its journal has.
 #[derive(Clone, Copy, Debug, PartialEq, Eq)]
 pub struct StorePlace {
     pub epoch: u32,
     pub events: u32,
+}
+
+impl StorePlace {
+    /// Whether nobody has done anything before this epoch.
+    pub fn is_first(self) -> bool
+        ensures { result ≡ is_first self }
+    {
+        self.epoch <= FIRST_EPOCH
+    }
 }
 
 /// A press that was taken back: its events that can be done again, of which the next stands last, and what it did.
@@ -111,6 +124,24 @@ impl Again {
         ensures { result ≡ holds_at place self.now }
     {
         self.place.epoch == place.epoch && self.place.events == place.events
+    }
+
+    /// Whether something can be done again at this place.
+    pub fn has_again(&self, place: StorePlace) -> bool
+        ensures { result ≡ has_again place self.now }
+    {
+        self.is_at(place) && !self.presses.as_slice().is_empty()
+    }
+
+    /// What led from one place to another changed nothing.
+    #[tactic(auto, unfolding(crate::specs::Again::carried_again))]
+    pub fn move_on(&mut self, from: StorePlace, to: StorePlace)
+        ensures { self.new ≡ carried_again from to self.old }
+    {
+        if !self.is_at(from) {
+            self.presses = ArrayVec::new();
+        }
+        self.place = to;
     }
 
     /// A press was taken back at a place, which led to another one.

@@ -10,7 +10,7 @@ mod kind;
 mod laws;
 mod past;
 
-pub use again::{Again, MOST_AGAIN, NextEvent, StorePlace, TakenPress, take_last};
+pub use again::{Again, FIRST_EPOCH, MOST_AGAIN, NextEvent, StorePlace, TakenPress, take_last};
 pub use kind::PressKind;
 pub use laws::constants_are_defined;
 pub use past::{DonePress, MOST_DONE, Past};

@@ -1,6 +1,6 @@
 //! What the presses of a sitting did, as far as they can be taken back, in the steps in which they are.
-ghost use Rattle.std.specs.Prelude.{◌≡◌, length};
-ghost use Rattle.done_presses.specs.Past.{past_after, past_of, past_with, back_count, back_deed, but_last_press, counted};
+ghost use Rattle.std.specs.Prelude.{◌≡◌, None, length};
+ghost use Rattle.done_presses.specs.Past.{past_after, past_of, past_with, back_count, back_deed, but_last_press, counted, deed_back};
 ghost use Rattle.done_presses.specs.Past.{continues, first_deed, gathered, gathered_from, last_press, left_past, moved_on};
 ghost use Rattle.done_presses.specs.Past.{named, no_past, pushed, selects, with_event, with_moves, with_refused};
 
@@ -191,27 +191,29 @@ impl Past {
         }
     }
 
-    /// These events were taken back, the last ones. Says what they did.
+    /// These events were taken back, the last ones. Says what they did: nothing, where all of them were refused, and no press
+    /// is known that did something before.
     #[tactic(auto, unfolding(crate::specs::Past::left_past, crate::specs::Past::back_deed))]
-    pub fn take_back(&mut self, events: &[Event]) -> Deed
+    pub fn take_back(&mut self, events: &[Event]) -> Option<Deed>
         ensures past { self.new ≡ left_past (length events.now) self.old }
         ensures deed { result ≡ back_deed events.now self.old }
     {
         let count = counted(events.len());
         match self.presses.pop() {
             None => {
+                let deed = deed_behind(events, self.refused);
                 self.refused = self.refused.saturating_sub(count);
-                first_deed(events)
+                deed
             }
             Some(press) => {
                 if press.events <= count {
-                    return press.deed;
+                    return Some(press.deed);
                 }
                 self.push(DonePress {
                     events: press.events - count,
                     ..press
                 });
-                Deed::Part
+                Some(Deed::Part)
             }
         }
     }
@@ -260,6 +262,17 @@ fn continues(press: Option<DonePress>, kind: PressKind) -> bool
     match press {
         None => false,
         Some(press) => press.kind.goes_on(kind),
+    }
+}
+
+/// What these events did where no press is known, of which so many at the end were refused.
+fn deed_behind(events: &[Event], refused: u32) -> Option<Deed>
+    ensures { result ≡ deed_back events.now None refused }
+{
+    if counted(events.len()) <= refused {
+        None
+    } else {
+        Some(first_deed(events))
     }
 }
 

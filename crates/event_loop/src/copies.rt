@@ -1,4 +1,4 @@
-//! Texts of their own with what is selected, and with what was copied.
+//! Texts of their own with what is selected, and with what was copied; and the text in which the caret stands.
 ghost use Rattle.std.specs.Prelude.{◌≡◌, IfOk, option_map};
 ghost use Rattle.desk_core.specs.Words.{flat, stretch, newest, kept_main, kept_desktop, IsKeptWhole};
 
@@ -42,4 +42,17 @@ pub fn selected_text(desk: &Desk) -> Result<Option<Text>, NoMemory>
     let copy = desk.copy_of(selection)?;
     let text = text_of(desk.alloc, copy)?;
     Ok(Some(text))
+}
+
+/// The main text of the viewer with the caret; None where no viewer has it.
+pub fn text_with_caret(desk: &Desk) -> Option<&Text>
+    requires { IsKeptWhole (kept_desktop desk.now) }
+    ensures { option_map (λ text. text.now) result
+        ≡ option_map (λ c. kept_main (kept_desktop desk.now) c.viewer)
+        (kept_desktop desk.now).caret }
+{
+    let Some(caret) = desk.caret_place() else {
+        return None;
+    };
+    Some(desk.main_text(caret.viewer))
 }

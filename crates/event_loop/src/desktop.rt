@@ -21,6 +21,7 @@ ghost use Rattle.screen_cells.specs.Lines.{AreLinesOf};
 ghost use Rattle.event_loop.specs.Keeping.{KeepsLines};
 ghost use Rattle.desk_core.specs.Words.{FailsAs, OnlyReads, flat, AreWithin, seen, IsKeptWhole, IsOver, IsStop};
 
+mod comparing;
 mod copying;
 mod views;
 

@@ -1,2 +1,4 @@
 mod Lossless
 mod Pours
+mod Downward
+mod Kept

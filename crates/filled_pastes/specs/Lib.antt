@@ -1,1 +1,3 @@
 pub mod Poured
+pub mod Paragraphs
+pub mod Filled

@@ -47,6 +47,10 @@ text_left x = if nat_lt x SYSTEM_LEFT then 1 else SYSTEM_LEFT + 1
 abbrev pub text_right : ℕ → ℕ
 text_right x = if nat_lt x SYSTEM_LEFT then SYSTEM_LEFT else COLUMNS
 
+-- how many columns of text it has
+abbrev pub text_columns : ℕ → ℕ
+text_columns x = text_right x - text_left x
+
 -- what is typed from column x of the display on, where a word goes on
 abbrev pub poured_at : ℕ → List ℕ → List ℕ
 poured_at x bs = poured (text_right x - text_left x) (x - text_left x) false bs

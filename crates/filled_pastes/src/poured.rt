@@ -4,7 +4,7 @@
 //! its lines are worked out at once: one comes before each word for which its line has no room.
 ghost use Rattle.std.specs.Prelude.{◌≡◌, ◌+◌, ◌*◌, ◌≤◌, ◌<◌, ◌++◌, ◌&&◌, length, nat_lt, not, position, false, IfSome};
 ghost use Rattle.filled_pastes.specs.Poured.{column_then, column_from, ended, is_gap, parts_words, poured, poured_at};
-ghost use Rattle.filled_pastes.specs.Poured.{text_left, text_right, turns, word_length};
+ghost use Rattle.filled_pastes.specs.Poured.{text_columns, text_left, text_right, turns, word_length};
 
 use arrayvec::ArrayVec;
 use event_bytes::{CARRIAGE_RETURN, TABULATOR};
@@ -52,8 +52,8 @@ pub fn word_length(bytes: &[u8]) -> usize
     }
 }
 
-/// The column behind a byte.
-fn column_then(w: usize, column: usize, byte: u8) -> usize
+/// The column behind a byte that stands in a column of `w`: `w` behind the last one, and 0 behind the end of a line.
+pub fn column_then(w: usize, column: usize, byte: u8) -> usize
     requires column { column ≤ 255 }
     requires width { w ≤ 255 }
     ensures value { result ≡ column_then w column byte }
@@ -149,6 +149,13 @@ fn text_right(x: u8) -> u8
     } else {
         COLUMNS
     }
+}
+
+/// How many columns of text a viewer has that has a column of the display.
+pub fn text_columns(x: u8) -> u8
+    ensures { result ≡ text_columns x }
+{
+    text_right(x).saturating_sub(text_left(x))
 }
 
 /// What is typed for these bytes, 900 at most, from a column of the display on, where a word goes on: the bytes, and an end of

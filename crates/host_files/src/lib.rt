@@ -2,10 +2,11 @@
 //! and that the folder of a new file is durable; and for a file of the person's that it reads.
 #![tactic(auto)]
 
-ghost use Rattle.std.specs.Prelude.{◌≡◌, ◌≤◌, Ok, IfOk, IfErr, IsErrOf, IsOk, OnOk, length};
-ghost use Rattle.std.specs.Fs.{IsFile, file_type, metadata_len};
+ghost use Rattle.std.specs.Prelude.{◌≡◌, ◌<◌, ◌≤◌, Ok, Err, IfOk, IfErr, IsErrOf, IsOk, OnOk, length};
+ghost use Rattle.std.specs.Fs.{IsDir, IsFile, file_type, metadata_len};
 ghost use Rattle.std_io.specs.IoError.{error_kind};
-ghost use Rattle.host_files.specs.Faults.{fault_of_kind, fault_of_lock};
+ghost use Rattle.host_files.specs.Faults.{fault_number, fault_of_kind, fault_of_lock};
+ghost use Rattle.host_files.specs.declared.HostFault.TheVariants.{Folder as AFolder, TooLong as TooManyBytes};
 
 mod locked_file;
 mod streams;
@@ -14,7 +15,7 @@ mod texts;
 pub use locked_file::LockedFile;
 use std::fs::{File, Metadata, OpenOptions, TryLockError};
 use std::io::{ErrorKind, Read};
-use std::{fs, io};
+use std::{env, fs, io};
 pub use streams::{HeldStreams, hold_streams};
 pub use texts::{
     files_in, is_folder, length_of, make_file, make_folder, read_input, read_whole, rename_over,
@@ -36,10 +37,37 @@ pub enum HostFault {
     NoRight,
     /// The file system can only be read.
     ReadOnly,
+    /// It is no regular file: a pipe or a device.
+    Special,
+    /// It has more bytes than are wanted.
+    TooLong,
+    /// There is no such file, and its name begins with a tilde, which stands for no folder: the environment has no HOME.
+    NoHome,
     /// It refused for another reason.
     Refused,
     /// An allocation found no memory.
     NoMemory,
+}
+
+impl HostFault {
+    /// Its number, from 1 on.
+    pub fn number(self) -> u8
+        ensures { result ≡ fault_number self }
+    {
+        match self {
+            HostFault::Missing => 1,
+            HostFault::InUse => 2,
+            HostFault::Taken => 3,
+            HostFault::Folder => 4,
+            HostFault::NoRight => 5,
+            HostFault::ReadOnly => 6,
+            HostFault::Special => 7,
+            HostFault::TooLong => 8,
+            HostFault::NoHome => 9,
+            HostFault::Refused => 10,
+            HostFault::NoMemory => 11,
+        }
+    }
 }
 
 /// Opens the file and takes its lock for this program alone. The lock lasts as long as the file that is returned, or
@@ -167,7 +195,7 @@ pub fn read_front(rt: &HostRuntime, path: &str, buffer: &mut [u8]) -> Result<usi
 /// other end, and a device may have no end. (It may wait where another program puts a pipe in the file's place between
 /// the look at it and its opening.)
 ///
-/// Errors: `Missing`; `Refused` where the file can't be read, isn't regular, or has more bytes; `NoMemory`.
+/// Errors: `Missing`; `Folder`; `Special`; `TooLong` where the file has more bytes; `NoRight`; `Refused`; `NoMemory`.
 pub fn open_regular(rt: &HostRuntime, path: &str, most: u64) -> Result<File, HostFault> {
     is_regular(&asked(fs::metadata(rt, path))?, most)?;
     let file = asked(File::open(rt, path))?;
@@ -176,15 +204,29 @@ pub fn open_regular(rt: &HostRuntime, path: &str, most: u64) -> Result<File, Hos
     Ok(file)
 }
 
-/// Refuses what is no regular file, or has more bytes.
+/// Refuses what is no regular file, or has more bytes, and says which it is.
 fn is_regular(file: &Metadata, most: u64) -> Result<(), HostFault>
     ensures regular { OnOk result (IsFile (file_type file.now)) }
     ensures within { OnOk result (metadata_len file.now ≤ most) }
+    ensures folder { result ≡ Err AFolder → IsDir (file_type file.now) }
+    ensures long { result ≡ Err TooManyBytes → most < metadata_len file.now }
 {
-    if file.is_file() && file.len() <= most {
+    if file.is_dir() {
+        Err(HostFault::Folder)
+    } else if !file.is_file() {
+        Err(HostFault::Special)
+    } else if file.len() <= most {
         Ok(())
     } else {
-        Err(HostFault::Refused)
+        Err(HostFault::TooLong)
+    }
+}
+
+/// The home folder of the person, as the environment has it. None where it has none, or it can't be read.
+pub fn home_folder(rt: &HostRuntime) -> Option<String> {
+    match env::home_dir(rt) {
+        Ok(Some(path)) => Some(path.into_string()),
+        _ => None,
     }
 }
 

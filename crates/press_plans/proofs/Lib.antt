@@ -1,3 +1,5 @@
-mod Meant
-mod Planning
-mod Pastes
+pub mod Meant
+pub mod Pastes
+pub mod Planning
+pub mod Refilled
+pub mod Seeking

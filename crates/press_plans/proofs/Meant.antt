@@ -1,6 +1,6 @@
 -- The events that presses come to at the desk.
 use Rattle.std.proofs.Common.{◌≡◌, ◌≢◌, ◌∙◌, ℕ, true, false, refl, sym, ap, [], ◌∷◌}
-use Rattle.std.specs.Prelude.{Bool, Option, Some, None, ◌&&◌, not, is_some, if◌then◌else◌}
+use Rattle.std.specs.Prelude.{Bool, Option, Some, None, ◌&&◌, not, is_some, if◌then◌else◌, unwrap_or, List}
 use Rattle.std.specs.List.{list_any}
 use Rattle.std.proofs.lemmas.Bool.{cond-true, cond-false}
 use Rattle.event_bytes.specs.declared.event.Event.{Event}
@@ -8,13 +8,15 @@ use Rattle.event_bytes.specs.declared.event.Event.TheVariants as event
 use Rattle.desktop_definitions.specs.Desktop.{Desktop}
 use Rattle.desktop_definitions.specs.Listing.{entries_of}
 use Rattle.starter_desktop.specs.StarterDesktop.{tool_event}
-use Rattle.desk_journal.specs.Views.{DeskInfo, desk_info, place_at}
+use Rattle.desk_journal.specs.Views.{DeskInfo, Place as ViewerPlace, desk_info, place_at}
+use Rattle.screen_pictures.specs.declared.cell.Cell.{Cell}
+use Rattle.screen_reading.specs.Extended.{kept_end}
 use Rattle.press_plans.specs.declared.task.Task.TheVariants as kind
 use Rattle.press_plans.specs.Listed.{begins_in_viewer, event_meant, is_tool, lacks_tool, middle_or}
 use Rattle.status_line.specs.Deeds.{is_middle}
 use Rattle.screen_reading.specs.Aims.{caret_cell}
 use Rattle.desktop_definitions.specs.Shown.{shown_screen}
-use Rattle.press_plans.specs.Plans.{Events, caret_seen, empty_plan, is_call, plan_of, posted_plan}
+use Rattle.press_plans.specs.Plans.{Events, caret_seen, draw_of, empty_plan, is_call, plan_of, posted_plan}
 
 no_tool : (middle lacks : Bool) (tool other : Event) → middle ≡ false
     → (if middle && lacks then tool else other) ≡ other
@@ -98,3 +100,15 @@ module _ (d : Desktop) where
   called_on_empty (event.Key key) call none = absurd cc
   called_on_empty (event.Mark x y) call none = absurd cc
   called_on_empty (event.File name bytes) call none = absurd cc
+
+-- what is selected is extended
+pub extended : (start at : ℕ × ℕ) (d : Desktop) (place : Option ViewerPlace) (screen : List (List Cell)) (kept : Option (ℕ × ℕ))
+    (from : ℕ × ℕ) (drawn : Event) → place ≡ place_at d start → screen ≡ shown_screen d → kept ≡ kept_end place start at screen
+    → from ≡ unwrap_or kept start → drawn ≡ draw_of from at → Events (drawn ∷ []) None ≡ plan_of (kind.Extend start at) d
+unfolding plan_of
+extended start at d place screen kept from drawn place_is screen_is kept_is from_is drawn_is =
+    let here : kept ≡ kept_end (place_at d start) start at (shown_screen d) =
+    kept_is ∙ (λ k. kept_end (place_is k) start at (screen_is k)) in
+    ap (λ (e : Event). Events (e ∷ []) None) drawn_is
+    ∙ ap (λ (cell : ℕ × ℕ). Events (draw_of cell at ∷ []) None) from_is
+    ∙ ap (λ (end : Option (ℕ × ℕ)). Events (draw_of (unwrap_or end start) at ∷ []) None) here

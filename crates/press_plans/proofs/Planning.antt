@@ -1,13 +1,13 @@
 -- The plan of a task is made by one look at the store.
-use Rattle.std.proofs.Common.{◌≡◌, ◌≢◌, Bool, true, false, refl, sym, ◌∙◌, ap, Ok, Err, List, []}
+use Rattle.std.proofs.Common.{rules, ◌≡◌, ◌≢◌, Bool, true, false, refl, sym, ◌∙◌, ap, Ok, Err, List, []}
 use Rattle.std.specs.Prelude.{Result}
-use Rattle.std.specs.Prelude.{ℕ, nat_lt, min, unwrap_or, Option, Some, None}
+use Rattle.std.specs.Prelude.{ℕ, nat_lt, min, unwrap_or, if◌then◌else◌, Option, Some, None}
 use Rattle.std.proofs.lemmas.Bool.{cond-true, cond-false, false≢true}
 use Rattle.sector_disk.specs.declared.disk.Disk.{Ghosts}
 use Rattle.event_bytes.specs.declared.event.Event.{Event}
 use Rattle.desktop_definitions.specs.Desktop.{Desktop}
 use Rattle.desktop_definitions.specs.Shown.{shown_screen}
-use Rattle.desk_journal.specs.Errors.{Error}
+use Rattle.desk_journal.specs.Errors.{Error, NoMemory}
 use Rattle.desk_journal.specs.Looking.{OnlyLooks}
 use Rattle.caret_moves.specs.declared.wish.KeyWish.{KeyWish}
 use Rattle.caret_moves.specs.declared.wish.WhyNot.{WhyNot}
@@ -18,19 +18,21 @@ use Rattle.desk_journal.specs.Views.{DeskInfo, Place as ViewerPlace, ShownViewer
 use Rattle.terminal_presses.specs.Sights.{Sight}
 use Rattle.screen_reading.specs.Frames.{text_rows_in_sight}
 use Rattle.desk_journal.proofs.Passing.{at_start}
+use Rattle.press_plans.specs.declared.finding.Finding.{Finding}
+use Rattle.press_plans.specs.declared.refill.Refilling.{Refilling}
 use Rattle.press_plans.specs.declared.task.Filling.{Filling}
 use Rattle.press_plans.specs.declared.task.Stage.{Stage}
-use Rattle.press_plans.specs.declared.task.Stage.TheVariants.{First, Back, On}
+use Rattle.press_plans.specs.declared.task.Stage.TheVariants.{First, On}
 use Rattle.press_plans.specs.declared.task.Task.{Task}
 use Rattle.press_plans.specs.declared.task.Task.TheVariants as kind
 use Rattle.press_plans.specs.declared.plan.Plan.{Plan as MadePlan}
-use Rattle.press_plans.specs.Plans.{Plans, caret_place, comeback_plan, goes_along, page_plan, page_wish, paged_plan, place_meant}
+use Rattle.press_plans.specs.Plans.{Makes, caret_place, comeback_plan, goes_along, page_plan, page_wish, paged_plan, place_meant}
 use Rattle.press_plans.specs.Plans.{Plan, Events, Says, answer_plan, lead_plan, opened_plan, opened_viewer, plan_of, plan_on}
-use Rattle.press_plans.specs.Plans.{seen_plan, unbroken_plan, broken_plan, type_plan, placed_plan, return_plan}
+use Rattle.press_plans.specs.Plans.{seen_plan, unbroken_plan, broken_plan, type_plan, placed_plan, go_then}
 use Rattle.press_plans.specs.Plans.{poured_plan, room_plan, standing}
 use Rattle.filled_pastes.specs.Poured.{word_length}
 use Rattle.press_plans.specs.Filling.{room_if, one_behind, place_behind, is_place}
-use Rattle.press_plans.specs.Replacing.{TypingView, first_typed}
+use Rattle.earlier_presses.specs.Replacing.{TypingView, first_typed}
 use Rattle.status_line.specs.declared.deed.Deed.{Deed}
 use Rattle.caret_moves.specs.declared.wish.KeyWish.TheVariants.{Break, Place}
 
@@ -47,26 +49,38 @@ pub by_screen : (task : Task) (d : Desktop) → ((event : Event) → task ≢ ki
     → ((event : Event) (fills : Filling) → task ≢ kind.TypeOver event fills)
     → ((behind : Bool) → task ≢ kind.Erase behind)
     → ((stage : Stage) (bytes : List ℕ) (typed : ℕ) → task ≢ kind.Pour stage bytes typed)
+    → ((finding : Finding) → task ≢ kind.Find finding)
+    → ((refilling : Refilling) → task ≢ kind.Refill refilling)
+    → ((start at : ℕ × ℕ) → task ≢ kind.Extend start at)
+    → ((event : Event) (deed : Option Deed) → task ≢ kind.Call event deed)
     → plan_of task d ≡ plan_on task (shown_screen d)
 unfolding plan_of
-by_screen (kind.Post event) d post scroll lead after enter page show types back over erase pours = absurd (post event refl)
-by_screen (kind.Scroll at wish) d post scroll lead after enter page show types back over erase pours = absurd (scroll at wish refl)
-by_screen (kind.Lead wish) d post scroll lead after enter page show types back over erase pours = absurd (lead wish refl)
-by_screen (kind.Seek at) d post scroll lead after enter page show types back over erase pours = refl
-by_screen (kind.After before cell) d post scroll lead after enter page show types back over erase pours =
+by_screen (kind.Post event) d post scroll lead after enter page show types back over erase pours finds refills extends calls = absurd (post event refl)
+by_screen (kind.Scroll at wish) d post scroll lead after enter page show types back over erase pours finds refills extends calls = absurd (scroll at wish refl)
+by_screen (kind.Lead wish) d post scroll lead after enter page show types back over erase pours finds refills extends calls = absurd (lead wish refl)
+by_screen (kind.Seek at) d post scroll lead after enter page show types back over erase pours finds refills extends calls = refl
+by_screen (kind.After before cell) d post scroll lead after enter page show types back over erase pours finds refills extends calls =
     absurd (after before cell refl)
-by_screen (kind.Enter cell) d post scroll lead after enter page show types back over erase pours = absurd (enter cell refl)
-by_screen (kind.Page at is_up sight) d post scroll lead after enter page show types back over erase pours = absurd (page at is_up sight refl)
-by_screen kind.Show d post scroll lead after enter page show types back over erase pours = absurd (show refl)
-by_screen (kind.TypeOn t fills deed) d post scroll lead after enter page show types back over erase pours = absurd (types t fills deed refl)
-by_screen (kind.GoBack place t fills deed) d post scroll lead after enter page show types back over erase pours =
+by_screen (kind.Enter cell) d post scroll lead after enter page show types back over erase pours finds refills extends calls = absurd (enter cell refl)
+by_screen (kind.Page at is_up sight) d post scroll lead after enter page show types back over erase pours finds refills extends calls = absurd (page at is_up sight refl)
+by_screen kind.Show d post scroll lead after enter page show types back over erase pours finds refills extends calls = absurd (show refl)
+by_screen (kind.TypeOn t fills deed) d post scroll lead after enter page show types back over erase pours finds refills extends calls = absurd (types t fills deed refl)
+by_screen (kind.GoBack place t fills deed) d post scroll lead after enter page show types back over erase pours finds refills extends calls =
     absurd (back place t fills deed refl)
-by_screen (kind.Word at) d post scroll lead after enter page show types back over erase pours = refl
-by_screen (kind.Reveal cell) d post scroll lead after enter page show types back over erase pours = refl
-by_screen (kind.TypeOver event fills) d post scroll lead after enter page show types back over erase pours = absurd (over event fills refl)
-by_screen (kind.Erase behind) d post scroll lead after enter page show types back over erase pours = absurd (erase behind refl)
-by_screen (kind.Pour stage bytes typed) d post scroll lead after enter page show types back over erase pours =
+by_screen (kind.Word at) d post scroll lead after enter page show types back over erase pours finds refills extends calls = refl
+by_screen (kind.Reveal cell) d post scroll lead after enter page show types back over erase pours finds refills extends calls = refl
+by_screen (kind.TypeOver event fills) d post scroll lead after enter page show types back over erase pours finds refills extends calls = absurd (over event fills refl)
+by_screen (kind.Erase behind) d post scroll lead after enter page show types back over erase pours finds refills extends calls = absurd (erase behind refl)
+by_screen (kind.Pour stage bytes typed) d post scroll lead after enter page show types back over erase pours finds refills extends calls =
     absurd (pours stage bytes typed refl)
+by_screen (kind.Find finding) d post scroll lead after enter page show types back over erase pours finds refills extends calls =
+    absurd (finds finding refl)
+by_screen (kind.Refill refilling) d post scroll lead after enter page show types back over erase pours finds refills extends calls =
+    absurd (refills refilling refl)
+by_screen (kind.Extend start at) d post scroll lead after enter page show types back over erase pours finds refills extends calls =
+    absurd (extends start at refl)
+by_screen (kind.Call event deed) d post scroll lead after enter page show types back over erase pours finds refills extends calls =
+    absurd (calls event deed refl)
 
 -- what is left of what is typed, and before it a line that is broken
 module _ (t : TypingView) (fills : Bool) (deed : Deed) (d : Desktop) where
@@ -85,31 +99,19 @@ module _ (t : TypingView) (fills : Bool) (deed : Deed) (d : Desktop) where
       ∙ ap (λ (o : Option ℕ). type_plan o (first_typed t) t fills deed d) some
 
 -- the caret goes to a position, and then a task goes on
-module _ (task next : Task) (d : Desktop) (place : ℕ) (info : DeskInfo) (info_is : info ≡ desk_info d)
-    (means : return_plan (is_place place (desk_info d).caret_position) place next d ≡ plan_of task d) where
-  stands_is : (b : Bool) → is_place place info.caret_position ≡ b → return_plan b place next d ≡ plan_of task d
-  stands_is b is = ap (λ (b : Bool). return_plan b place next d)
-      (sym is ∙ ap (λ (i : DeskInfo). is_place place i.caret_position) info_is) ∙ means
+module _ (wish : KeyWish) (place : ℕ) (next : Task) (d : Desktop) (info : DeskInfo) (info_is : info ≡ desk_info d) where
+  stands_is : (b : Bool) → is_place place info.caret_position ≡ b
+      → (if b then Events [] (Some next) else placed_plan wish (led d wish) next) ≡ go_then wish place next d
+  stands_is b is = ap (λ (b : Bool). if b then Events [] (Some next) else placed_plan wish (led d wish) next)
+      (sym is ∙ ap (λ (i : DeskInfo). is_place place i.caret_position) info_is)
 
-  pub stands : is_place place info.caret_position ≡ true → Events [] (Some next) ≡ plan_of task d
+  pub stands : is_place place info.caret_position ≡ true → Events [] (Some next) ≡ go_then wish place next d
   stands is = stands_is true is
 
-  pub goes_back : (told : Result (List Event) WhyNot) → is_place place info.caret_position ≡ false
-      → told ≡ led d (Place place) → placed_plan (Place place) told next ≡ plan_of task d
-  goes_back told is told_is =
-      ap (λ (r : Result (List Event) WhyNot). placed_plan (Place place) r next) told_is ∙ stands_is false is
-
-pub types_back : (place : ℕ) (t : TypingView) (fills : Bool) (deed : Deed) (d : Desktop)
-    → return_plan (is_place place (desk_info d).caret_position) place (kind.TypeOn t fills deed) d
-    ≡ plan_of (kind.GoBack place t fills deed) d
-unfolding plan_of
-types_back place t fills deed d = refl
-
-pub pours_back : (place : ℕ) (bytes : List ℕ) (typed : ℕ) (d : Desktop)
-    → return_plan (is_place place (desk_info d).caret_position) place (kind.Pour On bytes typed) d
-    ≡ plan_of (kind.Pour (Back place) bytes typed) d
-unfolding plan_of
-pours_back place bytes typed d = refl
+  pub goes : (told : Result (List Event) WhyNot) → is_place place info.caret_position ≡ false
+      → told ≡ led d wish → placed_plan wish told next ≡ go_then wish place next d
+  goes told is told_is =
+      ap (λ (r : Result (List Event) WhyNot). placed_plan wish r next) told_is ∙ stands_is false is
 
 -- the first word of a part of a paste comes where it has room
 pub makes_room : (bytes : List ℕ) (typed n place : ℕ) (info : DeskInfo) (told : Result (List Event) WhyNot) (d : Desktop)
@@ -173,9 +175,9 @@ module _ (before : DeskInfo) (cell : Option (ℕ × ℕ)) (d : Desktop) where
 
 module _ {D : Type 0} (d : Ghosts D) where
   -- something is made of what was seen
-  pub plans_seen : {A : Type 0} (value : A) {task : Task} (plan : MadePlan) {old new : StoreView D}
+  pub plans_seen : {A : Type 0} (value : A) {of : Desktop → Plan} (plan : MadePlan) {old new : StoreView D}
       → OnlyLooks d (Ok value) old new
-      → (d.honest old.disk → seen_plan plan ≡ plan_of task old.desktop) → Plans d task (Ok plan) old new
+      → (d.honest old.disk → seen_plan plan ≡ of old.desktop) → Makes d of (Ok plan) old new
   plans_seen value plan looks is = record {
     exact = is;
     looks = record {
@@ -196,8 +198,8 @@ module _ {D : Type 0} (d : Ghosts D) where
   }
 
   -- the look fails
-  pub plans_unseen : {A : Type 0} {task : Task} {error : Error} {old new : StoreView D}
-      → OnlyLooks {T = A} d (Err error) old new → Plans d task (Err error) old new
+  pub plans_unseen : {A : Type 0} {of : Desktop → Plan} {error : Error} {old new : StoreView D}
+      → OnlyLooks {T = A} d (Err error) old new → Makes d of (Err error) old new
   plans_unseen {error = error} looks = record {
     exact = tt;
     looks = record {
@@ -217,9 +219,31 @@ module _ {D : Type 0} (d : Ghosts D) where
     };
   }
 
+  -- memory runs out behind a look
+  pub plans_starved : {A : Type 0} (value : A) {of : Desktop → Plan} {old new : StoreView D}
+      → OnlyLooks d (Ok value) old new → Makes d of (Err NoMemory) old new
+  plans_starved value looks = record {
+    exact = tt;
+    looks = record {
+      desktop = looks.desktop;
+      kept = looks.kept;
+      layout = looks.layout;
+      epoch = looks.epoch;
+      events = looks.events;
+      usable = looks.usable;
+      disk = looks.disk;
+      reopen = (λ wrong. absurd (cc wrong), λ is. absurd (cc (looks.reopen.1 is)));
+      faults = record {
+        rose = λ wrong. absurd (cc wrong);
+        calm = λ other. looks.faults.calm (λ wrong. absurd (cc wrong));
+        errors = search rules;
+      };
+    };
+  }
+
   -- no look is needed
-  pub plans_at_once : {task : Task} (plan : MadePlan) (store : StoreView D) → store.must_reopen ≡ false
-      → (d.honest store.disk → seen_plan plan ≡ plan_of task store.desktop) → Plans d task (Ok plan) store store
+  pub plans_at_once : {of : Desktop → Plan} (plan : MadePlan) (store : StoreView D) → store.must_reopen ≡ false
+      → (d.honest store.disk → seen_plan plan ≡ of store.desktop) → Makes d of (Ok plan) store store
   plans_at_once plan store usable is = record {
     exact = is;
     looks = record {

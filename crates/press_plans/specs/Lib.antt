@@ -1,6 +1,7 @@
 pub mod Filling
+pub mod Finding
 pub mod Listed
 pub mod Pastes
 pub mod Plans
-pub mod Replacing
+pub mod Refilling
 pub mod Tasks

@@ -15,7 +15,7 @@ use Rattle.desktop_definitions.specs.Shown.{shown_screen}
 use Rattle.desk_journal.specs.Errors.{Error}
 use Rattle.desk_journal.specs.Looking.{OnlyLooks}
 use Rattle.caret_moves.specs.declared.wish.KeyWish.{KeyWish}
-use Rattle.caret_moves.specs.declared.wish.KeyWish.TheVariants.{DeleteNext, Call, CallLine, Break, Place}
+use Rattle.caret_moves.specs.declared.wish.KeyWish.TheVariants.{DeleteNext, Call, CallLine, Break, Place, Reach}
 use Rattle.caret_moves.specs.declared.wish.KeyWish.TheVariants.{Select, SelectOn, SelectAll, CutSelected, CutLine}
 use Rattle.caret_moves.specs.declared.wish.WhyNot.{WhyNot}
 use Rattle.caret_moves.specs.declared.wish.WhyNot.TheVariants as why
@@ -24,22 +24,43 @@ use Rattle.desk_journal.specs.Scrolling.{Wish, presses_to}
 use Rattle.desk_journal.specs.Scrolling as wish
 use Rattle.desk_journal.specs.View.{StoreView}
 use Rattle.desk_journal.specs.Views.{DeskInfo, Place as ViewerPlace, ShownViewer, desk_info, last_log_line, place_at, shown_viewer}
+use Rattle.desk_journal.specs.Views.{caret_text}
+use Rattle.desktop_definitions.specs.Change.{bytes_of}
+use Rattle.desktop_definitions.specs.Viewers.{newest, selected}
+use Rattle.desktop_definitions.specs.Words.{Text}
+use Rattle.caret_moves.specs.declared.wish.CaretCommand.TheVariants as caret
 use Rattle.starter_desktop.specs.StarterDesktop.{tool_event}
 use Rattle.terminal_presses.specs.Sights.{Sight}
+use Rattle.host_names.specs.HostNames.{first_words, words_kept}
+use Rattle.sought_words.specs.declared.seeking.SearchStart.{SearchStart}
 use Rattle.screen_reading.specs.CommandWords.{next_command}
 use Rattle.status_line.specs.Deeds.{is_middle}
-use Rattle.press_plans.specs.Replacing.{TypingView, first_typed, rest_typed}
+use Rattle.earlier_presses.specs.Replacing.{TypingView, first_typed, rest_typed}
 use Rattle.screen_reading.specs.Aims.{caret_cell, or_else}
 use Rattle.screen_reading.specs.Picked.{picked_word}
+use Rattle.screen_reading.specs.Extended.{kept_end}
 use Rattle.screen_reading.specs.Frames.{text_rows_in_sight, text_start}
 pub use Rattle.event_bytes.specs.Parts.{◌>>=◌}
 use Rattle.status_line.specs.declared.saying.Saying.{Saying}
 use Rattle.status_line.specs.declared.saying.Saying.TheVariants.{NoCaret, NoText, NoScroll, NothingAfter, NoWord, NoCommand}
 use Rattle.status_line.specs.declared.saying.Saying.TheVariants.{NoLine, PartHidden}
+use Rattle.status_line.specs.declared.saying.Saying.TheVariants.{BeyondEdge, NotThere, NoWords, WentRound, IsFilled}
 use Rattle.press_plans.specs.declared.task.Task.{Task}
+use Rattle.press_plans.specs.declared.task.Task.TheVariants as task
 use Rattle.press_plans.specs.declared.task.Task.TheVariants.{Post, Scroll, Lead}
 use Rattle.press_plans.specs.declared.task.Task.TheVariants.{TypeOn, GoBack, After, Seek}
-use Rattle.press_plans.specs.declared.task.Task.TheVariants.{TypeOver, Erase, Pour, Word}
+use Rattle.press_plans.specs.declared.task.Task.TheVariants.{TypeOver, Erase, Pour, Word, Extend, Find, Refill}
+use Rattle.press_plans.specs.declared.refill.Refilling.{Refilling}
+use Rattle.press_plans.specs.declared.refill.Refilling.TheVariants as refilling
+use Rattle.press_plans.specs.declared.refill.Stroke.{Stroke}
+use Rattle.press_plans.specs.Refilling.{after_stroke, edit_place, edit_stroke, stroke_event}
+use Rattle.filled_pastes.specs.declared.edits.Edit.{Edit}
+use Rattle.filled_pastes.specs.Paragraphs.{fill_edit, moved}
+use Rattle.press_plans.specs.declared.finding.Finding.{Finding}
+use Rattle.press_plans.specs.declared.finding.Finding.TheVariants as finding
+use Rattle.press_plans.specs.Finding.{words_finding}
+use Rattle.sought_words.specs.declared.seeking.Found.{Found}
+use Rattle.sought_words.specs.Sought.{search_from, sought_from}
 use Rattle.press_plans.specs.declared.task.Stage.{Stage}
 use Rattle.press_plans.specs.declared.task.Stage.TheVariants.{First, Back, On}
 use Rattle.press_plans.specs.declared.task.Task.TheVariants.{Page, Show, Reveal, Enter}
@@ -49,17 +70,21 @@ use Rattle.status_line.specs.declared.deed.Deed.{Deed}
 use Rattle.press_plans.specs.Filling.{room_if, place_behind, is_place}
 use Rattle.press_plans.specs.Listed.{begins_in_viewer, event_meant, is_tool}
 use Rattle.filled_pastes.specs.Poured.{poured_at, word_length}
-use Rattle.press_plans.specs.Tasks.{posting}
+use Rattle.press_plans.specs.Tasks.{lead_deed, posting}
 
 -- What a task becomes over a desktop: it can't be done, for a reason; or it has these events, and then this is left to
 -- do, if anything; or it has none. Then a line of the log is said, the pointer that keys move or the rows in sight go to a
--- cell, or nothing is pointed at any more, and this is left to do.
+-- cell, something else is said, it is asked for words that are sought before the caret or behind it, or these are kept as
+-- the ones that were sought last, or nothing is pointed at any more, and this is left to do.
 pub data Plan : Type 0 where
   Refused : Saying → Plan
   Events : List Event → Option Task → Plan
   Says : List ℕ → Plan
   Aims : ℕ × ℕ → Plan
   Shows : ℕ × ℕ → Plan
+  Tells : Saying → Plan
+  Asks : Bool → Plan
+  Keeps : List ℕ → Task → Plan
   PutsAway : Task → Plan
 
 -- a plan as it is kept
@@ -71,6 +96,9 @@ seen_plan (made.Events events next) = Events events.items next
 seen_plan (made.Says line) = Says line.items
 seen_plan (made.Aims cell) = Aims cell
 seen_plan (made.Shows cell) = Shows cell
+seen_plan (made.Tells saying) = Tells saying
+seen_plan (made.Asks before) = Asks before
+seen_plan (made.Keeps words next) = Keeps words next
 seen_plan (made.PutsAway next) = PutsAway next
 
 abbrev pub click_of : ℕ × ℕ → Event
@@ -111,19 +139,20 @@ is_calling (Call command) = true
 is_calling CallLine = true
 is_calling _ = false
 
--- a click is made as the hand makes it, after these events
-abbrev pub clicked_after : List Event → Option Event → Plan
-clicked_after events None = Events [] None
-clicked_after events (Some click) = Events events (Some (Post click))
+-- a click is made as the hand makes it, after these events; this is what the press did by it
+abbrev pub clicked_after : Option Deed → List Event → Option Event → Plan
+clicked_after deed events None = Events [] None
+clicked_after deed events (Some click) = Events events (Some (task.Call click deed))
 
 -- so is the last event of those that call a command
-abbrev pub call_plan : List Event → Plan
-call_plan events =
-    clicked_after (take (length events - 1) events) (slice_get events (length events - 1))
+abbrev pub call_plan : Option Deed → List Event → Plan
+call_plan deed events =
+    clicked_after deed (take (length events - 1) events) (slice_get events (length events - 1))
 
 -- the events for what is wished of the caret
 abbrev pub lead_plan : KeyWish → Result (List Event) WhyNot → Plan
-lead_plan wish (Ok events) = if is_calling wish then call_plan events else Events events None
+lead_plan wish (Ok events) =
+    if is_calling wish then call_plan (lead_deed wish) events else Events events None
 lead_plan wish (Err reason) = Refused (why_not wish reason)
 
 -- these events cut what is selected up to the caret, where anything is, and then this is left to do
@@ -218,14 +247,14 @@ type_plan None next t fills deed d = unbroken_plan next t fills deed
 type_plan (Some n) next t fills deed d =
     broken_plan (led d (Break n)) (place_behind d) next t fills deed
 
--- the caret goes to a position, where it doesn't stand there
+-- the caret goes to a position by what is wished of it, where it doesn't stand there, and then this is left to do
 abbrev pub placed_plan : KeyWish → Result (List Event) WhyNot → Task → Plan
 placed_plan wish (Ok events) next = Events events (Some next)
 placed_plan wish (Err reason) next = Refused (why_not wish reason)
 
-abbrev pub return_plan : Bool → ℕ → Task → Desktop → Plan
-return_plan stands place next d = if stands then Events [] (Some next)
-    else placed_plan (Place place) (led d (Place place)) next
+abbrev pub go_then : KeyWish → ℕ → Task → Desktop → Plan
+go_then wish place next d = if is_place place (desk_info d).caret_position
+    then Events [] (Some next) else placed_plan wish (led d wish) next
 
 -- Of a paste that is typed where lines are filled its first word comes where it has room: the line is broken before it, and the
 -- caret goes back behind the same character.
@@ -275,21 +304,126 @@ standing d = unwrap_or (desk_info d).caret_position 0
 abbrev pub pour_plan : Stage → List ℕ → ℕ → Desktop → Plan
 pour_plan First bytes typed d =
     room_plan (led d (Break (min (word_length bytes) 255))) (place_behind d) bytes typed
-pour_plan (Back place) bytes typed d =
-    return_plan (is_place place (desk_info d).caret_position) place (Pour On bytes typed) d
+pour_plan (Back place) bytes typed d = go_then (Place place) place (Pour On bytes typed) d
 pour_plan On bytes typed d = poured_plan (led d (Place (standing d))) bytes typed
+
+-- ---- words are sought
+
+-- before the caret by a look at its text, and behind it by the command: what the press before selected
+abbrev pub selected_task : Bool → List ℕ → Task
+selected_task before bytes =
+    if before then Find (words_finding bytes true) else Lead (Call caret.Search)
+
+abbrev pub selected_plan : Bool → List ℕ → Plan
+selected_plan before bytes = Keeps (words_kept bytes) (selected_task before bytes)
+
+-- where nothing is it is asked for the words
+abbrev pub search_plan : Bool → Option (Text ℕ) → Plan
+search_plan before None = Asks before
+search_plan before (Some text) = selected_plan before (first_words (bytes_of text))
+
+-- and where no viewer has the caret there is nothing to search
+abbrev pub begin_plan : Bool → Option ℕ → Option (Text ℕ) → Plan
+begin_plan before None selected = Refused NoCaret
+begin_plan before (Some viewer) selected = search_plan before selected
+
+-- the words that were searched last, where there are any
+abbrev pub on_plan : List ℕ → Bool → Plan
+on_plan pattern before = if is_typed_bytes pattern
+    then Events [] (Some (Find (finding.Words pattern before))) else Refused NoWords
+
+-- where they are in the text of the caret, which is led there
+abbrev pub found_plan : Option Found → Plan
+found_plan None = Refused NotThere
+found_plan (Some found) = Events [] (Some (Find (finding.Reach found)))
+
+abbrev pub words_plan : List ℕ → SearchStart → Option (Text ℕ) → Plan
+words_plan words start None = Refused NoCaret
+words_plan words start (Some text) = if start.rows == 0 then Refused NoScroll
+    else found_plan (sought_from (bytes_of text) words start)
+
+-- at once where their line is in sight, and else once it is
+abbrev pub reach_plan : Found → Result (List Event) WhyNot → Plan
+reach_plan found (Ok events) = Events events (Some (Find (finding.Tell found)))
+reach_plan found (Err why.NotInSight) = Events [] (Some (Find (finding.Bring found)))
+reach_plan found (Err reason) = Refused (why_not (Place found.place) reason)
+
+abbrev pub bring_plan : Found → Option (List Event) → Plan
+bring_plan found None = Refused NoScroll
+bring_plan found (Some events) = Events events (Some (Find (finding.Arrive found)))
+
+-- It is said where they were found round the end of the text, and where the caret can't stand behind them.
+abbrev pub went_round : Bool → Plan
+went_round around = if around then Tells WentRound else Events [] None
+
+unfoldable pub told_plan : Found → Option ℕ → Plan
+told_plan found caret =
+    if is_place found.place caret then went_round found.around else Refused BeyondEdge
+
+abbrev pub finding_plan : Finding → Desktop → Plan
+finding_plan (finding.Search over before) d = begin_plan before (desk_info d).caret_viewer
+    (if over then option_map (selected d) (newest d) else None)
+finding_plan (finding.On before) d = on_plan d.pattern before
+finding_plan (finding.Words words before) d = words_plan words
+    (search_from (desk_info d).caret_position (caret_place d) before) (caret_text d)
+finding_plan (finding.Reach found) d = reach_plan found (led d (Place found.place))
+finding_plan (finding.Bring found) d = bring_plan found (presses_to d None (wish.Line found.top))
+finding_plan (finding.Arrive found) d =
+    placed_plan (Place found.place) (led d (Place found.place)) (Find (finding.Tell found))
+finding_plan (finding.Tell found) d = told_plan found (desk_info d).caret_position
+
+-- ---- a paragraph is filled
+
+-- where a viewer has the caret
+abbrev pub begin_refill : Option ℕ → Plan
+begin_refill None = Refused NoCaret
+begin_refill (Some home) = Events [] (Some (Refill (refilling.Next home true)))
+
+-- by one edit after another, and then the caret goes back; where none is made it is said so
+abbrev pub edit_plan : Option Edit → ℕ → Bool → Plan
+edit_plan None home begins = if begins then Tells IsFilled
+    else Events [] (Some (Lead (Reach home)))
+edit_plan (Some edit) home begins =
+    Events [] (Some (Refill (refilling.Go (moved edit home) (edit_place edit) (edit_stroke edit))))
+
+abbrev pub seek_edit : Option (Text ℕ) → SearchStart → ℕ → Bool → Plan
+seek_edit None start home begins = Refused NoCaret
+seek_edit (Some text) start home begins = if start.rows == 0 then Refused NoScroll
+    else edit_plan (fill_edit (bytes_of text) start.columns home) home begins
+
+abbrev pub stroke_plan : Bool → ℕ → ℕ → Stroke → Plan
+stroke_plan stands home at stroke = if stands
+    then Events (stroke_event stroke ∷ []) (Some (Refill (after_stroke home at stroke)))
+    else Refused PartHidden
+
+abbrev pub refill_plan : Refilling → Desktop → Plan
+refill_plan refilling.Begin d = begin_refill (desk_info d).caret_position
+refill_plan (refilling.Next home begins) d =
+    seek_edit (caret_text d) (search_from None (caret_place d) false) home begins
+refill_plan (refilling.Go home at stroke) d =
+    go_then (Reach at) at (Refill (refilling.Do home at stroke)) d
+refill_plan (refilling.Do home at stroke) d =
+    stroke_plan (is_place at (desk_info d).caret_position) home at stroke
 
 -- the pointer that keys move goes to a cell, where there is one to go to
 abbrev pub seek_plan : Option (ℕ × ℕ) → Plan
 seek_plan None = Refused NoCommand
 seek_plan (Some cell) = Aims cell
 
+-- what is between two cells is selected
+abbrev pub draw_of : ℕ × ℕ → ℕ × ℕ → Event
+draw_of from to = event.Point keys.Right from.0 from.1 to.0 to.1
+
+-- from the end that stays of what is selected, or where nothing is from where the click began
+abbrev pub extend_plan : ℕ × ℕ → ℕ × ℕ → Option (ℕ × ℕ) → Plan
+extend_plan start at kept = Events (draw_of (unwrap_or kept start) at ∷ []) None
+
 -- A word in these columns of a cell's row is selected, and the caret goes before it. Where there is none the caret goes to
 -- the cell.
 abbrev pub word_plan : ℕ × ℕ → Option (ℕ × ℕ) → Plan
 word_plan at None = Events (click_of at ∷ []) None
 word_plan at (Some word) = Events (click_of (word.0, at.1) ∷ [])
-    (Some (Post (event.Point keys.Right word.0 at.1 word.1 at.1)))
+    (Some (Post (draw_of (word.0, at.1) (word.1, at.1))))
 
 -- ---- what is left to do once a word was called
 
@@ -359,6 +493,8 @@ plan_on _ screen = Events [] None
 
 unfoldable pub plan_of : Task → Desktop → Plan
 plan_of (Post event) d = posted_plan (event_meant d event) (desk_info d) (caret_seen d event)
+plan_of (task.Call event deed) d =
+    posted_plan (event_meant d event) (desk_info d) (caret_seen d event)
 plan_of (After before cell) d = answer_plan (opened_viewer before d) before cell d
 plan_of (Enter cell) d = entry_plan (desk_info d).is_marked cell
 plan_of (Scroll at wish) d = scroll_plan wish (presses_to d at wish)
@@ -369,14 +505,21 @@ plan_of (TypeOver event fills) d = over_plan (posting fills event) (led d CutSel
 plan_of (Erase behind) d = erase_plan behind (led d CutSelected)
 plan_of (TypeOn t fills deed) d =
     type_plan (room_if fills (first_typed t)) (first_typed t) t fills deed d
-plan_of (GoBack place t fills deed) d =
-    return_plan (is_place place (desk_info d).caret_position) place (TypeOn t fills deed) d
+plan_of (GoBack place t fills deed) d = go_then (Place place) place (TypeOn t fills deed) d
 plan_of (Pour stage bytes typed) d = pour_plan stage bytes typed d
+plan_of (Find f) d = finding_plan f d
+plan_of (Refill refilling) d = refill_plan refilling d
+plan_of (Extend start at) d =
+    extend_plan start at (kept_end (place_at d start) start at (shown_screen d))
 plan_of task d = plan_on task (shown_screen d)
 
 module _ {D : Type 0} (d : Ghosts D) where
-  -- All that a call promises that is to make the plan of a task: it only looks at the store.
-  pub record Plans (task : Task) (result : Result MadePlan Error) (old new : StoreView D)
+  -- All that a call promises that is to make a plan, as one of the desktop: it only looks at the store.
+  pub record Makes (of : Desktop → Plan) (result : Result MadePlan Error) (old new : StoreView D)
       : Type 0 where
-    pub exact : IfOk result (λ plan. d.honest old.disk → seen_plan plan ≡ plan_of task old.desktop)
+    pub exact : IfOk result (λ plan. d.honest old.disk → seen_plan plan ≡ of old.desktop)
     pub looks : OnlyLooks d result old new
+
+  -- the plan of a task
+  abbrev pub Plans : Task → Result MadePlan Error → StoreView D → StoreView D → Type 0
+  Plans task result old new = Makes (plan_of task) result old new

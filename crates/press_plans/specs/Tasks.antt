@@ -9,7 +9,7 @@ use Rattle.caret_moves.specs.declared.wish.Step.{Step as AStep}
 use Rattle.caret_moves.specs.declared.wish.Step.TheVariants as step
 use Rattle.caret_moves.specs.declared.wish.CaretCommand.TheVariants as caret
 use Rattle.caret_moves.specs.declared.wish.KeyWish.{KeyWish}
-use Rattle.caret_moves.specs.declared.wish.KeyWish.TheVariants.{Step, DeleteNext, Call, CallLine, Mark, Break, Place}
+use Rattle.caret_moves.specs.declared.wish.KeyWish.TheVariants.{Step, DeleteNext, Call, CallLine, Mark, Break, Place, Reach}
 use Rattle.caret_moves.specs.declared.wish.KeyWish.TheVariants.{Select, SelectOn, SelectAll, CutSelected, CutLine}
 use Rattle.desk_journal.specs.Scrolling as wish
 use Rattle.terminal_presses.specs.Sights.{Sight}
@@ -22,16 +22,20 @@ use Rattle.terminal_presses.specs.declared.press.Scroll.TheVariants.{WheelUp, Wh
 use Rattle.terminal_presses.specs.declared.spot.Spot.{Spot}
 use Rattle.status_line.specs.declared.deed.Deed.{Deed}
 use Rattle.status_line.specs.declared.deed.Deed.TheVariants as deed
-use Rattle.status_line.specs.Deeds.{deed_of}
-use Rattle.press_plans.specs.Replacing.{TypingView, typed_behind, nothing_typed}
+use Rattle.status_line.specs.Deeds.{deed_of, erasing_deed}
+use Rattle.earlier_presses.specs.Replacing.{TypingView, typed_behind, nothing_typed}
 use Rattle.press_plans.specs.declared.task.Filling.{Filling}
 use Rattle.press_plans.specs.declared.task.Filling.TheVariants.{Off, Letters, Pasted}
 use Rattle.press_plans.specs.declared.task.Stage.{Stage}
 use Rattle.press_plans.specs.declared.task.Stage.TheVariants.{First, On}
 use Rattle.press_plans.specs.declared.task.Task.{Task}
+use Rattle.press_plans.specs.declared.task.Task.TheVariants as task
 use Rattle.press_plans.specs.declared.task.Task.TheVariants.{Post, Scroll, Lead}
 use Rattle.press_plans.specs.declared.task.Task.TheVariants.{TypeOn, GoBack, After, Seek}
-use Rattle.press_plans.specs.declared.task.Task.TheVariants.{TypeOver, Erase, Pour, Word}
+use Rattle.press_plans.specs.declared.task.Task.TheVariants.{TypeOver, Erase, Pour, Word, Extend, Find, Refill}
+use Rattle.press_plans.specs.declared.refill.Refilling.TheVariants.{Begin}
+use Rattle.press_plans.specs.declared.finding.Finding.TheVariants as finding
+use Rattle.press_plans.specs.Finding.{words_finding}
 use Rattle.press_plans.specs.declared.task.Task.TheVariants.{Page, Show, Reveal, Enter}
 
 -- whether lines are broken
@@ -100,6 +104,9 @@ deleting over = if over then Erase true else Lead DeleteNext
 abbrev pub selecting : Bool → AStep → KeyWish
 selecting over step = if over then SelectOn step else Select step
 
+abbrev pub searching : Bool → Bool → Task
+searching over before = Find (finding.Search over before)
+
 -- Of what posts no event there is none, but of the pointer's way to the next command. Before it what is typed may break lines
 -- or not, the press before it selected something or didn't, this replacement is to be typed, if any is, and this part of the
 -- display is in sight.
@@ -113,9 +120,15 @@ task_of fills over replacement sight (action.Step arrow) = Some (Lead (Step (ste
 task_of fills over replacement sight (action.Select arrow) =
     Some (Lead (selecting over (step_meant arrow)))
 task_of fills over replacement sight action.SelectAll = Some (Lead SelectAll)
+task_of fills over replacement sight (action.Extend start at) =
+    Some (Extend (start.x, start.y) (at.x, at.y))
 task_of fills over replacement sight action.CutLine = Some (Lead CutLine)
+task_of fills over replacement sight action.Refill = Some (Refill Begin)
 task_of fills over replacement sight action.Delete = Some (deleting over)
-task_of fills over replacement sight action.Search = Some (Lead (Call caret.Search))
+task_of fills over replacement sight action.Search = Some (searching over false)
+task_of fills over replacement sight action.SearchBefore = Some (searching over true)
+task_of fills over replacement sight (action.Find words before) =
+    Some (Find (words_finding words before))
 task_of fills over replacement sight action.Store = Some (Lead (Call caret.Store))
 task_of fills over replacement sight action.CallLine = Some (Lead CallLine)
 task_of fills over replacement sight action.Mark = Some (Lead Mark)
@@ -133,8 +146,9 @@ calling_wish _ = None
 -- what a press did by what is wished of the caret, and else what its first event did
 unfoldable pub lead_deed : KeyWish → Option Deed
 lead_deed (Step step) = Some (deed.Click keys.Left)
-lead_deed DeleteNext = Some (deed.Key key.Back)
-lead_deed (Call command) = Some (deed.Click keys.Middle)
+lead_deed DeleteNext = Some deed.Delete
+lead_deed (Call caret.Store) = Some deed.Store
+lead_deed (Call caret.Search) = Some deed.Search
 lead_deed CallLine = None
 lead_deed Mark = None
 lead_deed (Select step) = Some (deed.Click keys.Right)
@@ -144,6 +158,7 @@ lead_deed CutSelected = Some (deed.Click keys.RightLeft)
 lead_deed CutLine = Some (deed.Click keys.RightLeft)
 lead_deed (Break n) = None
 lead_deed (Place n) = None
+lead_deed (Reach n) = None
 
 -- what is typed of a paste comes to what was typed before, and breaks before it don't count
 abbrev pub pour_deed : Stage → ℕ → Option Deed
@@ -153,11 +168,12 @@ pour_deed stage typed = Some (deed.Typed typed)
 -- what a press did by a task; of what the hand posts, what the event did
 abbrev pub deed_of_task : Task → Option Deed
 deed_of_task (Post event) = None
+deed_of_task (task.Call event deed) = deed
 deed_of_task (TypeOn t fills deed) = Some deed
 deed_of_task (GoBack place t fills deed) = Some deed
 deed_of_task (TypeOver event fills) = Some (deed.Typed 0)
 deed_of_task (Pour stage bytes typed) = pour_deed stage typed
-deed_of_task (Erase behind) = Some (deed.Key key.Back)
+deed_of_task (Erase behind) = Some (erasing_deed behind)
 deed_of_task (Scroll at wish) = Some deed.Scroll
 deed_of_task (Page at is_up sight) = Some deed.Scroll
 deed_of_task Show = None
@@ -165,6 +181,9 @@ deed_of_task (Reveal cell) = None
 deed_of_task (Enter cell) = None
 deed_of_task (After before cell) = None
 deed_of_task (Word cell) = Some (deed.Click keys.Right)
+deed_of_task (Extend start at) = Some (deed.Click keys.Right)
+deed_of_task (Find f) = Some (deed.Click keys.Left)
+deed_of_task (Refill refilling) = Some deed.Paragraph
 deed_of_task (Seek at) = None
 deed_of_task (Lead wish) = lead_deed wish
 

@@ -1,6 +1,6 @@
 //! What a task becomes by what the screen shows.
 ghost use Rattle.std.specs.Prelude.{◌≡◌};
-ghost use Rattle.press_plans.specs.Plans.{click_of, go_plan, plan_on, seek_plan, seen_plan, word_plan};
+ghost use Rattle.press_plans.specs.Plans.{click_of, draw_of, go_plan, plan_on, seek_plan, seen_plan, word_plan};
 
 use crate::plan::Plan;
 use crate::task::{CellPlace, Task};
@@ -19,6 +19,7 @@ pub(crate) fn plan_on(task: Task, screen: &Screen) -> Plan
         Task::Reveal(cell) => Plan::Shows(cell),
         Task::Word(at) => word_plan(at, picked_word(screen, at)),
         Task::Post(_)
+        | Task::Call(_, _)
         | Task::After(_, _)
         | Task::Enter(_)
         | Task::Scroll(_, _)
@@ -29,6 +30,9 @@ pub(crate) fn plan_on(task: Task, screen: &Screen) -> Plan
         | Task::TypeOver(_, _)
         | Task::Pour(_, _, _)
         | Task::Erase { .. }
+        | Task::Find(_)
+        | Task::Refill(_)
+        | Task::Extend(_, _)
         | Task::Lead(_) => Plan::Next(None),
     }
 }
@@ -57,6 +61,19 @@ pub(crate) fn click(place: CellPlace) -> Event
     }
 }
 
+/// What is between two cells is selected.
+pub(crate) fn draw(from: CellPlace, to: CellPlace) -> Event
+    ensures { result ≡ draw_of from to }
+{
+    Event::Point {
+        keys: Keys::Right,
+        x0: from.0,
+        y0: from.1,
+        x1: to.0,
+        y1: to.1,
+    }
+}
+
 /// The caret goes to a cell, where there is one.
 pub(crate) fn go_plan(cell: Option<CellPlace>) -> Plan
     ensures { seen_plan result ≡ go_plan cell }
@@ -76,13 +93,7 @@ fn word_plan(at: CellPlace, word: Option<(u8, u8)>) -> Plan
         None => Plan::Event(click(at), None),
         Some((first, last)) => Plan::Event(
             click((first, at.1)),
-            Some(Task::Post(Event::Point {
-                keys: Keys::Right,
-                x0: first,
-                y0: at.1,
-                x1: last,
-                y1: at.1,
-            })),
+            Some(Task::Post(draw((first, at.1), (last, at.1)))),
         ),
     }
 }

@@ -5,13 +5,13 @@
 ghost use Rattle.std.specs.Prelude.{◌≡◌, false};
 ghost use Rattle.std.specs.Result.{result_map_both};
 ghost use Rattle.press_plans.specs.Filling.{is_place, one_behind, room_for, room_for_byte, room_if};
-ghost use Rattle.press_plans.specs.Plans.{Plans, broken_plan, placed_plan, seen_plan, unbroken_plan};
+ghost use Rattle.press_plans.specs.Plans.{Makes, Plans, broken_plan, go_then, placed_plan, seen_plan, unbroken_plan};
 ghost use Rattle.press_plans.specs.declared.task.Task.TheVariants as Task;
 
 use crate::plan::{Plan, info_of, why_not};
-use crate::replacing::Typing;
 use crate::task::Task;
 use desk_journal::{Error, KeyWish, Store, WhyNot};
+use earlier_presses::Typing;
 use event_bytes::{CARRIAGE_RETURN, Event};
 use filled_pastes::is_gap;
 use sector_disk::Disk;
@@ -135,23 +135,20 @@ pub(crate) fn placed_plan(wish: KeyWish, told: Result<Vec<Event>, WhyNot>, next:
     }
 }
 
-/// The caret goes to a position, where it doesn't stand there, and then this is left to do.
-pub(crate) fn return_plan<D: Disk>(
+/// The caret goes to a position by what is wished of it, where it doesn't stand there, and then this is left to do.
+pub(crate) fn go_then<D: Disk>(
     alloc: Global,
+    wish: KeyWish,
     place: u32,
-    typing: Typing,
-    fills: bool,
-    deed: Deed,
+    next: Task,
     store: &mut Store<D>,
 ) -> Result<Plan, Error>
     requires { store.old.must_reopen ≡ false }
-    ensures { Plans D.Disk (Task.GoBack place typing fills deed) result store.old store.new }
+    ensures { Makes D.Disk (go_then wish place next) result store.old store.new }
 {
-    let next = Task::TypeOn(typing, fills, deed);
     if is_place(place, info_of(store).caret_position) {
         return Ok(Plan::Next(Some(next)));
     }
-    let wish = KeyWish::Place(place);
     let told = store.lead(alloc, wish)?;
     Ok(placed_plan(wish, told, next))
 }

@@ -1,15 +1,13 @@
-//! What holds of all plans, and what the numbers are of which the definitions speak.
+//! What holds of all plans, and what the number is of which the definitions speak.
 ghost use Rattle.std.specs.Prelude.{◌≡◌};
-ghost use Rattle.press_plans.specs.declared.replacing.TheConstants.{MOST_TYPED};
 ghost use Rattle.press_plans.specs.declared.task.TheConstants.{MOST_PLANS};
 ghost use Rattle.press_plans.specs.Pastes.{PartsComeWhole};
 
 use filled_pastes::nothing_is_lost;
 
-/// How much is typed again in another place at most, and in how many steps a press is done at most.
+/// In how many steps a press is done at most.
 pub fn constants_are_defined()
-    ensures typed { MOST_TYPED ≡ 64 }
-    ensures plans { MOST_PLANS ≡ 321 }
+    ensures { MOST_PLANS ≡ 321 }
 {}
 
 /// Nothing of a paste is lost where lines are filled: what is typed by a plan, and left to be typed, is the part of the paste

@@ -5,22 +5,26 @@
 //! are done. What is typed breaks its lines (`filling`), and so does what is pasted (`pouring`). What an event of the hand
 //! means at the desk is in `listed`, and what a page of a text does in `paging`.
 //!
-//! What is typed where a pattern was found can be typed again in another such place (`replacing`). What presses have done
-//! is known beside this (`done_presses`).
+//! Words are found by a look at the text of the caret (`finding`), and so are the edits that fill its paragraph (`refill`).
+//!
+//! What is typed where a pattern was found, and can be typed again in another such place, is known beside this
+//! (`earlier_presses`), and so is what presses have done (`done_presses`).
 #![tactic(auto)]
 
 mod by_screen;
 mod filling;
+mod finding;
 mod laws;
 mod listed;
 mod over;
 mod paging;
 mod plan;
 mod pouring;
-mod replacing;
+mod refill;
 mod task;
 
+pub use finding::Finding;
 pub use laws::{constants_are_defined, pastes_come_whole};
 pub use plan::{Plan, caret_place};
-pub use replacing::{MOST_TYPED, Replacing, Typing};
+pub use refill::{Refilling, Stroke};
 pub use task::{Filling, MOST_PLANS, Task, calling_wish};

@@ -1,5 +1,5 @@
 //! A page of a viewer's text, with which the caret goes along.
-ghost use Rattle.std.specs.Prelude.{◌≡◌, None, false, if◌then◌else◌, option_map};
+ghost use Rattle.std.specs.Prelude.{◌≡◌, false, option_map};
 ghost use Rattle.press_plans.specs.Plans.{Plans, click_of, goes_along, is_one_viewer, paged_plan, seen_plan, seen_start};
 ghost use Rattle.press_plans.specs.declared.task.Task.TheVariants as Task;
 
@@ -58,23 +58,9 @@ fn click_then(caret: Option<CellPlace>) -> Option<Task>
 fn goes_along(sight: Sight, place: Option<Place>, caret: Option<Place>) -> Option<CellPlace>
     ensures { result ≡ goes_along sight place caret }
 {
-    match place {
-        None => None,
-        Some(place) => match caret {
-            None => None,
-            Some(caret) => along_in(sight, place, caret),
-        },
-    }
-}
-
-/// The same where both stand there.
-fn along_in(sight: Sight, place: Place, caret: Place) -> Option<CellPlace>
-    ensures { result ≡ (if is_one_viewer place caret then seen_start sight caret else None) }
-{
-    if is_one_viewer(place, caret) {
-        seen_start(sight, caret)
-    } else {
-        None
+    match (place, caret) {
+        (Some(place), Some(caret)) if is_one_viewer(place, caret) => seen_start(sight, caret),
+        _ => None,
     }
 }
 

@@ -9,22 +9,25 @@ ghost use Rattle.desk_journal.specs.Views.{desk_info};
 ghost use Rattle.desk_journal.specs.Views.{shown_viewer};
 ghost use Rattle.desktop_definitions.specs.Shown.{shown_screen};
 
-use crate::by_screen::{click, go_plan, plan_on};
-use crate::filling::{return_plan, type_plan};
+use crate::by_screen::{click, draw, go_plan, plan_on};
+use crate::filling::{go_then, type_plan};
+use crate::finding::finding_plan;
 use crate::listed::{begins_in_viewer, has_tool, place_at, uncalled_event};
 use crate::over::{erase_plan, over_plan};
 use crate::paging::page_plan;
 use crate::pouring::pour_plan;
-use crate::task::{CellPlace, Task, posting};
+use crate::refill::refill_plan;
+use crate::task::{CellPlace, Task, lead_deed, posting};
 use desk_journal::{DeskInfo, Error, KeyWish, ShownViewer, Store, WhyNot, Wish};
 use desktop_definitions::Entry;
 use done_presses::take_last;
 use event_bytes::{Event, Key, Keys};
+use host_names::HostName;
 use screen_cells::Screen;
-use screen_reading::{caret_of, text_start};
+use screen_reading::{caret_of, kept_end, text_start};
 use sector_disk::Disk;
 use starter_desktop::tool_event;
-use status_line::{Saying, SayingLine};
+use status_line::{Deed, Saying, SayingLine};
 use std::alloc::Global;
 use std::vec::Vec;
 
@@ -45,6 +48,12 @@ pub enum Plan {
     Aims(CellPlace),
     /// No event: the rows in sight go to that cell.
     Shows(CellPlace),
+    /// No event: the line below says that.
+    Tells(Saying),
+    /// No event: it is asked for words that are sought before the caret, or behind it.
+    Asks(bool),
+    /// No event: these are the words that were sought last, if they can be typed. Then this is left to do.
+    Keeps(HostName, Task),
     /// No event: nothing is pointed at any more. The pointer that keys move is put away, and it is forgotten where the
     /// mouse has pointed. Then this is left to do.
     PutsAway(Task),
@@ -60,6 +69,7 @@ impl Task {
     {
         match self {
             Task::Post(event) => post_plan(alloc, event, store),
+            Task::Call(event, _) => post_plan(alloc, event, store),
             Task::After(before, cell) => after_plan(before, cell, store),
             Task::Enter(cell) => Ok(entry_plan(info_of(store).is_marked, cell)),
             Task::Page { at, is_up, sight } => page_plan(alloc, at, is_up, sight, store),
@@ -80,11 +90,15 @@ impl Task {
                 let told = store.lead(alloc, KeyWish::CutSelected)?;
                 Ok(erase_plan(behind, told))
             }
+            Task::Find(finding) => finding_plan(alloc, finding, store),
+            Task::Refill(refilling) => refill_plan(alloc, refilling, store),
             Task::Pour(stage, bytes, typed) => pour_plan(alloc, stage, bytes, typed, store),
             Task::TypeOn(typing, fills, deed) => type_plan(alloc, typing, fills, deed, store),
-            Task::GoBack(place, typing, fills, deed) => return_plan(
-                alloc, place, typing, fills, deed, store,
-            ),
+            Task::GoBack(place, typing, fills, deed) => {
+                let next = Task::TypeOn(typing, fills, deed);
+                go_then(alloc, KeyWish::Place(place), place, next, store)
+            }
+            Task::Extend(start, at) => extend_plan(alloc, start, at, store),
             seen => plan_seen(alloc, seen, store),
         }
     }
@@ -318,6 +332,23 @@ fn plan_seen<D: Disk>(alloc: Global, task: Task, store: &mut Store<D>) -> Result
     Ok(plan_on(task, &screen))
 }
 
+/// What is selected in the viewer of a cell is extended to another one. Where nothing is the click goes on as it began.
+fn extend_plan<D: Disk>(
+    alloc: Global,
+    start: CellPlace,
+    at: CellPlace,
+    store: &mut Store<D>,
+) -> Result<Plan, Error>
+    requires { store.old.must_reopen ≡ false }
+    ensures { Plans D.Disk (Task.Extend start at) result store.old store.new }
+{
+    let place = place_at(start, store);
+    let mut screen = Screen::new();
+    store.screen(alloc, &mut screen)?;
+    let kept = kept_end(place, start, at, &screen);
+    Ok(Plan::Event(draw(kept.unwrap_or(start), at), None))
+}
+
 /// The presses that scroll for a wish, where there are any to be found.
 fn scroll_plan(wish: Wish, presses: Option<Vec<Event>>) -> Plan
     ensures { seen_plan result ≡ scroll_plan wish (option_map (λ events. events.items) presses) }
@@ -345,30 +376,31 @@ fn lead_plan(wish: KeyWish, told: Result<Vec<Event>, WhyNot>) -> Plan
 {
     match told {
         Err(why) => Plan::Refused(why_not(wish, why)),
-        Ok(events) => led_plan(is_calling(wish), events),
+        Ok(events) => led_plan(is_calling(wish), lead_deed(wish), events),
     }
 }
 
-/// The events, of which the last one is made as the hand makes a click, where they call a command.
-fn led_plan(calls: bool, events: Vec<Event>) -> Plan
+/// The events, of which the last one is made as the hand makes a click, where they call a command: that is what the press
+/// did.
+fn led_plan(calls: bool, deed: Option<Deed>, events: Vec<Event>) -> Plan
     ensures { seen_plan result
-        ≡ (if calls then call_plan events.items else Events events.items None) }
+        ≡ (if calls then call_plan deed events.items else Events events.items None) }
 {
     if calls {
-        call_plan(events)
+        call_plan(deed, events)
     } else {
         Plan::Events(events, None)
     }
 }
 
-/// The events that call a command: the last one is made as the hand makes a click.
-fn call_plan(events: Vec<Event>) -> Plan
-    ensures { seen_plan result ≡ call_plan events.items }
+/// The events that call a command: the last one is made as the hand makes a click, and this is what the press did by it.
+fn call_plan(deed: Option<Deed>, events: Vec<Event>) -> Plan
+    ensures { seen_plan result ≡ call_plan deed events.items }
 {
     let mut events = events;
     match take_last(&mut events) {
         None => Plan::Next(None),
-        Some(click) => Plan::Events(events, Some(Task::Post(click))),
+        Some(click) => Plan::Events(events, Some(Task::Call(click, deed))),
     }
 }
 

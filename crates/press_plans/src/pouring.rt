@@ -7,7 +7,7 @@ ghost use Rattle.press_plans.specs.Plans.{seen_plan, standing, typable, typed_pl
 ghost use Rattle.press_plans.specs.declared.task.Task.TheVariants as Task;
 ghost use Rattle.press_plans.specs.declared.task.Stage.TheVariants as Stage;
 
-use crate::filling::{is_place, one_behind, placed_plan};
+use crate::filling::{go_then, one_behind};
 use crate::plan::{Plan, info_of};
 use crate::task::{Stage, Task};
 use desk_journal::{Error, KeyWish, Store, WhyNot};
@@ -30,7 +30,10 @@ pub(crate) fn pour_plan<D: Disk>(
 {
     match stage {
         Stage::First => make_room(alloc, bytes, typed, store),
-        Stage::Back(place) => go_back(alloc, place, bytes, typed, store),
+        Stage::Back(place) => {
+            let next = Task::Pour(Stage::On, bytes, typed);
+            go_then(alloc, KeyWish::Place(place), place, next, store)
+        }
         Stage::On => pour(alloc, bytes, typed, store),
     }
 }
@@ -61,26 +64,6 @@ fn room_plan(told: Result<Vec<Event>, WhyNot>, place: u32, bytes: TypedBytes, ty
         Ok(events) => Plan::Events(events, Some(Task::Pour(Stage::Back(place), bytes, typed))),
         Err(_) => Plan::Next(Some(Task::Pour(Stage::On, bytes, typed))),
     }
-}
-
-/// The caret goes to a position, where it doesn't stand there.
-fn go_back<D: Disk>(
-    alloc: Global,
-    place: u32,
-    bytes: TypedBytes,
-    typed: u32,
-    store: &mut Store<D>,
-) -> Result<Plan, Error>
-    requires { store.old.must_reopen ≡ false }
-    ensures { Plans D.Disk (Task.Pour (Stage.Back place) bytes typed) result store.old store.new }
-{
-    let next = Task::Pour(Stage::On, bytes, typed);
-    if is_place(place, info_of(store).caret_position) {
-        return Ok(Plan::Next(Some(next)));
-    }
-    let wish = KeyWish::Place(place);
-    let told = store.lead(alloc, wish)?;
-    Ok(placed_plan(wish, told, next))
 }
 
 /// A position, where there is one.

@@ -7,11 +7,13 @@ ghost use Rattle.std.specs.Prelude.{◌≡◌, Some, None, IfOk, IfErr};
 ghost use Rattle.press_plans.specs.Tasks.{calling_wish, cell_meant as cell_of_spot, deed_of_task, keeps_sight, lead_deed};
 ghost use Rattle.press_plans.specs.Tasks.{breaks_lines, bytes_task, deleting, fills_lines, letter_task, posted, posting, pour_deed};
 ghost use Rattle.press_plans.specs.Tasks.{posting_over, scroll_task, selecting, typed_task};
-ghost use Rattle.press_plans.specs.Replacing.{nothing_typed, typed_behind};
+ghost use Rattle.earlier_presses.specs.Replacing.{nothing_typed, typed_behind};
 ghost use Rattle.press_plans.specs.Tasks.{step_meant as step_of_arrow, task_of};
 
-use crate::replacing::Typing;
+use crate::finding::{Finding, finding_of};
+use crate::refill::Refilling;
 use desk_journal::{CaretCommand, DeskInfo, KeyWish, Step, Wish};
+use earlier_presses::Typing;
 use event_bytes::{Event, Key, Keys, TypedBytes};
 use status_line::Deed;
 use terminal_presses::{Action, Arrow, Scroll, Sight, Spot};
@@ -49,11 +51,15 @@ pub enum Stage {
 pub enum Task {
     /// An event of the hand happens, as it is meant at the desk.
     Post(Event),
+    /// The click that calls the command of a key happens so: this is what the press did. None: what the click did.
+    Call(Event, Option<Deed>),
     /// A word was called, over a desktop that said this of itself, and where the caret was seen at this cell: the caret goes
     /// into the viewer that it opened, the line below says what it added to the log, or the caret comes back.
     After(DeskInfo, Option<CellPlace>),
     /// The word at a cell is selected, and the caret goes before it.
     Word(CellPlace),
+    /// What is selected in the viewer of the first cell is extended to the second one.
+    Extend(CellPlace, CellPlace),
     /// The caret goes to a cell of a viewer that opened, and the marker goes away before it, if it is set.
     Enter(CellPlace),
     /// What is left of what the press types, and its lines are filled or not: this is what it did.
@@ -80,6 +86,10 @@ pub enum Task {
     TypeOver(Event, Filling),
     /// A part of a paste is typed where lines are filled, behind so many characters of it.
     Pour(Stage, TypedBytes, u32),
+    /// Words are found in the text of the caret.
+    Find(Finding),
+    /// The paragraph of the caret is filled.
+    Refill(Refilling),
     /// What is selected up to the caret is deleted, or where nothing is the character behind the caret, or the one before
     /// it.
     Erase {
@@ -111,9 +121,16 @@ impl Task {
             Action::Step(arrow) => Ok(Task::Lead(KeyWish::Step(step_meant(arrow)))),
             Action::Select(arrow) => Ok(Task::Lead(selecting(over, step_meant(arrow)))),
             Action::SelectAll => Ok(Task::Lead(KeyWish::SelectAll)),
+            Action::Extend(start, at) => Ok(Task::Extend((start.x, start.y), (at.x, at.y))),
             Action::CutLine => Ok(Task::Lead(KeyWish::CutLine)),
+            Action::Refill => Ok(Task::Refill(Refilling::Begin)),
             Action::Delete => Ok(deleting(over)),
-            Action::Search => Ok(Task::Lead(KeyWish::Call(CaretCommand::Search))),
+            Action::Search => Ok(Task::Find(Finding::Search {
+                over,
+                before: false,
+            })),
+            Action::SearchBefore => Ok(Task::Find(Finding::Search { over, before: true })),
+            Action::Find(words, before) => Ok(Task::Find(finding_of(words.as_bytes(), before))),
             Action::Store => Ok(Task::Lead(KeyWish::Call(CaretCommand::Store))),
             Action::CallLine => Ok(Task::Lead(KeyWish::CallLine)),
             Action::Mark => Ok(Task::Lead(KeyWish::Mark)),
@@ -140,12 +157,15 @@ impl Task {
             | Task::Seek(_)
             | Task::Show
             | Task::Reveal(_) => None,
+            Task::Call(_, deed) => *deed,
             Task::TypeOn(_, _, deed) | Task::GoBack(_, _, _, deed) => Some(*deed),
             Task::Scroll(_, _) | Task::Page { .. } => Some(Deed::Scroll),
             Task::TypeOver(_, _) => Some(Deed::Typed(0)),
             Task::Pour(stage, _, typed) => pour_deed(*stage, *typed),
-            Task::Erase { .. } => Some(Deed::Key(Key::Back)),
-            Task::Word(_) => Some(Deed::Click(Keys::Right)),
+            Task::Erase { behind } => Some(Deed::erasing(*behind)),
+            Task::Word(_) | Task::Extend(_, _) => Some(Deed::Click(Keys::Right)),
+            Task::Find(_) => Some(Deed::Click(Keys::Left)),
+            Task::Refill(_) => Some(Deed::Paragraph),
             Task::Lead(wish) => lead_deed(*wish),
         }
     }
@@ -286,13 +306,14 @@ fn pour_deed(stage: Stage, typed: u32) -> Option<Deed>
 
 /// What a press did by what is wished of the caret. None: what its first event did.
 #[tactic(auto, unfolding(crate::specs::Tasks::lead_deed))]
-fn lead_deed(wish: KeyWish) -> Option<Deed>
+pub(crate) fn lead_deed(wish: KeyWish) -> Option<Deed>
     ensures { result ≡ lead_deed wish }
 {
     match wish {
         KeyWish::Step(_) => Some(Deed::Click(Keys::Left)),
-        KeyWish::DeleteNext => Some(Deed::Key(Key::Back)),
-        KeyWish::Call(_) => Some(Deed::Click(Keys::Middle)),
+        KeyWish::DeleteNext => Some(Deed::Delete),
+        KeyWish::Call(CaretCommand::Store) => Some(Deed::Store),
+        KeyWish::Call(CaretCommand::Search) => Some(Deed::Search),
         KeyWish::CallLine => None,
         KeyWish::Mark => None,
         KeyWish::Select(_) => Some(Deed::Click(Keys::Right)),
@@ -302,6 +323,7 @@ fn lead_deed(wish: KeyWish) -> Option<Deed>
         KeyWish::CutLine => Some(Deed::Click(Keys::RightLeft)),
         KeyWish::Break(_) => None,
         KeyWish::Place(_) => None,
+        KeyWish::Reach(_) => None,
     }
 }
 

@@ -15,16 +15,17 @@ use Rattle.screen_pictures.specs.Picture.{Painted, bar_cell, menu_cell, text_cel
 -- a row below the menu
 pub frame_shown : (v : Painted) (width bottom top y column row : ℕ) (line : List (ℕ × Look × ℕ))
     (caret : Option (ℕ × ℕ)) (selection : Option FrameSelection) → y + 1 < top
-    → row ≡ top - 2 - y → line ≡ row_cells (width - 1) v.main v.frame.org row
+    → row ≡ top - 2 - y → 0 < width → line ≡ row_cells width v.main v.frame.org row
     → caret ≡ caret_at (width - 1) (top - bottom - 1) v.main v.frame.org v.frame.caret → selection ≡ v.frame.selection
-    → (if column == 0 then bar_cell else text_cell line caret selection (column - 1) row)
+    → (if column == 0 then bar_cell else text_cell (width - 1) line caret selection (column - 1) row)
     ≡ viewer_cell v width bottom top column y
-frame_shown v width bottom top y column row line caret selection under row_is line_is caret_is selection_is =
+frame_shown v width bottom top y column row line caret selection under row_is some line_is caret_is selection_is =
     let below : (top == y + 1) ≡ false = grind (arith, nat_tests) in
-    let line_there : line ≡ row_cells (width - 1) v.main v.frame.org (top - 2 - y) =
-    line_is ∙ ap (row_cells (width - 1) v.main v.frame.org) row_is in
+    let whole : width ≡ (width - 1) + 1 = omega (arith, some) in
+    let line_there : line ≡ row_cells ((width - 1) + 1) v.main v.frame.org (top - 2 - y) =
+    line_is ∙ (λ i. row_cells (whole i) v.main v.frame.org (row_is i)) in
     (λ i. if column == 0 then bar_cell
-    else text_cell (line_there i) (caret_is i) (selection_is i) (column - 1) (row_is i))
+    else text_cell (width - 1) (line_there i) (caret_is i) (selection_is i) (column - 1) (row_is i))
     ∙ sym (ap (λ b. if b then menu_cell (row_cells width v.menu 0 0) column
     else frame_cell v (width - 1) (top - bottom - 1) column (top - 2 - y)) below)
 

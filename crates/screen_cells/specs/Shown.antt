@@ -32,7 +32,8 @@ abbrev pub strip_cell : Strip → List ShownCell → ℕ → Cell
 strip_cell Filler line column = filler
 strip_cell Menu line column = menu_cell line column
 strip_cell (Frame f) line column =
-    if column == 0 then bar_cell else text_cell line f.caret f.selection (column - 1) f.row
+    if column == 0 then bar_cell
+    else text_cell f.columns line f.caret f.selection (column - 1) f.row
 
 -- the cell in a column of a main frame, beside its bar, where neither the caret nor a selected character is
 abbrev pub plain_cell : List ShownCell → ℕ → Cell

@@ -273,8 +273,9 @@ pub(crate) fn keep_menu<S: CharSource>(
     Ok(())
 }
 
-/// Keeps the line of a row of a viewer's main frame: where it isn't kept yet, it is read by the walk that is kept, or by
-/// a new one where that is another viewer's. `Fault`: the source failed in this call.
+/// Keeps the line of a row of a viewer's main frame, with one cell more than are beside its bar. Where it isn't kept
+/// yet, it is read by the walk that is kept, or by a new one where that is another viewer's. `Fault`: the source failed
+/// in this call.
 pub(crate) fn keep_row<'a, S: CharSource>(
     viewer: &Shown<'a>,
     shown: &[Shown<'a>],
@@ -290,7 +291,7 @@ pub(crate) fn keep_row<'a, S: CharSource>(
     ensures cells { OnOk result (S.honest source.old → (texts : ℕ → AText ℕ)
         → IsNumbered texts (S.characters source.old) viewer.now → IsSlotOf texts slot.old
         → let v = as_read (S.characters source.old) viewer.now in
-        kept_cells slot.new ≡ row_cells (at.width - 1) v.main v.frame.org (at.top - 2 - at.y)) }
+        kept_cells slot.new ≡ row_cells at.width v.main v.frame.org (at.top - 2 - at.y)) }
     ensures slot { S.honest source.old → (texts : ℕ → AText ℕ)
         → IsNumbered texts (S.characters source.old) viewer.now → IsSlotOf texts slot.old
         → IsSlotOf texts slot.new }
@@ -298,7 +299,7 @@ pub(crate) fn keep_row<'a, S: CharSource>(
         (IsKeptWalk (S.honest source.new) (S.characters source.new) shown.now)) }
     ensures source { ReadsOrFails S.CharSource result source.old source.new }
 {
-    let w = at.width - 1;
+    let w = at.width;
     let row = at.top - 2 - at.y;
     if is_kept(slot, row_key(&viewer.frame, w, row)) {
         return Ok(());

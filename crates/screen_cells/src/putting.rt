@@ -2,9 +2,9 @@
 ghost use Rattle.std.specs.Prelude.{◌≡◌, ◌<◌, ◌≤◌, ℕ, None, false, true, length, slice_get};
 ghost use Rattle.text_frames.specs.declared.row.TheConstants.{MOST_COLUMNS};
 ghost use Rattle.screen_pictures.specs.Bytes.{shown_byte};
-ghost use Rattle.screen_pictures.specs.Picture.{cell_with, is_at, is_selected, text_cell};
+ghost use Rattle.screen_pictures.specs.Picture.{cell_with, is_at, is_edge, is_selected, line_cell, text_cell, with_edge};
 ghost use Rattle.screen_pictures.specs.Mark.{mark_of};
-ghost use Rattle.screen_pictures.specs.Screen.{values};
+ghost use Rattle.screen_pictures.specs.Screen.{column_at, values};
 ghost use Rattle.screen_cells.specs.Shown.{plain_cell, strip_cell};
 ghost use Rattle.screen_cells.specs.Lines.{kept_cells};
 
@@ -41,11 +41,21 @@ fn put_row(cells: &mut [Cell], slot: &Slot, row: FrameRow)
     put_text(text, slot, row);
 }
 
-/// Puts a row of a main frame beside its bar: in one go where neither the caret nor a selected character is in it.
+/// Puts a row of a main frame beside its bar.
 fn put_text(cells: &mut [Cell], slot: &Slot, row: FrameRow)
     requires { length cells.old ≤ MOST_COLUMNS }
     ensures { cells.new ≡ values (length cells.old)
-        (λ x. text_cell (kept_cells slot.now) row.caret row.selection x row.row) }
+        (λ x. text_cell row.columns (kept_cells slot.now) row.caret row.selection x row.row) }
+{
+    put_cells(cells, slot, row);
+    put_edge(cells, kept_cells(slot), row.columns);
+}
+
+/// Puts the line of a row of a main frame: in one go where neither the caret nor a selected character is in it.
+fn put_cells(cells: &mut [Cell], slot: &Slot, row: FrameRow)
+    requires { length cells.old ≤ MOST_COLUMNS }
+    ensures { cells.new ≡ values (length cells.old)
+        (λ x. line_cell (kept_cells slot.now) row.caret row.selection x row.row) }
 {
     if is_plain(row) {
         put_plain(cells, slot);
@@ -69,10 +79,33 @@ fn put_plain(cells: &mut [Cell], slot: &Slot)
 fn put_each(cells: &mut [Cell], line: &[Filled], row: FrameRow)
     requires { length cells.old ≤ MOST_COLUMNS }
     ensures { cells.new ≡ values (length cells.old)
-        (λ x. text_cell line.now row.caret row.selection x row.row) }
+        (λ x. line_cell line.now row.caret row.selection x row.row) }
 {
     for x in 0..cells.len() {
-        cells[x] = text_cell(line, row, x as u8);
+        cells[x] = line_cell(line, row, x as u8);
+    }
+}
+
+/// Tells in the last of `w` cells that the line goes on beyond it, where it fills more cells than these.
+fn put_edge(cells: &mut [Cell], line: &[Filled], w: u8)
+    ensures { cells.new ≡ values (length cells.old)
+        (λ x. with_edge (is_edge w line.now x) (column_at cells.old x)) }
+{
+    let w = usize::from(w);
+    if w == 0 || w > cells.len() || w >= line.len() {
+        return;
+    }
+    let last = w - 1;
+    cells[last] = at_edge(cells[last]);
+}
+
+/// A cell beyond which the line goes on.
+fn at_edge(cell: Cell) -> Cell
+    ensures { result ≡ with_edge true cell }
+{
+    Cell {
+        goes_on: true,
+        ..cell
     }
 }
 
@@ -116,9 +149,9 @@ fn is_in_row(place: Option<(u8, u8)>, y: u8) -> bool
     }
 }
 
-/// The cell of a row of a main frame in a column beside its bar.
-fn text_cell(line: &[Filled], row: FrameRow, column: u8) -> Cell
-    ensures { result ≡ text_cell line.now row.caret row.selection column row.row }
+/// The cell of the line of a row of a main frame in a column beside its bar.
+fn line_cell(line: &[Filled], row: FrameRow, column: u8) -> Cell
+    ensures { result ≡ line_cell line.now row.caret row.selection column row.row }
 {
     let c = filled(line, usize::from(column));
     let has_caret = is_at(row.caret, column, row.row);
@@ -179,11 +212,13 @@ fn cell_with(blank: u8, c: Option<Filled>, mark: Mark) -> Cell
             ch: blank,
             look: DEFAULT_LOOK,
             mark,
+            goes_on: false,
         },
         Some((byte, look, _)) => Cell {
             ch: shown_byte(byte),
             look,
             mark,
+            goes_on: false,
         },
     }
 }

@@ -46,6 +46,8 @@ pub(crate) struct FrameRow {
     pub(crate) selection: Option<FrameSelection>,
     /// The number of the row, from the top of the frame.
     pub(crate) row: u8,
+    /// The number of columns beside the bar.
+    pub(crate) columns: u8,
 }
 
 /// The viewer that is seen in a row of a track.
@@ -136,6 +138,7 @@ fn viewer_strip<'a, S: CharSource>(
         caret: cell,
         selection: viewer.frame.selection,
         row,
+        columns: at.width - 1,
     }))
 }
 

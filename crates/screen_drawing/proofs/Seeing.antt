@@ -12,7 +12,7 @@ use Rattle.screen_pictures.specs.Screen.{column_at, values}
 use Rattle.screen_drawing.specs.declared.face.Face.{Face}
 use Rattle.screen_drawing.specs.declared.pen.TheConstants.{WHITE}
 use Rattle.screen_drawing.specs.declared.scene.Scene.{Scene}
-use Rattle.screen_drawing.specs.Pen.{blank_face, face_of, pen_of}
+use Rattle.screen_drawing.specs.Pen.{blank_face, cell_byte, face_of, pen_of}
 use Rattle.screen_drawing.specs.Scene.{letter_face, scene_row, seen_row, text_below}
 use Rattle.screen_drawing.specs.Seen.{cells_seen, face_seen, letter_cell}
 use Rattle.screen_drawing.proofs.Leading.{values_long, values_more}
@@ -88,7 +88,7 @@ none_seen width left cells =
     ∙ sym (ap (λ b. cond b (face_of (left + k) (column_at cells (left + k))) blank) (not_above k 0 (omega arith))))
 
 letter_seen : (text : List ℕ) (x : ℕ) → face_of x (letter_cell text x) ≡ letter_face text x
-unfolding pen_of
+unfolding pen_of cell_byte
 letter_seen text x = refl
 
 letters_seen : (width : ℕ) (text : List ℕ) (cells : List Cell) → width ≤ COLUMNS → cells ≡ values COLUMNS (letter_cell text)

@@ -6,6 +6,7 @@ use Rattle.std.specs.List.{list_all, range_with_len}
 use Rattle.std.proofs.lemmas.Bool.Decides.{nat_tests}
 use Rattle.std.proofs.lemmas.List.FromFn.{length-map-range_with_len}
 use Rattle.screen_pictures.specs.declared.cell.Cell.{Cell}
+use Rattle.screen_pictures.specs.Bytes.{greater_than}
 use Rattle.screen_pictures.specs.Screen.{column_at, values}
 use Rattle.screen_drawing.specs.declared.pen.Pen.{Pen}
 use Rattle.screen_drawing.specs.declared.pen.TheConstants.{WHITE}
@@ -16,7 +17,7 @@ use Rattle.screen_drawing.specs.declared.operation.Operation.TheVariants.{Go, Ta
 use Rattle.screen_drawing.specs.declared.changes.Brush.{Brush}
 use Rattle.screen_drawing.specs.Changes.{brush_at, changes, is_blank_face, operations_to_reach, strokes}
 use Rattle.screen_drawing.specs.Scene.{scene_row, letter_face, seen_cells, seen_face, seen_row, seen_letters, text_below}
-use Rattle.screen_drawing.specs.Pen.{blank_face, face_of, plain_pen, same_face, same_pen, sent_byte}
+use Rattle.screen_drawing.specs.Pen.{blank_face, cell_byte, face_of, plain_pen, same_face, same_pen, sent_byte}
 use Rattle.screen_drawing.specs.Spelling.{AreSendable}
 use Rattle.screen_drawing.proofs.Showing.{by_cases}
 
@@ -35,6 +36,16 @@ at_most : (b : ℕ) → sent_byte b < 127
 unfolding sent_byte
 at_most b = grind (arith, nat_tests)
 
+cell_least : (cell : Cell) → 32 ≤ cell_byte cell
+unfolding cell_byte
+cell_least cell = by_cases (λ b. 32 ≤ cond b greater_than (sent_byte cell.ch)) cell.goes_on (λ _. omega arith)
+    (λ _. at_least cell.ch)
+
+cell_most : (cell : Cell) → cell_byte cell < 127
+unfolding cell_byte
+cell_most cell = by_cases (λ b. cond b greater_than (sent_byte cell.ch) < 127) cell.goes_on (λ _. omega arith)
+    (λ _. at_most cell.ch)
+
 printable_map : (f : ℕ → Face) (ks : List ℕ) → ((k : ℕ) → IsPrintable (f k)) → ArePrintable (map f ks)
 printable_map f [] each = tt
 printable_map f (k ∷ ks) each = (each k, printable_map f ks each)
@@ -50,7 +61,7 @@ values_long f n = length-map-range_with_len f 0 n
 face_printable : (scene : Scene) (cells : List Cell) (x : ℕ) → IsPrintable (seen_face scene cells x)
 face_printable scene cells x =
     by_cases (λ b. IsPrintable (cond b (face_of (scene.left + x) (column_at cells (scene.left + x))) (blank_face WHITE)))
-    (nat_lt x scene.columns) (λ _. (at_least _, at_most _)) (λ _. (omega arith, omega arith))
+    (nat_lt x scene.columns) (λ _. (cell_least _, cell_most _)) (λ _. (omega arith, omega arith))
 
 pub row_printable : (scene : Scene) (y : ℕ) → ArePrintable (scene_row scene y)
 unfolding scene_row

@@ -5,7 +5,7 @@ use Rattle.viewer_tracks.specs.declared.display.TheConstants.{SYSTEM_LEFT}
 use Rattle.screen_pictures.specs.declared.cell.Cell.{Cell}
 use Rattle.screen_pictures.specs.declared.cell.Mark.{Mark}
 use Rattle.screen_pictures.specs.declared.cell.Mark.TheVariants.{Marker, Caret, Selected, Menu, Bar, Text, Filler}
-use Rattle.screen_pictures.specs.Bytes.{space, question_mark, is_printable}
+use Rattle.screen_pictures.specs.Bytes.{space, greater_than, question_mark, is_printable}
 use Rattle.screen_drawing.specs.declared.pen.Pen.{Pen}
 use Rattle.screen_drawing.specs.declared.pen.Weight.{Weight}
 use Rattle.screen_drawing.specs.declared.pen.Weight.TheVariants.{Regular, Bold, Faint}
@@ -38,6 +38,10 @@ marked_ink Bar colour = GREY
 marked_ink Text colour = ink_of colour
 marked_ink Filler colour = ink_of colour
 
+-- the ink of a cell: that of the bar, where a line goes on beyond it
+abbrev pub cell_ink : Cell → ℕ
+cell_ink cell = if cell.goes_on then GREY else marked_ink cell.mark cell.look.colour
+
 -- the background at a column where there is this mark: menus of the two tracks differ, so that they don't run together
 abbrev pub paper_of : Mark → ℕ → ℕ
 paper_of Marker column = RED
@@ -62,7 +66,7 @@ rule_of (negsuc n) = Under
 
 unfoldable pub pen_of : ℕ → Cell → Pen
 pen_of column cell = record {
-  ink = marked_ink cell.mark cell.look.colour;
+  ink = cell_ink cell;
   paper = paper_of cell.mark column;
   weight = weight_of cell.look.font;
   is_italic = is_slanted cell.look.font;
@@ -73,9 +77,13 @@ pen_of column cell = record {
 unfoldable pub sent_byte : ℕ → ℕ
 sent_byte b = if is_printable b then b else question_mark
 
+-- the byte that it is sent for a cell: its character, or `>` where a line goes on beyond it
+unfoldable pub cell_byte : Cell → ℕ
+cell_byte cell = if cell.goes_on then greater_than else sent_byte cell.ch
+
 -- what a terminal shows for the cell at a column
 abbrev pub face_of : ℕ → Cell → Face
-face_of column cell = record { byte = sent_byte cell.ch; pen = pen_of column cell }
+face_of column cell = record { byte = cell_byte cell; pen = pen_of column cell }
 
 -- the pen of nothing but a paper
 abbrev pub plain_pen : ℕ → Pen

@@ -1,5 +1,5 @@
 -- What a terminal shows of a row of cells: so many of them from a column on, and beside them nothing.
-use Rattle.std.specs.Prelude.{ℕ, ◌+◌, nat_lt, if◌then◌else◌, List, unwrap_or, slice_get}
+use Rattle.std.specs.Prelude.{ℕ, ◌+◌, false, nat_lt, if◌then◌else◌, List, unwrap_or, slice_get}
 use Rattle.piece_ring.specs.Look.{default_look}
 use Rattle.screen_pictures.specs.declared.cell.Cell.{Cell}
 use Rattle.screen_pictures.specs.declared.cell.Mark.TheVariants.{Text as InText}
@@ -24,4 +24,5 @@ letter_cell text x = record {
   ch = unwrap_or (slice_get text x) space;
   look = default_look;
   mark = InText;
+  goes_on = false;
 }

@@ -1,6 +1,6 @@
 //! What a cell of a terminal shows.
 ghost use Rattle.std.specs.Prelude.{◌≡◌, ◌<◌, ◌≤◌};
-ghost use Rattle.screen_drawing.specs.Pen.{blank_face, face_of, same_face, sent_byte};
+ghost use Rattle.screen_drawing.specs.Pen.{blank_face, cell_byte, face_of, same_face, sent_byte};
 
 use crate::pen::{Pen, WHITE};
 use screen_pictures::Cell;
@@ -22,7 +22,7 @@ impl Face {
         ensures { result ≡ face_of column cell.now }
     {
         Face {
-            byte: sent_byte(cell.ch),
+            byte: cell_byte(cell),
             pen: Pen::of(cell, column),
         }
     }
@@ -48,6 +48,18 @@ impl Face {
 impl Default for Face {
     fn default() -> Face {
         Face::blank(WHITE)
+    }
+}
+
+/// The byte that a terminal is sent for a cell: its character, or `>` where a line goes on beyond it.
+#[tactic(auto, unfolding(crate::specs::Pen::cell_byte))]
+fn cell_byte(cell: &Cell) -> u8
+    ensures { result ≡ cell_byte cell.now }
+{
+    if cell.goes_on {
+        b'>'
+    } else {
+        sent_byte(cell.ch)
     }
 }
 

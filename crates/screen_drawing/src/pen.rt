@@ -1,7 +1,7 @@
 //! How a cell looks on a terminal: ink, paper and style.
 ghost use Rattle.std.specs.Prelude.{◌≡◌};
-ghost use Rattle.screen_drawing.specs.Pen.{IsCode, ink_of, is_slanted, marked_ink, paper_of, pen_of, plain_pen, rule_of};
-ghost use Rattle.screen_drawing.specs.Pen.{rule_code, same_pen, slant_code, weight_code, weight_of};
+ghost use Rattle.screen_drawing.specs.Pen.{IsCode, cell_ink, ink_of, is_slanted, marked_ink, paper_of, pen_of, plain_pen};
+ghost use Rattle.screen_drawing.specs.Pen.{rule_code, rule_of, same_pen, slant_code, weight_code, weight_of};
 
 use screen_pictures::{Cell, Mark};
 use viewer_tracks::SYSTEM_LEFT;
@@ -96,7 +96,7 @@ impl Pen {
     {
         let font = cell.look.font;
         Pen {
-            ink: marked_ink(cell.mark, cell.look.colour),
+            ink: cell_ink(cell),
             paper: paper(cell.mark, column),
             weight: Weight::of_font(font),
             is_italic: font == 1 || font == 4,
@@ -146,6 +146,17 @@ fn ink(colour: u8) -> u8
     ensures { result ≡ ink_of colour }
 {
     INKS.get(usize::from(colour)).copied().unwrap_or(BLACK)
+}
+
+/// The ink of a cell: that of the bar, where a line goes on beyond it.
+fn cell_ink(cell: &Cell) -> u8
+    ensures { result ≡ cell_ink cell.now }
+{
+    if cell.goes_on {
+        GREY
+    } else {
+        marked_ink(cell.mark, cell.look.colour)
+    }
 }
 
 /// The ink of a character of a colour where there is this mark.

@@ -145,6 +145,7 @@ fn is_same(old: Cell, new: Cell) -> bool
         && old.look.colour == new.look.colour
         && old.look.voff == new.look.voff
         && old.mark == new.mark
+        && old.goes_on == new.goes_on
 }
 
 /// The cells that show a text.
@@ -166,5 +167,6 @@ fn letter_cell(text: &[u8], x: usize) -> Cell
         ch: text.get(x).copied().unwrap_or(b' '),
         look: DEFAULT_LOOK,
         mark: Mark::Text,
+        goes_on: false,
     }
 }

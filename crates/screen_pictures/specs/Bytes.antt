@@ -8,6 +8,9 @@ space = 32
 abbrev pub hyphen : ℕ
 hyphen = 45
 
+abbrev pub greater_than : ℕ
+greater_than = 62
+
 abbrev pub vertical_bar : ℕ
 vertical_bar = 124
 

@@ -1,10 +1,10 @@
--- What the cell at column x and row y shows: a character, in a look, and a mark.
+-- What the cell at column x and row y shows: a character, in a look, and a mark; and whether a line goes on beyond it.
 --
 -- The row under the top of a viewer shows the first line of its menu over the whole width, with hyphens past its end.
 -- In the rows below, the first column is the scroll bar, and the others show the lines of the main text from the
 -- frame's `org` on. Where no viewer is seen, the cell is filler.
-use Rattle.std.specs.Prelude.{ℕ, ◌+◌, ◌-◌, Bool, false, ◌&&◌, ◌==◌, nat_le, nat_lt, if◌then◌else◌, List, length, map}
-use Rattle.std.specs.Prelude.{Option, Some, None, slice_get}
+use Rattle.std.specs.Prelude.{ℕ, ◌+◌, ◌-◌, Bool, true, false, ◌&&◌, ◌==◌, nat_le, nat_lt, if◌then◌else◌, List, length}
+use Rattle.std.specs.Prelude.{map, Option, Some, None, slice_get}
 use Rattle.std.specs.List.{find}
 use Rattle.piece_ring.specs.declared.piece.Look.{Look}
 use Rattle.piece_ring.specs.Look.{default_look}
@@ -40,8 +40,10 @@ is_at (Some place) x y = (place.0 == x) && (place.1 == y)
 
 -- what fills a cell of a row, as a character, its look and its position; where nothing does, a byte in the default look
 abbrev pub cell_with : ℕ → Option (ℕ × Look × ℕ) → Mark → Cell
-cell_with blank None mark = record { ch = blank; look = default_look; mark = mark }
-cell_with blank (Some c) mark = record { ch = shown_byte c.0; look = c.1; mark = mark }
+cell_with blank None mark =
+    record { ch = blank; look = default_look; mark = mark; goes_on = false }
+cell_with blank (Some c) mark =
+    record { ch = shown_byte c.0; look = c.1; mark = mark; goes_on = false }
 
 -- a cell of a filler, with the marker on it or without
 abbrev pub filler_cell : Bool → Cell
@@ -62,11 +64,25 @@ is_selected None c = false
 is_selected (Some s) None = false
 is_selected (Some s) (Some c) = nat_le s.beg c.2 && nat_lt c.2 s.end
 
--- a cell of the main text, whose row shows this line, with the cell of the caret
-abbrev pub text_cell : List (ℕ × Look × ℕ) → Option (ℕ × ℕ) → Option FrameSelection → ℕ → ℕ → Cell
-text_cell line caret selection column row =
+-- a cell of a line of the main text, with the cell of the caret
+abbrev pub line_cell : List (ℕ × Look × ℕ) → Option (ℕ × ℕ) → Option FrameSelection → ℕ → ℕ → Cell
+line_cell line caret selection column row =
     let c = slice_get line column in
     cell_with space c (mark_of false (is_at caret column row) (is_selected selection c) InText)
+
+-- whether it is the last of w columns, and the line fills more cells than these
+abbrev pub is_edge : ℕ → List (ℕ × Look × ℕ) → ℕ → Bool
+is_edge w line column = (column + 1 == w) && nat_lt w (length line)
+
+-- a cell beyond which the line goes on, or as it is
+abbrev pub with_edge : Bool → Cell → Cell
+with_edge here cell = if here then record cell { goes_on = true } else cell
+
+-- a cell of the main text in a row of w columns, with its line
+abbrev pub text_cell :
+    ℕ → List (ℕ × Look × ℕ) → Option (ℕ × ℕ) → Option FrameSelection → ℕ → ℕ → Cell
+text_cell w line caret selection column row =
+    with_edge (is_edge w line column) (line_cell line caret selection column row)
 
 -- the cell of a frame of w columns and h rows at which the caret stands, if it has one within its text that is shown
 abbrev pub caret_at : ℕ → ℕ → Text ℕ → ℕ → Option ℕ → Option (ℕ × ℕ)
@@ -74,11 +90,12 @@ caret_at w h text org None = None
 caret_at w h text org (Some p) =
     if nat_le p (length text) then cell_of w h (map (λ c. c.0) text) org p else None
 
--- the cell of a main frame of w columns beside its bar and h rows
+-- the cell of a main frame of w columns beside its bar and h rows; a line has a cell more than these columns, if it
+-- goes on
 abbrev pub frame_cell : Painted → ℕ → ℕ → ℕ → ℕ → Cell
 frame_cell v w h column row =
     if column == 0 then bar_cell else
-    text_cell (row_cells w v.main v.frame.org row)
+    text_cell w (row_cells (w + 1) v.main v.frame.org row)
     (caret_at w h v.main v.frame.org v.frame.caret) v.frame.selection
     (column - 1) row
 

@@ -55,6 +55,8 @@ pub struct Cell {
     pub look: Look,
     /// What is there.
     pub mark: Mark,
+    /// Whether the line of a viewer's text goes on beyond it, at the viewer's edge.
+    pub goes_on: bool,
 }
 
 impl Cell {
@@ -70,6 +72,7 @@ impl Cell {
             } else {
                 Mark::Filler
             },
+            goes_on: false,
         }
     }
 }

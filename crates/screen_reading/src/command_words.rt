@@ -2,7 +2,7 @@
 ghost use Rattle.std.specs.Prelude.{◌≡◌, ◌<◌, position, IfSome};
 ghost use Rattle.std.specs.List.{range_with_len};
 ghost use Rattle.screen_reading.specs.CommandWords.{begins_word as no_word_before, begins_command as command_begins};
-ghost use Rattle.screen_reading.specs.CommandWords.{cell_behind};
+ghost use Rattle.screen_reading.specs.CommandWords.{cell_after, cell_behind, cells_before};
 ghost use Rattle.screen_reading.specs.CommandWords.{count_of_cells, has_command as command_seen};
 ghost use Rattle.screen_reading.specs.CommandWords.{is_command_word as is_command, next_command as command_after};
 
@@ -15,7 +15,7 @@ use screen_cells::Screen;
 use viewer_tracks::{COLUMNS, ROWS};
 
 /// How many cells the display has.
-const CELLS: u16 = COLUMNS as u16 * ROWS as u16;
+pub(crate) const CELLS: u16 = COLUMNS as u16 * ROWS as u16;
 
 /// Whether no word of the track goes on from before a column.
 fn begins_word(row: &Row, x: u8) -> bool
@@ -43,6 +43,24 @@ fn begins_command(row: &Row, x: u8) -> bool
     begins_word(row, x) && end < usize::from(end_at(x)) && is_command(word.as_slice())
 }
 
+/// How many cells come before one in reading order: the rows from the top, each from the left.
+pub(crate) fn cells_before(at: (u8, u8)) -> u16
+    ensures { result ≡ cells_before at }
+{
+    u16::from((ROWS - 1).saturating_sub(at.1)) * u16::from(COLUMNS) + u16::from(at.0)
+}
+
+/// The cell before which there are so many.
+pub(crate) fn cell_after(count: u16) -> (u8, u8)
+    ensures value { result ≡ cell_after count }
+    ensures column { result.0 < COLUMNS }
+    ensures row { result.1 < ROWS }
+{
+    let columns = u16::from(COLUMNS);
+    let row = u16::from(ROWS - 1).saturating_sub(count / columns);
+    ((count % columns) as u8, row as u8)
+}
+
 /// The cell that comes so many cells behind the one after a cell, in reading order; after the last one the first comes.
 #[tactic(auto, unfolding(crate::specs::CommandWords::cell_behind))]
 fn cell_behind(at: (u8, u8), count: u16) -> (u8, u8)
@@ -50,10 +68,8 @@ fn cell_behind(at: (u8, u8), count: u16) -> (u8, u8)
     ensures column { result.0 < COLUMNS }
     ensures row { result.1 < ROWS }
 {
-    let columns = u32::from(COLUMNS);
-    let before = u32::from((ROWS - 1).saturating_sub(at.1)) * columns + u32::from(at.0);
-    let place = (before + 1 + u32::from(count)) % u32::from(CELLS);
-    ((place % columns) as u8, ROWS - 1 - (place / columns) as u8)
+    let place = u32::from(cells_before(at)) + 1 + u32::from(count);
+    cell_after((place % u32::from(CELLS)) as u16)
 }
 
 /// Whether a word of a command begins so many cells behind the one after a cell.

@@ -65,7 +65,7 @@ In the bar: left scrolls down, right goes to the\r\
 beginning. Ctrl-G goes to a line.\r\
 Ctrl-C, Ctrl-X, Ctrl-V: copy, cut, put in.\r\
 Ctrl-Z takes back what was last; Ctrl-Y redoes.\r\
-Ctrl-F searches on, Ctrl-R replaces so again.\r\
+Ctrl-F seeks words, Ctrl-R replaces so again.\r\
 Colour 0 is white on white; 5, 13, 14 are faint.\r\
 Ctrl-O types a file. Ctrl-Q leaves; all is kept.\r\
 ";

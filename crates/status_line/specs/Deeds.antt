@@ -8,8 +8,8 @@ use Rattle.event_bytes.specs.declared.keys.Keys.{Keys as MouseKeys}
 use Rattle.event_bytes.specs.declared.keys.Keys.TheVariants.{Left, LeftMiddle, LeftRight, Middle, MiddleLeft}
 use Rattle.event_bytes.specs.declared.keys.Keys.TheVariants.{MiddleRight, Right, RightLeft, RightMiddle}
 use Rattle.status_line.specs.declared.deed.Deed.{Deed}
-use Rattle.status_line.specs.declared.deed.Deed.TheVariants.{Typed, Key, Mark, Click, Call, Scroll, File}
-use Rattle.status_line.specs.declared.deed.Deed.TheVariants.{Replacement, Part}
+use Rattle.status_line.specs.declared.deed.Deed.TheVariants.{Typed, Key, Mark, Click, Call, Store, Search, Scroll}
+use Rattle.status_line.specs.declared.deed.Deed.TheVariants.{File, Replacement, Paragraph, Delete, Part}
 
 abbrev pub is_middle : MouseKeys → Bool
 is_middle Middle = true
@@ -40,6 +40,10 @@ abbrev pub deed_with : Event → Deed → Deed
 deed_with e (Typed n) = Typed (typed_more e n)
 deed_with e deed = deed
 
+-- the key that deletes what is behind the caret, and the one that deletes what is before it
+abbrev pub erasing_deed : Bool → Deed
+erasing_deed behind = if behind then Delete else Key Back
+
 abbrev pub key_deed : KeyPressed → List ℕ
 key_deed Back = codes "a Backspace"
 key_deed Copy = codes "a copy"
@@ -68,7 +72,11 @@ deed_words (Key key) = key_deed key
 deed_words Mark = codes "the marker"
 deed_words (Click keys) = keys_deed keys
 deed_words (Call x y) = codes "a command"
+deed_words Store = codes "Edit.Store"
+deed_words Search = codes "Edit.Search"
 deed_words Scroll = codes "a scroll"
 deed_words File = codes "a file"
 deed_words Replacement = codes "a replacement"
+deed_words Paragraph = codes "the paragraph"
+deed_words Delete = codes "a Delete"
 deed_words Part = codes "a part of it, and the rest can't be"

@@ -1,6 +1,7 @@
 pub mod Choosing
 pub mod Clicks
 pub mod Deeds
+pub mod Fitting
 pub mod Named
 pub mod Opened
 pub mod Question

@@ -83,7 +83,7 @@ row_characters cells = map (λ cell. cell.ch) cells
 unfoldable pub deleting_words : List Cell → List ℕ
 deleting_words cells =
     if part_run Listed cells == 0
-    then codes "Press again to delete the documents that are named there" else
+    then codes "Press again to delete what is named there" else
     codes "Press again to delete: " ++ row_characters (take (min (part_run Listed cells) 54) cells)
     ++ (if part_run Listed cells == length cells then codes " .." else [])
 
@@ -92,4 +92,9 @@ unfoldable pub misnamed_words : List Cell → List ℕ
 misnamed_words cells =
     row_characters (take (min (whole_length cells) 20) cells)
     ++ codes " is no name: press again for "
+    ++ row_characters (take (min (part_run Name cells) 31) cells)
+
+-- the same in fewer words
+unfoldable pub misnamed_shortly : List Cell → List ℕ
+misnamed_shortly cells = codes "No name: press again for "
     ++ row_characters (take (min (part_run Name cells) 31) cells)

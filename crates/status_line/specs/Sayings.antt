@@ -1,12 +1,15 @@
 -- What the line below the screen says.
-use Rattle.std.specs.Prelude.{ℕ, ◌-◌, ◌==◌, if◌then◌else◌, List, [], ◌∷◌, ◌++◌, Option, Some, None, codes, drop, take}
+use Rattle.std.specs.Prelude.{ℕ, ◌+◌, ◌-◌, ◌==◌, if◌then◌else◌, List, [], ◌∷◌, ◌++◌, Option, Some, None, codes, drop, take}
 use Rattle.std.specs.Prelude.{length, slice_get}
 use Rattle.desktop_definitions.specs.Limits.{no_caret, no_file}
-use Rattle.std.specs.Prelude.{Bool, true, false, unwrap_or}
+use Rattle.std.specs.Prelude.{Bool, true, false, nat_lt, unwrap_or}
 use Rattle.std.specs.Fmt.{decimal}
 use Rattle.event_bytes.specs.declared.keys.Keys.{Keys as MouseKeys}
 use Rattle.event_bytes.specs.declared.keys.Keys.TheVariants.{Left, LeftMiddle, LeftRight, Middle, MiddleLeft}
 use Rattle.event_bytes.specs.declared.keys.Keys.TheVariants.{MiddleRight, Right, RightLeft, RightMiddle}
+use Rattle.terminal_presses.specs.declared.asks.Asks.{Asks as AskedFor}
+use Rattle.terminal_presses.specs.declared.asks.Asks.TheVariants as asked_for
+use Rattle.host_names.specs.declared.host_name.TheConstants.{MOST_SOUGHT}
 use Rattle.terminal_presses.specs.declared.action.Click.{Click}
 use Rattle.terminal_presses.specs.declared.action.Click.TheVariants.{Mark, Keys}
 use Rattle.status_line.specs.declared.saying.Saying.{Saying}
@@ -16,30 +19,36 @@ use Rattle.status_line.specs.declared.saying.Saying.TheVariants.{NothingAfter, N
 use Rattle.status_line.specs.declared.saying.Saying.TheVariants.{NoLine, PartHidden, Unstored}
 use Rattle.status_line.specs.declared.saying.Saying.TheVariants.{NothingTyped, Fills, FillsNot, ToolFiled, Refused}
 use Rattle.status_line.specs.declared.saying.Saying.TheVariants.{CutShort, OneSide, NoDocument}
-use Rattle.status_line.specs.declared.saying.Saying.TheVariants.{Worn, Unread, Unfinished, TooNarrow, TooLow}
+use Rattle.status_line.specs.declared.saying.Saying.TheVariants.{Worn, Unread, Marked, Unfinished, TooNarrow, TooLow}
 use Rattle.status_line.specs.declared.saying.Saying.TheVariants.{TookBack, DidAgain}
-use Rattle.status_line.specs.declared.saying.Saying.TheVariants.{NothingBack, NothingAgain, NotBack, Logged}
+use Rattle.status_line.specs.declared.saying.Saying.TheVariants.{NothingBack, NoFurtherBack, NothingAgain, NotBack, Logged}
 use Rattle.status_line.specs.declared.saying.Saying.TheVariants.{FirstFailed, TwinFailed, WithoutTwin, NotClipped}
+use Rattle.status_line.specs.declared.saying.Saying.TheVariants.{WentRound, NotThere, NoWords, BeyondEdge, IsFilled}
 use Rattle.status_line.specs.declared.question.Question.{Question}
-use Rattle.status_line.specs.declared.question.Question.TheVariants.{Leaving, Closing, Taking, Rivalled, Deleting, Misnamed, Reopening}
+use Rattle.status_line.specs.declared.question.Question.TheVariants.{Leaving, Forgetting, Closing, Taking, Rivalled}
+use Rattle.status_line.specs.declared.question.Question.TheVariants.{Deleting, Misnamed, Reopening}
 use Rattle.status_line.specs.declared.deed.Deed.{Deed}
 use Rattle.status_line.specs.declared.deed.Deed.TheVariants as deed
 use Rattle.screen_pictures.specs.declared.cell.Cell.{Cell}
 use Rattle.screen_reading.specs.Called.{called_word, parameter_word, word_from}
+use Rattle.screen_reading.specs.Frames.{track_end}
 use Rattle.status_line.specs.Deeds.{deed_words}
-use Rattle.status_line.specs.Named.{behind_call, deleting_words, misnamed_words}
+use Rattle.status_line.specs.Fitting.{or_shorter, parts_within, words_within}
+use Rattle.status_line.specs.Named.{behind_call, deleting_words, misnamed_shortly, misnamed_words}
+use Rattle.host_files.specs.declared.HostFault.{HostFault}
+use Rattle.host_files.specs.declared.HostFault.TheVariants.{Missing, Folder, NoRight, Special, TooLong, NoHome, NoMemory}
 
 -- why an event is refused, by the code of the refusal from 0 on
 abbrev pub reasons : List (List ℕ)
 reasons =
     codes "refused" ∷
-    codes "No caret is set: click into a text first." ∷
+    codes "No caret is set: click into a text, or F11 without a mouse." ∷
     codes "Nothing is selected: drag over a text with the right button, or with F3." ∷
-    codes "Behind that word a name or a number is missing." ∷
+    codes "A name or number is missing behind that word." ∷
     codes "That word isn't a command: System.Tool shows all of them." ∷
     codes "There is no document of that name, or it is named twice." ∷
     codes "There is no room: close or delete something, or call System.Collect." ∷
-    codes "No viewer has the marker (F1 and a click set it), or none was closed." ∷
+    codes "No viewer has the marker, or none was closed: F1 and a click set the marker." ∷
     codes "There are 256 documents already: System.DeleteFiles makes room." ∷
     codes "That lies outside the desktop." ∷
     codes "Not found from the caret on: Ctrl-F again goes to the beginning of the text." ∷
@@ -67,6 +76,22 @@ short_reason code =
 abbrev pub cut_short : ℕ → ℕ → List ℕ
 cut_short typed code =
     decimal typed ++ codes " characters typed, the rest dropped: " ++ short_reason code
+
+-- why the text of a host file isn't typed
+abbrev pub unread_words : HostFault → List ℕ
+unread_words Missing = codes "There is no such file: nothing was typed."
+unread_words Folder = codes "That is a folder, and no file: nothing was typed."
+unread_words NoRight = codes "There is no right to read it: nothing was typed."
+unread_words Special = codes "That is a pipe or a device: nothing was typed."
+unread_words TooLong = codes "It has more than 262,144 bytes: nothing was typed."
+unread_words NoHome = codes "HOME isn't set, so ~ is no folder: nothing was typed."
+unread_words NoMemory = codes "There is no memory for it: nothing was typed."
+unread_words _ = codes "It can't be read: nothing was typed."
+
+-- how many characters became question marks
+abbrev pub marked_words : ℕ → List ℕ
+marked_words count = decimal count
+    ++ (if count == 1 then codes " character became ?" else codes " characters became ?")
 
 -- with which keys the next click is
 abbrev pub keys_words : MouseKeys → List ℕ
@@ -100,9 +125,16 @@ unfoldable pub called : List ℕ → Deed → List ℕ
 called [] what = told (codes "undid: ") what
 called (b ∷ word) what = codes "undid: " ++ b ∷ word
 
+-- the word at a cell, but where it goes up to the edge of its track, and may go on beyond it
+abbrev pub is_cut : List (List Cell) → ℕ → ℕ → Bool
+is_cut screen x y = x + length (word_from screen x y) == track_end x
+
+abbrev pub whole_word : List (List Cell) → ℕ → ℕ → List ℕ
+whole_word screen x y = if is_cut screen x y then [] else called_word screen x y
+
 -- what was taken back: the screen is as it was before, and so shows the word that was called
 unfoldable pub told_back : List (List Cell) → Deed → List ℕ
-told_back screen (deed.Call x y) = called (called_word screen x y) (deed.Call x y)
+told_back screen (deed.Call x y) = called (whole_word screen x y) (deed.Call x y)
 told_back screen what = told (codes "undid: ") what
 
 -- that a text isn't stored, by the name in its menu, where one is seen
@@ -129,14 +161,16 @@ reopening_words (b ∷ name) = b ∷ name ++ codes " is open, not stored: press 
 -- that a text isn't stored, by the name in its menu, and the keys, as far as there is room
 unfoldable pub unstored_words : List ℕ → List ℕ
 unstored_words [] =
-    codes "This text isn't stored: Ctrl-S stores, F2 calls, F11 no mouse, Ctrl-Q leaves"
-unstored_words (b ∷ name) = b ∷ name ++ take (80 - length (b ∷ name))
-    (codes " isn't stored: Ctrl-S stores, F2 calls, F11 no mouse, Ctrl-Q leaves")
+    codes "This text isn't stored: Ctrl-S stores, Ctrl-Q leaves, F2 calls, F11 no mouse"
+unstored_words (b ∷ name) = b ∷ name ++ parts_within (80 - length (b ∷ name))
+    (codes " isn't stored: Ctrl-S stores, Ctrl-Q leaves, F2 calls, F11 no mouse")
 
 -- what is asked, where this is the screen
 abbrev pub question_words : List (List Cell) → Question → List ℕ
 question_words screen Leaving =
     codes "This desktop is in memory: press Ctrl-Q again, and it is gone."
+question_words screen Forgetting =
+    codes "Leaving loses what you took back: Ctrl-Q leaves, Ctrl-Y does it again."
 question_words screen (Closing x y) = closing_words (word_from screen x y)
 question_words screen (Taking x y) = taking_words (word_from screen x y)
 question_words screen (Rivalled x y) = rivalled_words (word_from screen x y)
@@ -144,17 +178,38 @@ question_words screen (Deleting x y) = deleting_words (behind_call screen x y)
 question_words screen (Misnamed x y) = misnamed_words (behind_call screen x y)
 question_words screen (Reopening x y) = reopening_words (word_from screen x y)
 
+-- the same in few words, and in so many columns
+abbrev pub short_question : ℕ → List (List Cell) → Question → List ℕ
+short_question w screen Leaving = parts_within w (question_words screen Leaving)
+short_question w screen Forgetting = parts_within w (question_words screen Forgetting)
+short_question w screen (Closing x y) =
+    parts_within w (codes "It isn't stored: press again to close it")
+short_question w screen (Taking x y) =
+    parts_within w (codes "This closes another viewer: press again")
+short_question w screen (Rivalled x y) =
+    parts_within w (codes "It is in two viewers: press again to store")
+short_question w screen (Deleting x y) =
+    words_within w (deleting_words (behind_call screen x y))
+short_question w screen (Misnamed x y) = parts_within w (misnamed_shortly (behind_call screen x y))
+short_question w screen (Reopening x y) =
+    parts_within w (codes "It is open, not stored: press again")
+
+-- what is asked in so many columns: where there is no room for a name that stands first it is left out
+abbrev pub question_within : ℕ → List (List Cell) → Question → List ℕ
+question_within w screen question =
+    or_shorter w (question_words screen question) (short_question w screen question)
+
 -- where this is the screen, and this the line of the log that is said
 unfoldable pub words : List (List Cell) → List ℕ → Saying → List ℕ
 words screen log Greeting =
-    codes "Help: F2, then click Edit.Open Help. F11: no mouse. Ctrl-S stores, Ctrl-Q leaves"
+    codes "Help: F2, then click Edit.Open Help. F11 no mouse, Ctrl-S stores, Ctrl-Q leaves"
 words screen log Unproved =
-    codes "Not proved yet. Help: F2, click Edit.Open Help. F11: no mouse. Ctrl-S stores."
+    codes "Not proved yet. Help: F2, click Edit.Open Help. F11 no mouse, Ctrl-S stores"
 words screen log OneSide =
-    codes "Alt-Left, Alt-Right: the other side. F11: no mouse. Ctrl-S stores, Ctrl-Q leaves"
-words screen log InMemory = codes "This desktop is in memory: when you leave (Ctrl-Q) it is gone."
+    codes "Alt-Left/Right: the other side. F11 no mouse, Ctrl-Q leaves, Ctrl-S stores"
+words screen log InMemory = codes "This desktop is gone when you leave (Ctrl-Q): it is in memory."
 words screen log ForKeys =
-    codes "F2 calls, F3 selects, F11 no mouse, Ctrl-S stores, Ctrl-Z undo, Ctrl-Q leaves"
+    codes "Ctrl-Q leaves, F2 calls, F11 no mouse, F3 selects, Ctrl-S stores, Ctrl-Z undo"
 words screen log (Unstored x y) = unstored_words (word_from screen x y)
 words screen log Pointing =
     codes "Arrows move the pointer, Return clicks, F2 calls, F3 selects, Escape ends it"
@@ -173,9 +228,9 @@ words screen log NoWord =
 words screen log NoCommand =
     codes "No command's whole word is in sight: System.Tool shows the commands."
 words screen log NoSearch =
-    codes "Ctrl-R puts what you typed after the last Ctrl-F: press Ctrl-F first"
+    codes "Press Ctrl-F first: Ctrl-R puts what you typed after the last Ctrl-F"
 words screen log NothingTyped = codes "Nothing was typed after the last Ctrl-F"
-words screen log Fills = codes "A line is broken at its last blank where it would pass the edge."
+words screen log Fills = codes "Lines are broken while you type: at the last blank before the edge."
 words screen log FillsNot = codes "Lines aren't broken while you type, and may pass the edge."
 words screen log ToolFiled =
     codes "System.Tool was gone, and is a document again: the same click opens it."
@@ -183,7 +238,8 @@ words screen log (Refused code) = reason code
 words screen log (NoDocument x y) = no_document (parameter_word screen x y)
 words screen log (CutShort typed code) = cut_short typed code
 words screen log Worn = codes "This store is used up: take its documents out by desk export."
-words screen log Unread = codes "The host's file can't be read, and nothing was typed."
+words screen log (Unread why) = unread_words why
+words screen log (Marked count) = marked_words count
 words screen log Unfinished =
     codes "The host's file can't be read to its end; what came of it is typed."
 words screen log TooNarrow = codes "This window is too narrow: it has fewer than 45 columns."
@@ -191,6 +247,7 @@ words screen log TooLow = codes "This window is too low: it has fewer than 12 ro
 words screen log (TookBack what) = told_back screen what
 words screen log (DidAgain what) = told (codes "did again: ") what
 words screen log NothingBack = codes "There is nothing to take back."
+words screen log NoFurtherBack = codes "Undo reaches no further back."
 words screen log NothingAgain = codes "There is nothing to do again."
 words screen log Logged = log
 words screen log NotBack = codes "What was before can't be read, and nothing was taken back."
@@ -201,14 +258,57 @@ words screen log TwinFailed =
 words screen log WithoutTwin =
     codes "This store has a twin, which gets nothing now: start with --twin to pair them."
 words screen log NotClipped =
-    codes "Copied here, but too long for the terminal's clipboard: it takes 74,994 bytes."
+    codes "Too long for the terminal's clipboard: copied here, and it takes 74,994 bytes."
+words screen log WentRound =
+    codes "Found round the end of the text: none was on that side."
+words screen log NotThere = codes "These words aren't in this text."
+words screen log NoWords = codes "Nothing was sought yet: type the words first."
+words screen log BeyondEdge =
+    codes "Found right of the edge, out of sight: the caret is in that line's last column."
+words screen log IsFilled = codes "This paragraph is filled already."
 
--- the name of a host file or the number of a line, as far as it is typed, of which the end is seen
-abbrev pub asked_words : Bool → List ℕ
-asked_words line = if line then codes "Line? " else codes "Type which file? "
+-- ---- what is asked for
 
-abbrev pub question : Bool → List ℕ → List ℕ
-question line name = asked_words line ++ drop (length name - 63) name
+-- that, and what is typed, of which the end is seen
+abbrev pub typed_so_far : ℕ → List ℕ → List ℕ → List ℕ
+typed_so_far w asked name = asked ++ drop (length name - (w - length asked)) name
+
+-- that words are asked for, and how many there may be, if there is no room for more
+abbrev pub sought_words : Bool → Bool → List ℕ
+sought_words before false = codes "31 at most: "
+sought_words before true = if before then codes "Search back? " else codes "Search for? "
+
+-- what Return seeks where none are typed: those that were sought last
+abbrev pub words_again : List ℕ → List ℕ
+words_again [] = codes "the last words again"
+words_again (b ∷ sought) = b ∷ sought
+
+-- the key that seeks in the other direction
+abbrev pub other_way : Bool → List ℕ
+other_way before =
+    if before then codes ". Ctrl-F: onward)" else codes ". Ctrl-B: backward)"
+
+-- what Return does where no words are typed, and the key for the other way; and in few words
+abbrev pub search_asked : Bool → List ℕ → List ℕ
+search_asked before sought = sought_words before true ++ codes "(Return: "
+    ++ words_again (take MOST_SOUGHT sought) ++ other_way before
+
+abbrev pub search_shortly : Bool → List ℕ
+search_shortly before = sought_words before true ++ codes "(Return: again)"
+
+unfoldable pub search_line : ℕ → Bool → List ℕ → List ℕ → List ℕ
+search_line w before sought [] =
+    or_shorter w (search_asked before sought) (parts_within w (search_shortly before))
+search_line w before sought (b ∷ words) =
+    typed_so_far w (sought_words before (nat_lt (length (b ∷ words)) MOST_SOUGHT)) (b ∷ words)
+
+-- the name of a host file, the number of a line, or words that are sought, as far as they are typed, behind words that were
+-- sought last
+abbrev pub question : ℕ → AskedFor → List ℕ → List ℕ → List ℕ
+question w asked_for.File sought name = typed_so_far w (codes "Type which file? ") name
+question w asked_for.Line sought name = typed_so_far w (codes "Line? ") name
+question w asked_for.Words sought name = search_line w false sought name
+question w asked_for.WordsBefore sought name = search_line w true sought name
 
 -- what is said while a pointer is shown that keys move: how to use it, where nothing else is to be said
 unfoldable pub said_by_pointer : Bool → Saying → Saying
@@ -222,17 +322,18 @@ said_by_pointer true (Unstored x y) = Pointing
 said_by_pointer true saying = saying
 
 -- the line between two presses: a name that is asked for, or else what the next click does, or what is said
-abbrev pub line_by_hand : List (List Cell) → List ℕ → Option (List ℕ) → Bool → Option Click
-    → Saying → List ℕ
-line_by_hand screen log (Some name) line armed saying = question line name
-line_by_hand screen log None line (Some click) saying = click_words click
-line_by_hand screen log None line None saying = words screen log saying
+abbrev pub line_by_hand : ℕ → List (List Cell) → List ℕ → Option (List ℕ) → AskedFor → List ℕ
+    → Option Click → Saying → List ℕ
+line_by_hand w screen log (Some name) asks sought armed saying = question w asks sought name
+line_by_hand w screen log None asks sought (Some click) saying = parts_within w (click_words click)
+line_by_hand w screen log None asks sought None saying = parts_within w (words screen log saying)
 
--- the line below a screen: a question goes before all else
-unfoldable pub line_of : List (List Cell) → List ℕ → Option (List ℕ) → Bool → Option Click
-    → Saying → List ℕ
-line_of screen log asked line armed (Asks question) = question_words screen question
-line_of screen log asked line armed saying = line_by_hand screen log asked line armed saying
+-- the line below a screen in a window of so many columns: a question goes before all else
+unfoldable pub line_of : ℕ → List (List Cell) → List ℕ → Option (List ℕ) → AskedFor → List ℕ
+    → Option Click → Saying → List ℕ
+line_of w screen log asked asks sought armed (Asks question) = question_within w screen question
+line_of w screen log asked asks sought armed saying =
+    line_by_hand w screen log asked asks sought armed saying
 
 abbrev pub is_in_memory : Saying → Bool
 is_in_memory InMemory = true

@@ -1,7 +1,7 @@
 //! What a press did, in words.
 ghost use Rattle.std.specs.Prelude.{◌≡◌, ◌≤◌, length};
 ghost use Rattle.status_line.specs.Deeds.{click_deed, deed_of, deed_with, deed_words, key_deed, keys_deed, typed_more};
-ghost use Rattle.status_line.specs.Deeds.{typed_words};
+ghost use Rattle.status_line.specs.Deeds.{erasing_deed, typed_words};
 
 use event_bytes::{Event, Key, Keys};
 
@@ -18,12 +18,20 @@ pub enum Deed {
     Click(Keys),
     /// The word at this cell was called.
     Call { x: u8, y: u8 },
+    /// A key called the command that stores the text of the caret's viewer.
+    Store,
+    /// A key called the command that searches.
+    Search,
     /// A text moved in its viewer.
     Scroll,
     /// A file was made, or got other characters.
     File,
     /// What was typed where a pattern was found was typed in another such place.
     Replacement,
+    /// A paragraph was filled.
+    Paragraph,
+    /// The key Delete was pressed: it deletes the character behind the caret, or what is selected.
+    Delete,
     /// A part of what a press did, of which the rest can't be taken back.
     Part,
 }
@@ -60,6 +68,17 @@ impl Deed {
         }
     }
 
+    /// What a key did that deletes a character, or what is selected: that behind the caret or that before it.
+    pub fn erasing(behind: bool) -> Deed
+        ensures { result ≡ erasing_deed behind }
+    {
+        if behind {
+            Deed::Delete
+        } else {
+            Deed::Key(Key::Back)
+        }
+    }
+
     /// The words for it, but for the number of characters and for the word that was called.
     pub fn words(self) -> &'static [u8]
         ensures value { result.now ≡ deed_words self }
@@ -71,9 +90,13 @@ impl Deed {
             Deed::Mark => b"the marker",
             Deed::Click(keys) => click_words(keys),
             Deed::Call { .. } => b"a command",
+            Deed::Store => b"Edit.Store",
+            Deed::Search => b"Edit.Search",
             Deed::Scroll => b"a scroll",
             Deed::File => b"a file",
             Deed::Replacement => b"a replacement",
+            Deed::Paragraph => b"the paragraph",
+            Deed::Delete => b"a Delete",
             Deed::Part => b"a part of it, and the rest can't be",
         }
     }

@@ -3,7 +3,7 @@ ghost use Rattle.std.specs.Prelude.{◌≡◌, ◌<◌, ◌≤◌, ◌==◌, ◌
 ghost use Rattle.screen_reading.specs.Along.{shows_text};
 ghost use Rattle.status_line.specs.declared.named.Part.TheVariants.{Text};
 ghost use Rattle.status_line.specs.Named.{begins_with_name, behind_call, behind_part, row_characters, deletes, deleting_words};
-ghost use Rattle.status_line.specs.Named.{goes_on_oddly, is_odd, is_part, misnamed_words, named_question, opens};
+ghost use Rattle.status_line.specs.Named.{goes_on_oddly, is_odd, is_part, misnamed_shortly, misnamed_words, named_question, opens};
 ghost use Rattle.status_line.specs.Named.{part_run, row_text, text_from};
 ghost use Rattle.viewer_tracks.specs.declared.display.TheConstants.{COLUMNS};
 
@@ -198,7 +198,7 @@ pub(crate) fn deleting_words(cells: &[Cell]) -> SayingLine
 {
     let count = part_run(Part::Listed, cells);
     if count == 0 {
-        return words(b"Press again to delete the documents that are named there");
+        return words(b"Press again to delete what is named there");
     }
     let names = row_characters(&cells[..count.min(54)]);
     deleting(names.as_slice(), going_on(count, cells.len()))
@@ -242,6 +242,17 @@ pub(crate) fn misnamed_words(cells: &[Cell]) -> SayingLine
     let whole = row_characters(&cells[..part_run(Part::Letter, cells).min(20)]);
     let name = row_characters(&cells[..part_run(Part::Name, cells).min(31)]);
     misnamed(whole.as_slice(), name.as_slice())
+}
+
+/// The same in fewer words.
+#[tactic(auto, unfolding(crate::specs::Named::misnamed_shortly))]
+pub(crate) fn misnamed_shortly(cells: &[Cell]) -> SayingLine
+    ensures { result.items ≡ misnamed_shortly cells.now }
+{
+    let name = row_characters(&cells[..part_run(Part::Name, cells).min(31)]);
+    let mut text = words(b"No name: press again for ");
+    text.try_extend_from_slice(name.as_slice()).unwrap();
+    text
 }
 
 /// That a word is no name, and with which name it begins.

@@ -7,6 +7,8 @@ ghost use Rattle.status_line.specs.Question.{asks_to_leave, comes_first, is_same
 pub enum Question {
     /// The desktop in memory: the person leaves.
     Leaving,
+    /// What was taken back, which can be done again until the person leaves.
+    Forgetting,
     /// A text that no document has: its viewer is closed.
     Closing {
         /// The column of the first cell of the viewer's menu.
@@ -57,6 +59,7 @@ fn is_same(last: Question, question: Question) -> bool
 {
     match (last, question) {
         (Question::Leaving, Question::Leaving) => true,
+        (Question::Forgetting, Question::Forgetting) => true,
         (Question::Closing { x, y }, Question::Closing { x: u, y: v }) => x == u && y == v,
         (Question::Taking { x, y }, Question::Taking { x: u, y: v }) => x == u && y == v,
         (Question::Rivalled { x, y }, Question::Rivalled { x: u, y: v }) => x == u && y == v,
@@ -71,7 +74,7 @@ fn is_same(last: Question, question: Question) -> bool
 pub fn asks_to_leave(question: Option<Question>) -> bool
     ensures { result ≡ asks_to_leave question }
 {
-    matches!(question, Some(Question::Leaving))
+    matches!(question, Some(Question::Leaving | Question::Forgetting))
 }
 
 /// Whether a question is asked before its press is done: unless the last press has asked it.
@@ -85,12 +88,14 @@ pub fn comes_first(last: Option<Question>, question: Option<Question>) -> bool
     }
 }
 
-/// What leaving would lose.
-pub fn left_behind(in_memory: bool) -> Option<Question>
-    ensures { result ≡ left_behind in_memory }
+/// What leaving would lose: a desktop in memory, or else what was taken back, where any of it can be done again.
+pub fn left_behind(in_memory: bool, goes_again: bool) -> Option<Question>
+    ensures { result ≡ left_behind in_memory goes_again }
 {
     if in_memory {
         Some(Question::Leaving)
+    } else if goes_again {
+        Some(Question::Forgetting)
     } else {
         None
     }

@@ -1,5 +1,8 @@
 -- Looks at a store, and documents that are brought behind them.
-use Rattle.std.proofs.Common.{◌≡◌, ◌∙◌, refl, ap, sym, subst, inl, ◌+◌, ◌++◌, length, ℕ, arith}
+use Rattle.std.proofs.Common.{◌≡◌, ◌∙◌, refl, ap, sym, subst, inl, ◌+◌, ◌++◌, length, ℕ, arith, false}
+use Rattle.std.specs.Prelude.{IfErr, Result, Ok, Err}
+use Rattle.std.proofs.lemmas.Bool.{false≢true, false_from_ne_true}
+use Rattle.std.proofs.lemmas.Result.{IfErr-weaker}
 use Rattle.sector_disk.specs.declared.disk.Disk.{Ghosts}
 use Rattle.sector_disk.specs.Trail.{Trail, now, IsCrashImage, Leaves, LeavesOnly}
 use Rattle.sector_disk.proofs.Touching.{at_last, chained, weakened}
@@ -10,7 +13,10 @@ use Rattle.store_layout.specs.Meaning.{MeansEither, Stands}
 use Rattle.store_slots.proofs.Settling.{shows_means}
 use Rattle.desk_journal.specs.Bringing.{LeavesAllOrNone, AreBrought}
 use Rattle.desk_journal.specs.Device.{IsOnlyRead}
+use Rattle.desk_journal.specs.Posting.{AnswersMustReopen}
+use Rattle.desk_journal.specs.Undoing.{IsLeft}
 use Rattle.desk_journal.specs.View.{StoreView, IsDurable}
+use Rattle.desk_journal.specs.Errors.{Error}
 use Rattle.store_documents.specs.declared.sorting.Sorted.{Sorted}
 use Rattle.store_documents.specs.declared.importing.Coming.{Coming}
 use Rattle.store_documents.specs.Standings.{HasOnlyLooked, AreSorted}
@@ -100,6 +106,41 @@ module _ {D : Type 0} (d : Ghosts D) where
       unwritten = read_twice d looked.disk left.unwritten;
     };
   }
+
+  pub looked_both : {old mid new : StoreView D} → HasOnlyLooked d old mid → HasOnlyLooked d mid new
+      → HasOnlyLooked d old new
+  looked_both first second = record {
+    desktop = λ honest. second.desktop (first.disk.device.still honest) ∙ first.desktop honest;
+    kept = second.kept ∙ first.kept;
+    layout = second.layout ∙ first.layout;
+    epoch = second.epoch ∙ first.epoch;
+    events = second.events ∙ first.events;
+    usable = second.usable ∙ first.usable;
+    disk = read_twice d first.disk second.disk;
+  }
+
+  -- a call behind looks that failed
+  pub failed_behind : {T : Type 0} (answer : Result T Error) {old mid new : StoreView D} → HasOnlyLooked d old mid
+      → (new.must_reopen ≡ false → HasOnlyLooked d mid new)
+      → IfErr answer (λ error. new.must_reopen ≡ false → HasOnlyLooked d old new)
+  failed_behind (Ok value) looked failed = tt
+  failed_behind (Err error) looked failed = λ usable. looked_both looked (failed usable)
+
+  -- a call that failed, and after which the store can be used
+  pub failed_looked : {T : Type 0} (answer : Result T Error) (old new : StoreView D) → AnswersMustReopen answer old new
+      → IfErr answer (λ error. new.must_reopen ≡ false → IsLeft d old new)
+      → IfErr answer (λ error. new.must_reopen ≡ false → HasOnlyLooked d old new)
+  failed_looked answer old new reopen failed = IfErr-weaker answer _ _ (λ error is usable.
+      let left = is usable in record {
+        desktop = left.desktop;
+        kept = left.kept;
+        layout = left.layout;
+        epoch = left.epoch;
+        events = left.events;
+        usable = usable ∙ sym (false_from_ne_true old.must_reopen
+            (λ was. false≢true (sym usable ∙ ap (λ s. s.must_reopen) (reopen.unchanged (reopen.always was)) ∙ was)));
+        disk = left.disk;
+      }) failed
 
   pub same_moments : (old new : StoreView D) (came documents : Documents) → (d.honest old.disk → came ≡ documents)
       → LeavesAllOrNone d came old new → LeavesAllOrNone d documents old new

@@ -35,10 +35,11 @@ pub enum Imported {
 }
 
 /// Imports documents into a store: those that it hasn't, and, if that is asked for, those of whose name it has another
-/// one. They come by one call of `Store::bring`, all or none, and none is called where nothing is to come.
+/// one. They come by one call of `desk_past::bring`, all or none, and none is called where nothing is to come. Where the
+/// store has a past with room for it that goes on.
 ///
-/// Errors: those of `Store::file` and `Store::bring`: `MustReopen` where an earlier call failed, and only there; `Worn`
-/// in the last epoch alone. Where the store can still be used after one, nothing was done.
+/// Errors: those of `Store::file` and `desk_past::bring`: `MustReopen` where an earlier call failed, and only there;
+/// `Worn` in the last epoch alone. Where the store can still be used after one, nothing was done.
 pub fn import<D: Disk>(
     alloc: Global,
     store: &mut Store<D>,
@@ -135,7 +136,8 @@ fn bring_some<D: Disk>(
         → IfOk result (λ reply. (reply ≡ Reply.Done) × (store.new ≡ store.old)) }
     ensures brought { ¬ (documents.now ≡ []) → IfOk result (λ reply.
         AreBrought D.Disk documents.now reply store.old store.new) }
-    ensures failed { IfErr result (λ _. store.new.must_reopen ≡ false → store.new ≡ store.old) }
+    ensures failed { IfErr result (λ _. store.new.must_reopen ≡ false
+        → HasOnlyLooked D.Disk store.old store.new) }
     ensures faults { FailsAs Error.Fault OfPost result (D.failures store.old.disk)
         (D.failures store.new.disk) }
     ensures reopen { IsErrOf result Error.MustReopen → store.old.must_reopen ≡ true }
@@ -144,5 +146,5 @@ fn bring_some<D: Disk>(
     if documents.is_empty() {
         return Ok(Reply::Done);
     }
-    store.bring(alloc, documents)
+    desk_past::bring(alloc, store, documents)
 }

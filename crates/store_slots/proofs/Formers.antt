@@ -1,6 +1,6 @@
 -- What was read of the slot beside the one in use, and what that one shows without its last events.
-use Rattle.std.proofs.Common.{◌≡◌, ◌⊎◌, inl, inr, ℕ, ◌+◌, ◌-◌, ◌<◌, ◌≤◌, List, [], ◌∷◌, ◌++◌, length, take, drop}
-use Rattle.std.proofs.Common.{refl, sym, ◌∙◌, ap, subst, arith, true, false, length-append}
+use Rattle.std.proofs.Common.{◌≡◌, inl, inr, ℕ, ◌+◌, ◌-◌, ◌<◌, ◌≤◌, List, [], ◌∷◌, ◌++◌, length, take, drop}
+use Rattle.std.proofs.Common.{refl, sym, ◌∙◌, ap, subst, arith, true, false}
 use Rattle.std.specs.Prelude.{IfErr, IsErrOf, Result, Ok, Err}
 use Rattle.store_slots.specs.declared.error.Error.{Error}
 use Rattle.store_slots.specs.declared.error.Error.TheVariants.{Damaged}
@@ -14,8 +14,8 @@ use Rattle.char_pages.specs.Pages.{saved_sectors, renewed_of}
 use Rattle.store_layout.specs.declared.head.Head.{Head}
 use Rattle.store_layout.specs.declared.layout.TheConstants.{JOURNAL_EVENTS, LAYOUT, SLOTS}
 use Rattle.store_layout.specs.Finding.{IsNoEvent, StandingLaw}
-use Rattle.store_layout.specs.Layout.{is_open, slot_gate, gate, head, IsGoodHead}
-use Rattle.store_layout.specs.Meaning.{IsJournal, HasImage, MakesDesktop, Standing, Stands, and_all, area_bytes}
+use Rattle.store_layout.specs.Layout.{is_open, slot_gate, head, IsGoodHead}
+use Rattle.store_layout.specs.Meaning.{IsJournal, HasImage, MakesDesktop, Standing, and_all, area_bytes}
 use Rattle.store_layout.specs.Meaning.{cut_to, desktop_of, full_sectors}
 use Rattle.store_layout.specs.Meaning.{left_over, slot_image_bytes}
 use Rattle.image_format.specs.Laws.{UniqueLaw}
@@ -27,7 +27,7 @@ use Rattle.store_layout.proofs.Bits.{clash}
 use Rattle.store_slots.specs.declared.live.LiveDesktop.{LiveDesktop}
 use Rattle.store_slots.specs.Beside.{CameBefore, HasEvents, HasFormer, IsCountedBack, IsEarlier, IsLoadedUpTo}
 use Rattle.store_slots.specs.Beside.{IsRest, StandsBeside, across}
-use Rattle.store_slots.specs.Live.{IsNamed, seen_live}
+use Rattle.store_slots.specs.Live.{seen_live}
 use Rattle.store_slots.specs.Load.{IsReadUpTo}
 use Rattle.store_slots.specs.Written.{IsUpTo}
 use Rattle.store_slots.proofs.Loading.{all_read, journal_rest, named_after}
@@ -89,7 +89,7 @@ no_bad_body c slot k events journal bad =
 
 -- ---- a content has one journal and one start of a slot
 
-one_journal : BeginLaw → (events events' : List Event) (c : Content) (slot k : ℕ) → IsJournal c slot k events
+pub one_journal : BeginLaw → (events events' : List Event) (c : Content) (slot k : ℕ) → IsJournal c slot k events
     → IsJournal c slot k events' → events ≡ events'
 one_journal law [] [] c slot k one two = refl
 one_journal law [] (e ∷ events') c slot k one two = absurd (clash two.1 (one two.0))
@@ -98,7 +98,7 @@ one_journal law (e ∷ events) (e' ∷ events') c slot k one two =
     ap (λ first. first ∷ events) (law _ e e' one.2 two.2)
     ∙ ap (λ rest. e' ∷ rest) (one_journal law events events' c slot (k + 1) one.3 two.3)
 
-one_start : UniqueLaw → (h : Head) (image area : List ℕ) (start start' : Desktop) → MakesDesktop h image area start
+pub one_start : UniqueLaw → (h : Head) (image area : List ℕ) (start start' : Desktop) → MakesDesktop h image area start
     → MakesDesktop h image area start' → start ≡ start'
 one_start law h image area start start' one two =
     sym one.is

@@ -17,5 +17,7 @@ pub mod Streaming
 pub mod Beside
 pub mod SlotStarts
 pub mod Formers
+mod Passed
+mod Alike
 pub mod Brought
 pub mod Spelled

@@ -23,7 +23,7 @@ use Rattle.store_slots.specs.declared.error.Error.TheVariants.{NotAStore, Damage
 use Rattle.store_slots.specs.Errors.{OfDesktop, OfOpen, OfReplay}
 use Rattle.store_slots.specs.Live.{IsLive, IsNamed}
 use Rattle.store_slots.proofs.Staying.{IsApart, apart_record}
-use Rattle.store_slots.specs.Beside.{HasEvents, IsEarlier, IsRest, within}
+use Rattle.store_slots.specs.Beside.{HasEvents, IsEarlier, within}
 use Rattle.store_slots.specs.Load.{IsCutTo}
 use Rattle.store_slots.specs.Written.{HasEventAt, IsUpTo}
 use Rattle.store_slots.proofs.Recording.{only_gate}

@@ -1,9 +1,8 @@
 -- What the slot beside the one in use shows, from which that one was made, and what is left where the last events are taken
 -- back.
-use Rattle.std.specs.Prelude.{◌≡◌, ◌⊎◌, ◌+◌, ◌-◌, ◌<◌, ◌≤◌, ◌∷◌, ◌++◌, ℕ, true, List, length, take, drop}
+use Rattle.std.specs.Prelude.{◌≡◌, ◌⊎◌, ◌+◌, ◌-◌, ◌<◌, ◌≤◌, [], ◌∷◌, ◌++◌, ℕ, true, List, length}
 use Rattle.event_bytes.specs.declared.event.Event.{Event}
 use Rattle.desktop_definitions.specs.Desktop.{Desktop}
-use Rattle.desktop_definitions.specs.Step.{steps_in}
 use Rattle.store_slots.specs.declared.former.Former.{Former}
 use Rattle.store_slots.specs.declared.live.LiveDesktop.{LiveDesktop}
 use Rattle.store_slots.specs.Live.{IsNamed, seen_live}
@@ -12,7 +11,7 @@ use Rattle.sector_disk.specs.Trail.{Content, Trail, now}
 use Rattle.store_layout.specs.declared.head.Head.{Head}
 use Rattle.store_layout.specs.declared.layout.TheConstants.{JOURNAL_EVENTS, LAYOUT, SLOTS}
 use Rattle.store_layout.specs.Layout.{is_open, slot_gate, gate, head, IsGoodHead}
-use Rattle.store_layout.specs.Meaning.{IsJournal, HasImage, Standing, Stands, and_all, cut_to, desktop_of}
+use Rattle.store_layout.specs.Meaning.{IsJournal, HasImage, Standing, Stands, and_all, desktop_of}
 use Rattle.store_layout.specs.Kept.{IsSettled}
 
 -- Beside this slot the other one is open, and it alone would show this.
@@ -97,6 +96,20 @@ pub record HasFormer (c : Content) (slot number : ℕ) (h : Head) (count : ℕ) 
   pub long : length former.events ≡ count
   pub starts : HasImage c slot (desktop_of former)
 
+-- This slot is open, under a good head.
+pub record IsOpenSlot (c : Content) (slot : ℕ) : Type 0 where
+  pub live : is_open (c (slot_gate slot)) ≡ true
+  pub good : IsGoodHead (head c slot)
+
+-- Before this slot of this epoch, which is open, no events came by the slot beside it.
+abbrev pub NoFormer : Content → ℕ → ℕ → Type 0
+NoFormer c slot number = IsOpenSlot c slot → (h : Head) (count : ℕ) → 0 < count
+    → HasFormer c slot number h count → ⊥
+
+-- No events came before what the content shows by another slot: by none in the newest version.
+abbrev pub NothingBefore : Content → Standing → Type 0
+NothingBefore c s = (t : Standing) → CameBefore c s t → t.version ≡ LAYOUT → t.events ≡ []
+
 -- What was read shows the rest of what the content shows, without these events, by a slot of this epoch and so many events.
 -- The head of that slot names what it has in the area.
 pub record IsEarlier (c : Content) (slot number count : ℕ) (s : Standing) (live : LiveDesktop)
@@ -128,8 +141,8 @@ pub record IsCountedBack (slot number end count slot' number' left back : ℕ) :
   pub short : 0 < back → left < JOURNAL_EVENTS
   pub two : slot' < SLOTS
 
--- These events lead to what the content shows: those of its journal, or, where the slot beside it came before, those of both
--- journals.
+-- These events lead to what the content shows: those of its journal, where none came before; or, where the slot beside it
+-- came before, those of both journals.
 pub data IsHistory (c : Content) (s : Standing) (events : List Event) : Type 0 where
-  alone : events ≡ s.events → IsHistory c s events
+  alone : NothingBefore c s → events ≡ s.events → IsHistory c s events
   behind : (t : Standing) → CameBefore c s t → events ≡ t.events ++ s.events → IsHistory c s events

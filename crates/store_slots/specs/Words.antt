@@ -10,3 +10,4 @@ pub use Rattle.desk_core.specs.Stops.{IsStop}
 pub use Rattle.piece_ring.specs.Flat.{flat}
 pub use Rattle.piece_ring.specs.Text.{AreWithin}
 pub use Rattle.readers_scanners.specs.Reading.{contents}
+pub use Rattle.event_loop.specs.CaretText.{caret_text}

@@ -1,13 +1,16 @@
 //! What a store was before its last events: by the first events of the slot in use, or by those of the slot beside it, from
 //! whose desktop the slot in use starts. Nothing is written.
-ghost use Rattle.std.specs.Prelude.{◌≡◌, ◌+◌, ◌-◌, ◌<◌, ◌≤◌, ◌++◌, ℕ, List, true, IfOk, IfErr, IfSome, IsErrOf, length, drop};
+ghost use Rattle.std.specs.Prelude.{◌≡◌, ◌+◌, ◌-◌, ◌<◌, ◌≤◌, ◌++◌, ℕ, List, true, IfOk, IfErr, IfSome, IfNone, IsErrOf};
+ghost use Rattle.std.specs.Prelude.{length, drop};
+ghost use Rattle.std.specs.Bool.{Decides};
 ghost use Rattle.event_bytes.specs.declared.event.Event.{Event};
 ghost use Rattle.store_layout.specs.Layout.{is_open, slot_gate, head as head_at, IsGoodHead};
 ghost use Rattle.store_layout.specs.Meaning.{HasImage, IsJournal, Standing};
 ghost use Rattle.desktop_definitions.specs.Desktop.{Desktop};
 ghost use Rattle.store_slots.specs.Beside.{HasEvents, HasFormer, HasMoreThan, IsCountedBack, IsEarlier, IsHistory, IsLoadedUpTo};
+ghost use Rattle.store_slots.specs.Beside.{NoFormer, NothingBefore};
 ghost use Rattle.store_slots.specs.Errors.{OfDesktop, OfOpen, OfReplay};
-ghost use Rattle.store_slots.specs.Live.{IsLiveOn};
+ghost use Rattle.store_slots.specs.Live.{IsLiveOn, seen_live};
 ghost use Rattle.store_slots.specs.Words.{Nowhere, now, IsConfined, FailsAs};
 ghost use Rattle.store_slots.specs.Written.{HasJournalTo, HasSlot, IsUpTo};
 
@@ -60,6 +63,19 @@ fn load_of<D: Disk>(
     })
 }
 
+/// Whether this head is of the epoch before this one, and in the newest version.
+fn goes_before(head: &Head, epoch: u32) -> bool
+    ensures { Decides result ((head.now.epoch + 1 ≡ epoch) × (head.now.version ≡ LAYOUT)) }
+{
+    if head.version != LAYOUT {
+        return false;
+    }
+    if head.epoch >= epoch {
+        return false;
+    }
+    epoch - head.epoch == 1
+}
+
 /// The head of the slot beside this one, where that is open under the epoch before and in the newest version.
 fn head_before<D: Disk>(disk: &mut D, slot: u32, epoch: u32) -> Result<Option<Head>, Error>
     requires { HasSlot (D.size disk.old) slot }
@@ -72,14 +88,15 @@ fn head_before<D: Disk>(disk: &mut D, slot: u32, epoch: u32) -> Result<Option<He
     ensures good { IfOk result (λ found. IfSome found IsGoodHead) }
     ensures before { IfOk result (λ found. IfSome found (λ h. (h.epoch + 1 ≡ epoch)
         × (h.version ≡ LAYOUT))) }
+    ensures none { IfOk result (λ found. IfNone found (D.honest disk.old
+        → NoFormer (now (D.trail disk.old)).reads slot epoch)) }
+    ensures damaged { (n : ℕ) → IsErrOf result (Error.Damaged n) → D.honest disk.old
+        → NoFormer (now (D.trail disk.old)).reads slot epoch }
 {
     let Some(head) = read_slot(disk, 1 - slot)? else {
         return Ok(None);
     };
-    if head.epoch >= epoch || head.version != LAYOUT {
-        return Ok(None);
-    }
-    if epoch - head.epoch != 1 {
+    if !goes_before(&head, epoch) {
         return Ok(None);
     }
     Ok(Some(head))
@@ -90,6 +107,41 @@ fn head_before<D: Disk>(disk: &mut D, slot: u32, epoch: u32) -> Result<Option<He
 pub struct Former {
     pub head: Head,
     pub events: u32,
+}
+
+/// Whether a slot of this head, in the newest version, starts from this desktop. Where its bytes aren't those that a checkpoint
+/// of the desktop writes, what it starts from is loaded, and what is seen of both is compared.
+fn is_start<D: Disk>(
+    alloc: Global,
+    disk: &mut D,
+    slot: u32,
+    head: &Head,
+    desktop: &mut LiveDesktop,
+) -> Result<bool, Error>
+    requires at { HasSlot (D.size disk.old) slot }
+    requires good { IsGoodHead head.now }
+    requires on { IsLiveOn D.Disk disk.old desktop.old }
+    ensures kept { IsConfined D.size D.honest D.trail Nowhere disk.old disk.new }
+    ensures faults { FailsAs Error.Fault OfReplay result (D.failures disk.old)
+        (D.failures disk.new) }
+    ensures newest { IfOk result (λ same. same ≡ true → head.now.version ≡ LAYOUT) }
+    ensures same { IfOk result (λ same. D.honest disk.old → head.now.version ≡ LAYOUT
+        → head_at (now (D.trail disk.old)).reads slot ≡ head.now
+        → Decides same (HasImage (now (D.trail disk.old)).reads slot
+        (seen_live (now (D.trail disk.old)).reads desktop.old))) }
+    ensures damaged { (n : ℕ) → IsErrOf result (Error.Damaged n) → D.honest disk.old
+        → head_at (now (D.trail disk.old)).reads slot ≡ head.now
+        → (start : Desktop) → HasImage (now (D.trail disk.old)).reads slot start → ⊥ }
+{
+    one_desktop();
+    if head.version != LAYOUT {
+        return Ok(false);
+    }
+    if starts_from(disk, slot, head, desktop)? {
+        return Ok(true);
+    }
+    let mut start = load_slot(alloc, disk, slot, version_of(head), head)?;
+    Ok(desktop.shows_same(alloc, &mut start, disk)?)
 }
 
 /// What came before this slot of this epoch; None where the slot beside it is closed or of another epoch or version, has no
@@ -108,24 +160,40 @@ fn find<D: Disk>(
         → HasFormer (now (D.trail disk.old)).reads slot epoch x.head x.events)) }
     ensures some { IfOk result (λ found. IfSome found (λ x. IsGoodHead x.head × (0 < x.events)
         × (x.events ≤ JOURNAL_EVENTS) × (x.head.epoch + 1 ≡ epoch))) }
+    ensures none { IfOk result (λ found. IfNone found (D.honest disk.old
+        → NoFormer (now (D.trail disk.old)).reads slot epoch)) }
+    ensures damaged { (n : ℕ) → IsErrOf result (Error.Damaged n) → D.honest disk.old
+        → NoFormer (now (D.trail disk.old)).reads slot epoch }
 {
+    at_most_one_begins();
+    one_desktop();
     let Some(before) = head_before(disk, slot, epoch)? else {
         return Ok(None);
     };
     let Some(head) = read_slot(disk, slot)? else {
         return Ok(None);
     };
-    let loaded = load_of(alloc, disk, 1 - slot, &before, JOURNAL_EVENTS)?;
+    let mut loaded = load_of(alloc, disk, 1 - slot, &before, JOURNAL_EVENTS)?;
     if loaded.events == 0 {
         return Ok(None);
     }
-    if !starts_from(disk, slot, &head, &loaded.desktop)? {
+    if !is_start(alloc, disk, slot, &head, &mut loaded.desktop)? {
         return Ok(None);
     }
     Ok(Some(Former {
         head: before,
         events: loaded.events,
     }))
+}
+
+/// Whether this error says that the store is damaged.
+fn is_damage(error: Error) -> bool
+    ensures { Decides result ((n : ℕ) × (error ≡ Error.Damaged n)) }
+{
+    match error {
+        Error::Damaged(_) => true,
+        _ => false,
+    }
 }
 
 /// What came before this slot of this epoch, where that is asked for. A slot that can't be loaded is nothing.
@@ -145,15 +213,20 @@ fn find_former<D: Disk>(
     ensures some { IfOk result (λ found. IfSome found (λ x. IsGoodHead x.head × (0 < x.events)
         × (x.events ≤ JOURNAL_EVENTS) × (x.head.epoch + 1 ≡ epoch))) }
     ensures wanted { IfOk result (λ found. IfSome found (λ x. wanted ≡ true)) }
+    ensures none { IfOk result (λ found. IfNone found (wanted ≡ true → D.honest disk.old
+        → NoFormer (now (D.trail disk.old)).reads slot epoch)) }
 {
     if !wanted {
         return Ok(None);
     }
     match find(alloc, disk, slot, epoch) {
         Ok(found) => Ok(found),
-        Err(Error::Fault) => Err(Error::Fault),
-        Err(Error::NoMemory) => Err(Error::NoMemory),
-        Err(_) => Ok(None),
+        Err(error) => {
+            if is_damage(error) {
+                return Ok(None);
+            }
+            Err(error)
+        }
     }
 }
 
@@ -317,6 +390,10 @@ pub fn load_earlier<D: Disk>(
     ensures stops { D.honest disk.old → (s : Standing)
         → IsUpTo (D.size disk.old) (D.trail disk.old) slot end s
         → s.epoch ≡ epoch → IfErr result OfDesktop }
+    // Where more were asked for than the slot in use has, it stays in use only if nothing came before it.
+    ensures crosses { IfOk result (λ x. D.honest disk.old → (s : Standing)
+        → IsUpTo (D.size disk.old) (D.trail disk.old) slot end s → s.epoch ≡ epoch → end < count
+        → x.epoch ≡ epoch → NothingBefore (now (D.trail disk.old)).reads s) }
 {
     match find_former(alloc, disk, slot, epoch, end < count)? {
         None => load_within(alloc, disk, slot, epoch, end.saturating_sub(count), end),

@@ -19,6 +19,7 @@ ghost use Rattle.std.specs.Result.{result_map_both};
 ghost use Rattle.store_slots.specs.Words.{Nowhere, now, IsConfined, FailsAs, entries_of, shown_screen};
 ghost use Rattle.store_slots.specs.Words.{Content, ListsUnread};
 
+mod comparing;
 mod copying;
 mod views;
 

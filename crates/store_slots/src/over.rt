@@ -13,6 +13,7 @@ ghost use Rattle.std.specs.Result.{result_map_both};
 ghost use Rattle.event_loop.specs.Keeping.{KeepsLines};
 ghost use Rattle.desk_views.specs.Losses.{loss_at};
 ghost use Rattle.desk_views.specs.Info.{last_log_line};
+ghost use Rattle.seen_desktops.specs.Shape.{all_characters_of};
 ghost use Rattle.store_slots.specs.Live.{CanReadThrough, CanStepThrough, ReadsThrough, LooksThrough, seen_through};
 ghost use Rattle.store_slots.specs.Words.{Content, now, FailsAs, IsStop, entries_of, shown_screen};
 ghost use Rattle.store_slots.specs.Words.{ListsUnread, AreWithin, contents, flat};
@@ -91,6 +92,23 @@ pub(crate) fn read_over<D: Disk>(
 {
     let mut source = Paged::over(disk, pages);
     read_all(alloc, text, &mut source)
+}
+
+/// All characters of the desktop with their looks.
+pub(crate) fn characters_over<D: Disk>(
+    alloc: Global,
+    desktop: &Desktop,
+    disk: &mut D,
+    pages: &mut Pages,
+) -> Result<Vec<(u8, Look)>, Stop>
+    requires { CanStepThrough D.Disk disk.old pages.old desktop.now }
+    ensures read { IfOk result (λ all. D.honest disk.old → all.items
+        ≡ all_characters_of (seen_through D.Disk disk.old pages.old desktop.now)) }
+    ensures looks { LooksThrough D.Disk disk.old disk.new pages.old pages.new }
+    ensures faults { FailsAs Stop.Fault IsStop result (D.failures disk.old) (D.failures disk.new) }
+{
+    let mut source = Paged::over(disk, pages);
+    desktop.characters(alloc, &mut source)
 }
 
 /// What the desktop has.

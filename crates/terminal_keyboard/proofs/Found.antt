@@ -1,7 +1,7 @@
 -- Spelled presses are found again.
 use Rattle.std.proofs.Common.{◌≡◌, ℕ, ◌+◌, ◌-◌, ◌*◌, ◌<◌, ◌≤◌, Bool, true, false, List, [], ◌∷◌, ◌++◌}
 use Rattle.std.proofs.Common.{Some, None, nat_eq, refl, sym, ap, subst, ◌∙◌, arith, inl, inr, min}
-use Rattle.std.specs.Prelude.{◌&&◌, ◌||◌, ◌==◌, not, nat_le, nat_lt, Option}
+use Rattle.std.specs.Prelude.{◌||◌, ◌==◌, not, nat_le, nat_lt, Option}
 use Rattle.std.specs.List.{list_all, filter_map, cons_option}
 use Rattle.std.proofs.lemmas.Bool.Decides.{nat_tests}
 use Rattle.event_bytes.specs.Bytes.{lies_within, is_digit, is_text_byte}
@@ -381,9 +381,9 @@ abbrev corner : ℕ → ℕ → Corner
 corner column row = record { column = column; row = row }
 
 abbrev Again : Button → Bool → ℕ → ℕ → Bool → Bool → Bool → Type 0
-Again button down column row alt control shift =
-    reported_press (numbers mark.Mouse 2 (report_number (report_with down alt control button (corner column row)) shift) column
-    row) down ≡ moved_with down alt control button (corner column row)
+Again button down column row shift alt control =
+    reported_press (numbers mark.Mouse 2 (report_number (report_with down shift alt control button (corner column row))) column
+    row) down ≡ moved_with down shift alt control button (corner column row)
 
 by_bools : (P : Bool → Bool → Bool → Type 0) → P true true true → P true true false → P true false true
     → P true false false → P false true true → P false true false → P false false true → P false false false
@@ -397,31 +397,31 @@ by_bools P s t u v w x y z false true false = x
 by_bools P s t u v w x y z false false true = y
 by_bools P s t u v w x y z false false false = z
 
-reported_again : (button : Button) (down alt control shift : Bool) (column row : ℕ)
-    → Again button down column row alt control shift
+reported_again : (button : Button) (down shift alt control : Bool) (column row : ℕ)
+    → Again button down column row shift alt control
 unfolding reported_press
-reported_again Left down alt control shift column row =
-    by_bools (Again Left down column row) refl refl refl refl refl refl refl refl alt control shift
-reported_again Middle down alt control shift column row =
-    by_bools (Again Middle down column row) refl refl refl refl refl refl refl refl alt control shift
-reported_again Right down alt control shift column row =
-    by_bools (Again Right down column row) refl refl refl refl refl refl refl refl alt control shift
+reported_again Left down shift alt control column row =
+    by_bools (Again Left down column row) refl refl refl refl refl refl refl refl shift alt control
+reported_again Middle down shift alt control column row =
+    by_bools (Again Middle down column row) refl refl refl refl refl refl refl refl shift alt control
+reported_again Right down shift alt control column row =
+    by_bools (Again Right down column row) refl refl refl refl refl refl refl refl shift alt control
 
-abbrev reporting : MouseReport → Bool → Parser
-reporting report shift = amid (numbers mark.Mouse 2 (report_number report shift) report.column report.row)
+abbrev reporting : MouseReport → Parser
+reporting report = amid (numbers mark.Mouse 2 (report_number report) report.column report.row)
 
-abbrev ReportEnds : MouseReport → Bool → ℕ → Type 0
-ReportEnds report shift last =
-    (parser_after (reporting report shift) (bytes_heard (last ∷ [])) ≡ at_rest)
-    × (presses_heard (reporting report shift) (bytes_heard (last ∷ [])) ≡ Mouse report ∷ [])
+abbrev ReportEnds : MouseReport → ℕ → Type 0
+ReportEnds report last =
+    (parser_after (reporting report) (bytes_heard (last ∷ [])) ≡ at_rest)
+    × (presses_heard (reporting report) (bytes_heard (last ∷ [])) ≡ Mouse report ∷ [])
 
-report_ends : (button : Button) (down alt control shift : Bool) (column row : ℕ)
-    → ReportEnds (report_with down alt control button (corner column row)) shift (report_end down)
+report_ends : (button : Button) (down shift alt control : Bool) (column row : ℕ)
+    → ReportEnds (report_with down shift alt control button (corner column row)) (report_end down)
 unfolding heard_by sequence_after after_byte after_sequence is_digit sequence_end moused
-report_ends button true alt control shift column row =
-    (refl, rw (reported_again button true alt control shift column row) refl)
-report_ends button false alt control shift column row =
-    (refl, rw (reported_again button false alt control shift column row) refl)
+report_ends button true shift alt control column row =
+    (refl, rw (reported_again button true shift alt control column row) refl)
+report_ends button false shift alt control column row =
+    (refl, rw (reported_again button false shift alt control column row) refl)
 
 report_begins : (text : List ℕ)
     → Goes at_rest (bytes_heard (27 ∷ 91 ∷ 60 ∷ text)) (amid (numbers mark.Mouse 0 0 0 0)) (bytes_heard text)
@@ -451,8 +451,8 @@ mouse_found n column row last press text is e =
 
 report_found : (report : MouseReport) (text : List ℕ) → IsReport report text → Finds (Mouse report) (bytes_heard text)
 report_found report text is =
-    mouse_found (report_number report is.0) report.column report.row (report_end report.is_down) (Mouse report) text is.1
-    (report_ends report.button report.is_down report.with_alt report.with_control is.0 report.column report.row)
+    mouse_found (report_number report) report.column report.row (report_end report.is_down) (Mouse report) text is
+    (report_ends report.button report.is_down report.with_shift report.with_alt report.with_control report.column report.row)
 
 abbrev wheel_of : Bool → ℕ → ℕ → WheelReport
 wheel_of up column row = record { is_up = up; column = column; row = row }
@@ -508,12 +508,19 @@ alt_found : Finds (Control 25) (bytes_heard (byte_with_alt 122))
 unfolding heard_by sequence_after after_byte after_ground grounded after_escape
 alt_found = (refl, refl)
 
+alt_f_found : Finds (Control 2) (bytes_heard (byte_with_alt 102))
+unfolding heard_by sequence_after after_byte after_ground grounded after_escape
+alt_f_found = (refl, refl)
+
 control_found : (b : ℕ) (text : List ℕ) → IsControlSpelled b text → Finds (Control b) (bytes_heard text)
 control_found b text (inl is) =
     subst (λ t. Finds (Control b) (bytes_heard t)) (sym is.1) (found_by b (Control b) (control_grounded b is.0))
-control_found b text (inr is) =
+control_found b text (inr (inl is)) =
     subst (λ t. Finds (Control b) (bytes_heard t)) (sym is.1)
     (subst (λ n. Finds (Control n) (bytes_heard (byte_with_alt 122))) (sym is.0) alt_found)
+control_found b text (inr (inr is)) =
+    subst (λ t. Finds (Control b) (bytes_heard t)) (sym is.1)
+    (subst (λ n. Finds (Control n) (bytes_heard (byte_with_alt 102))) (sym is.0) alt_f_found)
 
 spelled_found : (press : Press) (text : List ℕ) → SpellsPress press text → Finds press (bytes_heard text)
 spelled_found (Character b) text is =
@@ -574,23 +581,26 @@ escape_alone b more low =
     let letter : nat_eq b 79 ≡ false = grind (arith, nat_tests) in
     let digit : nat_le 49 b ≡ false = grind (arith, nat_tests) in
     let again : nat_eq b 122 ≡ false = grind (arith, nat_tests) in
+    let before : nat_eq b 102 ≡ false = grind (arith, nat_tests) in
     let space : nat_eq b 32 ≡ false = grind (arith, nat_tests) in
     let below : nat_lt b 32 ≡ true = grind (arith, nat_tests) in
     let e = preceded_is (grounded b) in
-    rw (bracket, letter, digit, space, again, below, e.0, e.1) refl
+    rw (bracket, letter, digit, space, again, before, below, e.0, e.1) refl
 
 pub alt_alone : (b : ℕ) (more : List Heard) → is_alone_with_alt b ≡ true
     → presses_heard at_rest (Byte 27 ∷ Byte b ∷ more) ≡ Unknown ∷ presses_heard at_rest more
 unfolding heard_by sequence_after after_byte after_ground grounded after_escape
 alt_alone b more is =
-    let keys = (b == 122) || lies_within 49 55 b in
+    let f = (b == 102) || lies_within 49 55 b in
+    let keys = (b == 122) || f in
     let (above, others) = none_of (nat_le b 32) ((b == 79) || ((b == 91) || keys)) (is_not _ is) in
     let (letter, rest) = none_of (b == 79) ((b == 91) || keys) others in
     let (bracket, these) = none_of (b == 91) keys rest in
-    let (again, digit) = none_of (b == 122) (lies_within 49 55 b) these in
+    let (again, last) = none_of (b == 122) f these in
+    let (before, digit) = none_of (b == 102) (lies_within 49 55 b) last in
     let space : nat_eq b 32 ≡ false = grind (arith, nat_tests) in
     let high : nat_lt b 32 ≡ false = grind (arith, nat_tests) in
-    rw (bracket, letter, digit, space, again, high) refl
+    rw (bracket, letter, digit, space, again, before, high) refl
 
 -- ---- what is pasted
 

@@ -1,5 +1,6 @@
 -- A host file on its way in: whether it is, what is told of it next, and how it begins and ends.
-use Rattle.std.specs.Prelude.{◌≡◌, ◌<◌, ◌⊎◌, ℕ, Bool, true, false, List, Option, Some, None}
+use Rattle.std.specs.Prelude.{◌≡◌, ◌<◌, ◌⊎◌, ℕ, Bool, true, false, List, Option, Some, None, Result, Ok, Err, ⊤}
+use Rattle.host_files.specs.declared.HostFault.{HostFault}
 use Rattle.std.specs.Io.KnownBytes.{IsAtEnd}
 use Rattle.terminal_presses.specs.declared.press.Heard.{Heard}
 use Rattle.terminal_keyboard.specs.declared.paste.HostPaste.{HostPaste}
@@ -23,6 +24,11 @@ abbrev pub IsUntold : {R : Type 0} → ℕ → List ℕ → Option (HostPaste R)
 IsUntold most name None = ⊥
 IsUntold most name (Some paste) =
     (paste.name.items ≡ name) × (paste.stage ≡ Begins) × (paste.left ≡ most)
+
+-- what is answered where this is the text of a file, or why there is none
+abbrev pub answer_of : {R : Type 0} → Result (HostPaste R) HostFault → Result ⊤ HostFault
+answer_of (Ok paste) = Ok tt
+answer_of (Err why) = Err why
 
 module _ {R : Type 0} (remaining : R → Option (List ℕ)) where
   -- What is told next of a text, and the bytes that are read for it. The text ends where no more may be read or the

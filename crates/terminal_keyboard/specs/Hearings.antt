@@ -1,8 +1,10 @@
 -- What is heard at one time.
 use Rattle.std.specs.Prelude.{◌≡◌, ◌≤◌, ◌<◌, ◌-◌, ◌^◌, ◌⊎◌, ℕ, suc, Bool, true, false, ◌==◌, ◌||◌, ◌&&◌}
 use Rattle.std.specs.Prelude.{if◌then◌else◌, List, [], ◌∷◌, ◌++◌, length}
-use Rattle.std.specs.Prelude.{Option, Some, None}
+use Rattle.std.specs.Prelude.{Option, Some, None, Result, Ok, Err, ⊤}
 use Rattle.std.specs.Io.KnownBytes.{IsAtEnd}
+use Rattle.host_files.specs.declared.HostFault.{HostFault}
+use Rattle.host_files.specs.Faults.{fault_number}
 use Rattle.terminal_presses.specs.declared.press.Heard.{Heard}
 use Rattle.terminal_presses.specs.declared.press.Heard.TheVariants.{Byte, Quiet}
 use Rattle.terminal_keyboard.specs.declared.keyboard.KeyboardEnd.{KeyboardEnd}
@@ -50,9 +52,14 @@ abbrev pub kept_for_later : Option (List Heard) → List Heard
 kept_for_later None = []
 kept_for_later (Some heard) = heard
 
--- a name that is asked for, and behind it whether its text will be heard
-abbrev pub asked_for : List ℕ → Bool → List ℕ
-asked_for name will_be_heard = name ++ (if will_be_heard then 1 else 0) ∷ []
+-- what is answered where a name is asked for, as a number: its text will be heard, or why it won't be
+abbrev pub answer_number : Result ⊤ HostFault → ℕ
+answer_number (Ok done) = 0
+answer_number (Err why) = fault_number why
+
+-- a name that is asked for, and behind it what is answered
+abbrev pub asked_for : List ℕ → Result ⊤ HostFault → List ℕ
+asked_for name answer = name ++ answer_number answer ∷ []
 
 -- A reader, with these bytes left, has come to this end: it gives no more, and the host says that it is no terminal; or a
 -- read has failed. After as many reads as can be counted that gave nothing to tell it counts as failed too.

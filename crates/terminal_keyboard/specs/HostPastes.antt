@@ -18,10 +18,10 @@ paste_ends = 27 ∷ 91 ∷ 50 ∷ 48 ∷ 49 ∷ 126 ∷ []
 abbrev pub file_fails : List ℕ
 file_fails = 27 ∷ 91 ∷ 50 ∷ 48 ∷ 50 ∷ 126 ∷ []
 
--- an escape byte of a text is told as a question mark, and any other byte as itself: so nothing of a text is a key, and
--- nothing of it ends the paste
+-- An escape byte of a text is told as a byte that can't be typed, of which a paste makes a question mark, and any other byte
+-- as itself: so nothing of a text is a key, and nothing of it ends the paste.
 unfoldable pub harmless : ℕ → ℕ
-harmless b = if b == 27 then 63 else b
+harmless b = if b == 27 then 28 else b
 
 -- What is told of a text at one time, and the bytes that are read for it. `left` is how many bytes may still be read.
 pub data TellsText : Stage → ℕ → Stage → ℕ → List ℕ → List Heard → Type 0 where

@@ -1,7 +1,7 @@
 -- What was pressed, as a function of what was heard.
 use Rattle.std.specs.Prelude.{ℕ, ◌+◌, ◌-◌, ◌*◌, ◌/◌, ◌%◌, Bool, true, false, ◌==◌, ◌||◌, not, nat_lt, nat_le, min}
 use Rattle.std.specs.Prelude.{◌&&◌, if◌then◌else◌, List, [], ◌∷◌, ◌++◌, Option, Some, None, slice_get}
-use Rattle.event_bytes.specs.Bytes.{lies_within, is_digit, is_text_byte}
+use Rattle.event_bytes.specs.Bytes.{lies_within, is_digit}
 use Rattle.terminal_presses.specs.declared.press.Heard.{Heard}
 use Rattle.terminal_presses.specs.declared.press.Heard.TheVariants.{Byte, Quiet}
 use Rattle.terminal_presses.specs.declared.press.Button.{Button}
@@ -15,7 +15,7 @@ use Rattle.terminal_presses.specs.declared.press.FunctionKey.{FunctionKey}
 use Rattle.terminal_presses.specs.declared.press.FunctionKey.TheVariants.{F1, F2, F3, F4, F5, F6, F7, F8, F9, F10}
 use Rattle.terminal_presses.specs.declared.press.FunctionKey.TheVariants.{F11, F12}
 use Rattle.terminal_presses.specs.declared.press.Press.{Press}
-use Rattle.terminal_presses.specs.declared.press.Press.TheVariants.{Character, Foreign, Control, Back, Delete, Escape}
+use Rattle.terminal_presses.specs.declared.press.Press.TheVariants.{Control, Delete, Escape}
 use Rattle.terminal_presses.specs.declared.press.Press.TheVariants.{Arrow}
 use Rattle.terminal_presses.specs.declared.press.Press.TheVariants.{Page, Function, Mouse, PasteBegins, PasteEnds, Size}
 use Rattle.terminal_presses.specs.declared.press.Press.TheVariants.{Leap, Scroll, Wheel, FileFails, Unknown}
@@ -27,7 +27,7 @@ use Rattle.terminal_keyboard.specs.declared.place.Numbers.{Numbers}
 use Rattle.terminal_keyboard.specs.declared.place.SequencePlace.{SequencePlace}
 use Rattle.terminal_keyboard.specs.declared.place.SequencePlace.TheVariants as place
 use Rattle.terminal_keyboard.specs.declared.parser.Parser.{Parser}
-use Rattle.terminal_presses.specs.declared.hand.TheConstants.{CONTROL_Y}
+use Rattle.terminal_presses.specs.declared.hand.TheConstants.{CONTROL_B, CONTROL_Y}
 use Rattle.terminal_presses.specs.Singles.{escape_byte, single}
 
 -- ---- bytes between spellings
@@ -177,13 +177,15 @@ wheel_press s is_down =
     press_listed (λ is_up. Wheel (record { is_up = is_up; column = s.second; row = s.third }))
     (slice_get (true ∷ false ∷ []) (s.first % 4))
 
--- a button's number has 8 more with Alt and 16 more with Ctrl; from 32 on it is a motion, the wheel or a further button
+-- a button's number has 4 more with Shift, 8 more with Alt and 16 more with Ctrl; from 32 on it is a motion, the wheel or
+-- a further button
 unfoldable pub reported_press : Numbers → Bool → Press
 reported_press s is_down =
     if nat_le 32 s.first then wheel_press s is_down else
     press_listed (λ button. Mouse (record {
       button = button;
       is_down = is_down;
+      with_shift = s.first / 4 % 2 == 1;
       with_alt = s.first / 8 % 2 == 1;
       with_control = s.first / 16 % 2 == 1;
       column = s.second;
@@ -232,8 +234,8 @@ unfoldable pub after_ground : ℕ → SequencePlace × Presses
 after_ground b = press_alone (grounded b)
 
 -- [ or O go on with a spelling, and a digit from 1 to 7 is Alt with it: a function key, and so is a space. Alt with z is
--- Ctrl with y. With any other byte above the space it is the key Alt, and means nothing. Before a byte below that it was a key of its
--- own.
+-- Ctrl with y, and Alt with f is Ctrl with b. With any other byte above the space it is the key Alt, and means nothing.
+-- Before a byte below that it was a key of its own.
 unfoldable pub after_escape : ℕ → SequencePlace × Presses
 after_escape b =
     if b == 91 then (place.Sequence no_numbers, Nothing) else
@@ -241,7 +243,8 @@ after_escape b =
     (if lies_within 49 55 b then (place.Ground, One (function_at (b - 49))) else
     (if b == 32 then (place.Ground, One (Function F11)) else
     (if b == 122 then (place.Ground, One (Control CONTROL_Y)) else
-    (if nat_lt b 32 then preceded Escape (grounded b) else (place.Ground, One Unknown))))))
+    (if b == 102 then (place.Ground, One (Control CONTROL_B)) else
+    (if nat_lt b 32 then preceded Escape (grounded b) else (place.Ground, One Unknown)))))))
 
 unfoldable pub after_shift : ℕ → SequencePlace × Presses
 after_shift b = if lies_within 32 126 b then (place.Ground, One (lettered b)) else cut_off b

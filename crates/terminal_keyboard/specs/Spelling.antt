@@ -23,7 +23,7 @@ use Rattle.terminal_presses.specs.declared.press.Press.TheVariants.{Character, F
 use Rattle.terminal_presses.specs.declared.press.Press.TheVariants.{Arrow}
 use Rattle.terminal_presses.specs.declared.press.Press.TheVariants.{Page, Function, Mouse, PasteBegins, PasteEnds, Size}
 use Rattle.terminal_presses.specs.declared.press.Press.TheVariants.{Leap, Scroll, Wheel, FileFails, Unknown}
-use Rattle.terminal_presses.specs.declared.hand.TheConstants.{CONTROL_Y}
+use Rattle.terminal_presses.specs.declared.hand.TheConstants.{CONTROL_B, CONTROL_Y}
 
 -- ---- numbers
 
@@ -54,9 +54,10 @@ abbrev pub number_held : ℕ → Bool → Bool → Bool → ℕ
 number_held n shift alt control =
     n + (if shift then 4 else 0) + (if alt then 8 else 0) + (if control then 16 else 0)
 
-abbrev pub report_number : MouseReport → Bool → ℕ
-report_number report shift =
-    number_held (button_number report.button) shift report.with_alt report.with_control
+abbrev pub report_number : MouseReport → ℕ
+report_number report =
+    number_held (button_number report.button) report.with_shift report.with_alt
+    report.with_control
 
 -- a turn upward, or downward
 abbrev pub wheel_number : Bool → ℕ
@@ -74,9 +75,7 @@ pub record IsMouseText (n column row end : ℕ) (text : List ℕ) : Type 0 where
 
 abbrev pub IsReport : MouseReport → List ℕ → Type 0
 IsReport report text =
-    (shift : Bool)
-    × IsMouseText (report_number report shift) report.column report.row
-    (report_end report.is_down) text
+    IsMouseText (report_number report) report.column report.row (report_end report.is_down) text
 
 -- whichever keys are held with it
 abbrev pub IsWheel : WheelReport → List ℕ → Type 0
@@ -110,7 +109,8 @@ is_control b = nat_lt b 32 && not (is_text_byte b || ((b == 8) || (b == 27)))
 -- a byte that is pressed with Alt, and goes on with no spelling of a key
 abbrev pub is_alone_with_alt : ℕ → Bool
 is_alone_with_alt b =
-    not (nat_le b 32 || ((b == 79) || ((b == 91) || ((b == 122) || lies_within 49 55 b))))
+    not (nat_le b 32
+    || ((b == 79) || ((b == 91) || ((b == 122) || ((b == 102) || lies_within 49 55 b)))))
 
 -- an escape byte and [, and those bytes
 abbrev pub key_sequence : List ℕ → List ℕ
@@ -209,10 +209,11 @@ abbrev pub IsOneOf : List (List ℕ) → List ℕ → Type 0
 IsOneOf [] text = ⊥
 IsOneOf (one ∷ others) text = (text ≡ one) ⊎ IsOneOf others text
 
--- the byte itself; Ctrl with y is also Alt with z
+-- the byte itself; Ctrl with y is also Alt with z, and Ctrl with b Alt with f
 abbrev pub IsControlSpelled : ℕ → List ℕ → Type 0
 IsControlSpelled b text = (IsTrue (is_control b) × (text ≡ b ∷ []))
-    ⊎ ((b ≡ CONTROL_Y) × (text ≡ byte_with_alt 122))
+    ⊎ (((b ≡ CONTROL_Y) × (text ≡ byte_with_alt 122))
+    ⊎ ((b ≡ CONTROL_B) × (text ≡ byte_with_alt 102)))
 
 -- the bytes that spell a press; those of the key Escape are told apart by what comes after them
 abbrev pub SpellsPress : Press → List ℕ → Type 0

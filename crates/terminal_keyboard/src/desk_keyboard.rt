@@ -1,13 +1,17 @@
 //! A terminal and files of the host's as one keyboard.
-ghost use Rattle.std.specs.Prelude.{◌≡◌, ◌≢◌, ◌++◌, Bool, true, false, Some, None, [], IfOk, IfErr, IfSome, IsNone, OnErr};
+ghost use Rattle.std.specs.Prelude.{◌≡◌, ◌≢◌, ◌++◌, true, false, Some, None, [], IfOk, IfErr, IfSome, IsNone, OnErr, OnOk};
+ghost use Rattle.std.specs.Prelude.{option_map, string_bytes};
 ghost use Rattle.std.specs.Io.KnownBytes.{Consumes};
 ghost use Rattle.terminal_keyboard.specs.Hearings.{IsWithinLine, heard_bytes};
-ghost use Rattle.terminal_keyboard.specs.Bringing.{IsUntold, TellsFile, is_coming};
+ghost use Rattle.terminal_keyboard.specs.Bringing.{IsUntold, TellsFile, answer_of, is_coming};
+ghost use Rattle.terminal_keyboard.specs.Homes.{cause_of, path_meant};
+ghost use Rattle.terminal_keyboard.specs.Hearings.{answer_number};
 ghost use Rattle.terminal_keyboard.specs.declared.desk_keyboard.TheConstants.{MOST_BROUGHT};
 
+use crate::home::{behind_home, folder_of, path_meant};
 use crate::paste::HostPaste;
 use crate::{Hearing, KeySource, Keyboard, KeyboardEnd, Trace};
-use host_files::open_regular;
+use host_files::{HostFault, home_folder, open_regular};
 use std::fs::File;
 use std::io::Read;
 use terminal_presses::Heard;
@@ -19,13 +23,15 @@ pub const MOST_BROUGHT: u64 = 262_144;
 ///
 /// A file is told whole before the terminal is heard again, as if it were pasted: first an escape byte and `[200~`,
 /// then its bytes, 64 at a time, and at the end an escape byte and `[201~`. Where a read of it fails, it ends there, and
-/// an escape byte and `[202~` come behind. An escape byte of the file is told as a question mark, so nothing in it is a
-/// key. LF and CR LF are told as they are, since a paste makes carriage returns of them (`texts_are_typed`). The
+/// an escape byte and `[202~` come behind. An escape byte of the file is told as a byte that can't be typed, so nothing in
+/// it is a key. LF and CR LF are told as they are, since a paste makes carriage returns of them (`texts_are_typed`). The
 /// terminal tells no more at one time than to the end of a line, with which the name of a file ends too: so all that was
 /// pressed behind the name is heard after the file.
 #[derive(Drop)]
 pub struct DeskKeyboard<'a, K> {
     host: &'a HostRuntime,
+    /// The home folder, if there is one.
+    home: Option<String>,
     terminal: K,
     brought: Option<HostPaste<File>>,
     log: Trace<Heard>,
@@ -42,6 +48,7 @@ impl<'a, K: KeySource> DeskKeyboard<'a, K> {
     {
         DeskKeyboard {
             host,
+            home: home_folder(host),
             terminal,
             brought: None,
             log: Trace::new(),
@@ -80,8 +87,8 @@ impl<K: KeySource> Keyboard for DeskKeyboard<'_, K> {
 
     ghost ended = { λ k why. K.ended k.terminal why };
 
-    ghost answers = { λ _ new name will. will ≡ true
-        → IsUntold MOST_BROUGHT name new.brought };
+    ghost answers = { λ _ new name answer. OnOk answer
+        (IsUntold MOST_BROUGHT (path_meant (option_map string_bytes new.home) name) new.brought) };
 
     fn hear(&mut self) -> Result<Hearing, KeyboardEnd> {
         let hearing = match self.told_of_file() {
@@ -92,21 +99,68 @@ impl<K: KeySource> Keyboard for DeskKeyboard<'_, K> {
         Ok(hearing)
     }
 
-    /// The file has to be a regular one of `MOST_BROUGHT` bytes at most.
-    fn bring(&mut self, name: &[u8]) -> bool {
-        self.brought = paste_of(self.host, name);
-        let will_be_heard = self.brought.is_some();
+    /// The file has to be a regular one of `MOST_BROUGHT` bytes at most. In front of its name a tilde stands for the home
+    /// folder, where there is one.
+    fn bring(&mut self, name: &[u8]) -> Result<(), HostFault> {
+        let brought = paste_of(self.host, &self.home, name);
+        let answer = answer_of(&brought);
+        self.brought = brought.ok();
         self.asked.add(name);
-        self.asked.add(&[will_be_heard as u8]);
-        will_be_heard
+        self.asked.add(&[number_of(answer)]);
+        answer
     }
 }
 
-/// The text of the file of that name. None where it can't be read, is no regular one, or is too long.
-fn paste_of(host: &HostRuntime, name: &[u8]) -> Option<HostPaste<File>>
-    ensures untold { IfSome result (λ paste. IsUntold MOST_BROUGHT name.now (Some paste)) }
+/// What is answered where this is the text of a file, or why there is none.
+fn answer_of<R: Drop>(brought: &Result<HostPaste<R>, HostFault>) -> Result<(), HostFault>
+    ensures { result ≡ answer_of brought.now }
 {
-    let path = str::from_utf8(name).ok()?;
-    let file = open_regular(host, path, MOST_BROUGHT).ok()?;
-    Some(HostPaste::new(file, MOST_BROUGHT, name))
+    match brought {
+        Ok(_) => Ok(()),
+        Err(why) => Err(*why),
+    }
+}
+
+/// An answer as a number.
+fn number_of(answer: Result<(), HostFault>) -> u8
+    ensures { result ≡ answer_number answer }
+{
+    match answer {
+        Ok(()) => 0,
+        Err(why) => why.number(),
+    }
+}
+
+/// The text of the file of that name, where this is the home folder.
+///
+/// Errors: those of `open_regular`; `NoHome` where there is no such file, and no folder for the tilde of its name.
+fn paste_of(
+    host: &HostRuntime,
+    home: &Option<String>,
+    name: &[u8],
+) -> Result<HostPaste<File>, HostFault>
+    ensures untold { IfOk result (λ paste.
+        IsUntold MOST_BROUGHT (path_meant (option_map string_bytes home.now) name.now)
+        (Some paste)) }
+{
+    let Ok(path) = path_meant(host.alloc(), folder_of(home), name) else {
+        return Err(HostFault::NoMemory);
+    };
+    let Ok(text) = str::from_utf8(path.as_slice()) else {
+        return Err(HostFault::Refused);
+    };
+    match open_regular(host, text, MOST_BROUGHT) {
+        Ok(file) => Ok(HostPaste::new(file, MOST_BROUGHT, path.as_slice())),
+        Err(fault) => Err(cause_of(fault, home.is_none(), name)),
+    }
+}
+
+/// Why a file isn't opened that a person has named.
+fn cause_of(fault: HostFault, is_homeless: bool, name: &[u8]) -> HostFault
+    ensures { result ≡ cause_of fault is_homeless name.now }
+{
+    match fault {
+        HostFault::Missing if is_homeless && behind_home(name).is_some() => HostFault::NoHome,
+        other => other,
+    }
 }

@@ -1,10 +1,11 @@
 //! What every keyboard is and promises.
-ghost use Rattle.std.specs.Prelude.{◌≡◌, ◌++◌, ℕ, Bool, true, false, [], List, Option, IfOk, IfErr, OnErr};
+ghost use Rattle.std.specs.Prelude.{◌≡◌, ◌++◌, ℕ, Bool, true, false, [], List, Option, IfOk, IfErr, OnErr, is_ok};
 ghost use Rattle.std.specs.Io.KnownBytes.{Consumes};
 ghost use Rattle.terminal_presses.specs.declared.press.Heard.{Heard};
 ghost use Rattle.terminal_keyboard.specs.Hearings.{IsWithinLine, asked_for, heard_bytes};
 
 use crate::hearing::Hearing;
+use host_files::HostFault;
 
 /// Why a keyboard tells no more.
 #[derive(Clone, Copy, Debug, PartialEq, Eq)]
@@ -43,6 +44,8 @@ pub trait KeySource {
 /// A terminal, and files of the host's whose texts are brought in.
 pub trait Keyboard {
     ghost use Rattle.terminal_keyboard.specs.declared.keyboard.KeyboardEnd.{KeyboardEnd};
+    ghost use Rattle.std.specs.Prelude.{Result, ⊤};
+    ghost use Rattle.host_files.specs.declared.HostFault.{HostFault};
 
     /// All that was heard so far, in order.
     ghost heard: { Self → List Heard };
@@ -50,7 +53,8 @@ pub trait Keyboard {
     /// The bytes of the terminal that are still to be heard, where they are known.
     ghost left: { Self → Option (List ℕ) };
 
-    /// The names for which `bring` was called so far: the bytes of each, and behind them what was answered, as 1 or 0.
+    /// The names for which `bring` was called so far: the bytes of each, and behind them what was answered: 0, or the
+    /// number of the cause.
     ghost asked: { Self → List ℕ };
 
     /// Whether the text of a host file is on its way in.
@@ -63,7 +67,7 @@ pub trait Keyboard {
     ghost tells: { Self → Self → List Heard → Type 0 };
 
     /// In a call of `bring` from the one to the other, of this name, this was answered.
-    ghost answers: { Self → Self → List ℕ → Bool → Type 0 };
+    ghost answers: { Self → Self → List ℕ → Result ⊤ HostFault → Type 0 };
 
     /// Waits for what is heard next. It is of a host file until all of that is told, and of the terminal else, where it
     /// goes no further than to the end of a line. No file comes that `bring` wasn't called for. `Closed`: nothing more
@@ -80,12 +84,13 @@ pub trait Keyboard {
         ensures none { OnErr result (Consumes (left self.old) (left self.new) []) }
         ensures cause { IfErr result (λ why. ended self.new why) };
 
-    /// Has the text of a host file be heard next, as a paste, and says whether it will be. It won't where there is no
-    /// such file, or it can't be read. Nothing is heard in this call.
-    fn bring(&mut self, name: &[u8]) -> bool
+    /// Has the text of a host file be heard next, as a paste, or says why it won't be. Nothing is heard in this call.
+    ///
+    /// Errors: those of `open_regular`; `NoHome`.
+    fn bring(&mut self, name: &[u8]) -> Result<(), HostFault>
         ensures silent { heard self.new ≡ heard self.old }
         ensures asked { asked self.new ≡ asked self.old ++ asked_for name.now result }
         ensures answered { answers self.old self.new name.now result }
         ensures unread { left self.new ≡ left self.old }
-        ensures brings { brings self.new ≡ result };
+        ensures brings { brings self.new ≡ is_ok result };
 }

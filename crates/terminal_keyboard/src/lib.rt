@@ -11,6 +11,7 @@
 
 mod desk_keyboard;
 mod hearing;
+mod home;
 mod keyboard;
 mod laws;
 mod parser;

@@ -8,7 +8,7 @@ ghost use Rattle.terminal_keyboard.specs.Presses.{at_rest, heard_by};
 use crate::place::{Mark, Numbers, SequencePlace};
 use crate::sequence::{function, lettered};
 use event_bytes::is_digit;
-use terminal_presses::{CONTROL_Y, ESCAPE, FunctionKey, Heard, Press, Presses};
+use terminal_presses::{CONTROL_B, CONTROL_Y, ESCAPE, FunctionKey, Heard, Press, Presses};
 
 /// What was heard of a terminal so far, as far as later presses depend on it.
 #[derive(Clone, Copy)]
@@ -132,6 +132,11 @@ fn after_escape(byte: u8) -> (SequencePlace, Presses)
         (
             SequencePlace::Ground,
             Presses::One(Press::Control(CONTROL_Y)),
+        )
+    } else if byte == b'f' {
+        (
+            SequencePlace::Ground,
+            Presses::One(Press::Control(CONTROL_B)),
         )
     } else if byte < b' ' {
         preceded(Press::Escape, grounded(byte))

@@ -19,6 +19,9 @@ const PASTE_BREAKS: [u8; 12] = [27, 91, 50, 48, 49, 126, 27, 91, 50, 48, 50, 126
 /// The byte of the key Escape.
 const ESCAPE: u8 = 27;
 
+/// What is told for it: a byte that can't be typed, and is no key of the desk.
+const SEPARATOR: u8 = 28;
+
 /// How far a paste has come.
 #[derive(Clone, Copy)]
 pub(crate) enum Stage {
@@ -151,10 +154,10 @@ fn make_harmless(text: &mut [u8])
     }
 }
 
-/// The byte, or a question mark where it is an escape byte.
+/// The byte, or another one that can't be typed where it is an escape byte.
 #[tactic(auto, unfolding(crate::specs::HostPastes::harmless))]
 fn harmless(byte: u8) -> u8
     ensures { result ≡ harmless byte }
 {
-    if byte == ESCAPE { b'?' } else { byte }
+    if byte == ESCAPE { SEPARATOR } else { byte }
 }

@@ -1,5 +1,6 @@
 //! A keyboard for tests.
-ghost use Rattle.std.specs.Prelude.{◌≡◌, ◌≤◌, [], false, None, length, min, take, drop, IfOk, IfErr, OnErr};
+ghost use Rattle.std.specs.Prelude.{◌≡◌, ◌≤◌, [], false, None, Err, length, min, take, drop, IfOk, IfErr, OnErr};
+ghost use Rattle.host_files.specs.declared.HostFault.TheVariants.{Missing};
 ghost use Rattle.terminal_keyboard.specs.declared.keyboard.KeyboardEnd.TheVariants.{Closed};
 ghost use Rattle.terminal_keyboard.specs.Hearings.{IsWithinLine};
 ghost use Rattle.terminal_keyboard.specs.declared.hearing.TheConstants.{MOST_HEARD};
@@ -7,6 +8,7 @@ ghost use Rattle.terminal_keyboard.specs.declared.hearing.TheConstants.{MOST_HEA
 use crate::Trace;
 use crate::hearing::{Hearing, MOST_HEARD, line_length};
 use crate::keyboard::{Keyboard, KeyboardEnd};
+use host_files::HostFault;
 use terminal_presses::Heard;
 
 /// A keyboard that tells what a script says, in pieces of one length that end with a line at the latest, and is closed
@@ -54,7 +56,7 @@ impl Keyboard for ScriptedKeyboard<'_> {
 
     ghost ended = { λ k why. (why ≡ Closed) × (k.told ≡ length k.script.now) };
 
-    ghost answers = { λ _ _ _ will. will ≡ false };
+    ghost answers = { λ _ _ _ answer. answer ≡ Err Missing };
 
     fn hear(&mut self) -> Result<Hearing, KeyboardEnd> {
         let left = self.script.len() - self.told;
@@ -70,9 +72,9 @@ impl Keyboard for ScriptedKeyboard<'_> {
     }
 
     /// A script has no host files.
-    fn bring(&mut self, name: &[u8]) -> bool {
+    fn bring(&mut self, name: &[u8]) -> Result<(), HostFault> {
         self.asked.add(name);
-        self.asked.add(&[0]);
-        false
+        self.asked.add(&[HostFault::Missing.number()]);
+        Err(HostFault::Missing)
     }
 }

@@ -362,6 +362,7 @@ impl Numbers {
             Some(button) => Press::Mouse(MouseReport {
                 button: *button,
                 is_down,
+                with_shift: self.first / 4 % 2 == 1,
                 with_alt: self.first / 8 % 2 == 1,
                 with_control: self.first / 16 % 2 == 1,
                 column: self.second,

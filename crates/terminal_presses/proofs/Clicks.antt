@@ -1,6 +1,6 @@
 -- What gestures of the mouse come to.
-use Rattle.std.proofs.Common.{◌≡◌, Bool, true, false, List, [], ◌∷◌, ◌++◌, Some, None, refl, ap, subst, ◌∙◌}
-use Rattle.std.specs.Prelude.{Option, not}
+use Rattle.std.proofs.Common.{◌≡◌, Bool, true, false, List, [], ◌∷◌, ◌++◌, Some, None, refl, ap, subst, sym, ◌∙◌}
+use Rattle.std.specs.Prelude.{◌||◌, Option, not}
 use Rattle.event_bytes.specs.declared.keys.Keys.TheVariants as keys
 use Rattle.terminal_presses.specs.declared.press.Button.{Button}
 use Rattle.terminal_presses.specs.declared.press.Button.TheVariants.{Left, Middle, Right}
@@ -14,15 +14,16 @@ use Rattle.terminal_presses.specs.Sights.{Sight}
 use Rattle.terminal_presses.specs.declared.action.Click.{Click}
 use Rattle.terminal_presses.specs.declared.action.Click.TheVariants.{Mark, Keys}
 use Rattle.terminal_presses.specs.declared.action.Action.{Action}
-use Rattle.terminal_presses.specs.declared.action.Action.TheVariants.{Nothing}
+use Rattle.terminal_presses.specs.declared.action.Action.TheVariants.{Extend, Nothing}
 use Rattle.terminal_presses.specs.declared.hand.Hand.{Hand}
+use Rattle.terminal_presses.specs.declared.asks.Asks.TheVariants.{File}
 use Rattle.terminal_presses.specs.Gestures.{no_buttons, with_button, keys_with_button, click_called, pressed_more}
 use Rattle.terminal_presses.specs.Gestures.{released, released_at}
 use Rattle.terminal_presses.specs.Hands.{resting, pointed_at, idle, by_function, armed_with, is_armed_with}
-use Rattle.terminal_presses.specs.Hands.{click_meant, begun, gone_down, rested, gone_up, hand_after_button}
+use Rattle.terminal_presses.specs.Hands.{click_meant, begun, gone_down, rested, gone_up, extending, hand_after_button}
 use Rattle.terminal_presses.specs.Hands.{fresh, by_question, handled}
 use Rattle.terminal_presses.specs.Runs.{events_of_action, hand_after, posted_events, MakesEvents, Corner, is_seen}
-use Rattle.terminal_presses.specs.Runs.{down_with, down, up, button_alone, together}
+use Rattle.terminal_presses.specs.Runs.{down_with, down, up, up_with, button_alone, together}
 use Rattle.terminal_presses.specs.Runs.{mouse_at, click_event, says, spot_at, AreThree}
 use Rattle.terminal_presses.specs.declared.spot.Spot.{Spot}
 use Rattle.terminal_presses.specs.declared.pointer.Pointer.{Pointer}
@@ -42,7 +43,7 @@ held pointer click sight button start = record {
   gesture = Some (record { click = click; start = spot_at sight start; down = with_button button true no_buttons });
   paste = None;
   asked = None;
-  asks_line = false;
+  asks = File;
   pointer = mouse_at sight start pointer;
 }
 
@@ -81,13 +82,30 @@ pub one_button : (sight : Sight) (pointer : Pointer) (button : Button) (start en
 one_button sight pointer button start end seen =
     after_one (seen_down sight pointer button start seen) (one_up sight pointer button start end)
 
+-- a right click that extends what is selected
+abbrev Extends : Sight → Pointer → Corner → Corner → Press → Hand → Type 0
+Extends sight pointer start end press hand =
+    handled sight press hand ≡ (resting (mouse_at sight end pointer), Extend (spot_at sight start) (spot_at sight end))
+
+held_up : (sight : Sight) (pointer : Pointer) (shift alt control : Bool) (start end : Corner) → shift || alt ≡ true
+    → Extends sight pointer start end (up_with shift alt control Right end) (held pointer (Some (Keys keys.Right)) sight Right start)
+unfolding handled by_question fresh hand_after_button gone_up rested released released_at extending
+held_up sight pointer shift alt control start end with_key = rw with_key refl
+
+pub extended : (sight : Sight) (pointer : Pointer) (shift alt control : Bool) (start end : Corner) → shift || alt ≡ true
+    → is_seen sight start ≡ true
+    → Extends sight pointer start end (up_with shift alt control Right end) (hand_after sight (resting pointer) (down Right start ∷ []))
+extended sight pointer shift alt control start end with_key seen =
+    subst (λ (x : Hand × Action). Extends sight pointer start end (up_with shift alt control Right end) x.0)
+    (sym (seen_down sight pointer Right start seen)) (held_up sight pointer shift alt control start end with_key)
+
 -- the same of a hand that has begun outside the display
 abbrev held_outside : Sight → Button → Corner → Hand → Hand
 held_outside sight button start hand = record hand {
   gesture = Some (record { click = None; start = spot_at sight start; down = with_button button true no_buttons });
   paste = None;
   asked = None;
-  asks_line = false;
+  asks = File;
   pointer = mouse_at sight start hand.pointer;
 }
 
@@ -199,7 +217,7 @@ off pointer sight start last = record {
   });
   paste = None;
   asked = None;
-  asks_line = false;
+  asks = File;
   pointer = mouse_at sight last pointer;
 }
 
@@ -261,7 +279,7 @@ armed pointer click = record {
   gesture = None;
   paste = None;
   asked = None;
-  asks_line = false;
+  asks = File;
   pointer = started pointer;
 }
 

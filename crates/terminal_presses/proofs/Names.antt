@@ -12,10 +12,11 @@ use Rattle.terminal_presses.specs.declared.press.Press.TheVariants.{Character, E
 use Rattle.terminal_presses.specs.declared.action.Action.{Action}
 use Rattle.terminal_presses.specs.declared.action.Action.TheVariants.{Nothing, TypeFile}
 use Rattle.terminal_presses.specs.declared.hand.Hand.{Hand}
+use Rattle.terminal_presses.specs.declared.asks.Asks.TheVariants.{File}
 use Rattle.terminal_presses.specs.Sights.{Sight}
-use Rattle.terminal_presses.specs.HostNames.{is_host_byte, is_host_name}
+use Rattle.host_names.specs.HostNames.{is_host_byte, is_host_name}
 use Rattle.terminal_presses.specs.Asking.{entered, lengthened, name_after_byte, answered, pasted_name}
-use Rattle.terminal_presses.specs.Hands.{idle, asking, answering, pasting_name, by_question, handled}
+use Rattle.terminal_presses.specs.Hands.{idle, asking, answered_on, answering, pasting_name, by_question, handled}
 use Rattle.terminal_presses.specs.Pastes.{new_paste}
 use Rattle.terminal_presses.specs.Singles.{single}
 use Rattle.terminal_presses.specs.Runs.{events_of_action, hand_after, posted_events, MakesEvents, name_byte}
@@ -28,7 +29,7 @@ no_return b is = grind (arith, nat_tests)
 byte_typed : (sight : Sight) (hand : Hand) (b : ℕ) (name : List ℕ) → is_host_byte b ≡ true
     → nat_lt (length name) 255 ≡ true
     → handled sight (Character b) (asking name hand) ≡ (asking (name ++ b ∷ []) hand, Nothing)
-unfolding handled by_question answering answered name_after_byte lengthened
+unfolding handled by_question answered_on answering answered name_after_byte lengthened
 byte_typed sight hand b name is room = rw (no_return b is, is, room) refl
 
 -- what is typed of a name, and then the rest of it
@@ -61,20 +62,20 @@ name_typed sight hand name is =
 
 pub name_entered : (sight : Sight) (hand : Hand) (name : List ℕ) → 1 ≤ length name
     → handled sight (Character 13) (asking name hand) ≡ (idle hand, TypeFile name)
-unfolding handled by_question answering answered name_after_byte entered
+unfolding handled by_question answered_on answering answered name_after_byte entered
 name_entered sight hand [] least = absurd (omega arith)
 name_entered sight hand (b ∷ name) least = refl
 
 pub name_called_off : (sight : Sight) (hand : Hand) (name : List ℕ)
     → handled sight Escape (asking name hand) ≡ (idle hand, Nothing)
-unfolding handled by_question answering answered
+unfolding handled by_question answered_on answering answered
 name_called_off sight hand name = refl
 
 -- ---- the name is pasted
 
 -- the hand while the name is pasted
 abbrev naming : List ℕ → Hand → Hand
-naming name hand = record hand { paste = Some new_paste; asked = Some name; asks_line = false }
+naming name hand = record hand { paste = Some new_paste; asked = Some name; asks = File }
 
 abbrev in_some : Option Press → List Press
 in_some None = []
@@ -94,7 +95,7 @@ no_name_byte name b other = rw other refl
 
 text_named : (sight : Sight) (hand : Hand) (name : List ℕ) (b : ℕ) → nat_eq b 27 ≡ false → is_text_byte b ≡ true
     → IsNamed sight hand name b
-unfolding handled by_question pasting_name pasted_name lengthened single
+unfolding handled by_question answered_on pasting_name pasted_name lengthened single
 text_named sight hand name b no_escape is =
     by_test (is_host_byte b && nat_lt (length name) 255)
     (λ e. record { hand_is = rw (no_escape, is, e) refl; events_are = rw (no_escape, is, e) refl })
@@ -102,7 +103,7 @@ text_named sight hand name b no_escape is =
 
 low_named : (sight : Sight) (hand : Hand) (name : List ℕ) (b : ℕ) → nat_eq b 27 ≡ false → is_text_byte b ≡ false
     → nat_eq b 8 ≡ false → nat_eq b 127 ≡ false → nat_lt b 32 ≡ true → IsNamed sight hand name b
-unfolding handled by_question pasting_name pasted_name single
+unfolding handled by_question answered_on pasting_name pasted_name single
 low_named sight hand name b no_escape no_text no_back no_delete low =
     let other : is_host_byte b ≡ false = grind (arith, nat_tests) in
     record {
@@ -116,7 +117,7 @@ high_no_name b no_text high = grind (arith, nat_tests)
 
 high_named : (sight : Sight) (hand : Hand) (name : List ℕ) (b : ℕ) → nat_eq b 27 ≡ false → is_text_byte b ≡ false
     → nat_eq b 8 ≡ false → nat_eq b 127 ≡ false → nat_lt b 32 ≡ false → IsNamed sight hand name b
-unfolding handled by_question pasting_name pasted_name single
+unfolding handled by_question answered_on pasting_name pasted_name single
 high_named sight hand name b no_escape no_text no_back no_delete high =
     let other = high_no_name b no_text high in
     by_test (nat_lt b 192)
@@ -136,7 +137,7 @@ record FollowTheirRules (sight : Sight) (hand : Hand) (name : List ℕ) : Type 0
   delete : IsNamed sight hand name 127
 
 ruled : (sight : Sight) (hand : Hand) (name : List ℕ) → FollowTheirRules sight hand name
-unfolding handled by_question pasting_name pasted_name single is_text_byte
+unfolding handled by_question answered_on pasting_name pasted_name single is_text_byte
 ruled sight hand name = record {
   escape = record { hand_is = refl; events_are = refl };
   back = record { hand_is = refl; events_are = refl };
@@ -174,7 +175,7 @@ after_byte {sight} {hand} {next} (Some press) presses one more =
 
 text_pasted : (sight : Sight) (hand : Hand) (name text : List ℕ)
     → MakesEvents sight (naming name hand) (filter_map single text ++ PasteEnds ∷ []) (asking (name_with name text) hand) []
-unfolding handled by_question pasting_name
+unfolding handled by_question answered_on pasting_name
 text_pasted sight hand name [] = record { hand_is = refl; events_are = refl }
 text_pasted sight hand name (b ∷ text) =
     let more = text_pasted sight hand (name_byte name b) text in
@@ -184,7 +185,7 @@ text_pasted sight hand name (b ∷ text) =
 
 pub name_pasted : (sight : Sight) (hand : Hand) (name text : List ℕ)
     → MakesEvents sight (asking name hand) (paste_of text) (asking (name_with name text) hand) []
-unfolding handled by_question answering
+unfolding handled by_question answered_on answering
 name_pasted sight hand name text =
     let rest = text_pasted sight hand name text in
     record { hand_is = rest.hand_is; events_are = rest.events_are }

@@ -20,6 +20,7 @@ use Rattle.terminal_presses.specs.declared.action.Action.{Action}
 use Rattle.terminal_presses.specs.declared.action.Action.TheVariants.{Nothing, Post}
 use Rattle.terminal_presses.specs.declared.paste.Paste.{Paste}
 use Rattle.terminal_presses.specs.declared.hand.Hand.{Hand}
+use Rattle.terminal_presses.specs.declared.asks.Asks.TheVariants.{File}
 use Rattle.terminal_presses.specs.Singles.{single}
 use Rattle.terminal_presses.specs.Pastes.{typing_action, added, in_profile, pasted_byte, with_byte, after_line_feed}
 use Rattle.terminal_presses.specs.Pastes.{pasted_more}
@@ -200,7 +201,7 @@ typed_types (c ∷ cs) after_return waiting waits =
 -- ---- presses while a paste goes on
 
 abbrev amid : Hand → Paste → Hand
-amid hand p = record hand { paste = Some p; asked = None; asks_line = false }
+amid hand p = record hand { paste = Some p; asked = None; asks = File }
 
 -- the terminal's size doesn't count, where nothing is dropped
 record GoesOn (press : Press) (p : Paste) : Type 0 where

@@ -1,6 +1,5 @@
--- The name of a host file, or the number of a line, as it is asked for and typed.
-use Rattle.std.specs.Prelude.{ℕ, ◌+◌, ◌-◌, ◌*◌, ◌^◌, Bool, false, ◌==◌, ◌&&◌, ◌||◌, not, nat_lt, if◌then◌else◌, min}
-use Rattle.std.specs.Prelude.{fold}
+-- The name of a host file, the number of a line, or words that are sought, as they are asked for and typed.
+use Rattle.std.specs.Prelude.{ℕ, Bool, true, false, ◌==◌, ◌&&◌, ◌||◌, not, nat_lt, if◌then◌else◌}
 use Rattle.std.specs.Prelude.{List, [], ◌∷◌, ◌++◌, length, Option, Some, None}
 use Rattle.event_bytes.specs.Bytes.{is_digit}
 use Rattle.terminal_presses.specs.declared.press.FunctionKey.{FunctionKey}
@@ -12,9 +11,10 @@ use Rattle.terminal_presses.specs.declared.press.Press.TheVariants.{Page, Functi
 use Rattle.terminal_presses.specs.declared.press.Press.TheVariants.{Leap, Scroll, Wheel, FileFails, Unknown}
 use Rattle.terminal_presses.specs.declared.action.Action.{Action}
 use Rattle.terminal_presses.specs.declared.action.Action.TheVariants.{Nothing, Ring, LookAnew}
-use Rattle.terminal_presses.specs.declared.action.Action.TheVariants.{Leave, TypeFile, GoTo, Move, Fit}
-use Rattle.terminal_presses.specs.declared.hand.TheConstants.{CONTROL_L, CONTROL_Q}
-use Rattle.terminal_presses.specs.HostNames.{is_host_byte, but_last}
+use Rattle.terminal_presses.specs.declared.action.Action.TheVariants.{Find, Leave, TypeFile, GoTo, Move, Fit}
+use Rattle.terminal_presses.specs.declared.hand.TheConstants.{CONTROL_B, CONTROL_F, CONTROL_L, CONTROL_Q}
+use Rattle.host_names.specs.declared.host_name.TheConstants.{MOST_SOUGHT}
+use Rattle.host_names.specs.HostNames.{is_host_byte, but_last, line_number}
 use Rattle.terminal_presses.specs.Pastes.{line_feed, return}
 
 -- the name as far as it is typed, where one is still asked for, and what is done
@@ -98,13 +98,6 @@ pasted_name Unknown name = (Some name, Nothing)
 
 -- ---- a line
 
--- The number that digits make of one in front of them, as far as it is counted.
-abbrev pub longer_line : ℕ → ℕ → ℕ
-longer_line n b = min (n * 10 + (b - 48)) (2 ^ 32 - 1)
-
-abbrev pub line_number : List ℕ → ℕ
-line_number digits = fold longer_line 0 digits
-
 -- what is entered as a name where a line is asked for is its number
 abbrev pub line_meant : Action → Action
 line_meant (TypeFile digits) = GoTo (line_number digits)
@@ -114,3 +107,33 @@ line_meant a = a
 abbrev pub is_no_digit : Press → Bool
 is_no_digit (Character b) = not (is_digit b || (b == return))
 is_no_digit _ = false
+
+-- ---- words
+
+-- a byte more, where it can stand among words and there is room
+unfoldable pub longer_words : ℕ → List ℕ → Asked
+longer_words b words =
+    if nat_lt (length words) MOST_SOUGHT then lengthened b words else (Some words, Ring)
+
+-- a carriage return ends them; there may be none
+unfoldable pub words_after_byte : Bool → ℕ → List ℕ → Asked
+words_after_byte before b words =
+    if b == return then (None, Find words before) else longer_words b words
+
+-- Ctrl-J ends them as well, and so does Ctrl-F, which seeks them behind the caret, and Ctrl-B, which seeks them before it
+unfoldable pub controlled_words : Bool → ℕ → List ℕ → Asked
+controlled_words before b words =
+    if b == line_feed then (None, Find words before) else
+    (if b == CONTROL_F then (None, Find words false) else
+    (if b == CONTROL_B then (None, Find words true) else controlled_name b words))
+
+-- what a press comes to while words are asked for that are sought before the caret, or behind it
+unfoldable pub answered_words : Bool → Press → List ℕ → Asked
+answered_words before (Character b) words = words_after_byte before b words
+answered_words before (Control b) words = controlled_words before b words
+answered_words before press words = answered press words
+
+-- and within a paste
+unfoldable pub pasted_words : Press → List ℕ → Asked
+pasted_words (Character b) words = longer_words b words
+pasted_words press words = pasted_name press words

@@ -1,8 +1,9 @@
 -- What presses come to.
-use Rattle.std.specs.Prelude.{ℕ, Bool, true, false, ◌==◌, ◌&&◌, not, if◌then◌else◌, List, [], ◌∷◌}
+use Rattle.std.specs.Prelude.{ℕ, Bool, true, false, ◌==◌, ◌&&◌, ◌||◌, not, if◌then◌else◌, List, [], ◌∷◌}
 use Rattle.std.specs.Prelude.{Option, Some, None, is_some, option_map, unwrap_or}
 use Rattle.event_bytes.specs.Bytes.{tabulator}
-use Rattle.event_bytes.specs.declared.event.Event.TheVariants.{Key}
+use Rattle.event_bytes.specs.declared.event.Event.{Event}
+use Rattle.event_bytes.specs.declared.event.Event.TheVariants.{Key, Point}
 use Rattle.event_bytes.specs.declared.keys.Key.TheVariants as key
 use Rattle.event_bytes.specs.declared.keys.Keys.TheVariants as keys
 use Rattle.terminal_presses.specs.declared.press.Button.{Button}
@@ -29,23 +30,26 @@ use Rattle.terminal_presses.specs.declared.pointer.Pointer.{Pointer}
 use Rattle.terminal_presses.specs.declared.pointer.TheConstants.{LEAP}
 use Rattle.terminal_presses.specs.declared.action.Action.{Action}
 use Rattle.terminal_presses.specs.declared.action.Action.TheVariants.{Nothing, Post, Ring, LookAnew, Leave, Undo, Redo}
-use Rattle.terminal_presses.specs.declared.action.Action.TheVariants.{Search, Store, Replace, Fill, Seek}
+use Rattle.terminal_presses.specs.declared.action.Action.TheVariants.{Search, SearchBefore, Store, Replace, Fill, Seek}
 use Rattle.terminal_presses.specs.declared.action.Action.TheVariants.{Move, Step, CallLine, Fit, FileFailed}
-use Rattle.terminal_presses.specs.declared.action.Action.TheVariants.{Select, SelectAll, CutLine}
+use Rattle.terminal_presses.specs.declared.action.Action.TheVariants.{Select, SelectAll, CutLine, Refill, Extend}
 use Rattle.terminal_presses.specs.declared.action.Action.TheVariants as action
 use Rattle.terminal_presses.specs.declared.gesture.Gesture.{Gesture}
 use Rattle.terminal_presses.specs.declared.paste.Paste.{Paste}
+use Rattle.terminal_presses.specs.declared.asks.Asks.{Asks}
+use Rattle.terminal_presses.specs.declared.asks.Asks.TheVariants as asked_for
 use Rattle.terminal_presses.specs.declared.hand.Hand.{Hand}
 use Rattle.terminal_presses.specs.declared.hand.TheConstants.{CONTROL_C, CONTROL_E, CONTROL_F, CONTROL_G, CONTROL_L}
-use Rattle.terminal_presses.specs.declared.hand.TheConstants.{CONTROL_A, CONTROL_K}
+use Rattle.terminal_presses.specs.declared.hand.TheConstants.{CONTROL_A, CONTROL_B, CONTROL_K}
 use Rattle.terminal_presses.specs.declared.hand.TheConstants.{CONTROL_O, CONTROL_Q}
-use Rattle.terminal_presses.specs.declared.hand.TheConstants.{CONTROL_R, CONTROL_S, CONTROL_T, CONTROL_V, CONTROL_W}
+use Rattle.terminal_presses.specs.declared.hand.TheConstants.{CONTROL_R, CONTROL_S, CONTROL_T, CONTROL_U, CONTROL_V, CONTROL_W}
 use Rattle.terminal_presses.specs.declared.hand.TheConstants.{CONTROL_X, CONTROL_Y, CONTROL_Z}
 use Rattle.terminal_presses.specs.Gestures.{no_buttons, is_none_down, is_down, with_button, pressed_more, released}
 use Rattle.terminal_presses.specs.Gestures.{released_at}
 use Rattle.terminal_presses.specs.Pointers.{nowhere, moved_to, laid_aside, toggled, started, spot_moved, begins_at}
 use Rattle.terminal_presses.specs.Pointers.{pointed_cell, unpointed}
-use Rattle.terminal_presses.specs.Asking.{Asked, answered, is_no_digit, line_meant, pasted_name}
+use Rattle.terminal_presses.specs.Asking.{Asked, answered, answered_words, is_no_digit, line_meant, pasted_name}
+use Rattle.terminal_presses.specs.Asking.{pasted_words}
 use Rattle.terminal_presses.specs.Pastes.{line_feed, return, typing_action, new_paste, dropped, pasted_on}
 
 -- a hand with which nothing is under way, and where it points
@@ -55,7 +59,7 @@ resting pointer = record {
   gesture = None;
   paste = None;
   asked = None;
-  asks_line = false;
+  asks = asked_for.File;
   pointer = pointer;
 }
 
@@ -65,18 +69,19 @@ new_hand = resting nowhere
 
 -- a hand that isn't amid a paste, nor amid an answer
 abbrev pub idle : Hand → Hand
-idle hand = record hand { paste = None; asked = None; asks_line = false }
+idle hand = record hand { paste = None; asked = None; asks = asked_for.File }
 
 -- a hand of which a name is asked for, as far as it is typed
 abbrev pub asking : List ℕ → Hand → Hand
-asking name hand = record hand { paste = None; asked = Some name; asks_line = false }
+asking name hand = record hand { paste = None; asked = Some name; asks = asked_for.File }
 
 -- ---- keys
 
--- what Ctrl comes to with A, C, E, F, J, K, L, Q, R, S, T, V, W, X, Y and Z; another letter rings
+-- what Ctrl comes to with A, B, C, E, F, J, K, L, Q, R, S, T, U, V, W, X, Y and Z; another letter rings
 unfoldable pub control : ℕ → Action
 control b =
     if b == CONTROL_A then SelectAll else
+    (if b == CONTROL_B then SearchBefore else
     (if b == CONTROL_C then Post (Key key.Copy) else
     (if b == CONTROL_E then CallLine else
     (if b == CONTROL_F then Search else
@@ -87,11 +92,12 @@ control b =
     (if b == CONTROL_R then Replace else
     (if b == CONTROL_S then Store else
     (if b == CONTROL_T then action.Mark else
+    (if b == CONTROL_U then Refill else
     (if b == CONTROL_V then Post (Key key.Paste) else
     (if b == CONTROL_W then Fill else
     (if b == CONTROL_X then Post (Key key.Cut) else
     (if b == CONTROL_Y then Redo else
-    (if b == CONTROL_Z then Undo else Ring)))))))))))))))
+    (if b == CONTROL_Z then Undo else Ring)))))))))))))))))
 
 -- Where a function key has said what the next click is, the click is what it says by itself again, and no more. Else a
 -- pointer that is shown is put away, and no more.
@@ -101,14 +107,21 @@ hand_after_escape hand =
     (if is_some hand.pointer.shown then (record hand { pointer = laid_aside hand.pointer }, Nothing)
     else (hand, Post (Key key.Escape)))
 
--- the name of a host file is asked for, or a line
-abbrev pub asks : Bool → Hand → Hand × Action
-asks line hand = (record hand { asked = Some []; asks_line = line }, Nothing)
+-- that is asked for
+abbrev pub hand_asking : Asks → Hand → Hand
+hand_asking what hand = record hand { asked = Some []; asks = what }
+
+-- the words that are sought behind the caret, or before it
+abbrev pub words_asked : Bool → Asks
+words_asked before = if before then asked_for.WordsBefore else asked_for.Words
+
+abbrev pub asks_for : Asks → Hand → Hand × Action
+asks_for what hand = (hand_asking what hand, Nothing)
 
 -- Ctrl-G asks for a line, and Ctrl-O for a name
 unfoldable pub controlled : ℕ → Hand → Hand × Action
-controlled b hand = if b == CONTROL_G then asks true hand
-    else (if b == CONTROL_O then asks false hand else (hand, control b))
+controlled b hand = if b == CONTROL_G then asks_for asked_for.Line hand
+    else (if b == CONTROL_O then asks_for asked_for.File hand else (hand, control b))
 
 -- what a click is that a key makes: what a function key has said, and else that of the left button
 abbrev pub click_by_key : Option Click → Click
@@ -170,7 +183,7 @@ by_function sight F4 hand = armed_with (Keys keys.LeftMiddle) hand.pointer.shown
 by_function sight F5 hand = armed_with (Keys keys.LeftRight) hand.pointer.shown hand
 by_function sight F6 hand = armed_with (Keys keys.RightLeft) hand.pointer.shown hand
 by_function sight F7 hand = armed_with (Keys keys.RightMiddle) hand.pointer.shown hand
-by_function sight F8 hand = asks false hand
+by_function sight F8 hand = asks_for asked_for.File hand
 by_function sight F9 hand = (hand, LookAnew)
 by_function sight F10 hand = (hand, Leave)
 by_function sight F11 hand = (record hand { pointer = toggled sight hand.pointer }, Nothing)
@@ -225,10 +238,27 @@ unfoldable pub gone_up : Option Gesture → Button → Spot → Hand → Hand ×
 gone_up None button spot hand = (hand, Nothing)
 gone_up (Some gesture) button spot hand = rested (released button gesture) spot hand
 
+-- With Shift or Alt a right click extends what is selected: most terminals keep Shift with the mouse to themselves.
+abbrev pub extends : MouseReport → Bool
+extends report = report.with_shift || report.with_alt
+
+abbrev pub extending_event : Event → Action
+extending_event (Point keys.Right x0 y0 x1 y1) =
+    Extend (record { x = x0; y = y0 }) (record { x = x1; y = y1 })
+extending_event event = Post event
+
+unfoldable pub extending : Action → Action
+extending (Post event) = extending_event event
+extending a = a
+
+abbrev pub extending_if : Bool → Hand × Action → Hand × Action
+extending_if extends next = if extends then (next.0, extending next.1) else next
+
 unfoldable pub hand_after_button : Sight → MouseReport → Hand → Hand × Action
 hand_after_button sight report hand =
     if report.is_down then (gone_down hand.gesture sight report hand, Nothing) else
-    gone_up hand.gesture report.button (spot_of sight report) hand
+    extending_if (extends report)
+    (gone_up hand.gesture report.button (spot_of sight report) hand)
 
 -- the mouse points where a report has told it last; outside the display it points nowhere
 abbrev pub pointed_at : Sight → ℕ → ℕ → Hand → Hand
@@ -335,7 +365,7 @@ pasting_name name press hand =
     else with_asked (pasted_name press name) hand
 
 -- what a press comes to while an answer is asked for
-abbrev pub answered_on : List ℕ → Press → Hand → Hand × Action
+unfoldable pub answered_on : List ℕ → Press → Hand → Hand × Action
 answered_on name press hand =
     if is_pasting hand.paste then pasting_name name press hand else answering name press hand
 
@@ -347,12 +377,33 @@ unfoldable pub numbered : List ℕ → Press → Hand → Hand × Action
 numbered name press hand = if is_no_digit press then (hand, Ring) else
     meant_as_line (answered_on name press hand)
 
+-- and while that is words
+unfoldable pub answering_words : Bool → List ℕ → Press → Hand → Hand × Action
+answering_words before words press hand =
+    if begins_paste press then (record hand { paste = Some new_paste }, Nothing) else
+    with_asked (answered_words before press words) hand
+
+unfoldable pub pasting_words : List ℕ → Press → Hand → Hand × Action
+pasting_words words press hand =
+    if ends_paste press then (after_paste hand, Nothing)
+    else with_asked (pasted_words press words) hand
+
+unfoldable pub worded : Bool → List ℕ → Press → Hand → Hand × Action
+worded before words press hand = if is_pasting hand.paste then pasting_words words press hand
+    else answering_words before words press hand
+
+-- by what is asked for
+abbrev pub asked_on : Asks → List ℕ → Press → Hand → Hand × Action
+asked_on asked_for.File name press hand = answered_on name press hand
+asked_on asked_for.Line name press hand = numbered name press hand
+asked_on asked_for.Words name press hand = worded false name press hand
+asked_on asked_for.WordsBefore name press hand = worded true name press hand
+
 -- where nothing is asked for, a paste is a text; where it is, it is the answer
 unfoldable pub by_question : Sight → Option (List ℕ) → Press → Hand → Hand × Action
 by_question sight None press hand =
     if is_pasting hand.paste then pasting hand.paste press hand else fresh sight press hand
-by_question sight (Some name) press hand =
-    if hand.asks_line then numbered name press hand else answered_on name press hand
+by_question sight (Some name) press hand = asked_on hand.asks name press hand
 
 -- a hand and a press give a hand and an action, where this part of the display is in sight
 unfoldable pub handled : Sight → Press → Hand → Hand × Action

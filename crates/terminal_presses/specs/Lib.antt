@@ -1,7 +1,6 @@
 pub mod Asking
 pub mod Gestures
 pub mod Hands
-pub mod HostNames
 pub mod Outcomes
 pub mod Pastes
 pub mod Pointers

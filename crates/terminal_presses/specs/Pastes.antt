@@ -1,5 +1,5 @@
 -- What is pasted, and the events that type it.
-use Rattle.std.specs.Prelude.{ℕ, ◌+◌, Bool, true, false, ◌==◌, nat_lt, if◌then◌else◌, List, [], ◌∷◌, ◌++◌}
+use Rattle.std.specs.Prelude.{ℕ, ◌+◌, Bool, true, false, ◌==◌, ◌&&◌, not, nat_lt, if◌then◌else◌, List, [], ◌∷◌, ◌++◌}
 use Rattle.std.specs.Prelude.{length}
 use Rattle.std.specs.Prelude.{Option, Some, None}
 use Rattle.event_bytes.specs.Bytes.{is_text_byte, is_typed_bytes}
@@ -52,6 +52,19 @@ pasted_byte PasteEnds = None
 pasted_byte (Size rows columns) = None
 pasted_byte FileFails = None
 pasted_byte Unknown = None
+
+-- whether a byte of it becomes a question mark
+abbrev pub is_unfit : ℕ → Bool
+is_unfit b = not (b == line_feed) && not (is_text_byte b)
+
+-- whether a press is a character of it that becomes one
+unfoldable pub becomes_mark : Press → Bool
+becomes_mark (Character b) = is_unfit b
+becomes_mark Foreign = true
+becomes_mark (Control b) = is_unfit b
+becomes_mark Back = true
+becomes_mark Escape = true
+becomes_mark _ = false
 
 abbrev pub new_paste : Paste
 new_paste = record { after_return = false; bytes = []; drops = false }

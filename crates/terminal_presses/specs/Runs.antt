@@ -31,7 +31,7 @@ use Rattle.terminal_presses.specs.declared.spot.Spot.{Spot}
 use Rattle.terminal_presses.specs.declared.pointer.Pointer.{Pointer}
 use Rattle.terminal_presses.specs.Singles.{single}
 use Rattle.terminal_presses.specs.Hands.{handled}
-use Rattle.terminal_presses.specs.HostNames.{is_host_byte}
+use Rattle.host_names.specs.HostNames.{is_host_byte}
 
 -- ---- runs of presses
 
@@ -80,28 +80,33 @@ mouse_at sight at pointer = record pointer { mouse = seen_spot sight at }
 abbrev pub spot_at : Sight → Corner → Spot
 spot_at sight at = spot_in sight at.column at.row
 
--- a button goes down or up, with the keys Alt and Ctrl or without them
-abbrev pub report_with : Bool → Bool → Bool → Button → Corner → MouseReport
-report_with down alt control button at = record {
+-- a button goes down or up, with the keys Shift, Alt and Ctrl or without them
+abbrev pub report_with : Bool → Bool → Bool → Bool → Button → Corner → MouseReport
+report_with down shift alt control button at = record {
   button = button;
   is_down = down;
+  with_shift = shift;
   with_alt = alt;
   with_control = control;
   column = at.column;
   row = at.row;
 }
 
-abbrev pub moved_with : Bool → Bool → Bool → Button → Corner → Press
-moved_with down alt control button at = Mouse (report_with down alt control button at)
+abbrev pub moved_with : Bool → Bool → Bool → Bool → Button → Corner → Press
+moved_with down shift alt control button at =
+    Mouse (report_with down shift alt control button at)
 
 abbrev pub down_with : Bool → Bool → Button → Corner → Press
-down_with alt control button at = moved_with true alt control button at
+down_with alt control button at = moved_with true false alt control button at
 
 abbrev pub down : Button → Corner → Press
 down button at = down_with false false button at
 
+abbrev pub up_with : Bool → Bool → Bool → Button → Corner → Press
+up_with shift alt control button at = moved_with false shift alt control button at
+
 abbrev pub up : Button → Corner → Press
-up button at = moved_with false false false button at
+up button at = up_with false false false button at
 
 abbrev pub button_alone : Button → MouseKeys
 button_alone button.Left = Left

@@ -1,9 +1,9 @@
 //! What a press comes to.
 
-use crate::host_name::HostName;
 use crate::press::{Arrow, Page, Scroll};
 use crate::spot::Spot;
 use event_bytes::{Event, Keys};
+use host_names::HostName;
 
 /// What the next click is to be, or one that has begun.
 #[derive(Clone, Copy, Debug, PartialEq, Eq)]
@@ -39,8 +39,12 @@ pub enum Action {
     Scroll(Option<Spot>, Scroll),
     /// The text of the viewer of the caret moves to that line, counted from 1.
     GoTo(u32),
-    /// The pattern is searched on in the viewer of the caret.
+    /// What is selected is searched behind the caret, or it is asked for the words.
     Search,
+    /// The same before the caret.
+    SearchBefore,
+    /// These words are sought behind the caret, or before it. Where there is none, it is those that were sought last.
+    Find(HostName, bool),
     /// The text of the viewer of the caret becomes a document.
     Store,
     /// What the pattern was found at is replaced by what was typed the time before.
@@ -53,10 +57,15 @@ pub enum Action {
     Step(Arrow),
     /// The caret goes a step, and what it passes is selected.
     Select(Arrow),
+    /// What is selected is extended from its farther end to the second cell. Where nothing is in the viewer of the first cell, a
+    /// right click goes from there to the second one.
+    Extend(Spot, Spot),
     /// All of the caret's text is selected.
     SelectAll,
     /// The caret's line is cut.
     CutLine,
+    /// The caret's paragraph is filled.
+    Refill,
     /// The character after the caret is deleted.
     Delete,
     /// The command of the caret's line is called.

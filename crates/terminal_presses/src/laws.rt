@@ -1,15 +1,15 @@
 //! What holds of all presses.
-ghost use Rattle.std.specs.Prelude.{◌≡◌, ℕ, ◌+◌, ◌<◌, ◌≤◌, ◌⊎◌, Bool, true, false, ◌==◌, not, List, [], ◌∷◌, ◌++◌};
+ghost use Rattle.std.specs.Prelude.{◌≡◌, ℕ, ◌+◌, ◌<◌, ◌≤◌, ◌⊎◌, Bool, true, false, ◌==◌, ◌||◌, not, List, [], ◌∷◌, ◌++◌};
 ghost use Rattle.std.specs.Prelude.{IsTrue, Some, None, length, map};
 ghost use Rattle.std.specs.List.{list_all};
 ghost use Rattle.event_bytes.specs.declared.keys.Keys.TheVariants as keys;
 ghost use Rattle.terminal_presses.specs.declared.press.Button.{Button};
-ghost use Rattle.terminal_presses.specs.declared.press.Button.TheVariants.{Left};
+ghost use Rattle.terminal_presses.specs.declared.press.Button.TheVariants.{Left, Right};
 ghost use Rattle.terminal_presses.specs.declared.press.Arrow.{Arrow};
 ghost use Rattle.terminal_presses.specs.declared.press.FunctionKey.{FunctionKey};
 ghost use Rattle.terminal_presses.specs.declared.press.Press.{Press};
 ghost use Rattle.terminal_presses.specs.declared.press.Press.TheVariants.{Character, Escape, Function};
-ghost use Rattle.terminal_presses.specs.declared.action.Action.TheVariants.{Nothing, TypeFile};
+ghost use Rattle.terminal_presses.specs.declared.action.Action.TheVariants.{Extend, Nothing, TypeFile};
 ghost use Rattle.terminal_presses.specs.declared.action.Click.{Click};
 ghost use Rattle.terminal_presses.specs.declared.action.Click.TheVariants.{Keys};
 ghost use Rattle.terminal_presses.specs.Sights.{Sight, IsSight, columns_in_sight, first_column, spot_in};
@@ -19,10 +19,10 @@ ghost use Rattle.terminal_presses.specs.Pointers.{moved_to, laid_aside, spot_mov
 ghost use Rattle.terminal_presses.specs.declared.hand.Hand.{Hand};
 ghost use Rattle.viewer_tracks.specs.declared.display.TheConstants.{COLUMNS};
 ghost use Rattle.terminal_presses.specs.Hands.{resting, pointed_at, idle, asking, handled};
-ghost use Rattle.terminal_presses.specs.HostNames.{is_host_name};
+ghost use Rattle.host_names.specs.HostNames.{is_host_name};
 ghost use Rattle.terminal_presses.specs.Pastes.{return};
 ghost use Rattle.terminal_presses.specs.Runs.{hand_after, posted_events, MakesEvents, Corner, is_seen, mouse_at};
-ghost use Rattle.terminal_presses.specs.Runs.{down_with, down, up, button_alone};
+ghost use Rattle.terminal_presses.specs.Runs.{down_with, down, up, up_with, button_alone, spot_at};
 ghost use Rattle.terminal_presses.specs.Runs.{IsOnDisplay, drawing_by, drawn_event, drawn_pointer, pointing_to};
 ghost use Rattle.terminal_presses.specs.Runs.{name_with, together, click_event, says, AreThree, paste_of};
 ghost use Rattle.terminal_presses.specs.Runs.{pasted_text, Types};
@@ -60,7 +60,7 @@ pub fn spots_are_in_sight()
 /// One or two buttons that go down and are all up again, whichever goes up first, are one event: the keys as they went
 /// down, the cell of the first press and that of the last release. Three are none, and so is a click that begins where
 /// no cell is shown, as on the line below. The hand is then as it was, but that the pointer is where the last report
-/// has told it.
+/// has told it. With Shift or Alt, as it goes up, the right button extends what is selected.
 pub fn buttons_make_one_point()
     ensures one { (sight : Sight) (pointer : Pointer) (button : Button) (start end : Corner)
         → IsTrue (is_seen sight start)
@@ -91,6 +91,12 @@ pub fn buttons_make_one_point()
         → IsTrue (not (is_seen sight start))
         → MakesEvents sight (idle hand) (down button start ∷ up button end ∷ [])
         (pointed_at sight end.column end.row (idle hand)) [] }
+    ensures extends { (sight : Sight) (pointer : Pointer) (shift alt control : Bool)
+        (start end : Corner)
+        → IsTrue (shift || alt) → IsTrue (is_seen sight start)
+        → handled sight (up_with shift alt control Right end)
+        (hand_after sight (resting pointer) (down Right start ∷ []))
+        ≡ (resting (mouse_at sight end pointer), Extend (spot_at sight start) (spot_at sight end)) }
 {}
 
 /// With the left button alone there is every click: with Alt it is the middle one, with Ctrl the right one, and after a

@@ -3,7 +3,7 @@ ghost use Rattle.std.specs.Prelude.{◌≡◌, [], IsTrue};
 ghost use Rattle.event_bytes.specs.Bytes.{is_text_byte as text_byte};
 ghost use Rattle.terminal_presses.specs.Outcomes.{ComesTo};
 ghost use Rattle.terminal_presses.specs.Pastes.{typing_action as typed_by, added, in_profile as profile_byte};
-ghost use Rattle.terminal_presses.specs.Pastes.{pasted_byte};
+ghost use Rattle.terminal_presses.specs.Pastes.{becomes_mark, is_unfit, pasted_byte};
 ghost use Rattle.terminal_presses.specs.Pastes.{new_paste, dropped, with_byte, after_line_feed as line_fed};
 ghost use Rattle.terminal_presses.specs.Pastes.{pasted_more};
 ghost use Rattle.terminal_presses.specs.Pastes.{pasted_on, pasted_if_any};
@@ -187,6 +187,29 @@ fn in_profile(byte: u8) -> u8
     ensures typed { IsTrue (text_byte result) }
 {
     if is_text_byte(byte) { byte } else { b'?' }
+}
+
+/// Whether a byte of what is pasted becomes a question mark.
+fn is_unfit(byte: u8) -> bool
+    ensures { result ≡ is_unfit byte }
+{
+    byte != LINE_FEED && !is_text_byte(byte)
+}
+
+/// Whether a press within what is pasted is a character that becomes a question mark.
+#[tactic(auto, unfolding(crate::specs::Pastes::becomes_mark))]
+pub fn becomes_mark(press: Press) -> bool
+    ensures { result ≡ becomes_mark press }
+{
+    match press {
+        Press::Character(byte) | Press::Control(byte) => is_unfit(byte),
+        Press::Foreign | Press::Back | Press::Escape => true,
+        Press::Delete | Press::Arrow(_) | Press::Leap(_) | Press::Scroll(_) => false,
+        Press::Page(_) | Press::Function(_) => false,
+        Press::Mouse(_) | Press::Wheel(_) => false,
+        Press::PasteBegins | Press::PasteEnds | Press::Size(_, _) => false,
+        Press::FileFails | Press::Unknown => false,
+    }
 }
 
 /// The byte that a press is within what is pasted. None where it was no part of that.

@@ -1,6 +1,6 @@
 //! Where one points: with the mouse, or with a pointer that keys move.
 ghost use Rattle.std.specs.Prelude.{◌≡◌, ◌+◌, ◌<◌, min, IfSome};
-ghost use Rattle.terminal_presses.specs.Pointers.{nowhere, middle_of, appears, toggled as toggled_by, laid_aside};
+ghost use Rattle.terminal_presses.specs.Pointers.{nowhere, appears, toggled as toggled_by, laid_aside};
 ghost use Rattle.terminal_presses.specs.Pointers.{unpointed};
 ghost use Rattle.terminal_presses.specs.Pointers.{spot_moved, moved_to, begins_at, started, pointed_cell, pointer_cell};
 
@@ -103,7 +103,12 @@ impl Pointer {
     fn appears(self, sight: Sight) -> Spot
         ensures { result ≡ appears sight self }
     {
-        self.mouse.unwrap_or(self.left.unwrap_or(middle_of(sight)))
+        let middle = Spot::nearest(
+            sight,
+            u16::from(COLUMNS / 2),
+            u16::from(sight.rows() / 2 + 1),
+        );
+        self.mouse.unwrap_or(self.left.unwrap_or(middle))
     }
 
     /// Where a click begins that is made at that cell, where a function key has said what the next click is, or none has.
@@ -147,29 +152,36 @@ impl Spot {
         ensures { result ≡ spot_moved cells arrow self }
     {
         match arrow {
-            Arrow::Up => self.in_row(up(self.y, cells, ROWS - 1)),
-            Arrow::Down => self.in_row(self.y.saturating_sub(cells)),
-            Arrow::Right => self.in_column(up(self.x, cells, COLUMNS - 1)),
-            Arrow::Left => self.in_column(self.x.saturating_sub(cells)),
-            Arrow::Home => self.in_column(0),
-            Arrow::End => self.in_column(COLUMNS - 1),
-            Arrow::WordRight => self.in_column(up(self.x, LEAP, COLUMNS - 1)),
-            Arrow::WordLeft => self.in_column(self.x.saturating_sub(LEAP)),
+            Arrow::Up => Spot {
+                y: up(self.y, cells, ROWS - 1),
+                ..self
+            },
+            Arrow::Down => Spot {
+                y: self.y.saturating_sub(cells),
+                ..self
+            },
+            Arrow::Right => Spot {
+                x: up(self.x, cells, COLUMNS - 1),
+                ..self
+            },
+            Arrow::Left => Spot {
+                x: self.x.saturating_sub(cells),
+                ..self
+            },
+            Arrow::Home => Spot { x: 0, ..self },
+            Arrow::End => Spot {
+                x: COLUMNS - 1,
+                ..self
+            },
+            Arrow::WordRight => Spot {
+                x: up(self.x, LEAP, COLUMNS - 1),
+                ..self
+            },
+            Arrow::WordLeft => Spot {
+                x: self.x.saturating_sub(LEAP),
+                ..self
+            },
         }
-    }
-
-    /// The cell of its column in that row.
-    fn in_row(self, y: u8) -> Spot
-        ensures { result ≡ record self { y = y } }
-    {
-        Spot { y, ..self }
-    }
-
-    /// The cell of its row in that column.
-    fn in_column(self, x: u8) -> Spot
-        ensures { result ≡ record self { x = x } }
-    {
-        Spot { x, ..self }
     }
 }
 
@@ -178,15 +190,4 @@ fn up(number: u8, more: u8, greatest: u8) -> u8
     ensures { result ≡ min (number + more) greatest }
 {
     number.saturating_add(more).min(greatest)
-}
-
-/// The cell in the middle of what is in sight.
-fn middle_of(sight: Sight) -> Spot
-    ensures { result ≡ middle_of sight }
-{
-    Spot::nearest(
-        sight,
-        u16::from(COLUMNS / 2),
-        u16::from(sight.rows() / 2 + 1),
-    )
 }

@@ -84,6 +84,8 @@ pub struct MouseReport {
     pub button: Button,
     /// Whether it goes down; otherwise it goes up.
     pub is_down: bool,
+    /// Whether the key Shift is held.
+    pub with_shift: bool,
     /// Whether the key Alt is held.
     pub with_alt: bool,
     /// Whether the key Ctrl is held.

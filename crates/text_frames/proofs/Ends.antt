@@ -70,6 +70,12 @@ module _ (bs : List ℕ) (from at ends more rows : ℕ) (low : from ≤ at) (so_
   rows_on_if long None range is = tt
   rows_on_if long (Some p) range is = rows_on p range.0 is
 
+pub farther : (a b long : ℕ) (found : Option ℕ) → a ≤ b → IfSome found (λ p. (b ≤ p) × (p ≤ long))
+    → IfSome found (λ p. (a ≤ p) × (p ≤ long))
+farther a b long None less range = tt
+farther a b long (Some p) less range =
+    let far = range.0 in ((let le : a ≤ p = omega (arith, less, far) in le), range.1)
+
 module _ {S : Type 0} (characters : S → List ℕ) (failures : S → ℕ) (honest : S → Type 0) (same_ground : S → S
     → Type 0) (ground_through : (a b c : S) → same_ground a b → same_ground b c → same_ground a c)
     (start now : S) (text : Text ℕ) (reader : Reading) (at : ℕ)

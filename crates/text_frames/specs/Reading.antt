@@ -1,5 +1,5 @@
 -- What is known while the rows of a frame are read one after another.
-use Rattle.std.specs.Prelude.{◌≡◌, ◌-◌, ◌*◌, ◌<◌, ◌≤◌, ℕ, List, length, Some, slice_get}
+use Rattle.std.specs.Prelude.{◌≡◌, ◌+◌, ◌-◌, ◌*◌, ◌<◌, ◌≤◌, ℕ, List, length, Some, slice_get}
 use Rattle.event_bytes.specs.Bytes.{carriage_return}
 use Rattle.piece_ring.specs.Text.{Text}
 use Rattle.readers_scanners.specs.Reading.{bytes_of_text, Reading}
@@ -28,6 +28,14 @@ pub record IsReadTo (honest : Type 0) (characters : List ℕ) (text : Text ℕ) 
 pub record IsRowBelow (bs : List ℕ) (from rows p : ℕ) : Type 0 where
   pub below : ends_between bs from p ≡ rows
   pub behind : slice_get bs (p - 1) ≡ Some carriage_return
+
+-- A position of a text of so many characters on the way to the row that is so many rows below `from`: that row is more
+-- than none below it.
+pub record IsNearer (long from rows p more : ℕ) : Type 0 where
+  pub low : from ≤ p
+  pub within : p ≤ long
+  pub some : 0 < more
+  pub few : from + rows ≤ p + more
 
 -- the row and the column of a position
 pub record IsPlaceInRows (bs : List ℕ) (org p row column : ℕ) : Type 0 where

@@ -5,7 +5,7 @@ ghost use Rattle.readers_scanners.specs.Words.{ReadsOrFails, flat, AreWithin, by
 ghost use Rattle.text_frames.specs.Walks.{CanWalk};
 ghost use Rattle.text_frames.specs.Lines.{line_start, line_above, ends_between, is_return};
 ghost use Rattle.text_frames.specs.Cells.{row_start};
-ghost use Rattle.text_frames.specs.Reading.{IsRowBelow};
+ghost use Rattle.text_frames.specs.Reading.{IsRowBelow, IsNearer};
 
 use crate::{CharSource, Fault, Text};
 use event_bytes::CARRIAGE_RETURN;
@@ -110,6 +110,15 @@ pub(crate) fn ends_between<S: CharSource>(
     Ok(ends)
 }
 
+/// A place before the beginning of a row.
+#[derive(Clone, Copy, Debug, PartialEq, Eq)]
+struct Nearer {
+    /// Its position.
+    pos: u32,
+    /// How many rows below it the row is.
+    rows: u32,
+}
+
 /// Where the row begins that is so many rows below that of the position `from`. None where the text ends before. The
 /// text is read from there to less than a stretch past that place; the last stretch is counted again in short ones, of
 /// which the last is read. `Fault`: the source failed in this call.
@@ -128,36 +137,35 @@ pub(crate) fn row_below<S: CharSource>(
         × (p ≤ length (flat text.now)))) }
     ensures source { ReadsOrFails S.CharSource result source.old source.new }
 {
-    let mut reader = Reader::open(text, from);
-    let mut ends = 0;
-    let len = text.len();
-    let mut left = len - from;
-    while left > 0 {
-        let (count, found) = reader.count(CARRIAGE_RETURN, left.min(ROW_STRETCH), source)?;
-        if ends + found >= rows {
-            let begin = row_near(text, len - left, rows - ends, source)?;
-            return Ok(begin);
-        }
-        ends += found;
-        left -= count;
-    }
-    Ok(None)
+    let Some(long) = stretch_below(text, from, rows, ROW_STRETCH, source)? else {
+        return Ok(None);
+    };
+    let Some(short) = stretch_below(text, long.pos, long.rows, SHORT_STRETCH, source)? else {
+        return Ok(None);
+    };
+    let begin = row_within(text, short.pos, short.rows, source)?;
+    Ok(begin)
 }
 
-/// The same, counted in short stretches.
-fn row_near<S: CharSource>(
+/// The stretch of at most `most` characters in which the row begins that is so many rows below that of the position
+/// `from`: where it starts. None where the text ends before. `Fault`: the source failed in this call.
+fn stretch_below<S: CharSource>(
     text: &Text,
     from: u32,
     rows: u32,
+    most: u32,
     source: &mut S,
-) -> Result<Option<u32>, Fault>
+) -> Result<Option<Nearer>, Fault>
     requires walk { CanWalk (S.characters source.old) (flat text.now) from
         (length (flat text.now)) }
     requires some { 0 < rows }
-    ensures begins { IfOk result (λ found. S.honest source.old → IfSome found
-        (IsRowBelow (bytes_of_text (S.characters source.old) (flat text.now)) from rows)) }
-    ensures range { IfOk result (λ found. IfSome found (λ p. (from + rows ≤ p)
-        × (p ≤ length (flat text.now)))) }
+    requires most { 0 < most }
+    ensures leads { IfOk result (λ found. S.honest source.old → IfSome found (λ near.
+        ends_between (bytes_of_text (S.characters source.old) (flat text.now)) from near.pos
+        + near.rows
+        ≡ rows)) }
+    ensures range { IfOk result (λ found. IfSome found (λ near.
+        IsNearer (length (flat text.now)) from rows near.pos near.rows)) }
     ensures source { ReadsOrFails S.CharSource result source.old source.new }
 {
     let mut reader = Reader::open(text, from);
@@ -165,10 +173,12 @@ fn row_near<S: CharSource>(
     let len = text.len();
     let mut left = len - from;
     while left > 0 {
-        let (count, found) = reader.count(CARRIAGE_RETURN, left.min(SHORT_STRETCH), source)?;
+        let (count, found) = reader.count(CARRIAGE_RETURN, left.min(most), source)?;
         if ends + found >= rows {
-            let begin = row_within(text, len - left, rows - ends, source)?;
-            return Ok(begin);
+            return Ok(Some(Nearer {
+                pos: len - left,
+                rows: rows - ends,
+            }));
         }
         ends += found;
         left -= count;

@@ -136,7 +136,7 @@ impl<K: Keyboard, D: Disk + Drop> Keyboard for WatchedKeyboard<K, D> {
         Ok(hearing)
     }
 
-    fn bring(&mut self, name: &[u8]) -> bool {
+    fn bring(&mut self, name: &[u8]) -> Result<(), HostFault> {
         self.keyboard.bring(name)
     }
 }

@@ -39,6 +39,36 @@ python3 "$TESTS/lib/past/reader.py" my.disk 81158 54 moment.disk rest
 "$PROGRAM" play moment.disk < rest | uniq -c
 cmp <("$PROGRAM" screen then.disk) <("$PROGRAM" screen moment.disk) && echo same
 
+echo '--- an import is one deed, and the past goes on over it'
+printf 'new\nlines\n' > A.Text
+seq 300 450 > B.Text
+seq 200 > Long
+desk import my.disk A.Text
+printf 'newer\nlines\n' > A.Text
+desk import my.disk --replace A.Text B.Text Long
+reach my.disk
+"$DESK_PROGRAM" history my.disk --all | sed -n '1,3p; $p'
+typed 1 | desk sit 33 my.disk > shown
+desk earlier my.disk 4 before.disk
+desk earlier my.disk 3 behind.disk
+desk list before.disk
+desk list behind.disk
+desk export behind.disk --all there
+cmp A.Text there/A.Text && cmp B.Text there/B.Text && cmp Long there/Long && echo same
+desk import my.disk A.Text
+desk import my.disk Missing
+reach my.disk
+for k in $(seq 0 9); do printf 'a document\n' > "Doc$k"; done
+desk import my.disk Doc?
+reach my.disk
+all=$(reach my.disk | sed 's/.* of \([0-9]*\) events.*/\1/')
+python3 "$TESTS/lib/past/reader.py" my.disk 81158 $((all - 4)) moment.disk rest
+grep -c '^import ' rest
+sed '/^import /d; s/^document /file /' rest | "$PROGRAM" play moment.disk | uniq -c
+cmp <("$PROGRAM" screen behind.disk) <("$PROGRAM" screen moment.disk) && echo same
+cmp <("$DESK_PROGRAM" list behind.disk | sed '/^held/,$d') <("$DESK_PROGRAM" list moment.disk | sed '/^held/,$d') && echo same
+rm -r A.Text B.Text Long Doc? there before.disk behind.disk
+
 echo '--- copies have the store alone, and begin a past of their own'
 desk backup my.disk copy.disk
 reach copy.disk

@@ -59,7 +59,7 @@ back() {
     { for k in $(seq "$1"); do echo "file A.Text $k"; done; echo checkpoint; echo 'file B.Text behind'; } | "$OBERON" play "$1.disk" > answers
     calls=0
     desk earlier "$1.disk" 2 "back$1.disk"
-    printf '\032\032\021' > keys
+    printf '\032\032\021\021' > keys
     desk sit 33 "$1.disk" < keys
     for store in "$1.disk" "back$1.disk"; do
         printf '%s\n' 'show A.Text' 'show B.Text' | "$OBERON" play "$store" > shown

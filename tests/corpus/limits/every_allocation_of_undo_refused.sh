@@ -84,5 +84,5 @@ each_allocation() {
 : > keys
 each_allocation 997 "$(trials 300 50)" history my.disk
 each_allocation "$(trials 3 19)" "$(trials 100 30)" earlier my.disk 2 earlier.disk
-printf '\032\032\021' > keys
+printf '\032\032\021\021' > keys
 each_allocation "$(trials 1 9)" "$(trials 100 30)" sit 33 my.disk

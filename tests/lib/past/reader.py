@@ -1,7 +1,7 @@
 #!/usr/bin/env python3
 """reader.py FILE SECTORS K DISK SCRIPT: the desktop of moment K of the store in FILE, a disk of so many sectors, as docs/PAST.md
-and docs/STORE.md tell: a store DISK to start from, and the events from there as lines of a script. It returns 1 where no past
-leads there."""
+and docs/STORE.md tell: a store DISK to start from, and what was done from there as lines of a script; an import of N documents
+is a line `import N`, and a line `document NAME TEXT` for each. It returns 1 where no past leads there."""
 import sys
 
 SECTOR, STORE = 1024, 15621
@@ -69,6 +69,28 @@ def spelled(data):
     return ''.join(chr(b) if 32 <= b <= 126 and b != 37 else f'%{b:02x}' for b in data)
 
 
+def events_in(data, count):
+    """So many events from the front of a page on, each as a list of one line, and where they end."""
+    found, place = [], 16
+    for _ in range(count):
+        line, place = event_in(data, place)
+        found.append([line])
+    return found, place
+
+
+def import_in(data, count):
+    """The import of so many documents from the front of a page on, as lines, and where it ends."""
+    lines, place = [f'import {count}'], 16
+    for _ in range(count):
+        parts = []
+        for _part in range(2):
+            n = number(data[place:place + 4])
+            parts.append(data[place + 4:place + 4 + n])
+            place += 4 + n
+        lines.append(f'document {parts[0].decode()} {spelled(parts[1])}')
+    return [lines], place
+
+
 def journal(disk, base, slot):
     lines, k = [], 0
     at = base + 5 + 512 * slot
@@ -79,20 +101,17 @@ def journal(disk, base, slot):
 
 
 def pages(disk, at, end):
-    """The events of the pages from one sector up to another one: lists of lines."""
+    """What the pages from one sector up to another one say was done, page by page: each event, and each import, as lines."""
     while at < end:
         front = disk.at(at)
-        kind, _, count, spelled = (number(front[4 * k:4 * k + 4]) for k in range(4))
-        if kind != 1:
+        kind, version, count, length = (number(front[4 * k:4 * k + 4]) for k in range(4))
+        if kind not in (1, 2) or version != 3:
             raise Gone(f'no page in sector {at}')
-        sectors = -(-(16 + spelled) // SECTOR)
-        data, lines, place = disk.at(at, sectors), [], 16
-        for _ in range(count):
-            line, place = event_in(data, place)
-            lines.append(line)
-        if place != 16 + spelled:
+        sectors = -(-(16 + length) // SECTOR)
+        found, place = (events_in if kind == 1 else import_in)(disk.at(at, sectors), count)
+        if place != 16 + length:
             raise Gone(f'a page of another length in sector {at}')
-        yield lines
+        yield found
         at += sectors
     if at != end:
         raise Gone('a page beyond the end')
@@ -117,12 +136,12 @@ def moment(disk, sectors, k):
     base = half_with(sectors, now.next)
     start = Slot(disk, base)
     first = start.before + len(journal(disk, base, start.slot))
-    lines = [line for page in pages(disk, base + STORE, now.next) for line in page]
-    if first + len(lines) != now.before:
+    deeds = [deed for page in pages(disk, base + STORE, now.next) for deed in page]
+    if first + len(deeds) != now.before:
         raise Gone('the numbers do not agree')
     if k < first:
         raise Gone('it is older than the half')
-    return base, None, lines[:k - first]
+    return base, None, [line for deed in deeds[:k - first] for line in deed]
 
 
 def main(path, sectors, k, to, script):

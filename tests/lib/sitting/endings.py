@@ -12,7 +12,7 @@ import tempfile
 import termios
 import time
 
-from model import GREETING, KEYS, NO_KEY, ONE_SIDE, ROWS, TOO_NARROW, UNREAD, UNSTORED, Screen
+from model import GREETING, KEYS, NO_CARET, NO_KEY, ONE_SIDE, ROWS, TOO_NARROW, UNREAD, UNSTORED, Screen, within
 from sitting import Ended, Sitting
 
 LETTERS = 'abcdefghijklmnopqrstuvwxyz'
@@ -21,7 +21,14 @@ OVER_TWINS = 'killed over two files'
 STORE = b'\x1b[<1;48;1M\x1b[<1;48;1m'  # a middle click on Edit.Store in the menu of A.Text
 TESTS = os.path.dirname(os.path.dirname(os.path.dirname(os.path.realpath(__file__))))
 MARKED = f'A.Text{UNSTORED}'
+FORGETTING = 'Leaving loses what you took back: Ctrl-Q leaves, Ctrl-Y does it again.'
+NOTHING_BACK = 'There is nothing to take back.'
+NO_FURTHER = 'Undo reaches no further back.'
 BEGIN = ['file System.Tool Edit.Open A.Text%0d', 'point m 60 31 60 31', 'point m 52 30 52 30', 'point l 1 30 1 30']
+
+
+def click_at(column, row):
+    return b'\x1b[<0;%d;%dM\x1b[<0;%d;%dm' % (column, row, column, row)
 
 
 def text_of(rows):
@@ -71,8 +78,12 @@ class Trial:
 
     def store(self):
         """A store with an empty document in a viewer, which has the caret."""
-        self.oberon_says('format', self.path)
-        self.oberon_says('play', self.path, lines=BEGIN)
+        self.store_at(self.path, 0)
+
+    def store_at(self, path, checkpoints):
+        """The same under another path, with so many checkpoints after it."""
+        self.oberon_says('format', path)
+        self.oberon_says('play', path, lines=BEGIN + ['checkpoint'] * checkpoints)
 
     def begin(self, *words, rows, columns):
         self.sittings.append(Sitting(words, rows, columns, self.folder, {'TMPDIR': self.folder}))
@@ -88,10 +99,18 @@ class Trial:
         self.store()
         return self.sit(self.path, before=before)
 
-    def leaves(self, sitting, keys=b'\x11'):
-        """The keys, of which one leaves, end it well."""
+    def leaves(self, sitting, keys=b'\x11', forgets=False):
+        """The keys, of which one leaves, end it well. Where what was taken back can be done again they ask first."""
         sitting.press(keys)
+        if forgets:
+            self.tells(sitting, FORGETTING)
+            sitting.press(keys)
         self.check(sitting.end() == 0 and sitting.is_put_back, f'status {sitting.status}')
+
+    def tells(self, sitting, line):
+        """The line below says this."""
+        row = min(sitting.terminal.rows - 1, ROWS)
+        self.check(sitting.wait(lambda: sitting.terminal.line(row) == line, 5), f'{sitting.terminal.line(row)!r}, wanted {line!r}')
 
     def typing(self, sitting):
         """Types as fast as it is taken, for a random time, and returns what was to be typed."""
@@ -345,18 +364,20 @@ def host_file(trial):
 
 
 def no_host_file(trial):
-    """A name of no file, of a folder, of a pipe, of one that is too long: one sentence says so, and all goes on."""
+    """A name of no file, of a folder, of a pipe, of a file that is too long: a sentence says which, and all goes on."""
     trial.store()
     os.mkfifo(f'{trial.folder}/pipe')
     with open(f'{trial.folder}/long', 'wb') as file:
         file.write(bytes(262_145))
     sitting = trial.sit(trial.path)
-    for name in ('none', '.', 'pipe', '/dev/zero', 'long', 'x' * 255):
+    none, special = UNREAD['none.txt'], UNREAD['pipe']
+    for name, cause in (('none', none), ('.', UNREAD['.']), ('pipe', special), ('/dev/zero', special),
+                        ('long', 'It has more than 262,144 bytes: nothing was typed.'), ('x' * 255, none)):
         bells = sitting.terminal.bells
         sitting.press(b'\x0f' + name.encode() + b'\r')
         trial.check(sitting.wait(lambda: sitting.terminal.bells > bells), f'{name[:9]}: no bell')
         # (of a name that is too long keys ring before Return, and the sentence comes after that)
-        trial.check(sitting.wait(lambda: UNREAD in sitting.terminal.line(ROWS)), f'{name[:9]}: {sitting.terminal.line(ROWS)!r}')
+        trial.check(sitting.wait(lambda: cause in sitting.terminal.line(ROWS), 9), f'{name[:9]}: {sitting.terminal.line(ROWS)!r}')
         sitting.press(b'a')
         trial.check(sitting.look_anew(), 'no scene')
     trial.leaves(sitting)
@@ -508,7 +529,96 @@ def steps_of_undo(trial):
     undone(sitting, 'undid: typed 4 characters', 'two three')
     undone(sitting, 'undid: typed 6 characters', 'two')
     undone(sitting, 'undid: typed 4 characters', '')
+    trial.leaves(sitting, forgets=True)
+
+
+def forgetting(trial):
+    """Leaving asks while what was taken back can be done again, and the second key leaves. Nothing is asked where something else
+    was done since, without questions, and where the terminal goes away."""
+    sitting = trial.sit_anew()
+    sitting.press(b'two words\x1a\x11')
+    trial.tells(sitting, FORGETTING)
+    sitting.press(b'\x19')
+    trial.tells(sitting, 'did again: typed 5 characters')
     trial.leaves(sitting)
+    trial.kept('two words', 'two words')
+    sitting = trial.sit(trial.path)
+    trial.leaves(sitting)
+    sitting = trial.sit(trial.path)
+    sitting.press(b'\x1a')
+    trial.tells(sitting, 'undid: typed 5 characters')
+    for keys in (b'\x11', b'\x04\x1b[21~'):  # (another key answers no)
+        sitting.press(keys)
+        trial.tells(sitting, FORGETTING)
+    sitting.press(b'\x1b[21~')
+    trial.check(sitting.end() == 0 and sitting.is_put_back, f'status {sitting.status}')
+    trial.kept('two ', 'two')
+    sitting = trial.sit(trial.path)
+    sitting.press(b'three\x1afour')
+    trial.leaves(sitting)
+    sitting = trial.sit('--no-questions', trial.path)
+    sitting.press(b'five\x1a')
+    trial.tells(sitting, 'undid: typed 8 characters')
+    trial.leaves(sitting)
+    sitting = trial.sit(trial.path)
+    sitting.press(b'six\x1a')
+    trial.tells(sitting, 'undid: typed 3 characters')
+    trial.check(sitting.hang_up() is not None, 'the script does not end')
+
+
+def refused_presses(trial):
+    """What was refused is never said to be taken back: it goes with the press before it, and where there is none nothing is
+    taken back. Nor does it take away what can be done again."""
+    sitting = trial.sit(trial.path)
+    sitting.press(b'x')
+    trial.tells(sitting, NO_CARET)
+    sitting.press(b'yz\x1a')
+    trial.tells(sitting, NOTHING_BACK)
+    sitting.press(b'\x1a')
+    trial.tells(sitting, NOTHING_BACK)
+    trial.leaves(sitting)
+    os.remove(trial.path)
+    sitting = trial.sit_anew()
+    sitting.press(b'word\x1b')
+    sitting.rest(0.3)
+    sitting.press(b'x')
+    trial.tells(sitting, NO_CARET)
+    for line in ('undid: Escape', 'undid: typed 4 characters'):
+        sitting.press(b'\x1a')
+        trial.tells(sitting, line)
+    trial.leaves(sitting, forgets=True)
+    trial.oberon_says('format', trial.path + '.none')
+    sitting = trial.sit(trial.path + '.none')
+    sitting.press(b'x\x1bOP' + click_at(5, 5) + b'\x1a')
+    trial.tells(sitting, 'undid: the marker')
+    sitting.press(b'\x1a')
+    trial.tells(sitting, NOTHING_BACK)
+    sitting.press(b'\x19')
+    trial.tells(sitting, 'did again: the marker')
+    trial.leaves(sitting)
+
+
+def reach_of_undo(trial):
+    """At the beginning there is nothing to take back. Behind a checkpoint from before which nothing is taken back, and behind an
+    import, undo reaches no further."""
+    sitting = trial.sit(trial.path)
+    sitting.press(b'\x1a')
+    trial.tells(sitting, NOTHING_BACK)
+    trial.leaves(sitting)
+    with open(f'{trial.folder}/Letter.Text', 'w', encoding='ascii') as file:
+        file.write('a letter\n')
+    trial.desk_says('import', trial.path, f'{trial.folder}/Letter.Text')
+    sitting = trial.sit(trial.path)
+    sitting.press(b'\x1a')
+    trial.tells(sitting, NO_FURTHER)
+    trial.leaves(sitting)
+    trial.store_at(f'{trial.folder}/later', 3)
+    sitting = trial.sit(f'{trial.folder}/later')
+    sitting.press(b'a\x1a')
+    trial.tells(sitting, 'undid: typed 1 character')
+    sitting.press(b'\x1a')
+    trial.tells(sitting, NO_FURTHER)
+    trial.leaves(sitting, forgets=True)
 
 
 def outside(trial):
@@ -531,7 +641,7 @@ def ringing(trial):
     sitting = trial.sit_anew()
     sitting.press(b'\x18')
     trial.check(sitting.wait(lambda: 'Nothing is selected' in sitting.terminal.line(ROWS), 5), 'nothing was refused')
-    sitting.press(b'\x02')
+    sitting.press(b'\x04')
     trial.check(sitting.wait(lambda: sitting.terminal.line(ROWS) == NO_KEY, 5), sitting.terminal.line(ROWS))
     trial.leaves(sitting)
 
@@ -568,7 +678,7 @@ def narrow(trial):
     """A window that is made narrower than 45 columns is told as too small."""
     sitting = trial.sit_anew()
     sitting.resize(33, 44)
-    trial.check(sitting.wait(lambda: sitting.terminal.line(ROWS) == TOO_NARROW[:44], 5), 'it is not told')
+    trial.check(sitting.wait(lambda: sitting.terminal.line(ROWS) == within(44, TOO_NARROW), 5), 'it is not told')
     sitting.resize(33, 80)
     trial.check(sitting.wait(lambda: sitting.terminal.line(ROWS) == KEYS, 5), sitting.terminal.line(ROWS))
     trial.leaves(sitting)
@@ -586,6 +696,25 @@ def resized(trial):
         trial.check(sitting.wait(lambda: sitting.terminal.lines() == scene, 5), f'another screen in {rows} rows')
         trial.check(sitting.look_anew() and sitting.wait(lambda: sitting.terminal.lines() == scene, 5),
                     f'another one in {rows} rows when it is painted anew')
+    trial.leaves(sitting)
+
+
+def resized_by_the_caret(trial):
+    """In a window of fewer rows the caret is in sight still; where the size is told once more the rows in sight stay."""
+    sitting = trial.sit_anew()
+    terminal = sitting.terminal
+    sitting.press(b'\r'.join(b'row %d' % row for row in range(28)))
+
+    def has_caret():
+        is_shown = terminal.line(terminal.rows - 1) == MARKED and 25 in terminal.modes
+        return is_shown and terminal.line(terminal.row).startswith('|row 27')
+
+    for rows in (14, 12, 33, 20):
+        sitting.resize(rows, 80)
+        trial.check(sitting.wait(has_caret, 5), f'in {rows} rows')
+    sitting.press(b'\x1b[5;3~')
+    trial.check(sitting.wait(lambda: 25 not in terminal.modes, 5), 'the rows above are not in sight')
+    trial.check(sitting.look_anew() and sitting.look_anew() and 25 not in terminal.modes, 'the rows in sight follow the caret')
     trial.leaves(sitting)
 
 
@@ -714,7 +843,7 @@ def sides(trial):
     terminal = sitting.terminal
     sitting.wait(lambda: terminal.scenes > 0)
     trial.check(terminal.line(0).startswith('System.Tool'), f'at the beginning {terminal.line(0)!r}')
-    trial.check(terminal.line(ROWS) == ONE_SIDE[:60].rstrip(), terminal.line(ROWS))
+    trial.check(terminal.line(ROWS) == within(60, ONE_SIDE), terminal.line(ROWS))
     sitting.press(b'\x1b[1;3D')
     trial.check(sitting.wait(lambda: 'System.Tool' not in terminal.line(0), 5), terminal.line(0))
     sitting.press(b'\x1b[<0;31;3M\x1b[<0;31;3m\x1b[1;3C')
@@ -889,7 +1018,7 @@ def in_memory(trial):
     trial.check('memory' in sitting.terminal.line(ROWS), f'the line below is {sitting.terminal.line(ROWS)!r}')
     sitting.press(b'\x11')
     trial.check(sitting.wait(lambda: 'press Ctrl-Q again' in sitting.terminal.line(ROWS), 5), 'nothing is asked')
-    sitting.press(b'\x02\x11')
+    sitting.press(b'\x04\x11')
     trial.check(sitting.wait(lambda: 'press Ctrl-Q again' in sitting.terminal.line(ROWS), 5), 'another key answers')
     sitting.press(b'\x11')
     trial.check(sitting.end() == 0 and not os.listdir(trial.folder), f'status {sitting.status}')
@@ -1009,12 +1138,16 @@ TRIALS = {
     'keys along a row': along_a_row,
     'Alt-Z': alt_z,
     'steps of undo': steps_of_undo,
+    'what is forgotten': forgetting,
+    'presses that are refused': refused_presses,
+    'the reach of undo': reach_of_undo,
     'clicks outside': outside,
     'a ring': ringing,
     'the marker on the caret': under_the_marker,
     'another size amid a paste': resized_amid_paste,
     'a narrow window': narrow,
     'another size of the window': resized,
+    'another size around the caret': resized_by_the_caret,
     'a terminal that tells no size': stock,
     'a first scene': first_scene,
     'the sides of a narrow window': sides,

@@ -99,8 +99,8 @@ def press_by_hearings(sitting, model, presses, chance):
 
 def take(sitting, model, data, meanings):
     """What one press comes to. What is heard at one time goes no further than to the end of a line, so behind each of
-    these the screen is shown: within a press, all of which is meant at its end, and behind it."""
-    if has_line_end(data[:-1]):
+    these the screen is shown: within a press, where it says so or else before all of it is meant, and behind it."""
+    if has_line_end(data[:-1]) and ('look',) not in meanings:
         model.look()
     for meaning in meanings:
         model.take(meaning)

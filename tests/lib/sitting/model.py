@@ -7,26 +7,35 @@ from urllib.parse import unquote
 
 import leading
 import scrolling
-from presses import FILES, spelled, told
+from presses import FILES, marks_of, spelled, told
 
 COLUMNS, ROWS = 80, 32
 WIDTHS = {0: 50, 50: 30}  # of the tracks, by their left columns
-GREETING = 'Help: F2, then click Edit.Open Help. F11: no mouse. Ctrl-S stores, Ctrl-Q leaves'
-UNREAD = "The host's file can't be read, and nothing was typed."
+GREETING = 'Help: F2, then click Edit.Open Help. F11 no mouse, Ctrl-S stores, Ctrl-Q leaves'
+# Why a file of the host's isn't typed.
+UNREAD = {'none.txt': 'There is no such file: nothing was typed.', '.': 'That is a folder, and no file: nothing was typed.',
+          'pipe': 'That is a pipe or a device: nothing was typed.'}
 # What the line below says where nothing else is to be said.
-KEYS = 'F2 calls, F3 selects, F11 no mouse, Ctrl-S stores, Ctrl-Z undo, Ctrl-Q leaves'
-UNSTORED = " isn't stored: Ctrl-S stores, F2 calls, F11 no mouse, Ctrl-Q leaves"
+KEYS = 'Ctrl-Q leaves, F2 calls, F11 no mouse, F3 selects, Ctrl-S stores, Ctrl-Z undo'
+UNSTORED = " isn't stored: Ctrl-S stores, Ctrl-Q leaves, F2 calls, F11 no mouse"
 NO_KEY = 'That key means nothing here.'
-NO_CARET = 'No caret is set: click into a text first.'
+NO_CARET = 'No caret is set: click into a text, or F11 without a mouse.'
 NOTHING_AFTER = 'No character after the caret is in sight.'
 NO_LINE = 'There is no line to cut.'
+IS_FILLED = 'This paragraph is filled already.'
+MOST_PLANS = 321
 PART_HIDDEN = 'An end of it is out of sight: make the viewer taller, or take less of the text.'
 NO_SCROLL = 'Nothing moves there: no viewer, no caret, or too few rows of a text.'
 NO_WORD = 'No such word is in sight: System.Tool shows the commands.'
 NO_COMMAND = "No command's whole word is in sight: System.Tool shows the commands."
-NO_FIND = 'Ctrl-R puts what you typed after the last Ctrl-F: press Ctrl-F first'
+NO_FIND = 'Press Ctrl-F first: Ctrl-R puts what you typed after the last Ctrl-F'
 NO_REPLACEMENT = 'Nothing was typed after the last Ctrl-F'
-FILLS = 'A line is broken at its last blank where it would pass the edge.'
+WENT_ROUND = 'Found round the end of the text: none was on that side.'
+NOT_THERE = "These words aren't in this text."
+NO_WORDS = 'Nothing was sought yet: type the words first.'
+BEYOND_EDGE = "Found right of the edge, out of sight: the caret is in that line's last column."
+MOST_SOUGHT = 31  # bytes of words that are sought
+FILLS = 'Lines are broken while you type: at the last blank before the edge.'
 FILLS_NOT = "Lines aren't broken while you type, and may pass the edge."
 # What ends the menu of a viewer that opens, the words that open one, and those of all commands.
 MENU = ' | System.Close System.Copy Edit.Search Edit.Store'
@@ -37,23 +46,32 @@ COMMANDS = {*OPENING, 'System.Close', 'System.Clear', 'System.Directory', 'Syste
 MOST_KEPT = 64  # Backspaces, or bytes, of a replacement
 TOO_LOW = 'This window is too low: it has fewer than 12 rows.'
 TOO_NARROW = 'This window is too narrow: it has fewer than 45 columns.'
-ONE_SIDE = 'Alt-Left, Alt-Right: the other side. F11: no mouse. Ctrl-S stores, Ctrl-Q leaves'
+ONE_SIDE = 'Alt-Left/Right: the other side. F11 no mouse, Ctrl-Q leaves, Ctrl-S stores'
 NAME = frozenset('ABCDEFGHIJKLMNOPQRSTUVWXYZabcdefghijklmnopqrstuvwxyz0123456789.')
 # What it says of a refusal, by its code.
 REASONS = {
     1: NO_CARET,
     2: 'Nothing is selected: drag over a text with the right button, or with F3.',
-    3: 'Behind that word a name or a number is missing.',
+    3: 'A name or number is missing behind that word.',
     4: "That word isn't a command: System.Tool shows all of them.",
     5: 'There is no document of that name, or it is named twice.',
     6: 'There is no room: close or delete something, or call System.Collect.',
-    7: 'No viewer has the marker (F1 and a click set it), or none was closed.',
+    7: 'No viewer has the marker, or none was closed: F1 and a click set the marker.',
     8: 'There are 256 documents already: System.DeleteFiles makes room.',
     9: 'That lies outside the desktop.',
     10: 'Not found from the caret on: Ctrl-F again goes to the beginning of the text.',
     11: 'Fonts are 0 to 4, colours 0 to 15, and offsets -64 to 63.',
     13: "A viewer of one row can't be parted.",
 }
+
+
+def within(width, line):
+    """A line in so many columns: whole, or up to its last part that fits, or else its last word."""
+    if len(line) <= width:
+        return line.rstrip()
+    parts = [at for at in range(1, width + 1) if re.match('[,:;.] ', line[at:])]
+    words = [at for at in range(1, width + 1) if line[at] == ' ']
+    return line[:max(parts or words or [width])].rstrip()
 
 
 def poured(text, at, width):
@@ -85,6 +103,19 @@ def called_word(screen, x, y):
     while end < len(row) and is_in_word(row[end]):
         end += 1
     return row[start:end][:31]
+
+
+def whole_word(screen, x, y):
+    """The same, unless it goes up to the edge of its track, where it may be cut."""
+    row = screen.rows[ROWS - 1 - y].ljust(COLUMNS)
+    edge = 50 if x < 50 else COLUMNS
+    is_cut = all(is_in_word(character) for character in row[x:edge])
+    return '' if is_cut else called_word(screen, x, y)
+
+
+def opens_document(word):
+    """Whether the word that was called opens a document by its name, also one that is called System.Log."""
+    return word == 'System.Open' or bool(word) and 'Edit.Open'.startswith(word)
 
 
 def command_columns(row):
@@ -131,7 +162,7 @@ class Replacing:
     def note(self, meaning, is_done):
         """A press was done, or refused."""
         kind, *rest = meaning
-        is_search = (kind, *rest) == ('call', 'Edit.Search')
+        is_search = kind in ('search', 'find')
         if is_search and self.typed and self.typed != (0, ''):
             self.kept = self.typed
         if not is_done:
@@ -142,6 +173,10 @@ class Replacing:
             self.typed = self.kept
         elif self.typed:
             self.typed = self.grown(kind, rest)
+
+    def is_again(self):
+        """Whether the same was typed as the time before."""
+        return self.typed not in (None, (0, '')) and self.typed == self.kept
 
     def grown(self, kind, rest):
         back, text = self.typed
@@ -192,6 +227,7 @@ class Model:
         self.pointer, self.put_away, self.points, self.has_entered = None, None, False, False
         self.replacing, self.drew, self.typed = Replacing(), False, 0
         self.clicked, self.missed = None, False
+        self.asked, self.sought, self.pattern = None, b'', b''
         self.play = subprocess.Popen([oberon, 'play', store], stdin=subprocess.PIPE, stdout=subprocess.PIPE)
         self.top, self.rows = ROWS - 1, ROWS
         self.side = 50
@@ -218,8 +254,26 @@ class Model:
     def in_sight(self):
         """The rows in sight, from the top, as far as their columns are."""
         first, left = ROWS - 1 - self.top, self.left()
-        rows = self.screen().rows[first:first + self.rows]
+        rows = self.drawn()[first:first + self.rows]
         return [row[left:left + self.columns()].rstrip() for row in rows]
+
+    def drawn(self):
+        """The rows of the screen as they are drawn: where the line of a text goes on beyond its viewer's edge, `>` is in the
+        last column."""
+        rows = [list(row.ljust(COLUMNS)) for row in self.screen().rows]
+        for left, bottom, top, name in self.viewers_seen():
+            if top - bottom < 2:
+                continue
+            text, org = scrolling.text_shown(self.oberon, self.store, (left, bottom, top, name))
+            for y, line in zip(range(top - 2, bottom - 1, -1), text[org:].split(b'\r')):
+                if leading.column(line, len(line)) >= WIDTHS[left]:
+                    rows[ROWS - 1 - y][left + WIDTHS[left] - 1] = '>'
+        return [''.join(row) for row in rows]
+
+    def viewers_seen(self):
+        """The viewers of the track that is seen in each column: leftmost column, first row, row after the last, name."""
+        tracks = Listing(self.lines('list')).tracks
+        return [viewer for left in WIDTHS for viewer in tracks[left][-1]]
 
     def left(self):
         """The column of the display in the window's first column."""
@@ -231,7 +285,7 @@ class Model:
 
     def line(self):
         """What is seen of the line below, where it doesn't say that a text isn't stored."""
-        return self.saying[:self.width].rstrip()
+        return within(self.width, self.saying)
 
     def is_below(self, seen):
         """Whether that may stand on the line below. Where nothing else is to be said it says whether the text with the caret isn't
@@ -239,7 +293,8 @@ class Model:
         if self.saying != KEYS:
             return seen == self.line()
         name, unstored = self.caret_text()
-        marks = [f'{name or some}{UNSTORED}'[:80][:self.width].rstrip() for some in re.findall('^[A-Za-z0-9.]+', seen)]
+        marks = [within(self.width, some + within(80 - len(some), UNSTORED))
+                 for some in [name] * bool(name) or re.findall('^[A-Za-z0-9.]+', seen)]
         return unstored is not True and seen == self.line() or unstored is not False and seen in marks
 
     def caret_text(self):
@@ -332,9 +387,10 @@ class Model:
             return ''
         return ''.join(itertools.takewhile(lambda character: character in NAME, row[at:]))
 
-    def paste(self, texts, looks=False):
+    def paste(self, texts, marks, looks=False):
         """The pieces of a paste, or of a file, up to one that is refused. No store is so full here that one is refused
-        after others. A paste of nothing does nothing: what is selected stays."""
+        after others. A paste of nothing does nothing: what is selected stays. It is told how many characters became question
+        marks."""
         if not texts:
             return True
         if self.cut_selected():
@@ -345,6 +401,8 @@ class Model:
                 self.look()
             if not (self.pour(text) if self.fills else self.post('type ' + spelled(text))):
                 return False
+        if marks:
+            self.saying = f'{marks} character{"s" * (marks != 1)} became ?'
         return True
 
     def pour(self, text):
@@ -371,22 +429,49 @@ class Model:
         return self.post_all(['type ' + spelled(part) for part in (text[:900], text[900:]) if part])
 
     def take(self, meaning):
-        """A press, and what is noted of it for Ctrl-R, but where it posts nothing by itself."""
+        """A press, and what is noted of it for Ctrl-R, but where it posts nothing by itself. Or the screen is shown."""
+        if meaning == ('look',):
+            self.look()
+            return
+        if self.asked:
+            meaning = self.answered(*meaning)
+            if not meaning:
+                return
         meaning = self.meant(meaning)
         is_done = self.taken(meaning)
         if is_done is not None:
             self.replacing.note(meaning, is_done)
 
+    def answered(self, kind, *rest):
+        """What a press means while words are asked for, if they are whole by it."""
+        words, before = self.asked
+        if kind == 'search' or (kind, *rest) == ('type', '\r'):
+            self.asked = None
+            return 'find', words, rest[0] if kind == 'search' else before
+        if kind == 'type' and ' ' <= rest[0] <= '~' and len(words) < MOST_SOUGHT:
+            self.asked = words + rest[0].encode(), before
+        elif (kind, *rest) == ('key', 'back') and words:
+            self.asked = words[:-1], before
+        elif kind == 'called off':
+            self.asked = None
+        else:
+            self.saying, self.clicked, self.missed = KEYS, None, False
+        return None
+
     def meant(self, meaning):
         """What a press means by the one before it: a search behind one that found nothing goes to the beginning of the text. Where a
         press comes to nothing that stays in force."""
         kind, *rest = meaning
-        if kind in ('pointer', 'keyed', 'fit') or kind == 'point' and not self.shown(*rest[1:3]) or kind == 'wheel' and not self.shown(*rest[1:]):
+        if kind in ('pointer', 'keyed', 'fit') or kind == 'wheel' and not self.shown(*rest[1:]):
+            return meaning
+        if kind in ('point', 'extend') and not self.shown(*rest[-4:-2]):
             return meaning
         missed, self.missed = self.missed, False
         if kind != 'point':
             self.clicked = None
-        return ('text end', 'first') if missed and meaning == ('call', 'Edit.Search') else meaning
+        if meaning == ('search', False) and (missed or self.replacing.is_again()):
+            return ('text end', 'first') if missed else ('find', b'', False)
+        return meaning
 
     def taken(self, meaning):
         """Whether it was done; None where it posts nothing by itself."""
@@ -398,10 +483,16 @@ class Model:
             return self.type(rest[0])
         if kind == 'call':
             return self.call(rest[0])
+        if kind == 'search':
+            return self.search(*rest)
+        if kind == 'find':
+            return self.find(*rest)
+        if kind == 'called off':
+            return self.post('key escape')
         if kind == 'replace':
             return self.replace()
         if kind == 'paste':
-            return self.paste(rest[0])
+            return self.paste(rest[0], rest[1])
         if kind == 'key' and rest[0] == 'back' and self.cut_selected():
             self.name_press('a Backspace')
             return True
@@ -411,6 +502,8 @@ class Model:
             return self.click('mark', None, self.spot(*rest))
         if kind == 'point':
             return self.point(rest[0], self.spot(*rest[1:3]), self.spot(*rest[3:])) if self.shown(*rest[1:3]) else None
+        if kind == 'extend':
+            return self.extend(self.spot(*rest[:2]), self.spot(*rest[2:])) if self.shown(*rest[:2]) else None
         if kind == 'wheel':
             self.pointer = self.shown(*rest[1:])
             return self.scroll(self.viewer_at(*self.pointer), ('wheel', rest[0])) if self.pointer else None
@@ -421,8 +514,8 @@ class Model:
         if kind in ('arrow', 'text end', 'delete'):
             (self.delete if kind == 'delete' else self.step)(*rest)
             return True
-        if kind in ('select', 'select all', 'cut line'):
-            return {'select': self.select, 'select all': self.select_all, 'cut line': self.cut_line}[kind](*rest)
+        if kind in ('select', 'select all', 'cut line', 'refill'):
+            return {'select': self.select, 'select all': self.select_all, 'cut line': self.cut_line, 'refill': self.refill}[kind](*rest)
         if kind == 'keyed':
             return self.keyed(rest[0])
         if kind == 'at caret':
@@ -440,7 +533,9 @@ class Model:
         elif kind == 'pointer':
             self.pointer = None if self.has_entered else self.shown(*rest)
         elif kind == 'fit':
+            size = self.width, self.rows
             self.fit(*rest)
+            self.follows = self.follows or size != (self.width, self.rows)
             if rest[1] < 45:
                 self.saying = TOO_NARROW
             elif rest[0] < 12 or self.saying in (TOO_LOW, TOO_NARROW):
@@ -479,7 +574,7 @@ class Model:
         after, word = Listing(self.lines('list')), called_word(screen, *end)
         viewer = after.opened_since(before) or self.replaced(before, after, screen, word)
         if viewer:
-            return self.enter(viewer)
+            return self.enter(viewer, viewer[3] == 'System.Log' and not opens_document(word))
         line = self.logged(before, after, end, word)
         if line:
             self.saying = line[:80]
@@ -510,6 +605,20 @@ class Model:
         self.name_press('a selection')
         return is_done
 
+    def extend(self, start, end):
+        """What is selected in the text in which a click begins is drawn anew from its farther end to where the click ends. Where
+        nothing is seen selected there, it is a draw."""
+        screen, viewer, kept = self.screen(), self.viewer_at(*start), start
+        if viewer and viewer[0] < start[0] and start[1] < viewer[2] - 1:
+            rows = range(viewer[2] - 2, viewer[1] - 1, -1)
+            marks = [(x, y, screen.mark(x, y), screen.mark(x + 1, y)) for y in rows for x in range(viewer[0] + 1, viewer[0] + WIDTHS[viewer[0]])]
+            drawn = [(x, y) for x, y, mark, behind in marks if mark == 's' or mark in 'cm' and behind == 's']
+            far = [abs((end[1] - y) * COLUMNS + x - end[0]) for x, y in (drawn[:1] + drawn[-1:])]
+            kept = drawn[0 if far[0] >= far[1] else -1] if drawn else start
+        is_done = self.post('point r %d %d %d %d' % (*kept, *end))
+        self.name_press('a selection')
+        return is_done
+
     def replaced(self, before, after, screen, word):
         """The viewer that opened over the whole place of another one, where the word of such a command was called."""
         if not word or not any(one.startswith(word) for one in OPENING):
@@ -523,14 +632,14 @@ class Model:
                     return viewer
         return None
 
-    def enter(self, viewer):
+    def enter(self, viewer, is_log):
         """The caret goes to the first cell of a viewer's text, where it has one, and the marker away; that of the log comes
         into sight. Nothing is pointed at any more."""
-        left, bottom, top, name = viewer
+        left, bottom, top, _ = viewer
         if top - 2 < bottom:
             return True
         self.points, self.pointer, self.has_entered = False, None, True
-        if name == 'System.Log':
+        if is_log:
             self.follow(left + 1, top - 2)
             self.follows = False
             return True
@@ -653,6 +762,64 @@ class Model:
         self.name_press('a replacement')
         return is_done
 
+    def search(self, before):
+        """What was selected right before is searched, or words are asked for. It is no search yet where they are."""
+        if self.has_no_caret():
+            self.saying = NO_CARET
+            return False
+        if not (self.selects() and self.has_selection()):
+            self.asked, self.saying = (b'', before), KEYS
+            self.replacing.typed, self.replacing.kept = None, self.replacing.typed if self.replacing.typed not in (None, (0, '')) else self.replacing.kept
+            return None
+        viewer = self.viewer_of_caret()
+        selected = self.selected(viewer)[:MOST_SOUGHT] if viewer else b''
+        self.sought = selected if all(32 <= byte <= 126 for byte in selected) else b''
+        if before:
+            return self.find_words(selected, before)
+        is_done = self.call('Edit.Search')
+        self.pattern = selected if is_done else self.pattern
+        return is_done
+
+    def selected(self, viewer):
+        """What is selected, anywhere: it is copied and put in at the caret, on a copy of the store."""
+        position = leading.caret_position(self.oberon, self.store, viewer)
+        text, end = leading.marked(self.oberon, self.store, viewer, ['key copy', 'key paste'])
+        return text[position:end]
+
+    def find(self, words, before):
+        """Words are sought, or those that were sought last."""
+        self.sought = words or self.sought
+        return self.find_words(self.sought or self.pattern, before)
+
+    def find_words(self, words, before):
+        self.saying = KEYS
+        if not words:
+            self.saying = NO_WORDS
+            return False
+        viewer = self.viewer_with_rows()
+        if not viewer:
+            return False
+        text, org, position = self.seen_by(viewer)
+        height, width = viewer[2] - viewer[1] - 1, WIDTHS[viewer[0]] - 1
+        at, around = leading.sought(text, width, position, words, before)
+        if at is None:
+            self.saying = NOT_THERE
+            return False
+        place = at + len(words)
+        if leading.org_for(text, height, org, place) != org:
+            top = max(text.count(b'\r', 0, place) - height // 2, 0)
+            lines = scrolling.presses(self.oberon, self.store, viewer, ('number', top))
+            if lines is None:
+                self.saying = NO_SCROLL
+                return False
+            self.post_all(lines)
+            org = scrolling.line_below(text, top, 0)
+        self.click_at(viewer, text, org, place)
+        self.name_press('the caret, or a viewer that was dragged')
+        is_there = leading.column(text, place) < width
+        self.saying = BEYOND_EDGE if not is_there else WENT_ROUND if around else KEYS
+        return is_there
+
     def call(self, word):
         """A command is called on the viewer of the caret, by its word in the menu, or else in a text and by the marker."""
         viewer = self.viewer_with_rows()
@@ -661,11 +828,12 @@ class Model:
         left, bottom, top, name = viewer
         column = leading.first_word(name + MENU, [word])
         if column is not None and column < WIDTHS[left]:
-            return self.point('m', (left + column, top - 1), (left + column, top - 1))
-        self.saying = NO_WORD
-        at = self.word_in_texts(word)
-        is_done = bool(at) and self.post(f'mark {left} {(bottom + top - 1) // 2}') and self.point('m', at, at)
-        self.name_press('a command')
+            is_done = self.point('m', (left + column, top - 1), (left + column, top - 1))
+        else:
+            self.saying = NO_WORD
+            at = self.word_in_texts(word)
+            is_done = bool(at) and self.post(f'mark {left} {(bottom + top - 1) // 2}') and self.point('m', at, at)
+        self.name_press(word)
         return is_done
 
     def viewer_with_rows(self):
@@ -727,10 +895,10 @@ class Model:
     def bring(self, name):
         """A file of the host's is typed, each event of it heard by itself."""
         if name not in FILES:
-            self.saying = UNREAD
+            self.saying = UNREAD[name]
             return None
         self.saying = KEYS
-        return self.paste(told(FILES[name]), looks=True)
+        return self.paste(told(FILES[name]), marks_of(FILES[name]), looks=True)
 
     def scroll(self, viewer, wish):
         """The text of a viewer moves. The rows in sight don't follow the caret for it."""
@@ -794,8 +962,8 @@ class Model:
             return False
         text, org, position = self.seen_by(viewer)
         ends = leading.selection(self.oberon, self.store, viewer, text)
-        line = position in ends and self.drag(viewer, text, org, 'rl', *ends)
-        return bool(line) and self.post(line)
+        anchor = leading.anchor(text, org, WIDTHS[viewer[0]] - 1, ends, position)
+        return anchor is not None and self.cut(viewer, text, org, *sorted((anchor, position)))
 
     def selects(self):
         """Whether the press before this one selected something last."""
@@ -832,8 +1000,8 @@ class Model:
         goal, ends = leading.stepped(text, WIDTHS[viewer[0]] - 1, position, word), None
         if self.selects() and self.has_selection() and self.viewer_of_caret('key cut') == viewer:
             ends = leading.selection(self.oberon, self.store, viewer, text)
-        anchor = ends[ends[0] == position] if ends and position in ends else position
-        return self.stretch(viewer, text, org, goal, *sorted((anchor, goal)))
+        anchor = leading.anchor(text, org, WIDTHS[viewer[0]] - 1, ends, position) if ends else None
+        return self.stretch(viewer, text, org, goal, *sorted((position if anchor is None else anchor, goal)))
 
     def select_all(self):
         viewer = self.viewer_with_rows()
@@ -843,7 +1011,9 @@ class Model:
         return self.stretch(viewer, text, org, len(text), 0, len(text))
 
     def stretch(self, viewer, text, org, goal, start, end):
-        """The caret goes to a position where it can stand, and a stretch is drawn, if it has a character."""
+        """The caret goes to a position where it can stand, and a stretch is drawn, if it has a character without a line end that
+        has no column."""
+        end = leading.stop(text, org, WIDTHS[viewer[0]] - 1, end)
         first = leading.org_for(text, viewer[2] - viewer[1] - 1, org, goal)
         self.saying = PART_HIDDEN
         if start < end and leading.column(text, goal, first) >= WIDTHS[viewer[0]] - 1:
@@ -865,6 +1035,11 @@ class Model:
         text, org, position = self.seen_by(viewer)
         start, end = scrolling.line_start(text, position), text.find(b'\r', position) + 1 or len(text)
         self.saying = NO_LINE if start == end else PART_HIDDEN
+        return self.cut(viewer, text, org, start, end)
+
+    def cut(self, viewer, text, org, start, end):
+        """Whether a stretch was cut, without a line end at its end that has no column, where both ends are in sight."""
+        end = leading.stop(text, org, WIDTHS[viewer[0]] - 1, end)
         line = start < end and self.drag(viewer, text, org, 'rl', start, end)
         return bool(line) and self.post(line)
 
@@ -872,14 +1047,57 @@ class Model:
         """What is selected up to the caret is deleted, or else the character behind the caret: the caret goes behind it, where it
         can be seen, and a Backspace."""
         if self.cut_selected():
-            self.name_press('a Backspace')
+            self.name_press('a Delete')
             return
 
         def behind(text, width, position):
             return position + 1 if position < len(text) and leading.column(text, position + 1) < width else None
 
         if self.lead(behind, NOTHING_AFTER) and self.post('key back'):
-            self.name_press('a Backspace')
+            self.name_press('a Delete')
+
+    def refill(self):
+        """The paragraph of the caret is filled, by one edit after another as far as there are plans; then the caret goes back."""
+        viewer, home = self.viewer_with_rows(), None
+        if not viewer:
+            return False
+        plans = iter(range(MOST_PLANS - 1))
+        while next(plans, None) is not None:
+            text, org, caret = self.seen_by(viewer)
+            found = leading.edit(text, WIDTHS[viewer[0]] - 1, caret if home is None else home)
+            if not found and home is None:
+                self.saying = IS_FILLED
+                return True
+            if not found:
+                return next(plans, None) is None or self.goes_to(viewer, text, org, home)
+            home = leading.moved(found, caret if home is None else home)
+            for place, line in leading.strokes(found):
+                is_done = self.stroke(viewer, place, line, plans)
+                if not is_done:
+                    return is_done is None
+        return True
+
+    def goes_to(self, viewer, text, org, place):
+        lines = self.way_to(viewer, text, org, place)
+        return lines is not None and self.post_all(lines)
+
+    def stroke(self, viewer, place, line, plans):
+        """The caret goes to where an edit is made, and that is done. None where there are no more plans."""
+        text, org, caret = self.seen_by(viewer)
+        if line != 'type %20':  # (a blank comes where the caret stands)
+            if next(plans, None) is None:
+                return None
+            if caret != place and not self.goes_to(viewer, text, org, place):
+                return False
+            self.name_press('the paragraph')
+        if next(plans, None) is None:
+            return None
+        if leading.caret_position(self.oberon, self.store, viewer) != place:
+            self.saying = PART_HIDDEN
+            return False
+        is_done = self.post(line)
+        self.name_press('the paragraph')
+        return is_done
 
     def lead(self, wish, nothing):
         """Whether the caret goes to the position that is wished, as near as it has a cell."""

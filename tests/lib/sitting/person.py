@@ -7,7 +7,7 @@ from sitting import Sitting
 KEYS = {'Return': b'\r', 'Tab': b'\t', 'Backspace': b'\x7f', 'Escape': b'\x1b\x00', 'Delete': b'\x1b[3~', 'PageUp': b'\x1b[5~',
         'PageDown': b'\x1b[6~', 'Alt-PageUp': b'\x1b[5;3~', 'Alt-PageDown': b'\x1b[6;3~', 'Alt-Left': b'\x1b[1;3D', 'Alt-Right': b'\x1b[1;3C', 'Ctrl-Home': b'\x1b[1;5H', 'Ctrl-End': b'\x1b[1;5F',
         'F1': b'\x1bOP', 'F2': b'\x1bOQ', 'F3': b'\x1bOR', 'F11': b'\x1b[23~',
-        **{f'Ctrl-{letter}': bytes([ord(letter) - 64]) for letter in 'ACEFKRSTVXYZ'},
+        **{f'Ctrl-{letter}': bytes([ord(letter) - 64]) for letter in 'ABCEFKRSTUVWXYZ'}, 'Alt-F': b'\x1bf',
         **{f'{held}{word}': b'\x1b[' + number + letter for held, number in (('', b''), ('Shift-', b'1;2'))
            for word, letter in (('Up', b'A'), ('Down', b'B'), ('Right', b'C'), ('Left', b'D'), ('Home', b'H'), ('End', b'F'))}}
 BUTTONS = {'left': 0, 'middle': 1, 'right': 2}

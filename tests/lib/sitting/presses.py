@@ -1,7 +1,7 @@
 """Random presses: the bytes that a terminal sends for them, and what they mean.
 
 A meaning is a tuple: ('type', text), ('call', word), ('replace',), ('fill',), ('paste', texts), ('key', word), ('mark', column, row), ('point', keys, column, row, column, row),
-('arrow', word), ('select', word), ('select all',), ('cut line',), ('delete',), ('line', number), ('page', word), ('wheel', word, column, row), ('text page', word), ('text end', word), ('pointer', column, row),
+('extend', column, row, column, row), ('arrow', word), ('search', before), ('called off',), ('look',), ('select', word), ('select all',), ('cut line',), ('delete',), ('line', number), ('page', word), ('wheel', word, column, row), ('text page', word), ('text end', word), ('pointer', column, row),
 ('fit', rows, columns), ('file', name), ('keyed', steps), ('at caret', keys), ('ring',) or ('ring at a name',). Columns and rows are those of the terminal, from 1 at the
 upper left."""
 
@@ -15,7 +15,7 @@ ARROWS = {'up': [b'[A', b'OA'], 'down': [b'[B', b'OB'], 'right': [b'[C', b'OC'],
 SHIFTED = {word: b'\x1b[1;2' + letter for word, letter in (('up', b'A'), ('down', b'B'), ('right', b'C'), ('left', b'D'), ('home', b'H'),
                                                           ('end', b'F'))}
 # What a byte below the space is, where it is a key.
-CONTROLS = {3: ('key', 'copy'), 6: ('call', 'Edit.Search'), 10: ('type', '\r'), 18: ('replace',), 19: ('call', 'Edit.Store'),
+CONTROLS = {3: ('key', 'copy'), 10: ('type', '\r'), 18: ('replace',), 19: ('call', 'Edit.Store'),
             22: ('key', 'paste'), 23: ('fill',), 24: ('key', 'cut')}
 # The clicks that a function key says, by its spellings.
 FUNCTIONS = {'m': [b'\x1bOQ', b'\x1b[Q', b'\x1b[12~', b'\x1b[[B', b'\x1b2'], 'r': [b'\x1bOR', b'\x1b[13~', b'\x1b[[C', b'\x1b3'],
@@ -29,7 +29,7 @@ NOTHING = [b'\x1b[<64;3;4m', b'\x1b[<66;3;4M', b'\x1b[<35;3;4M', b'\x1b[1;5E', b
            b'\x1bx', b'\x1b.']
 # What rings: keys that mean nothing here, one of them after a function key that is called off, and letters of other
 # scripts.
-RINGING = [b'\x1bOQ\x1b\x00', b'\x1b1\x1b\x00', b'\x02', b'\x00', '\u00e4'.encode(), '\u2014'.encode(), b'\xff']
+RINGING = [b'\x1bOQ\x1b\x00', b'\x1b1\x1b\x00', b'\x04', b'\x00', '\u00e4'.encode(), '\u2014'.encode(), b'\xff']
 
 
 # The files of the host that are brought in, and names of what is none: that isn't there, a folder, a pipe.
@@ -42,8 +42,9 @@ def report(key, column, row, is_down, flags=0):
     return b'\x1b[<%d;%d;%d%s' % (NUMBERS[key] + flags, column, row, b'M' if is_down else b'm')
 
 
-def drag(random, keys, start, end, flags=0):
-    """The buttons go down one after another, the first at the start, and up in any order, the last at the end."""
+def drag(random, keys, start, end, flags=0, held=0):
+    """The buttons go down one after another, the first at the start, and up in any order, the last at the end, where keys may be
+    held."""
     middle = random.choice([start, end])
     data = report(keys[0], *start, True, flags)
     for key in keys[1:]:
@@ -51,7 +52,7 @@ def drag(random, keys, start, end, flags=0):
     order = random.sample(keys, len(keys))
     for key in order[:-1]:
         data += report(key, *middle, False)
-    return data + report(order[-1], *end, False)
+    return data + report(order[-1], *end, False, held)
 
 
 def cell(random, rows):
@@ -80,7 +81,12 @@ def paste(random, is_long):
     text = ''.join(pieces)[:899]
     if is_long:
         text = ('a line of a long text\r' * 90)[:random.choice([899, 900, 901, 1800, 1801])]
-    return b'\x1b[200~' + text.encode() + b'\x1b[201~', [('paste', pasted(text))]
+    return b'\x1b[200~' + text.encode() + b'\x1b[201~', [('paste', pasted(text), marks_of(text.encode()))]
+
+
+def marks_of(data):
+    """How many characters of a paste, or of a file, become question marks."""
+    return sum(not (byte in b'\t\n\r' or 32 <= byte < 127 or 128 <= byte < 192) for byte in data)
 
 
 def told(data):
@@ -114,7 +120,7 @@ def line_asked(random):
 def press(random, rows, is_whole):
     """One press, or a few that belong together, in a window of so many rows. Where the whole display is in sight a
     paste may be of several events, and elsewhere the window may get another size."""
-    kind = random.randrange(31)
+    kind = random.randrange(32)
     if kind < 6:
         character = random.choice(PRINTED + ['\r', '\t', 'e', 'a', ' '])
         return character.encode(), [('type', character)]
@@ -133,11 +139,13 @@ def press(random, rows, is_whole):
         return random.choice([(b'\x1b[5;3~', [('page', 'up')]), (b'\x1b[6;3~', [('page', 'down')]),
                               (b'\x1b[1;3D', [('page', 'left')]), (b'\x1b[1;3C', [('page', 'right')])])
     if kind == 29:
-        return sought(random, rows)
+        return asked_for(random) if random.random() < 0.5 else sought(random, rows)
     if kind == 30:
         return stretched(random)
     if kind == 26:
         return b'\x1b[3~', [('delete',)]
+    if kind == 31:
+        return extended(random, rows)
     if kind == 27:
         return random.choice([line_asked(random), *[arrow(random)] * 2])
     if kind == 14:
@@ -157,7 +165,8 @@ def press(random, rows, is_whole):
     if kind in (17, 18):
         return scroll(random, rows)
     if kind == 28:
-        return random.choice([(b'\x05', [('at caret', 'm')]), (b'\x14', [('at caret', 'mark')]), (b'\x0b', [('cut line',)])])
+        return random.choice([(b'\x05', [('at caret', 'm')]), (b'\x14', [('at caret', 'mark')]), (b'\x0b', [('cut line',)]),
+                              *[(b'\x15', [('refill',)])] * 2])
     if kind == 20 and is_whole:
         return keyed(random)
     data, meanings = mouse(random, rows, is_whole)
@@ -173,15 +182,62 @@ def sought(random, rows):
     end = column + random.randrange(0, 2)
     typed = '\x7f' * (end - column + 1) + random.choice(['', 'q', 'Zz', ' ', '.'])
     data, meanings = b'', []
-    for piece, found in ((drag(random, 'r', (column, row), (end, row)), [('point', 'r', column, row, end, row), ('pointer', end, row)]),
-                         (drag(random, 'l', (2, 2), (2, 2)), [('point', 'l', 2, 2, 2, 2), ('pointer', 2, 2)]),
-                         (b'\x06', [('call', 'Edit.Search')]),
+    for piece, found in ((drag(random, 'l', (2, 2), (2, 2)), [('point', 'l', 2, 2, 2, 2), ('pointer', 2, 2)]),
+                         (drag(random, 'r', (column, row), (end, row)), [('point', 'r', column, row, end, row), ('pointer', end, row)]),
+                         (b'\x06', [('search', False)]),
                          (typed.encode(), [('key', 'back') if letter == '\x7f' else ('type', letter) for letter in typed]),
-                         (b'\x06', [('call', 'Edit.Search')]), (b'\x12', [('replace',)]), (b'\x06', [('call', 'Edit.Search')]),
+                         (b'\x06\x06', [('search', False)] * 2), (b'\x12', [('replace',)]), (b'\x06', [('search', False)]),
                          (b'\x1b[D', [('arrow', 'left')]), (b'\x12', [('replace',)])):
-        if random.random() < (0.3 if piece == b'\x1b[D' else 0.9) and len(data + piece) < 64:
+        if random.random() < (0.3 if piece == b'\x1b[D' else 0.9) and len(data + piece) < 58:
             data, meanings = data + piece, meanings + found
+    return data + b'\x1b\x00', meanings + [('called off',), ('ring',)]
+
+
+def extended(random, rows):
+    """Something of a text is mostly selected, by a draw or by two clicks, and then extended once or twice by the right button with
+    Shift, with Alt or with both, or by the left one with Ctrl."""
+    data, meanings = b'', []
+    place = random.choice([2, 3, 7, 12, 52, 55, 60]), random.randrange(2, min(rows, 9))
+    kind = random.randrange(4)
+    if kind == 0:
+        end = place[0] + random.randrange(0, 9), place[1] + random.choice([0, 0, 1])
+        data, meanings = drag(random, 'r', place, end), [('point', 'r', *place, *end), ('pointer', *end)]
+    elif kind < 3:
+        data, meanings = drag(random, 'l', place, place) * kind, [('point', 'l', *place, *place), ('pointer', *place)] * kind
+    for _ in range(random.choice([1, 1, 2])):
+        start = max(place[0] + random.randrange(-6, 14), 1), max(place[1] + random.choice([-1, 0, 0, 0, 1, 2]), 1)
+        end = start if random.random() < 0.7 else (start[0] + 3, start[1] + random.choice([0, 1]))
+        if random.random() < 0.1:
+            start, end = cell(random, rows), cell(random, rows)
+        keys, flags = random.choice([('r', 0), ('r', 4), ('r', 8), ('l', 16)])
+        piece = drag(random, keys, start, end, flags, flags | random.choice([4, 8, 12]))
+        if len(data + piece) < 64:  # (what is heard at one time)
+            data, meanings = data + piece, [*meanings, ('extend', *start, *end), ('pointer', *end)]
     return data, meanings
+
+
+def ended(end, keys):
+    """What ends the words that are asked for: a key that seeks them, or Return, behind which the screen is shown."""
+    return [('search', keys[end])] if end in keys else [('type', '\r'), ('look',)]
+
+
+def asked_for(random):
+    """Words are asked for and typed, and sought onward or backward; then they are sought again. Where something is selected the
+    words are typed into the text."""
+    words = random.choice(['e', 'a', 'Edit', 'System.', 'o', 'the', 'x', ' ', '3', 'e ', 'nowhere at all in any of the texts'])
+    keys = {b'\x06': False, b'\x02': True, b'\x1bf': True}
+    begin = random.choice(list(keys))
+    data, meanings = begin, [('search', keys[begin])]
+    for letter in words:
+        data, meanings = data + letter.encode(), [*meanings, ('type', letter)]
+    if random.random() < 0.2:
+        data, meanings = data + b'z\x7f', [*meanings, ('type', 'z'), ('key', 'back')]
+    end = random.choice([b'\r', b'\r', *keys])
+    data, meanings = data + end, meanings + ended(end, keys)
+    for _ in range(random.randrange(3)):
+        first, last = random.choice(list(keys)), random.choice([b'\r', *keys])
+        data, meanings = data + first + last, [*meanings, ('search', keys[first]), *ended(last, keys)]
+    return data + b'\x1b\x00', meanings + [('called off',), ('ring',)]
 
 
 def stretched(random):

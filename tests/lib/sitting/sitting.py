@@ -95,7 +95,7 @@ class Sitting:
         """Has the bytes, 63 at most, be heard at one time, and waits for the scene after that. False where none
         comes."""
         bells = self.terminal.bells
-        self.press(data + b'\x02')
+        self.press(data + b'\x04')
         return self.wait(lambda: self.terminal.bells > bells)
 
     def hear_long(self, data):

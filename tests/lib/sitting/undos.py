@@ -8,7 +8,7 @@ import sys
 import tempfile
 
 from main import begin, beginning, characters
-from model import Model, called_word, is_draw
+from model import Model, is_draw, whole_word
 from presses import FILES, drag, press
 from sitting import MODES, Ended, Sitting, TooSlow
 
@@ -16,6 +16,7 @@ PRESSES = 100
 MOST_AGAIN = 512  # presses that can be done again
 MOST_DONE = 512  # presses of which it is known what they did
 JOURNAL = 256  # events of a journal
+FIRST_EPOCH = 3  # of a new store of the desk
 ROWS = 33  # of the window, which shows the whole display
 KEYS = {'back': 'a Backspace', 'copy': 'a copy', 'paste': 'a paste', 'cut': 'a cut', 'escape': 'Escape'}
 CLICKS = {'l': 'the caret, or a viewer that was dragged', 'm': 'a command', 'r': 'a selection',
@@ -66,7 +67,7 @@ class Deed:
         """In the words of the line below. The screen as it was before the press shows the word that it called."""
         if self.typed is not None:
             return f'typed {self.typed} character' + ('s' if self.typed != 1 else '')
-        return screen and self.cell and called_word(screen, *self.cell) or self.words
+        return screen and self.cell and whole_word(screen, *self.cell) or self.words
 
 
 WORD, GAP, MOVES, SELECTS, ALONE = range(5)  # what a press was
@@ -105,7 +106,7 @@ class History:
     stands there too."""
 
     def __init__(self, lines):
-        self.before, self.journal = [], list(lines)
+        self.before, self.journal, self.epoch = [], list(lines), 1
 
     def add(self, line):
         if len(self.journal) == JOURNAL:
@@ -113,14 +114,14 @@ class History:
         self.journal.append(line)
 
     def checkpoint(self):
-        self.before, self.journal = self.journal, []
+        self.before, self.journal, self.epoch = self.journal, [], self.epoch + 1
 
     def take_back(self, count):
         """So many of the last events, or all: those of the journal before too, where this one has too few."""
         whole = self.before + self.journal
         at = max(0, len(whole) - count)
         if at < len(self.before):
-            self.before, self.journal = [], self.before[:at]
+            self.before, self.journal, self.epoch = [], self.before[:at], self.epoch - 1
         else:
             self.journal = whole[len(self.before):at]
         return whole[at:]
@@ -132,8 +133,8 @@ class History:
 class Undoing(Model):
     """The desktop of the events that stand: where some are taken back, all the others are played to a new store. What the
     presses did is known as far as they changed something: how many events each has, its deed, and what it was. An event
-    that is refused goes with the press before it, and so does a press that only moves something. A letter goes on with the
-    word before it."""
+    that is refused goes with the press before it, and so does a press that only moves something. Where there is none, what was
+    refused is never said to be taken back. A letter goes on with the word before it."""
 
     def __init__(self, oberon, store, window, folder, lines):
         self.base, self.folder, self.count = f'{folder}/nothing', folder, 0
@@ -211,19 +212,26 @@ class Undoing(Model):
         self.replacing.typed = None
         self.gather()
         lines = self.history.take_back(self.presses[-1][0] if self.presses else self.refused + 1)
-        if not lines:
-            self.saying = 'There is nothing to take back.'
+        if lines:
+            self.play_without(lines)
+        if not self.presses and len(lines) <= self.refused:
+            self.refused -= len(lines)
+            is_first = self.history.epoch <= FIRST_EPOCH
+            self.saying = 'There is nothing to take back.' if is_first else 'Undo reaches no further back.'
             return
-        self.stands = self.stands[:-len(lines)]
         deed = self.deed_of(lines)
         self.undone = [*self.undone, (lines, deed)][-MOST_AGAIN:]
+        self.follows = True
+        self.saying = 'undid: ' + (deed.told(self.screen()) if deed else PART)
+
+    def play_without(self, lines):
+        """The events that stand without these, the last ones, are played to a new store."""
+        self.stands = self.stands[:-len(lines)]
         self.end()
         self.store = self.copied()
         self.play = subprocess.Popen([self.oberon, 'play', self.store], stdin=subprocess.PIPE, stdout=subprocess.PIPE)
         for line in self.stands:
             self.ask(line)
-        self.follows = True
-        self.saying = 'undid: ' + (deed.told(self.screen()) if deed else PART)
 
     def deed_of(self, lines):
         """What these events did, which were taken back; None where they are a part of a press."""
@@ -276,6 +284,7 @@ def sit(seed, desk, oberon, folder, tool):
     for name, data in FILES.items():
         with open(f'{folder}/{name}', 'wb') as file:
             file.write(data)
+    os.mkfifo(f'{folder}/pipe')
     sitting, model = Sitting([desk, '--no-questions', theirs], ROWS, 80, folder), Undoing(oberon, ours, ROWS, folder, beginning(tool))
     terminal = sitting.terminal
     try:
@@ -356,7 +365,7 @@ def kills(seed, desk, oberon, folder, tool):
                 sitting.hear_long(b'')
             if characters(sitting.terminal.cells, ROWS - 1) != seen[at]:
                 wrong.append(f'another screen than that after {at} deeds')
-        sitting.press(b'\x11')
+        sitting.press(b'\x11\x11')  # (what was taken back is asked about)
         sitting.end()
     finally:
         sitting.stop()

@@ -21,7 +21,12 @@ use store_layout::{Filling, LAST_EPOCH, PastEnd, standing_law};
 use store_slots::{Error, SlotPlace, read_journal, read_past, renew};
 
 /// Writes the bytes to the sectors from `from` on, with zeros after them, and settles them.
-fn put_behind<D: Disk>(disk: &mut D, from: u32, limit: u32, bytes: &[u8]) -> Result<(), Fault>
+pub(super) fn put_behind<D: Disk>(
+    disk: &mut D,
+    from: u32,
+    limit: u32,
+    bytes: &[u8],
+) -> Result<(), Fault>
     requires { FitBehind (D.size disk.old) from limit (length bytes.now) }
     ensures kept { IsConfined D.size D.honest D.trail (InRange from limit) disk.old disk.new }
     ensures cause { CountsFault result (D.failures disk.old) (D.failures disk.new) }

@@ -1,9 +1,9 @@
-//! What a desktop on a disk hands out of its selections and of what was copied.
+//! What a desktop on a disk hands out of its selections, of what was copied, of the caret's text and of what was searched.
 ghost use Rattle.std.specs.Prelude.{◌≡◌, ◌≤◌, IfOk, option_map};
 ghost use Rattle.desktop_definitions.specs.Viewers.{newest, selected};
 ghost use Rattle.store_slots.specs.Errors.{OfDesktop};
 ghost use Rattle.store_slots.specs.Live.{seen_live, IsLiveOn, StaysLive};
-ghost use Rattle.store_slots.specs.Words.{Nowhere, now, IsConfined, FailsAs};
+ghost use Rattle.store_slots.specs.Words.{Content, Nowhere, now, IsConfined, FailsAs, caret_text};
 
 use super::LiveDesktop;
 use crate::Error;
@@ -50,5 +50,34 @@ impl LiveDesktop {
             None => Ok(None),
             Some(text) => Ok(Some(read_over(alloc, &text, disk, &mut self.pages)?)),
         }
+    }
+
+    /// The characters of the main text of the viewer with the caret, with their looks. None where no viewer has it.
+    pub fn caret_text<D: Disk>(
+        &mut self,
+        alloc: Global,
+        disk: &mut D,
+    ) -> Result<Option<Vec<(u8, Look)>>, Error>
+        requires on { IsLiveOn D.Disk disk.old self.old }
+        requires room { STORE_SECTORS ≤ D.size disk.old }
+        ensures told { IfOk result (λ found. D.honest disk.old
+            → option_map (λ characters. characters.items) found
+            ≡ caret_text (seen_live (now (D.trail disk.old)).reads self.old)) }
+        ensures same { StaysLive D.Disk disk.old disk.new self.old self.new }
+        ensures disk { IsConfined D.size D.honest D.trail Nowhere disk.old disk.new }
+        ensures faults { FailsAs Error.Fault OfDesktop result (D.failures disk.old)
+            (D.failures disk.new) }
+    {
+        match self.desktop.caret_text() {
+            None => Ok(None),
+            Some(text) => Ok(Some(read_over(alloc, text, disk, &mut self.pages)?)),
+        }
+    }
+
+    /// The bytes for which a text was searched last, 31 at most.
+    pub fn pattern(&self) -> &[u8]
+        ensures { (c : Content) → result.now ≡ (seen_live c self.now).pattern }
+    {
+        self.desktop.pattern()
     }
 }

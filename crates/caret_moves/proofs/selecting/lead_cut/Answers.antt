@@ -1,31 +1,26 @@
-use Rattle.std.proofs.Common.{◌∙◌, sym, ap, List, []}
-use Rattle.std.specs.Prelude.{Ok, Some, Result}
-use Rattle.event_bytes.specs.declared.event.Event.{Event}
+use Rattle.std.proofs.Common.{◌∙◌, sym, subst, ℕ, arith}
+use Rattle.std.proofs.lemmas.Result.{IfOk-weaker}
 use Rattle.desktop_definitions.specs.Seen.{seen}
 use Rattle.desk_core.specs.Kept.{kept_desktop}
-use Rattle.caret_moves.specs.declared.wish.WhyNot.{WhyNot}
-use Rattle.caret_moves.specs.Leading.{then_drawn}
-use Rattle.caret_moves.proofs.StretchTold.{cut_nothing, cut_told}
+use Rattle.desk_core.specs.Positions.{IsPosition}
+use Rattle.caret_moves.specs.Leading.{cut_all_led}
+use Rattle.caret_moves.proofs.StretchTold.{cut_of_part}
 use Rattle.caret_moves.proofs.selecting.lead_cut.Goals as goal
 
-pub returns-then-stretch-clause-told : goal.returns-then-stretch-clause-told
-returns-then-stretch-clause-told g c = λ h.
-    cut_nothing (seen (g.S.CharSource.characters c.args.source.now) (kept_desktop c.args.desk.now)) c.args.stretch
-    c.if-stretch.true
-
-pub returns-in_default-clause-told : goal.returns-in_default-clause-told
-unfolding seen
-returns-in_default-clause-told g c = λ h.
-    ap (then_drawn (Some [])) (sym c.in_default.is)
-    ∙ cut_told (seen (g.S.CharSource.characters c.args.source.now) (kept_desktop c.args.desk.now)) c.args.stretch
-    c.if-stretch.false c.main_frame-frame.result.org c.in_ok-drawn.drawn c.main_frame-frame.ensures
-    (c.in_ok-drawn.ensures.exact h)
+pub lead_cut_all_of-requires-clause-end : goal.lead_cut_all_of-requires-clause-end
+lead_cut_all_of-requires-clause-end g c =
+    subst (λ (v : ℕ). IsPosition (kept_desktop c.args.desk.now) v c.in_ok-part.part.end) (sym c.in_ok-part.ensures.viewer)
+    (record {
+      placed = c.requires.end.placed;
+      place = (let all = c.requires.end.place in let less = c.in_ok-part.ensures.within in omega (arith, all, less));
+    })
 
 pub returns-clause-told : goal.returns-clause-told
-unfolding seen
-returns-clause-told g c = λ h.
-    ap (λ (l : List Event). let r : Result (List Event) WhyNot = Ok l in r) c.in_ok-events.ensures
-    ∙ ap (then_drawn (Some [])) (sym c.in-Some.is)
-    ∙ cut_told (seen (g.S.CharSource.characters c.args.source.now) (kept_desktop c.args.desk.now)) c.args.stretch
-    c.if-stretch.false c.main_frame-frame.result.org c.in_ok-drawn.drawn c.main_frame-frame.ensures
-    (c.in_ok-drawn.ensures.exact h)
+returns-clause-told g c =
+    IfOk-weaker c.lead_cut_all_of.result _ _ (λ told is h.
+    let d = kept_desktop c.args.desk.now in
+    let first = c.in_ok-part.ensures.told in
+    is (first.reads.still h)
+    ∙ (λ k. cut_all_led (seen (first.reads.same h k) d) c.in_ok-part.part)
+    ∙ cut_of_part (seen (g.S.CharSource.characters c.args.source.now) d) c.args.stretch c.in_ok-part.part
+    (first.exact h)) c.lead_cut_all_of.ensures.told

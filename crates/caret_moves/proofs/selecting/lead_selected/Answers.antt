@@ -1,35 +1,30 @@
-use Rattle.std.proofs.Common.{◌∙◌, ap, sym, List}
-use Rattle.std.specs.Prelude.{Option, ok_or}
-use Rattle.std.specs.Result.{result_map_both}
-use Rattle.event_bytes.specs.declared.event.Event.{Event}
-use Rattle.caret_moves.specs.declared.wish.WhyNot.TheVariants.{TooFar}
-use Rattle.caret_moves.proofs.Told.{mapped_ok}
+use Rattle.std.proofs.Common.{◌∙◌, sym, subst, ℕ, arith}
 use Rattle.std.proofs.lemmas.Result.{IfOk-weaker}
 use Rattle.desktop_definitions.specs.Seen.{seen}
 use Rattle.desk_core.specs.Kept.{kept_desktop}
-use Rattle.caret_moves.specs.Leading.{draw_led}
-use Rattle.caret_moves.proofs.StretchTold.{select_nothing, select_past, select_there}
+use Rattle.desk_core.specs.Positions.{IsPosition}
+use Rattle.caret_moves.specs.Leading.{select_all_led}
+use Rattle.caret_moves.proofs.StretchTold.{select_of_part}
 use Rattle.caret_moves.proofs.selecting.lead_selected.Goals as goal
 
-pub returns-then-stretch-clause-told : goal.returns-then-stretch-clause-told
-returns-then-stretch-clause-told g c = λ h.
-    let d = seen (g.S.CharSource.characters c.args.source.now) (kept_desktop c.args.desk.now) in
-    ap (λ r. result_map_both (λ events. events.items) (λ why. why) r) c.ok_or.ensures.value
-    ∙ mapped_ok (λ events. events.items) c.in_ok-alone.alone TooFar
-    ∙ ap (λ (o : Option (List Event)). ok_or o TooFar) (c.in_ok-alone.ensures.told h)
-    ∙ select_nothing d c.args.pos c.args.stretch c.if-stretch.true
+pub lead_select_all_of-requires-clause-at : goal.lead_select_all_of-requires-clause-at
+lead_select_all_of-requires-clause-at g c =
+    subst (λ (v : ℕ). IsPosition (kept_desktop c.args.desk.now) v c.args.pos) (sym c.in_ok-part.ensures.viewer) c.requires.at
 
-pub returns-then-not-has_column-clause-told : goal.returns-then-not-has_column-clause-told
-returns-then-not-has_column-clause-told g c = λ h.
-    select_past (seen (g.S.CharSource.characters c.args.source.now) (kept_desktop c.args.desk.now)) c.args.pos c.args.stretch
-    c.if-stretch.false (sym c.if-not-has_column.true ∙ c.in_ok-has_column.ensures.exact h)
+pub lead_select_all_of-requires-clause-end : goal.lead_select_all_of-requires-clause-end
+lead_select_all_of-requires-clause-end g c =
+    subst (λ (v : ℕ). IsPosition (kept_desktop c.args.desk.now) v c.in_ok-part.part.end) (sym c.in_ok-part.ensures.viewer)
+    (record {
+      placed = c.requires.end.placed;
+      place = (let all = c.requires.end.place in let less = c.in_ok-part.ensures.within in omega (arith, all, less));
+    })
 
 pub returns-clause-told : goal.returns-clause-told
 returns-clause-told g c =
-    IfOk-weaker c.lead_drawn.result _ _ (λ told is h.
+    IfOk-weaker c.lead_select_all_of.result _ _ (λ told is h.
     let d = kept_desktop c.args.desk.now in
-    let first = c.in_ok-has_column.ensures in
+    let first = c.in_ok-part.ensures.told in
     is (first.reads.still h)
-    ∙ (λ k. draw_led (seen (first.reads.same h k) d) c.args.pos c.args.stretch)
-    ∙ select_there (seen (g.S.CharSource.characters c.args.source.now) d) c.args.pos c.args.stretch
-    c.if-stretch.false (sym c.if-not-has_column.false ∙ first.exact h)) c.lead_drawn.ensures.told
+    ∙ (λ k. select_all_led (seen (first.reads.same h k) d) c.args.pos c.in_ok-part.part)
+    ∙ select_of_part (seen (g.S.CharSource.characters c.args.source.now) d) c.args.stretch c.args.pos c.in_ok-part.part
+    (first.exact h)) c.lead_select_all_of.ensures.told

@@ -16,7 +16,7 @@ returns-in_err-before-clause-any_moment g c = desktop_kept g.D.Disk c.args.base 
     c.requires.behind c.shows_what_crashes_leave.ensures.durable c.make_start.ensures.others
 
 pub returns-in_err-before-clause-none_forgotten : goal.returns-in_err-before-clause-none_forgotten
-returns-in_err-before-clause-none_forgotten g c = λ honest start events desktop keeps apart.
+returns-in_err-before-clause-none_forgotten g c = λ honest start deeds desktop keeps apart.
     still_remembered g.D.Disk keeps honest c.args.base c.requires.behind apart c.make_start.ensures.device.same
     c.make_start.ensures.others
 
@@ -25,7 +25,7 @@ returns-in_default-clause-any_moment g c = desktop_kept g.D.Disk c.args.base c.a
     c.requires.behind c.shows_what_crashes_leave.ensures.durable c.make_start.ensures.others
 
 pub returns-in_default-clause-none_forgotten : goal.returns-in_default-clause-none_forgotten
-returns-in_default-clause-none_forgotten g c = λ honest start events desktop keeps apart.
+returns-in_default-clause-none_forgotten g c = λ honest start deeds desktop keeps apart.
     still_remembered g.D.Disk keeps honest c.args.base c.requires.behind apart c.make_start.ensures.device.same
     c.make_start.ensures.others
 
@@ -39,7 +39,7 @@ returns-in_err-checkpoint_with-clause-any_moment g c =
     c.checkpoint_with.ensures.any_moment
 
 pub returns-in_err-checkpoint_with-clause-none_forgotten : goal.returns-in_err-checkpoint_with-clause-none_forgotten
-returns-in_err-checkpoint_with-clause-none_forgotten g c = λ honest start events desktop keeps apart.
+returns-in_err-checkpoint_with-clause-none_forgotten g c = λ honest start deeds desktop keeps apart.
     let d = g.D.Disk in
     let started = (rw c.in-Some.is at c.in_ok-before.ensures.start) in
     let device = c.make_start.ensures.device.same in
@@ -60,7 +60,7 @@ returns-clause-any_moment g c =
     c.checkpoint_with.ensures.any_moment
 
 pub returns-clause-none_forgotten : goal.returns-clause-none_forgotten
-returns-clause-none_forgotten g c = λ honest start events desktop keeps apart.
+returns-clause-none_forgotten g c = λ honest start deeds desktop keeps apart.
     let d = g.D.Disk in
     let started = (rw c.in-Some.is at c.in_ok-before.ensures.start) in
     let device = c.make_start.ensures.device.same in
@@ -102,7 +102,7 @@ returns-clause-begun g c = λ is honest.
     }
 
 pub returns-clause-goes_on : goal.returns-clause-goes_on
-returns-clause-goes_on g c = λ is honest start events desktop keeps apart.
+returns-clause-goes_on g c = λ is honest start deeds desktop keeps apart.
     let d = g.D.Disk in
     let started = (rw c.in-Some.is at c.in_ok-before.ensures.start) in
     let device = c.make_start.ensures.device.same in

@@ -60,7 +60,7 @@ returns-clause-any_moment g c = leaves_begun g.D.Disk c.begin_at.new.store c.sho
     c.shows_what_crashes_leave.ensures.quiet c.found_behind.ensures.still c.begin_at.ensures.any_moment
 
 pub returns-clause-none_forgotten : goal.returns-clause-none_forgotten
-returns-clause-none_forgotten g c = λ honest start events desktop keeps lies.
+returns-clause-none_forgotten g c = λ honest start deeds desktop keeps lies.
     let d = g.D.Disk in
     forgets_begun d c.begin_at.new.store keeps honest (c.shows_what_crashes_leave.ensures.quiet keeps.usable honest)
     c.found_behind.ensures.still c.in-Some.base c.begin_at.ensures.none_forgotten

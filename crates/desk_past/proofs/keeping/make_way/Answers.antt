@@ -7,7 +7,7 @@ use Rattle.desk_past.proofs.Ways.{room_or_due, way_none}
 use Rattle.desk_past.proofs.keeping.make_way.Goals as goal
 
 pub returns-then-not-can_turn-clause-any_moment : goal.returns-then-not-can_turn-clause-any_moment
-returns-then-not-can_turn-clause-any_moment g c = λ honest start events desktop keeps.
+returns-then-not-can_turn-clause-any_moment g c = λ honest start deeds desktop keeps.
     read_moments g.D.Disk keeps honest (c.shows_what_crashes_leave.ensures.quiet keeps.usable honest)
     c.args.store.now (still_none g.D.Disk c.args.store.now keeps.usable).left.disk
 
@@ -20,7 +20,7 @@ pub returns-then-not-can_turn-clause-made : goal.returns-then-not-can_turn-claus
 returns-then-not-can_turn-clause-made g c = way_none g.D.Disk c.args.store.now
 
 pub returns-then-not-can_turn-clause-empty : goal.returns-then-not-can_turn-clause-empty
-returns-then-not-can_turn-clause-empty g c = λ honest start events desktop keeps can.
+returns-then-not-can_turn-clause-empty g c = λ honest start deeds desktop keeps can.
     elim (room_or_due c.args.store.now) [
       | inl room ↦ room
       | inr due ↦ c.can_turn.ensures.free c.if-not-can_turn.true keeps.usable (can due).later

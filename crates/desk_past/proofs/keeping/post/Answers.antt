@@ -10,9 +10,9 @@ returns-in_err-make_way-clause-any_moment g c = only_first g.D.Disk c.args.event
     c.args.store.now c.make_way.new.store c.make_way.ensures.moments
 
 pub returns-in_err-make_way-clause-nothing_forgotten : goal.returns-in_err-make_way-clause-nothing_forgotten
-returns-in_err-make_way-clause-nothing_forgotten g c = λ honest start events desktop keeps can.
+returns-in_err-make_way-clause-nothing_forgotten g c = λ honest start deeds desktop keeps can.
     leaves_more g.D.Disk c.args.store.now c.make_way.new.store c.args.event.now
-    (c.make_way.ensures.any_moment honest start events desktop keeps)
+    (c.make_way.ensures.any_moment honest start deeds desktop keeps)
 
 pub returns-clause-any_moment : goal.returns-clause-any_moment
 returns-clause-any_moment g c = either_then g.D.Disk c.post.new.self c.in_ok-make_way.ensures.made c.args.event.now
@@ -36,24 +36,24 @@ returns-clause-reopen g c = reopen_then g.D.Disk c.post.new.self c.in_ok-make_wa
     c.post.ensures.behaves.reopen
 
 pub returns-clause-nothing_forgotten : goal.returns-clause-nothing_forgotten
-returns-clause-nothing_forgotten g c = λ honest start events desktop keeps can.
+returns-clause-nothing_forgotten g c = λ honest start deeds desktop keeps can.
     let d = g.D.Disk in
-    let mid = c.in_ok-make_way.ensures.ended honest start events desktop keeps in
+    let mid = c.in_ok-make_way.ensures.ended honest start deeds desktop keeps in
     let second = c.make_way.ensures.device.same.still honest in
-    let has = c.in_ok-make_way.ensures.empty honest start events desktop keeps can in
+    let has = c.in_ok-make_way.ensures.empty honest start deeds desktop keeps can in
     leaves_more_then d c.args.store.now c.make_way.new.store c.post.new.self c.args.event.now c.make_way.ensures.device.same
-    (c.make_way.ensures.any_moment honest start events desktop keeps)
+    (c.make_way.ensures.any_moment honest start deeds desktop keeps)
     (post_moments d mid second (c.shows_what_crashes_leave.ensures.quiet mid.usable second) c.post.new.self
     c.args.event.now has
     c.post.ensures.behaves.within c.post.ensures.added.moments)
 
 pub returns-clause-kept : goal.returns-clause-kept
 returns-clause-kept g c = ok_with c.post.result c.post.ensures.ok c.post.ensures.added.done
-    (λ reply taken added honest start events desktop keeps can.
+    (λ reply taken added honest start deeds desktop keeps can.
     let d = g.D.Disk in
-    let mid = c.in_ok-make_way.ensures.ended honest start events desktop keeps in
+    let mid = c.in_ok-make_way.ensures.ended honest start deeds desktop keeps in
     let second = c.make_way.ensures.device.same.still honest in
-    let has = c.in_ok-make_way.ensures.empty honest start events desktop keeps can in
+    let has = c.in_ok-make_way.ensures.empty honest start deeds desktop keeps can in
     post_keeps d mid second (c.shows_what_crashes_leave.ensures.quiet mid.usable second) c.post.new.self
     c.args.event.now has
     c.post.ensures.behaves.within taken.usable

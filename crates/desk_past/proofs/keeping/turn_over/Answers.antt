@@ -11,7 +11,7 @@ use Rattle.desk_past.proofs.Ways.{room_renewed, way_aside, way_renewed}
 use Rattle.desk_past.proofs.keeping.turn_over.Goals as goal
 
 pub returns-in_err-told-clause-any_moment : goal.returns-in_err-told-clause-any_moment
-returns-in_err-told-clause-any_moment g c = λ honest start events desktop keeps.
+returns-in_err-told-clause-any_moment g c = λ honest start deeds desktop keeps.
     read_moments g.D.Disk keeps honest (c.shows_what_crashes_leave.ensures.quiet keeps.usable honest)
     c.past.new.self c.past.ensures.looks.disk
 
@@ -21,7 +21,7 @@ returns-in_err-told-clause-moments g c = desktop_spared g.D.Disk STORE_SECTORS 0
     (spared_read g.D.Disk STORE_SECTORS 0 c.past.ensures.looks.disk c.shows_what_crashes_leave.ensures.quiet)
 
 pub returns-in_default-clause-any_moment : goal.returns-in_default-clause-any_moment
-returns-in_default-clause-any_moment g c = λ honest start events desktop keeps.
+returns-in_default-clause-any_moment g c = λ honest start deeds desktop keeps.
     read_moments g.D.Disk keeps honest (c.shows_what_crashes_leave.ensures.quiet keeps.usable honest)
     c.past.new.self c.past.ensures.looks.disk
 
@@ -31,7 +31,7 @@ returns-in_default-clause-moments g c = desktop_spared g.D.Disk STORE_SECTORS 0 
     (spared_read g.D.Disk STORE_SECTORS 0 c.past.ensures.looks.disk c.shows_what_crashes_leave.ensures.quiet)
 
 pub returns-in_default-clause-ended : goal.returns-in_default-clause-ended
-returns-in_default-clause-ended g c = λ honest start events desktop keeps.
+returns-in_default-clause-ended g c = λ honest start deeds desktop keeps.
     read_keeps g.D.Disk keeps honest (c.shows_what_crashes_leave.ensures.quiet keeps.usable honest)
     c.past.ensures.looks.disk (c.past.ensures.looks.usable ∙ keeps.usable)
 
@@ -40,23 +40,23 @@ returns-in_default-clause-made g c = way_aside g.D.Disk c.requires.able
     (aside_looked g.D.Disk c.past.result c.requires.able.0 c.past.ensures.looks)
 
 pub returns-in_err-end_epoch-clause-any_moment : goal.returns-in_err-end_epoch-clause-any_moment
-returns-in_err-end_epoch-clause-any_moment g c = λ honest start events desktop keeps.
+returns-in_err-end_epoch-clause-any_moment g c = λ honest start deeds desktop keeps.
     let d = g.D.Disk in
     let quiet = c.shows_what_crashes_leave.ensures.quiet keeps.usable honest in
     let run = c.past.ensures.looks.disk in
     leaves_then d c.args.store.now c.past.new.self c.end_epoch.new.store run.device
     (read_moments d keeps honest quiet c.past.new.self run)
-    (c.end_epoch.ensures.any_moment (run.device.still honest) start events desktop
+    (c.end_epoch.ensures.any_moment (run.device.still honest) start deeds desktop
     (read_keeps d keeps honest quiet run (c.past.ensures.looks.usable ∙ keeps.usable)))
 
 pub returns-clause-any_moment : goal.returns-clause-any_moment
-returns-clause-any_moment g c = λ honest start events desktop keeps.
+returns-clause-any_moment g c = λ honest start deeds desktop keeps.
     let d = g.D.Disk in
     let quiet = c.shows_what_crashes_leave.ensures.quiet keeps.usable honest in
     let run = c.past.ensures.looks.disk in
     leaves_then d c.args.store.now c.past.new.self c.end_epoch.new.store run.device
     (read_moments d keeps honest quiet c.past.new.self run)
-    (c.end_epoch.ensures.any_moment (run.device.still honest) start events desktop
+    (c.end_epoch.ensures.any_moment (run.device.still honest) start deeds desktop
     (read_keeps d keeps honest quiet run (c.past.ensures.looks.usable ∙ keeps.usable)))
 
 pub returns-in_err-end_epoch-clause-moments : goal.returns-in_err-end_epoch-clause-moments
@@ -78,9 +78,9 @@ returns-clause-moments g c =
     (aside_looked d c.past.result c.requires.able.0 c.past.ensures.looks) c.end_epoch.ensures.moments
 
 pub returns-clause-ended : goal.returns-clause-ended
-returns-clause-ended g c = λ honest start events desktop keeps.
+returns-clause-ended g c = λ honest start deeds desktop keeps.
     let run = c.past.ensures.looks.disk in
-    c.in_ok-end_epoch.ensures.ended (run.device.still honest) start events desktop
+    c.in_ok-end_epoch.ensures.ended (run.device.still honest) start deeds desktop
     (read_keeps g.D.Disk keeps honest (c.shows_what_crashes_leave.ensures.quiet keeps.usable honest) run
     (c.past.ensures.looks.usable ∙ keeps.usable))
 
@@ -97,7 +97,7 @@ returns-clause-made g c =
     ]
 
 pub returns-clause-empty : goal.returns-clause-empty
-returns-clause-empty g c = λ honest start events desktop keeps can.
+returns-clause-empty g c = λ honest start deeds desktop keeps can.
     let d = g.D.Disk in
     let quiet = c.shows_what_crashes_leave.ensures.quiet keeps.usable honest in
     let run = c.past.ensures.looks.disk in
@@ -109,12 +109,12 @@ returns-clause-empty g c = λ honest start events desktop keeps can.
     elim (true_or_false c.in_ok-end_epoch.field-0) [
       | inl done ↦ room_renewed d (c.in_ok-end_epoch.ensures.renewed done)
       | inr not ↦ absurd (room_still d keeps honest quiet c.past.new.self run (c.past.ensures.looks.usable ∙ keeps.usable)
-          can.end can.room (λ mid room. c.in_ok-end_epoch.ensures.full not (run.device.still honest) start events desktop mid
+          can.end can.room (λ mid room. c.in_ok-end_epoch.ensures.full not (run.device.still honest) start deeds desktop mid
           (subst (λ n. HasPageRoom d n mid) (sym found.1) room)))
     ]
 
 pub returns-in_default-clause-empty : goal.returns-in_default-clause-empty
-returns-in_default-clause-empty g c = λ honest start events desktop keeps can.
+returns-in_default-clause-empty g c = λ honest start deeds desktop keeps can.
     let d = g.D.Disk in
     let run = c.past.ensures.looks.disk in
     let next = ap (λ (x : PastEnd). x.next)

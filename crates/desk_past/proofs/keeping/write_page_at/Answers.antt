@@ -12,22 +12,22 @@ use Rattle.desk_past.proofs.StillReads.{usable_of}
 use Rattle.desk_past.proofs.keeping.write_page_at.Goals as goal
 
 pub returns-in_err-bytes-clause-any_moment : goal.returns-in_err-bytes-clause-any_moment
-returns-in_err-bytes-clause-any_moment g c = λ honest start events desktop keeps told.
+returns-in_err-bytes-clause-any_moment g c = λ honest start deeds desktop keeps told.
     read_moments g.D.Disk keeps honest (c.shows_what_crashes_leave.ensures.quiet keeps.usable honest)
     c.page_read.new.store c.page_read.ensures.looks.disk
 
 pub returns-in_default-end_behind-clause-any_moment : goal.returns-in_default-end_behind-clause-any_moment
-returns-in_default-end_behind-clause-any_moment g c = λ honest start events desktop keeps told.
+returns-in_default-end_behind-clause-any_moment g c = λ honest start deeds desktop keeps told.
     read_moments g.D.Disk keeps honest (c.shows_what_crashes_leave.ensures.quiet keeps.usable honest)
     c.page_read.new.store c.page_read.ensures.looks.disk
 
 pub returns-in_default-end_behind-clause-none : goal.returns-in_default-end_behind-clause-none
-returns-in_default-end_behind-clause-none g c = λ honest start events desktop keeps.
+returns-in_default-end_behind-clause-none g c = λ honest start deeds desktop keeps.
     read_keeps g.D.Disk keeps honest (c.shows_what_crashes_leave.ensures.quiet keeps.usable honest)
     c.page_read.ensures.looks.disk (c.page_read.ensures.usable ∙ keeps.usable)
 
 pub returns-in_err-write_behind-clause-any_moment : goal.returns-in_err-write_behind-clause-any_moment
-returns-in_err-write_behind-clause-any_moment g c = λ honest start events desktop keeps told.
+returns-in_err-write_behind-clause-any_moment g c = λ honest start deeds desktop keeps told.
     let run = c.page_read.ensures.looks.disk in
     let usable = c.page_read.ensures.usable ∙ keeps.usable in
     read_then_moments g.D.Disk c.page_read.new.store c.write_behind.new.self keeps honest
@@ -36,7 +36,7 @@ returns-in_err-write_behind-clause-any_moment g c = λ honest start events deskt
     c.write_behind.ensures.only c.write_behind.ensures.any_moment
 
 pub returns-clause-any_moment : goal.returns-clause-any_moment
-returns-clause-any_moment g c = λ honest start events desktop keeps told.
+returns-clause-any_moment g c = λ honest start deeds desktop keeps told.
     let run = c.page_read.ensures.looks.disk in
     let usable = c.page_read.ensures.usable ∙ keeps.usable in
     read_then_moments g.D.Disk c.page_read.new.store c.write_behind.new.self keeps honest
@@ -45,7 +45,7 @@ returns-clause-any_moment g c = λ honest start events desktop keeps told.
     c.write_behind.ensures.only c.write_behind.ensures.any_moment
 
 pub returns-clause-written : goal.returns-clause-written
-returns-clause-written g c = λ honest start events desktop keeps told.
+returns-clause-written g c = λ honest start deeds desktop keeps told.
     let d = g.D.Disk in
     let run = c.page_read.ensures.looks.disk in
     let usable = c.page_read.ensures.usable ∙ keeps.usable in
@@ -56,20 +56,23 @@ returns-clause-written g c = λ honest start events desktop keeps told.
     read_then_page d c.page_read.new.store c.write_behind.new.self keeps honest
     (c.shows_what_crashes_leave.ensures.quiet keeps.usable honest) run usable
     (c.shows_what_crashes_leave-2.ensures.quiet usable (run.device.still honest)) _ _ (ap (λ x. x.next) told)
-    c.write_behind.ensures.only c.in-Some-end_behind.next c.in_ok-write_behind.ensures.ok (c.as_slice.ensures.value ∙ same) (subst (λ l. length l < 2 ^ 32) (sym c.as_slice.ensures.value) (rw c.in-Some.is at c.in_ok-bytes.ensures.short))
-    (page_ends_at c.args.told.next c.in-Some-end_behind.next.next _ _ c.in-Some-end_behind.ensures.count
+    c.write_behind.ensures.only c.in-Some-end_behind.next c.in_ok-write_behind.ensures.ok
+    (c.as_slice.ensures.value ∙ same)
+    (subst (λ l. length l < 2 ^ 32) (sym c.as_slice.ensures.value) (rw c.in-Some.is at c.in_ok-bytes.ensures.short))
+    (page_ends_at c.args.told.next c.in-Some-end_behind.next.next c.len.result (journal_of keeps.remembers.standing)
+    c.in-Some-end_behind.ensures.count
     (c.len.ensures ∙ c.in-Some.bytes.ok.0) same)
     (search (rules, arith))
     (counts_on _ _ keeps.remembers.standing _ (sym (ap (λ x. x.before) told)) c.in-Some-end_behind.ensures.before
     (is.events ∙ sym (ap (λ x. x.events) info_is)))
 
 pub returns-in_default-clause-any_moment : goal.returns-in_default-clause-any_moment
-returns-in_default-clause-any_moment g c = λ honest start events desktop keeps told.
+returns-in_default-clause-any_moment g c = λ honest start deeds desktop keeps told.
     read_moments g.D.Disk keeps honest (c.shows_what_crashes_leave.ensures.quiet keeps.usable honest)
     c.page_read.new.store c.page_read.ensures.looks.disk
 
 pub returns-in_default-clause-none : goal.returns-in_default-clause-none
-returns-in_default-clause-none g c = λ honest start events desktop keeps.
+returns-in_default-clause-none g c = λ honest start deeds desktop keeps.
     read_keeps g.D.Disk keeps honest (c.shows_what_crashes_leave.ensures.quiet keeps.usable honest)
     c.page_read.ensures.looks.disk (c.page_read.ensures.usable ∙ keeps.usable)
 
@@ -124,7 +127,7 @@ returns-clause-moments g c =
     c.write_behind.ensures.only c.shows_what_crashes_leave-2.ensures.quiet))
 
 pub returns-in_default-end_behind-clause-full : goal.returns-in_default-end_behind-clause-full
-returns-in_default-end_behind-clause-full g c = λ honest start events desktop keeps told room.
+returns-in_default-end_behind-clause-full g c = λ honest start deeds desktop keeps told room.
     let same = (rw c.in-Some.is at c.in_ok-bytes.ensures.page) honest keeps.remembers.standing keeps.remembers.past.stands in
     let is = shown_as (now (g.D.Disk.trail c.args.store.now.disk)) keeps.remembers.standing c.standing_law.ensures
     (c.info.ensures.durable keeps.usable honest) keeps.remembers.past.stands in

@@ -19,7 +19,6 @@ returns-in_default-clause-found g c = λ honest p page.
     let at = (now (g.D.Disk.trail c.args.store.now.disk)).reads in
     let read = c.as_slice.ensures.value ∙ c.in_ok-first.ensures.bytes honest in
     c.in_default.ensures.none
-    (kind_is at c.args.at p page.held page.good _ _ c.split_at.ensures.front read)
     (version_is at c.args.at p page.held page.good _ _ c.split_at.ensures.front read)
 
 pub returns-then-sectors-end-clause-found : goal.returns-then-sectors-end-clause-found
@@ -33,8 +32,8 @@ returns-then-sectors-end-clause-found g c = λ honest p page.
 pub returns-in_err-bytes-clause-still : goal.returns-in_err-bytes-clause-still
 returns-in_err-bytes-clause-still g c = still_both g.D.Disk c.bytes_at.ensures.still c.bytes_at-2.ensures.still
 
-pub returns-in_err-events-clause-still : goal.returns-in_err-events-clause-still
-returns-in_err-events-clause-still g c = still_both g.D.Disk c.bytes_at.ensures.still c.bytes_at-2.ensures.still
+pub returns-in_err-deeds-clause-still : goal.returns-in_err-deeds-clause-still
+returns-in_err-deeds-clause-still g c = still_both g.D.Disk c.bytes_at.ensures.still c.bytes_at-2.ensures.still
 
 pub returns-in_default-2-clause-still : goal.returns-in_default-2-clause-still
 returns-in_default-2-clause-still g c = still_both g.D.Disk c.bytes_at.ensures.still c.bytes_at-2.ensures.still
@@ -51,9 +50,11 @@ returns-in_default-2-clause-found g c = λ honest p page.
     let same = still_reads d still (c.shows_what_crashes_leave.ensures.quiet c.requires.usable honest) honest in
     let are = sectors_are at c.args.at p page.held page.good _ _ c.split_at.ensures.front read c.in-Some.front.spelled
     c.in-Some-sectors_for.sectors c.in-Some.ensures.spelled c.in-Some-sectors_for.ensures.count in
-    (rw c.in_default-2.is at c.in_ok-events.ensures) p.events _ page.good.valid
-    (sym (count_is at c.args.at p page.held page.good _ _ c.split_at.ensures.front read c.in-Some.front.count
-    c.in-Some.ensures.count))
+    (rw c.in_default-2.is at c.in_ok-deeds.ensures) p _
+    (kind_is at c.args.at p page.held page.good _ _ c.split_at.ensures.front read c.in-Some.front.kind
+    c.in-Some.ensures.kind)
+    (count_is at c.args.at p page.held page.good _ _ c.split_at.ensures.front read c.in-Some.front.count
+    c.in-Some.ensures.count) page.good.valid
     (spelled_there at c.args.at p page.held page.good _ _ c.in-Some-sectors_for.sectors are
     (c.as_slice-2.ensures.value ∙ c.in_ok-bytes.ensures.bytes (still.left.disk.device.still honest)
     ∙ ap (λ r. stored r c.args.at (SECTOR_BYTES * c.in-Some-sectors_for.sectors)) same)
@@ -68,9 +69,11 @@ returns-clause-found g c = λ honest p page.
     let same = still_reads d still (c.shows_what_crashes_leave.ensures.quiet c.requires.usable honest) honest in
     let are = sectors_are at c.args.at p page.held page.good _ _ c.split_at.ensures.front read c.in-Some.front.spelled
     c.in-Some-sectors_for.sectors c.in-Some.ensures.spelled c.in-Some-sectors_for.ensures.count in (
-      (rw c.in-Some-2.is at c.in_ok-events.ensures) p.events _ page.good.valid
-          (sym (count_is at c.args.at p page.held page.good _ _ c.split_at.ensures.front read c.in-Some.front.count
-          c.in-Some.ensures.count))
+      (rw c.in-Some-2.is at c.in_ok-deeds.ensures) p _
+          (kind_is at c.args.at p page.held page.good _ _ c.split_at.ensures.front read c.in-Some.front.kind
+          c.in-Some.ensures.kind)
+          (count_is at c.args.at p page.held page.good _ _ c.split_at.ensures.front read c.in-Some.front.count
+          c.in-Some.ensures.count) page.good.valid
           (spelled_there at c.args.at p page.held page.good _ _ c.in-Some-sectors_for.sectors are
           (c.as_slice-2.ensures.value ∙ c.in_ok-bytes.ensures.bytes (still.left.disk.device.still honest)
           ∙ ap (λ r. stored r c.args.at (SECTOR_BYTES * c.in-Some-sectors_for.sectors)) same)

@@ -10,7 +10,7 @@ use Rattle.desk_past.proofs.reading.moment.Goals as goal
 
 pub returns-then-k-told-clause-comes_back : goal.returns-then-k-told-clause-comes_back
 returns-then-k-told-clause-comes_back g c = IfOk-weaker c.in_journal.result _ _
-    (λ found fact honest other start events desktop keeps is within.
+    (λ found fact honest other start deeds desktop keeps is within.
     let d = g.D.Disk in
     let r = keeps.remembers in
     let still = still_looked d c.past.result (still_none d c.args.store.now keeps.usable) c.past.ensures.looks in
@@ -26,14 +26,14 @@ returns-then-k-told-clause-comes_back g c = IfOk-weaker c.in_journal.result _ _
 
 pub returns-clause-comes_back : goal.returns-clause-comes_back
 returns-clause-comes_back g c = IfOk-weaker c.in_pages.result _ _
-    (λ found fact honest other start events desktop keeps is within.
+    (λ found fact honest other start deeds desktop keeps is within.
     let d = g.D.Disk in
     let r = keeps.remembers in
     let still = still_looked d c.past.result (still_none d c.args.store.now keeps.usable) c.past.ensures.looks in
     let quiet = c.shows_what_crashes_leave.ensures.quiet keeps.usable honest in
     told_still d keeps honest quiet c.past.new.self c.past.ensures.looks.disk (c.past.ensures.looks.usable ∙ keeps.usable) _
     (c.in_ok-told.ensures.told honest r.standing r.past.stands)
-    (λ after told. fact (still.left.disk.device.still honest) other start events desktop after told is within.low
+    (λ after told. fact (still.left.disk.device.still honest) other start deeds desktop after told is within.low
     (omega (arith, c.if-k-told.false)))) c.in_pages.ensures.is_one
 
 pub returns-then-k-told-clause-still : goal.returns-then-k-told-clause-still

@@ -9,7 +9,7 @@ use Rattle.desk_sitting.proofs.clips.tell.Goals as goal
 pub returns-clause-sent : goal.returns-clause-sent
 unfolding scene_told
 returns-clause-sent g c =
-    let first = c.in_ok-mark.ensures in
+    let first = c.in_ok-mark_if_due.ensures in
     IfOk-weaker c.clip.result _ _ (λ clip both honest.
     let there = both (first.looks.disk.device.still honest) in
     let same = first.looks.desktop honest in
@@ -19,4 +19,4 @@ returns-clause-sent g c =
     )) c.clip.ensures.sent
 
 pub returns-clause-looks : goal.returns-clause-looks
-returns-clause-looks g c = looks_then g.D.Disk tt c.clip.result _ _ _ c.in_ok-mark.ensures.looks c.clip.ensures.looks
+returns-clause-looks g c = looks_then g.D.Disk tt c.clip.result _ _ _ c.in_ok-mark_if_due.ensures.looks c.clip.ensures.looks

@@ -1,7 +1,7 @@
-use Rattle.screen_pictures.specs.Picture.{filler, text_cell}
+use Rattle.screen_pictures.specs.Picture.{filler, line_cell}
 use Rattle.screen_cells.proofs.Painting.{IsDoneTo}
 use Rattle.screen_cells.proofs.putting.put_each.Given as goal
 
 abbrev pub invariant-loop-x : goal.invariant-loop-x
 invariant-loop-x l = IsDoneTo filler
-    (λ x before. text_cell l.line l.row.caret l.row.selection x l.row.row) l.initial.cells l.cells l.x
+    (λ x before. line_cell l.line l.row.caret l.row.selection x l.row.row) l.initial.cells l.cells l.x

@@ -12,5 +12,5 @@ returns c =
     let parts = c.split_at_mut-bar.result in
     (λ i. c.put_same.ensures i ++ c.put_text.ensures i)
     ∙ (λ i. values (c.split_at_mut-bar.ensures.front_len i) (λ x. c.cell_with.ensures i)
-    ++ values (length parts.1.now) (λ x. text_cell line f.caret f.selection x f.row))
+    ++ values (length parts.1.now) (λ x. text_cell f.columns line f.caret f.selection x f.row))
     ∙ bar_and_text (length c.args.cells.now) (length parts.1.now) line f c.split_at_mut-bar.ensures.back_len

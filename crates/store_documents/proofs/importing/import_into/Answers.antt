@@ -3,7 +3,8 @@ use Rattle.document_filing.specs.Bringing.{Documents}
 use Rattle.desk_journal.specs.Bringing.{AreBrought}
 use Rattle.store_documents.specs.Standings.{HasOnlyLooked}
 use Rattle.store_documents.specs.Importing.{coming_ones}
-use Rattle.store_documents.proofs.Imports.{all_behind, brought_behind, durable_on, none_while_looking, same_moments, together_are}
+use Rattle.store_documents.proofs.Imports.{all_behind, brought_behind, durable_on, failed_behind, none_while_looking}
+use Rattle.store_documents.proofs.Imports.{same_moments, together_are}
 use Rattle.store_documents.proofs.importing.import_into.Goals as goal
 
 pub returns-in_err-sorted-clause-any_moment : goal.returns-in_err-sorted-clause-any_moment
@@ -31,6 +32,10 @@ returns-in_err-reply-clause-any_moment g c =
     (λ honest. c.as_slice.ensures.value
     ∙ (together_are _ _ _ _ (c.in_ok-sorted.ensures.sorted honest) c.in_ok-coming.ensures).all)
     (all_behind g.D.Disk c.bring_some.new.store c.as_slice.result.now c.requires c.sort.ensures.looked c.bring_some.ensures.any_moment)
+
+pub returns-in_err-reply-clause-failed : goal.returns-in_err-reply-clause-failed
+returns-in_err-reply-clause-failed g c =
+    failed_behind g.D.Disk c.from_residual-in_err-reply.result c.sort.ensures.looked c.in_err-reply.ensures.failed
 
 pub returns-clause-any_moment : goal.returns-clause-any_moment
 returns-clause-any_moment g c =

@@ -1,4 +1,4 @@
-use Rattle.std.proofs.Common.{drop, sym, subst}
+use Rattle.std.proofs.Common.{drop, subst}
 use Rattle.sector_disk.specs.Trail.{now}
 use Rattle.sector_disk.specs.Stored.{stored}
 use Rattle.image_format.specs.Image.{Spells}

@@ -1,4 +1,4 @@
-use Rattle.std.proofs.Common.{rules, ◌≡◌, ◌++◌, ◌+◌, ◌<◌, ◌/◌, arith, subst, take, drop, length}
+use Rattle.std.proofs.Common.{rules, ◌≡◌, ◌++◌, ◌+◌, arith, subst, take, drop}
 use Rattle.std.specs.Prelude.{◌*◌}
 use Rattle.sector_disk.specs.Trail.{Content, now}
 use Rattle.sector_disk.specs.declared.disk.TheConstants.{SECTOR_BYTES}

@@ -1,11 +1,11 @@
-use Rattle.std.proofs.Common.{◌≡◌, ◌-◌, ◌∙◌, ap, subst, sym}
+use Rattle.std.proofs.Common.{◌-◌, ◌∙◌, subst, sym}
 use Rattle.std.proofs.lemmas.Result.{err_from_is_err_and}
 use Rattle.sector_disk.specs.Trail.{now}
 use Rattle.sector_disk.proofs.Touching.{still_all}
 use Rattle.store_slots.specs.Beside.{HasEvents, IsEarlier, IsLoadedUpTo}
 use Rattle.store_slots.proofs.Formers.{earlier_there, former_events, former_image}
 use Rattle.store_slots.proofs.Staying.{apart_nowhere, live_stays}
-use Rattle.store_slots.proofs.TakingBack.{events_of, still_up_to}
+use Rattle.store_slots.proofs.TakingBack.{events_of}
 use Rattle.store_slots.proofs.former.load_across.Goals as goal
 
 pub returns-in_err-loaded-clause-damaged : goal.returns-in_err-loaded-clause-damaged

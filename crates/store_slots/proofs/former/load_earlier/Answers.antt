@@ -1,10 +1,11 @@
-use Rattle.std.proofs.Common.{◌≡◌, ◌+◌, ◌-◌, ◌<◌, ◌≤◌, ◌∙◌, inl, inr, arith, length, subst, sym}
-use Rattle.std.proofs.lemmas.Bool.{cases_lt, ltb-true}
+use Rattle.std.proofs.Common.{arith, subst, sym}
+use Rattle.std.proofs.lemmas.Bool.{lt-ltb, ltb-true}
 use Rattle.std.proofs.lemmas.Result.{IfOk-weaker}
 use Rattle.sector_disk.specs.Trail.{now}
 use Rattle.sector_disk.proofs.Touching.{still_all}
 use Rattle.store_slots.specs.Beside.{HasFormer}
 use Rattle.store_slots.proofs.Formers.{counted_across, only_stops}
+use Rattle.store_slots.proofs.Passed.{nothing_before}
 use Rattle.store_slots.proofs.TakingBack.{still_up_to}
 use Rattle.store_slots.proofs.former.load_earlier.Goals as goal
 
@@ -46,3 +47,15 @@ returns-in-Some-clause-stops g c = λ honest s at epoch.
     (sym (still_all _ _ (run.moments honest)))
     (subst (λ n. HasFormer (now (g.D.Disk.trail c.args.disk.now)).reads c.args.slot n c.in-Some.former.head
     c.in-Some.former.events) (sym epoch) has)))
+
+pub returns-in-None-clause-crosses : goal.returns-in-None-clause-crosses
+returns-in-None-clause-crosses g c = IfOk-weaker c.load_within.result _ _ (λ x count honest s at epoch less same.
+    nothing_before at epoch
+    ((rw c.in-None.is at c.in_ok-find_former.ensures.none) (lt-ltb c.args.end c.args.count less) honest))
+    c.load_within.ensures.count
+
+pub returns-in-Some-clause-crosses : goal.returns-in-Some-clause-crosses
+returns-in-Some-clause-crosses g c =
+    let some = rw c.in-Some.is at c.in_ok-find_former.ensures.some in
+    IfOk-weaker c.load_across.result _ _ (λ x count honest s at epoch less same.
+    absurd (omega (arith, some.3, count.1, same))) c.load_across.ensures.count

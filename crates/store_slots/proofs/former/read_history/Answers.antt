@@ -1,16 +1,18 @@
-use Rattle.std.proofs.Common.{◌≡◌, ◌-◌, ◌∙◌, subst, sym}
+use Rattle.std.proofs.Common.{◌-◌, refl, subst, sym}
 use Rattle.std.proofs.lemmas.Result.{IfOk-weaker}
 use Rattle.sector_disk.specs.Trail.{now}
 use Rattle.sector_disk.proofs.Touching.{still_all}
 use Rattle.store_slots.specs.Beside.{HasEvents, HasFormer, alone, behind}
 use Rattle.store_slots.proofs.Formers.{came_before, former_events, only_stops}
+use Rattle.store_slots.proofs.Passed.{nothing_before}
 use Rattle.store_slots.proofs.TakingBack.{events_after}
 use Rattle.store_slots.proofs.former.read_history.Goals as goal
 
 pub returns-in-None-clause-events : goal.returns-in-None-clause-events
 returns-in-None-clause-events g c = IfOk-weaker c.read_events.result _ _ (λ events others honest s at epoch.
     let run = c.find_former.ensures.kept in
-    alone (sym (others (run.still honest) s.events (events_after g.D.Disk at run honest)))) c.read_events.ensures.others
+    alone (nothing_before at epoch ((rw c.in-None.is at c.in_ok-find_former.ensures.none) refl honest))
+    (sym (others (run.still honest) s.events (events_after g.D.Disk at run honest)))) c.read_events.ensures.others
 
 pub returns-in-None-clause-stops : goal.returns-in-None-clause-stops
 returns-in-None-clause-stops g c = λ honest s at epoch.

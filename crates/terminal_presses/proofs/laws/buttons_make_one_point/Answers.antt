@@ -1,4 +1,4 @@
-use Rattle.terminal_presses.proofs.Clicks.{one_button, two_buttons, three_buttons, none_outside}
+use Rattle.terminal_presses.proofs.Clicks.{one_button, two_buttons, three_buttons, none_outside, extended}
 use Rattle.terminal_presses.proofs.laws.buttons_make_one_point.Goals as goal
 
 pub returns-clause-one : goal.returns-clause-one
@@ -17,3 +17,6 @@ returns-clause-three c = three_buttons
 
 pub returns-clause-outside : goal.returns-clause-outside
 returns-clause-outside c = none_outside
+
+pub returns-clause-extends : goal.returns-clause-extends
+returns-clause-extends c = extended

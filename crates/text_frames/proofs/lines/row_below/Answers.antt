@@ -1,40 +1,30 @@
-use Rattle.std.proofs.Common.{ℕ, ◌≡◌, ◌+◌, ◌-◌, refl, subst, arith, length, IfSome}
+use Rattle.std.proofs.Common.{◌≡◌, ◌+◌, ◌∙◌, refl, subst, length, IfSome}
 use Rattle.piece_ring.specs.Flat.{flat}
 use Rattle.readers_scanners.specs.Reading.{bytes_of_text}
-use Rattle.text_frames.specs.Reading.{IsRowBelow}
-use Rattle.text_frames.proofs.Ends.{ends_by, onward_by, rows_on_if}
+use Rattle.text_frames.specs.Lines.{ends_between}
+use Rattle.text_frames.specs.Reading.{IsRowBelow, IsNearer}
+use Rattle.text_frames.proofs.Ends.{farther, rows_on_if}
 use Rattle.text_frames.proofs.lines.row_below.Goals as goal
 
-pub loop-left-preserved : goal.loop-left-preserved
-loop-left-preserved g c =
-    let s = g.S.CharSource in let laws = g.met.S.CharSource in let before = c.loop-left.invariant in
-    let read = c.in_ok-count.ensures in let low = before.low in let len = c.len-len.ensures in
-    let order = c.requires.walk.order in
-    let least = c.min.ensures in let most = read.counted.most in let less = read.counted.few in
-    let few = before.few in
-    let on : c.len-len.result - (c.loop-left.left - c.in_ok-count.count)
-    ≡ c.len-len.result - c.loop-left.left + c.in_ok-count.count = omega (arith, low, least, most) in
-    record {
-      way = onward_by s.characters s.failures s.honest s.same_ground laws.ground_through _ _ _ _ _ before.way _ _ _ _
-          read.moves on read.text read.reads read.cause;
-      low = omega (arith, low);
-      few = omega (arith, few, less, least, most);
-      above = omega arith;
-      so_far = ends_by s.characters s.failures s.honest s.same_ground laws.ground_through _ _ _ _ _ before.way
-          c.args.from _ c.in_ok-count.count c.in_ok-count.found c.loop-left.ends _ _ (omega (arith, low, order, len))
-          read.counted on before.so_far refl;
-    }
-
-pub returns-then-ends-found-clause-begins : goal.returns-then-ends-found-clause-begins
-returns-then-ends-found-clause-begins g c h =
-    let s = g.S.CharSource in let laws = g.met.S.CharSource in let before = c.loop-left.invariant in
-    let read = c.in_ok-count.ensures in let text = flat c.args.text.now in let low = before.low in
-    let len = c.len-len.ensures in let order = c.requires.walk.order in let above = before.above in
-    let at : ℕ = c.len-len.result - c.loop-left.left in let more : ℕ = c.args.rows - c.loop-left.ends in
-    let way = onward_by s.characters s.failures s.honest s.same_ground laws.ground_through _ _ _ _ _ before.way _ _
-    c.in_ok-count.count _ read.moves refl read.text read.reads read.cause in
-    rows_on_if (bytes_of_text (s.characters c.args.source.now) text) c.args.from at c.loop-left.ends more c.args.rows
-    (omega (arith, low, len, order)) (before.so_far h) (omega (arith, above)) (length text) c.in_ok-begin.begin
-    c.in_ok-begin.ensures.range
-    (subst (λ cs. IfSome c.in_ok-begin.begin (IsRowBelow (bytes_of_text cs text) at more)) (way.reads.same h)
-    (c.in_ok-begin.ensures.begins (way.reads.still h)))
+pub returns-clause-begins : goal.returns-clause-begins
+returns-clause-begins g c h =
+    let s = g.S.CharSource in let text = flat c.args.text.now in
+    let bs = bytes_of_text (s.characters c.args.source.now) text in
+    let first = c.in_ok-long.ensures in let second = c.in_ok-short.ensures in let third = c.in_ok-begin.ensures in
+    let long = c.in-Some.long in let short = c.in-Some-2.short in let found = c.in_ok-begin.begin in
+    let same = first.source.reads.same h in let still = first.source.reads.still h in
+    let to_long = subst (λ near. IfSome near (λ near. ends_between bs c.args.from near.pos + near.rows ≡ c.args.rows))
+    c.in-Some.is (first.leads h) in
+    let long_way = subst (λ near. IfSome near (λ near. IsNearer (length text) c.args.from c.args.rows near.pos near.rows))
+    c.in-Some.is first.range in
+    let to_short = subst (λ cs. ends_between (bytes_of_text cs text) long.pos short.pos + short.rows ≡ long.rows) same
+    (subst (λ near. IfSome near (λ near. ends_between (bytes_of_text (s.characters c.stretch_below.new.source) text)
+    long.pos near.pos + near.rows ≡ long.rows)) c.in-Some-2.is (second.leads still)) in
+    let short_way = subst (λ near. IfSome near (λ near. IsNearer (length text) long.pos long.rows near.pos near.rows))
+    c.in-Some-2.is second.range in
+    let to_row = subst (λ cs. IfSome found (IsRowBelow (bytes_of_text cs text) short.pos short.rows))
+    (second.source.reads.same still ∙ same) (third.begins (second.source.reads.still still)) in
+    rows_on_if bs c.args.from long.pos _ long.rows c.args.rows long_way.low refl to_long (length text) found
+    (farther _ _ (length text) found short_way.few third.range)
+    (rows_on_if bs long.pos short.pos _ short.rows long.rows short_way.low refl to_short (length text) found third.range
+    to_row)

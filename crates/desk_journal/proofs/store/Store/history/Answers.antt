@@ -1,5 +1,5 @@
-use Rattle.std.proofs.Common.{◌≡◌, IfErr, IfOk, subst}
-use Rattle.std.proofs.lemmas.Result.{IfErr-weaker, IfOk-weaker}
+use Rattle.std.proofs.Common.{IfErr, IfOk, subst}
+use Rattle.std.proofs.lemmas.Result.{IfOk-weaker}
 use Rattle.sector_disk.specs.Trail.{now}
 use Rattle.store_layout.specs.Meaning.{Standing}
 use Rattle.store_slots.specs.Beside.{IsHistory}

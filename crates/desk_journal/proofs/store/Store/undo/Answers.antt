@@ -1,17 +1,13 @@
-use Rattle.std.proofs.Common.{rules, ◌≡◌, ◌∙◌, ◌<◌, [], length, subst, sym, ap, refl, arith, true, false, Ok, Err}
+use Rattle.std.proofs.Common.{rules, ◌≡◌, ◌∙◌, ◌<◌, [], length, subst, sym, arith, true, false, Ok, Err}
 use Rattle.std.specs.Prelude.{IfErr}
 use Rattle.std.proofs.lemmas.Bool.{eqb-true, eqb-false}
 use Rattle.std.proofs.lemmas.List.{nil_from_length}
 use Rattle.std.proofs.lemmas.Result.{err_from_is_err_and, IfErr-at_err}
 use Rattle.store_slots.specs.Beside.{IsCountedBack}
 use Rattle.command_table.specs.Versions.{version_number}
-use Rattle.sector_disk.specs.Trail.{now}
 use Rattle.sector_disk.proofs.Confinement as confined
 use Rattle.store_slots.specs.Errors.{OfLook}
-use Rattle.store_slots.specs.Live.{seen_live}
-use Rattle.store_slots.proofs.Settling.{kept_shows}
 use Rattle.desk_journal.specs.Undoing.{IsTakenBack, OfUndo}
-use Rattle.desk_journal.specs.View.{StoreView}
 use Rattle.desk_journal.proofs.Undoing.{Leaving, as_look, earlier, epoch_any, nothing_back, read_beside, up_to, up_to_any}
 use Rattle.desk_journal.proofs.Undoing.{nothing_taken, some_taken, undone_moments, undone_knows, viewed}
 use Rattle.desk_journal.proofs.Undoing.{gates_same, gates_within, is_left, stands_now, standing}
@@ -71,7 +67,7 @@ returns-then-is_empty-clause-ok g c =
     (viewed d c.load_earlier.new.disk s.desktop version s.epoch s.events s.must_reopen))
     (sym (nil_from_length e.events.items zero))
     (nothing_taken d s.must_reopen c.standing_law.ensures was run
-    (subst (λ n. IsCountedBack s.slot s.epoch s.events c.args.count e.slot e.epoch e.left n) zero b.count)
+    (subst (λ n. IsCountedBack s.slot s.epoch s.events c.args.count e.slot e.epoch e.left n) zero b.count) b.crosses
     c.if-self.false (is_left d s.desktop version s.epoch s.events s.must_reopen run)))
 
 pub invariant_of-self-then-is_empty : goal.invariant_of-self-then-is_empty
@@ -144,7 +140,8 @@ returns-clause-ok g c =
     subst (λ old. IsTakenBack d c.args.count e.events.items old
     (viewed d c.undo_to.new.disk e.desktop (version_number c.self.inside.version) e.epoch e.left false)) c.self.view_is
     (some_taken d was c.standing_law.ensures c.load_earlier.ensures.kept c.undo_to.ensures.kept b.count some b.shown
-    b.left.live b.left.told c.in_ok-undo_to.ensures.left c.self.inside.must_reopen c.undo_to.ensures.any_moment)
+    b.left.live b.left.told c.in_ok-undo_to.ensures.left c.self.inside.must_reopen b.crosses
+    c.undo_to.ensures.any_moment)
 
 pub returns-in_err-undo_to-clause-behaves : goal.returns-in_err-undo_to-clause-behaves
 returns-in_err-undo_to-clause-behaves g c =

@@ -1,4 +1,4 @@
-use Rattle.std.proofs.Common.{◌≡◌, ◌+◌, ◌*◌, ◌≤◌, [], length, subst, sym, ap, ◌∙◌}
+use Rattle.std.proofs.Common.{◌*◌, ◌≤◌, [], length, subst, sym, ap, ◌∙◌}
 use Rattle.sector_disk.specs.declared.disk.TheConstants.{SECTOR_BYTES}
 use Rattle.sector_disk.specs.Stored.{HoldsBytes}
 use Rattle.sector_disk.specs.Trail.{Content, now}

@@ -1,6 +1,6 @@
 use Rattle.std.proofs.Common.{◌∙◌, ap, sym}
 use Rattle.desk_sitting.specs.Sittings.{filling, task_or_word}
-use Rattle.desk_sitting.specs.Twice.{cell_again}
+use Rattle.earlier_presses.specs.Twice.{cell_again}
 use Rattle.desk_sitting.proofs.Asked.{alone_action, task_press}
 use Rattle.desk_sitting.proofs.sitting.Sitting.do_action.Goals as goal
 

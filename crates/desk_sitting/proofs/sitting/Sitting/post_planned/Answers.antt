@@ -25,6 +25,18 @@ pub returns-in-Shows-clause-does : goal.returns-in-Shows-clause-does
 returns-in-Shows-clause-does g c = rw c.in-Shows.is (alone_press g.D.Disk _ _ _ c.args.store.now c.requires
     (ap (λ (s : Sitting). seat_of s c.args.store.now) c.show_cell.ensures))
 
+pub returns-in-Tells-clause-does : goal.returns-in-Tells-clause-does
+returns-in-Tells-clause-does g c = rw c.in-Tells.is (alone_press g.D.Disk _ _ _ c.args.store.now c.requires
+    (ap (λ (s : Sitting). seat_of s c.args.store.now) c.say.ensures))
+
+pub returns-in-Asks-clause-does : goal.returns-in-Asks-clause-does
+returns-in-Asks-clause-does g c = rw c.in-Asks.is (alone_press g.D.Disk _ _ _ c.args.store.now c.requires
+    (ap (λ (s : Sitting). seat_of s c.args.store.now) c.ask_words.ensures))
+
+pub returns-in-Keeps-clause-does : goal.returns-in-Keeps-clause-does
+returns-in-Keeps-clause-does g c = rw c.in-Keeps.is (alone_press g.D.Disk _ _ _ c.args.store.now c.requires
+    (ap (λ (s : Sitting). seat_of s c.args.store.now) c.remember.ensures))
+
 pub returns-in-PutsAway-clause-does : goal.returns-in-PutsAway-clause-does
 returns-in-PutsAway-clause-does g c = rw c.in-PutsAway.is (alone_press g.D.Disk _ _ _ c.args.store.now c.requires
     (ap (λ (s : Sitting). seat_of s c.args.store.now) c.put_pointer_away.ensures))

@@ -78,4 +78,13 @@ pub plan_seen-requires-clause-seen : goal.plan_seen-requires-clause-seen
 plan_seen-requires-clause-seen g c = by_screen _ c.args.store.now.desktop c.in_default.not-Post c.in_default.not-Scroll
     c.in_default.not-Lead c.in_default.not-After c.in_default.not-Enter c.in_default.not-Page
     c.in_default.not-Show c.in_default.not-TypeOn c.in_default.not-GoBack c.in_default.not-TypeOver c.in_default.not-Erase
-    c.in_default.not-Pour
+    c.in_default.not-Pour c.in_default.not-Find c.in_default.not-Refill c.in_default.not-Extend c.in_default.not-Call
+
+pub returns-in-Call : goal.returns-in-Call
+unfolding plan_of
+returns-in-Call g c =
+    rw c.in-Call.is (record { exact = c.post_plan-in-Call.ensures.exact; looks = c.post_plan-in-Call.ensures.looks })
+
+pub returns-in-GoBack : goal.returns-in-GoBack
+unfolding plan_of
+returns-in-GoBack g c = rw c.in-GoBack.is (record { exact = c.go_then.ensures.exact; looks = c.go_then.ensures.looks })

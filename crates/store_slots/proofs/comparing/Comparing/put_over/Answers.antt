@@ -1,4 +1,4 @@
-use Rattle.std.proofs.Common.{rules, ◌≡◌, ◌∙◌, ◌++◌, ◌+◌, ◌/◌, ◌<◌, [], ◌∷◌, subst, sym, ap, arith, take, length, append_assoc}
+use Rattle.std.proofs.Common.{rules, ◌∙◌, ◌++◌, [], ◌∷◌, subst, sym, ap, arith, take, append_assoc}
 use Rattle.std.specs.Prelude.{get_or}
 use Rattle.std.proofs.lemmas.List.{append-nil, take_all, take_more}
 use Rattle.sector_disk.specs.Trail.{now}

@@ -1,0 +1,3 @@
+pub mod Shapes
+mod Parts
+mod Gathering

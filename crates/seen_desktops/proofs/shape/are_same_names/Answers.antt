@@ -1,0 +1,7 @@
+use Rattle.std.proofs.Common.{rules}
+use Rattle.std.proofs.lemmas.Slice.Eq.{bytes_eq-Decides, slice_eq-Decides}
+use Rattle.seen_desktops.proofs.shape.are_same_names.Goals as goal
+
+pub returns : goal.returns
+returns c = slice_eq-Decides (λ a b. search (rules, bytes_eq-Decides)) c.args.one.now c.args.other.now c.eq.result
+    c.eq.ensures

@@ -1,0 +1,85 @@
+//! What was taken back, or done again, in words.
+ghost use Rattle.std.specs.Prelude.{◌≡◌, ◌≤◌, length};
+ghost use Rattle.status_line.specs.Sayings.{called, told, is_cut, told_back, whole_word};
+ghost use Rattle.screen_reading.specs.Frames.{track_end};
+
+use crate::deed::Deed;
+use crate::saying::{SayingLine, line};
+use arrayvec::ArrayVec;
+use screen_cells::Screen;
+use screen_reading::{MOST_WORD, called_word, word_from};
+use viewer_tracks::{COLUMNS, SYSTEM_LEFT};
+
+/// The column behind the track of a column.
+fn track_end(x: u8) -> usize
+    ensures { result ≡ track_end x }
+{
+    if x < SYSTEM_LEFT {
+        usize::from(SYSTEM_LEFT)
+    } else {
+        usize::from(COLUMNS)
+    }
+}
+
+/// Whether the word at a cell goes up to the edge of its track, and may go on beyond it.
+fn is_cut(screen: &Screen, x: u8, y: u8) -> bool
+    ensures { result ≡ is_cut screen.now x y }
+{
+    usize::from(x) + word_from(screen, x, y).len() == track_end(x)
+}
+
+/// The word at a cell, unless it may go on beyond the edge.
+fn whole_word(screen: &Screen, x: u8, y: u8) -> ArrayVec<u8, MOST_WORD>
+    ensures { result.items ≡ whole_word screen.now x y }
+{
+    if is_cut(screen, x, y) {
+        ArrayVec::new()
+    } else {
+        called_word(screen, x, y)
+    }
+}
+
+/// What was taken back. The screen is as it was before, and so shows the word that was called.
+#[tactic(auto, unfolding(crate::specs::Sayings::told_back))]
+pub(crate) fn told_back(screen: &Screen, deed: Deed) -> SayingLine
+    ensures { result.items ≡ told_back screen.now deed }
+{
+    match deed {
+        Deed::Call { x, y } => {
+            let word = whole_word(screen, x, y);
+            called(word.as_slice(), deed)
+        }
+        other => told(b"undid: ", other),
+    }
+}
+
+/// The word that was called is taken back; where none is seen, that it was one.
+#[tactic(auto, unfolding(crate::specs::Sayings::called))]
+fn called(word: &[u8], deed: Deed) -> SayingLine
+    requires { length word.now ≤ 31 }
+    ensures { result.items ≡ called word.now deed }
+{
+    if word.is_empty() {
+        return told(b"undid: ", deed);
+    }
+    let mut text = line(b"undid: ");
+    text.try_extend_from_slice(word).unwrap();
+    text
+}
+
+/// What was taken back, or done again.
+#[tactic(auto, unfolding(crate::specs::Sayings::told))]
+pub(crate) fn told(before: &[u8], deed: Deed) -> SayingLine
+    requires { length before.now ≤ 11 }
+    ensures { result.items ≡ told before.now deed }
+{
+    let mut text = line(before);
+    if let Deed::Typed(count) = deed {
+        let mut digits = itoa::Buffer::new();
+        text.try_extend_from_slice(b"typed ").unwrap();
+        text.try_extend_from_slice(digits.format(count).as_bytes())
+            .unwrap();
+    }
+    text.try_extend_from_slice(deed.words()).unwrap();
+    text
+}

@@ -1,7 +1,0 @@
-use Rattle.std.proofs.Common.{◌≡◌, fold, take}
-use Rattle.terminal_presses.specs.Asking.{longer_line}
-use Rattle.terminal_presses.proofs.host_name.HostName.number.Given as goal
-
--- the number by the digits so far
-abbrev pub invariant-loop-byte : goal.invariant-loop-byte
-invariant-loop-byte l = l.number ≡ fold longer_line 0 (take l.byte-index l.fn.self)

@@ -1,0 +1,71 @@
+-- How far a past reaches. `d` is what is known of a disk.
+use Rattle.std.proofs.Common.{◌≡◌, ◌+◌, ◌-◌, ◌≤◌, ℕ, List, false, length, refl, sym, ◌∙◌, ap, subst, arith}
+use Rattle.std.proofs.Common.{length-append}
+use Rattle.std.specs.Prelude.{IsSomeAnd}
+use Rattle.std.specs.declared.option.Option.{Option}
+use Rattle.sector_disk.specs.declared.disk.Disk.{Ghosts}
+use Rattle.sector_disk.specs.Trail.{Content, now}
+use Rattle.desktop_definitions.specs.Desktop.{Desktop}
+use Rattle.store_layout.specs.Finding.{StandingLaw}
+use Rattle.store_layout.specs.declared.layout.TheConstants.{STORE_SECTORS}
+use Rattle.desk_journal.specs.View.{StoreView}
+use Rattle.desk_past.specs.declared.halves.Half.{Half}
+use Rattle.desk_past.specs.Deeds.{PastDeed, all_posted}
+use Rattle.desk_past.specs.Going.{LiesInHalf}
+use Rattle.desk_past.specs.Halves.{IsHalf}
+use Rattle.desk_past.specs.Past.{HasMoment, KeepsAll, Remembers, Start, all_deeds}
+use Rattle.desk_past.proofs.Moments.{many_posted}
+use Rattle.desk_past.proofs.Opened.{start_room}
+use Rattle.desk_past.specs.Reading.{IsOnlyReadFrom}
+use Rattle.desk_past.proofs.Remembering.{IsQuiet, read_keeps}
+use Rattle.desk_past.proofs.StillReads.{still_shows}
+use Rattle.told_pasts.specs.Reaching.{IsReach}
+use Rattle.told_pasts.specs.declared.reach.Reach.{Reach}
+
+-- as many deeds came before the journal in use as the head tells, and as many up to the present
+pub deeds_up_to : {size : ℕ} {start : Start} {deeds : List PastDeed} {desktop : Desktop} {c : Content}
+    (r : Remembers size start deeds desktop c)
+    → r.standing.past.before + length r.standing.events ≡ start.before + length deeds
+deeds_up_to r =
+    let long = ap length r.all in
+    omega (
+      arith,
+      long,
+      length-append (all_deeds r.pages) (all_posted r.standing.events),
+      many_posted r.standing.events,
+      r.past.counted,
+    )
+
+-- the moment before the last deeds
+pub has_before : (start : Start) (deeds : List PastDeed) (count k : ℕ) → k ≡ start.before + length deeds - count
+    → count ≤ length deeds → HasMoment start deeds k
+has_before start deeds count k is low = record { low = omega (arith, is, low); high = omega (arith, is, low) }
+
+module _ {D : Type 0} (d : Ghosts D) {start : Start} {deeds : List PastDeed} {desktop : Desktop} {store : StoreView D}
+    (keeps : KeepsAll d start deeds desktop store) where
+  -- the half of the past is found
+  pub half_found : (lies : LiesInHalf d keeps) (found : Option Half) (sectors next : ℕ)
+      → ((base end : ℕ) → IsHalf sectors base end → base + STORE_SECTORS ≤ next → next ≤ end
+      → IsSomeAnd found (λ half. (half.base ≡ base) × (half.end ≡ end)))
+      → sectors ≡ d.size store.disk → next ≡ keeps.remembers.standing.past.next
+      → IsSomeAnd found (λ half. (half.base ≡ start.base) × (half.end ≡ lies.end))
+  half_found lies found sectors next all large is =
+      let room = start_room d keeps start.base refl in
+      all start.base lies.end (subst (λ n. IsHalf n start.base lies.end) (sym large) lies.half)
+      (omega (arith, room, is)) (omega (arith, lies.within, is))
+
+  -- its numbers stay where it is only read
+  pub reach_still : StandingLaw → (honest : d.honest store.disk) (quiet : IsQuiet d store) {new : StoreView D}
+      (still : IsOnlyReadFrom d store new) (reach : Reach) → IsReach d keeps reach
+      → IsReach d (read_keeps d keeps honest quiet {new = new} still.left.disk still.usable) reach
+  reach_still law honest quiet {new = new} still reach is =
+      let after = (read_keeps d keeps honest quiet {new = new} still.left.disk still.usable).remembers in
+      let s = keeps.remembers.standing in
+      let same : s ≡ after.standing = law (d.size new.disk) (now (d.trail new.disk)).reads s after.standing
+      (still_shows d still quiet honest s keeps.remembers.past.stands) after.past.stands in
+      record {
+        base = is.base;
+        next = is.next ∙ ap (λ x. x.past.next) same;
+        before = is.before ∙ ap (λ x. x.past.before) same;
+        journal = is.journal ∙ ap (λ x. length x.events) same;
+      }

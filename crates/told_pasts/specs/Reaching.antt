@@ -1,0 +1,37 @@
+-- How far a past reaches, and its moments, counted back from the present. `d` is what is known of a disk.
+use Rattle.std.specs.Prelude.{◌≡◌, ◌+◌, ◌-◌, ◌==◌, ℕ, Bool, List, length, Option, None, Result, Ok, Err}
+use Rattle.sector_disk.specs.declared.disk.Disk.{Ghosts}
+use Rattle.event_bytes.specs.declared.event.Event.{Event}
+use Rattle.desk_past.specs.Deeds.{PastDeed}
+use Rattle.desktop_definitions.specs.Desktop.{Desktop}
+use Rattle.store_slots.specs.declared.error.Error.{Error}
+use Rattle.store_slots.specs.declared.error.Error.TheVariants.{Damaged, NotAStore}
+use Rattle.desk_journal.specs.Undoing.{IsTakenBack}
+use Rattle.desk_journal.specs.View.{StoreView}
+use Rattle.desk_past.specs.Past.{KeepsAll, Start, moment}
+use Rattle.told_pasts.specs.declared.reach.Reach.{Reach}
+
+-- these are the numbers of a past
+pub record IsReach {D : Type 0} (d : Ghosts D) {start : Start} {deeds : List PastDeed}
+    {desktop : Desktop} {store : StoreView D} (keeps : KeepsAll d start deeds desktop store)
+    (reach : Reach)
+    : Type 0 where
+  pub base : reach.half.base ≡ start.base
+  pub next : reach.next ≡ keeps.remembers.standing.past.next
+  pub before : reach.before ≡ keeps.remembers.standing.past.before
+  pub journal : reach.journal ≡ length keeps.remembers.standing.events
+
+-- the desktop of a past from before so many of its last deeds
+abbrev pub moment_before : Start → List PastDeed → ℕ → Desktop
+moment_before start deeds count = moment start deeds (start.before + length deeds - count)
+
+-- the last events were taken back, at most so many, and this says whether there were so many
+abbrev pub GoesBackBy : {D : Type 0} → Ghosts D → ℕ → Bool → StoreView D → StoreView D → Type 0
+GoesBackBy d count all old new = (events : List Event) × IsTakenBack d count events old new
+    × (all ≡ (length events == count))
+
+-- what was found, and none where no start stands there, or a damaged one
+abbrev pub none_if_missing : {T : Type 0} → Result (Option T) Error → Result (Option T) Error
+none_if_missing (Err NotAStore) = Ok None
+none_if_missing (Err (Damaged at)) = Ok None
+none_if_missing found = found

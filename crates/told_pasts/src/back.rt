@@ -1,0 +1,145 @@
+//! The store as it was before so many of its last deeds.
+ghost use Rattle.std.specs.Prelude.{◌≡◌, ◌+◌, ◌≤◌, ◌<◌, ◌^◌, ℕ, List, length, IfOk, IsSomeAnd, OnOk};
+ghost use Rattle.sector_disk.specs.Trail.{now};
+ghost use Rattle.desktop_definitions.specs.Desktop.{Desktop};
+ghost use Rattle.store_layout.specs.declared.layout.TheConstants.{STORE_SECTORS};
+ghost use Rattle.desk_past.specs.Deeds.{PastDeed};
+ghost use Rattle.desk_past.specs.Going.{LiesInHalf};
+ghost use Rattle.desk_past.specs.Page.{Page, HasPages, end_of_pages};
+ghost use Rattle.desk_past.specs.Past.{AreGood, KeepsAll, Start, all_deeds};
+ghost use Rattle.desk_past.specs.Reading.{IsOnlyReadFrom, many_deeds};
+ghost use Rattle.told_pasts.specs.Reaching.{GoesBackBy, moment_before, none_if_missing};
+
+use crate::reach::{reach_of, sum_of};
+use desk_journal::{Error, Store};
+use desk_past::{PageDeeds, PageRead, moment, page_in};
+use sector_disk::Disk;
+use std::alloc::Global;
+
+/// Pages from one sector up to another: how many deeds they have, or the first sector where a page is missing.
+#[derive(Clone, Copy, Debug, PartialEq, Eq)]
+pub enum Pages {
+    Whole(u64),
+    Missing(u32),
+}
+
+/// The store as it was before so many of its last deeds, on another disk, by the past behind it. None where it keeps
+/// none, or one that doesn't reach so far.
+///
+/// Errors: those of `reach_of` and of `moment`.
+pub fn shown_before<D: Disk, E: Disk + Drop>(
+    alloc: Global,
+    store: &mut Store<D>,
+    count: u32,
+    disk: E,
+) -> Result<Option<Store<E>>, Error>
+    requires { STORE_SECTORS ≤ E.size disk }
+    ensures comes_back { IfOk result (λ found. D.honest store.old.disk → E.honest disk
+        → (start : Start) (deeds : List PastDeed) (desktop : Desktop)
+        → (keeps : KeepsAll D.Disk start deeds desktop store.old) → LiesInHalf D.Disk keeps
+        → count ≤ length deeds → start.before + length deeds < 2 ^ 64
+        → IsSomeAnd found (λ shown. shown.desktop ≡ moment_before start deeds count)) }
+    ensures still { OnOk result (IsOnlyReadFrom D.Disk store.old store.new) }
+{
+    store.shows_what_crashes_leave();
+    let Some(reach) = reach_of(store)? else {
+        return Ok(None);
+    };
+    let now = reach.now();
+    if count as u64 > now {
+        return Ok(None);
+    }
+    moment(alloc, store, reach.half.base, now - count as u64, disk)
+}
+
+/// What was found, and none where no start stands, or a damaged one.
+pub fn none_where_missing<T: Drop>(found: Result<Option<T>, Error>) -> Result<Option<T>, Error>
+    ensures { result ≡ none_if_missing found }
+{
+    match found {
+        Err(Error::NotAStore | Error::Damaged(_)) => Ok(None),
+        found => found,
+    }
+}
+
+/// Takes so many of the last events back, and returns whether there were so many.
+///
+/// Errors: those of `Store::undo`.
+pub fn takes_back<D: Disk>(alloc: Global, store: &mut Store<D>, count: u32) -> Result<bool, Error>
+    ensures { IfOk result (λ all. GoesBackBy D.Disk count all store.old store.new) }
+{
+    let taken = store.undo(alloc, count)?;
+    Ok(taken.len() == count as usize)
+}
+
+/// How much a page says was done: an import is one deed.
+fn many_of(deeds: &PageDeeds) -> u64
+    ensures { result ≡ many_deeds deeds.now }
+{
+    match deeds {
+        PageDeeds::Events(events) => events.len() as u64,
+        PageDeeds::Import(_) => 1,
+    }
+}
+
+/// How many deeds a page has, and the sector behind it.
+fn counted(page: PageRead) -> (u64, u32)
+    ensures many { result.0 ≡ many_deeds page.deeds }
+    ensures next { result.1 ≡ page.next }
+{
+    (many_of(&page.deeds), page.next)
+}
+
+/// How many deeds the pages have from sector `first` up to sector `end`, or the first sector where one is missing.
+///
+/// Errors: those of `page_in`.
+pub fn counted_pages<D: Disk>(
+    alloc: Global,
+    store: &mut Store<D>,
+    first: u32,
+    end: u32,
+) -> Result<Pages, Error>
+    ensures whole { IfOk result (λ found. D.honest store.old.disk → (pages : List Page)
+        → HasPages (now (D.trail store.old.disk)).reads first pages → AreGood pages
+        → end_of_pages first pages ≡ end → end ≤ D.size store.old.disk
+        → length (all_deeds pages) < 2 ^ 64
+        → found ≡ Pages.Whole (length (all_deeds pages))) }
+    ensures still { OnOk result (IsOnlyReadFrom D.Disk store.old store.new) }
+{
+    store.shows_what_crashes_leave();
+    if store.info().is_err() {
+        return Err(Error::MustReopen);
+    }
+    let mut at = first;
+    let mut count = 0u64;
+    while at < end {
+        let Some(page) = page_in(alloc, store, at, end)? else {
+            return Ok(Pages::Missing(at));
+        };
+        let (many, next) = counted(page);
+        count = sum_of(count, many);
+        at = next;
+    }
+    Ok(Pages::Whole(count))
+}
+
+/// How many deeds the pages have from sector `first` up to sector `end`.
+///
+/// Errors: those of `page_in`; `Damaged` where a page is missing.
+pub(crate) fn count_of<D: Disk>(
+    alloc: Global,
+    store: &mut Store<D>,
+    first: u32,
+    end: u32,
+) -> Result<u64, Error>
+    ensures whole { IfOk result (λ count. D.honest store.old.disk → (pages : List Page)
+        → HasPages (now (D.trail store.old.disk)).reads first pages → AreGood pages
+        → end_of_pages first pages ≡ end → end ≤ D.size store.old.disk
+        → length (all_deeds pages) < 2 ^ 64 → count ≡ length (all_deeds pages)) }
+    ensures still { OnOk result (IsOnlyReadFrom D.Disk store.old store.new) }
+{
+    match counted_pages(alloc, store, first, end)? {
+        Pages::Whole(count) => Ok(count),
+        Pages::Missing(at) => Err(Error::Damaged(at)),
+    }
+}

@@ -1,0 +1,2 @@
+# What the right button extends with Shift or Alt. tests/lib/extending says what is tried.
+"$TESTS/lib/extending"
