@@ -110,7 +110,7 @@ class Trial:
     def tells(self, sitting, line):
         """The line below says this."""
         row = min(sitting.terminal.rows - 1, ROWS)
-        self.check(sitting.wait(lambda: sitting.terminal.line(row) == line, 5), f'{sitting.terminal.line(row)!r}, wanted {line!r}')
+        self.check(sitting.wait(lambda: sitting.terminal.line(row) == line), f'{sitting.terminal.line(row)!r}, wanted {line!r}')
 
     def typing(self, sitting):
         """Types as fast as it is taken, for a random time, and returns what was to be typed."""
@@ -232,7 +232,7 @@ def script_killed(trial):
     sitting, text, program = amid_typing(trial)
     os.kill(sitting.process, signal.SIGKILL)
     sitting.end()
-    end = time.monotonic() + 5
+    end = time.monotonic() + 60
     while is_there(program) and time.monotonic() < end:
         time.sleep(0.01)
     trial.check(not is_there(program), 'the program is still there')
@@ -272,7 +272,7 @@ def escape(trial):
     sitting = trial.sit_anew()
     trial.check(25 in sitting.terminal.modes, 'there is no caret')
     sitting.press(b'\x1b')
-    trial.check(sitting.wait(lambda: 25 not in sitting.terminal.modes, 5), 'the caret stays')
+    trial.check(sitting.wait(lambda: 25 not in sitting.terminal.modes), 'the caret stays')
     trial.leaves(sitting)
 
 
@@ -377,7 +377,7 @@ def no_host_file(trial):
         sitting.press(b'\x0f' + name.encode() + b'\r')
         trial.check(sitting.wait(lambda: sitting.terminal.bells > bells), f'{name[:9]}: no bell')
         # (of a name that is too long keys ring before Return, and the sentence comes after that)
-        trial.check(sitting.wait(lambda: cause in sitting.terminal.line(ROWS), 9), f'{name[:9]}: {sitting.terminal.line(ROWS)!r}')
+        trial.check(sitting.wait(lambda: cause in sitting.terminal.line(ROWS)), f'{name[:9]}: {sitting.terminal.line(ROWS)!r}')
         sitting.press(b'a')
         trial.check(sitting.look_anew(), 'no scene')
     trial.leaves(sitting)
@@ -462,16 +462,16 @@ def hole(trial):
         sitting = trial.sit(trial.path)
         sitting.press(keys)
         wanted = '900 characters typed, the rest dropped: no room'
-        trial.check(sitting.wait(lambda: sitting.terminal.line(ROWS) == wanted, 30), sitting.terminal.line(ROWS))
+        trial.check(sitting.wait(lambda: sitting.terminal.line(ROWS) == wanted), sitting.terminal.line(ROWS))
         sitting.press(b'\x7f')
-        trial.check(sitting.wait(lambda: sitting.terminal.line(ROWS) == MARKED, 30), sitting.terminal.line(ROWS))
+        trial.check(sitting.wait(lambda: sitting.terminal.line(ROWS) == MARKED), sitting.terminal.line(ROWS))
         trial.leaves(sitting)
         answers = trial.oberon_says('play', trial.path, lines=['type ' + 'x' * 181, 'type x']).split()
         trial.check(answers == ['ok', 'no', '6'], f'there is another room: {answers}')
     room_for(trial, 100)
     sitting = trial.sit(trial.path)
     sitting.press(paste + b'b')
-    trial.check(sitting.wait(lambda: sitting.terminal.line(ROWS) == MARKED, 30), sitting.terminal.line(ROWS))
+    trial.check(sitting.wait(lambda: sitting.terminal.line(ROWS) == MARKED), sitting.terminal.line(ROWS))
     trial.leaves(sitting)
     answers = trial.oberon_says('play', trial.path, lines=['type ' + 'x' * 99, 'type x']).split()
     trial.check(answers == ['ok', 'no', '6'], f'there is another room: {answers}')
@@ -512,7 +512,7 @@ def steps_of_undo(trial):
     def undone(sitting, line, text):
         sitting.press(b'\x1a')
         seen = sitting.terminal
-        trial.check(sitting.wait(lambda: seen.line(ROWS) == line, 5), f'{seen.line(ROWS)!r}, wanted {line!r}')
+        trial.check(sitting.wait(lambda: seen.line(ROWS) == line), f'{seen.line(ROWS)!r}, wanted {line!r}')
         trial.check(seen.line(1)[:40].rstrip() == '|' + text, f'{seen.line(1)!r} after {line!r}')
 
     sitting = trial.sit_anew()
@@ -640,9 +640,9 @@ def ringing(trial):
     """A ring has its reason on the line below, and no older one."""
     sitting = trial.sit_anew()
     sitting.press(b'\x18')
-    trial.check(sitting.wait(lambda: 'Nothing is selected' in sitting.terminal.line(ROWS), 5), 'nothing was refused')
+    trial.check(sitting.wait(lambda: 'Nothing is selected' in sitting.terminal.line(ROWS)), 'nothing was refused')
     sitting.press(b'\x04')
-    trial.check(sitting.wait(lambda: sitting.terminal.line(ROWS) == NO_KEY, 5), sitting.terminal.line(ROWS))
+    trial.check(sitting.wait(lambda: sitting.terminal.line(ROWS) == NO_KEY), sitting.terminal.line(ROWS))
     trial.leaves(sitting)
 
 
@@ -665,10 +665,10 @@ def resized_amid_paste(trial):
     sitting.press(b'\x1b[200~abc')
     sitting.resize(24, 80)
     sitting.terminal.scenes = 0
-    trial.check(sitting.wait(lambda: sitting.terminal.scenes > 0, 5), 'no scene')
+    trial.check(sitting.wait(lambda: sitting.terminal.scenes > 0), 'no scene')
     sitting.press(b'def\x1b[201~')
     trial.check(sitting.look_anew(), 'no scene')
-    trial.check(sitting.wait(lambda: sitting.terminal.line(23) == MARKED, 5), sitting.terminal.line(23))
+    trial.check(sitting.wait(lambda: sitting.terminal.line(23) == MARKED), sitting.terminal.line(23))
     trial.check(sitting.terminal.line(22) != '', 'the display has other rows')
     trial.leaves(sitting)
     trial.kept('abcdef', 'abcdef')
@@ -678,9 +678,9 @@ def narrow(trial):
     """A window that is made narrower than 45 columns is told as too small."""
     sitting = trial.sit_anew()
     sitting.resize(33, 44)
-    trial.check(sitting.wait(lambda: sitting.terminal.line(ROWS) == within(44, TOO_NARROW), 5), 'it is not told')
+    trial.check(sitting.wait(lambda: sitting.terminal.line(ROWS) == within(44, TOO_NARROW)), 'it is not told')
     sitting.resize(33, 80)
-    trial.check(sitting.wait(lambda: sitting.terminal.line(ROWS) == KEYS, 5), sitting.terminal.line(ROWS))
+    trial.check(sitting.wait(lambda: sitting.terminal.line(ROWS) == KEYS), sitting.terminal.line(ROWS))
     trial.leaves(sitting)
 
 
@@ -693,8 +693,8 @@ def resized(trial):
         sitting.resize(rows, columns)
         count = min(rows - 1, ROWS)
         scene = [*wanted[:count], GREETING] + [''] * (rows - count - 1)
-        trial.check(sitting.wait(lambda: sitting.terminal.lines() == scene, 5), f'another screen in {rows} rows')
-        trial.check(sitting.look_anew() and sitting.wait(lambda: sitting.terminal.lines() == scene, 5),
+        trial.check(sitting.wait(lambda: sitting.terminal.lines() == scene), f'another screen in {rows} rows')
+        trial.check(sitting.look_anew() and sitting.wait(lambda: sitting.terminal.lines() == scene),
                     f'another one in {rows} rows when it is painted anew')
     trial.leaves(sitting)
 
@@ -711,9 +711,9 @@ def resized_by_the_caret(trial):
 
     for rows in (14, 12, 33, 20):
         sitting.resize(rows, 80)
-        trial.check(sitting.wait(has_caret, 5), f'in {rows} rows')
+        trial.check(sitting.wait(has_caret), f'in {rows} rows')
     sitting.press(b'\x1b[5;3~')
-    trial.check(sitting.wait(lambda: 25 not in terminal.modes, 5), 'the rows above are not in sight')
+    trial.check(sitting.wait(lambda: 25 not in terminal.modes), 'the rows above are not in sight')
     trial.check(sitting.look_anew() and sitting.look_anew() and 25 not in terminal.modes, 'the rows in sight follow the caret')
     trial.leaves(sitting)
 
@@ -728,7 +728,7 @@ def stock(trial):
         sitting.resize(rows, columns)
         count = min(rows - 1, ROWS)
         scene = [*wanted[:count], GREETING] + [''] * (rows - count - 1)
-        trial.check(sitting.wait(lambda: sitting.terminal.lines() == scene, 5), f'another screen in {rows} rows')
+        trial.check(sitting.wait(lambda: sitting.terminal.lines() == scene), f'another screen in {rows} rows')
     trial.leaves(sitting)
 
 
@@ -739,13 +739,13 @@ def paused(trial):
     trial.check(sitting.look_anew(), 'no scene')
     shown_before = sitting.terminal.lines()
     os.kill(sitting.process, signal.SIGTSTP)
-    trial.check(sitting.wait(lambda: 1049 not in sitting.terminal.modes, 5), 'the screen is the desk\'s still')
-    trial.check(sitting.wait(lambda: stopped(sitting.process), 5), 'it is not stopped')
+    trial.check(sitting.wait(lambda: 1049 not in sitting.terminal.modes), 'the screen is the desk\'s still')
+    trial.check(sitting.wait(lambda: stopped(sitting.process)), 'it is not stopped')
     trial.check(termios.tcgetattr(sitting.file) == sitting.before, 'the keys are the desk\'s still')
     scenes = sitting.terminal.scenes
     os.kill(sitting.process, signal.SIGCONT)
-    trial.check(sitting.wait(lambda: sitting.terminal.scenes > scenes, 5), 'nothing is painted again')
-    trial.check(sitting.wait(lambda: sitting.terminal.lines() == shown_before, 5), 'something else is painted')
+    trial.check(sitting.wait(lambda: sitting.terminal.scenes > scenes), 'nothing is painted again')
+    trial.check(sitting.wait(lambda: sitting.terminal.lines() == shown_before), 'something else is painted')
     sitting.press(b'after')
     trial.check(sitting.look_anew(), 'no scene')
     trial.leaves(sitting)
@@ -758,12 +758,12 @@ def paused_by_a_key(trial):
     sitting.press(b'before')
     trial.check(sitting.look_anew(), 'no scene')
     sitting.press(b'\x1d')
-    trial.check(sitting.wait(lambda: 1049 not in sitting.terminal.modes, 5), 'the screen is the desk\'s still')
-    trial.check(sitting.wait(lambda: stopped(sitting.process), 5), 'it is not stopped')
+    trial.check(sitting.wait(lambda: 1049 not in sitting.terminal.modes), 'the screen is the desk\'s still')
+    trial.check(sitting.wait(lambda: stopped(sitting.process)), 'it is not stopped')
     trial.check(termios.tcgetattr(sitting.file) == sitting.before, 'the keys are the desk\'s still')
     scenes = sitting.terminal.scenes
     os.kill(sitting.process, signal.SIGCONT)
-    trial.check(sitting.wait(lambda: sitting.terminal.scenes > scenes, 5), 'nothing is painted again')
+    trial.check(sitting.wait(lambda: sitting.terminal.scenes > scenes), 'nothing is painted again')
     sitting.press(b'after')
     trial.check(sitting.look_anew(), 'no scene')
     trial.leaves(sitting)
@@ -798,7 +798,7 @@ def deleting(trial):
         sitting.press(middle % (row, row))
 
     def told(text):
-        trial.check(sitting.wait(lambda: terminal.line(ROWS) == text, 5), f'{terminal.line(ROWS)!r}, wanted {text!r}')
+        trial.check(sitting.wait(lambda: terminal.line(ROWS) == text), f'{terminal.line(ROWS)!r}, wanted {text!r}')
 
     sitting.press(b'System.DeleteFiles A.Text B.Text ~\rSystem.DeleteFiles A.Text-old ~\rEdit.Open B-Notes.Text\r'
                   b'Edit.Open A.Text, then\r' + STORE)
@@ -808,7 +808,7 @@ def deleting(trial):
     press_at(4)
     told('B-Notes.Text is no name: press again for B')
     press_at(4)
-    trial.check(sitting.wait(lambda: any(terminal.line(row).startswith('B | System') for row in range(ROWS)), 5), 'B does not open')
+    trial.check(sitting.wait(lambda: any(terminal.line(row).startswith('B | System') for row in range(ROWS))), 'B does not open')
     sitting.press(b'\x1a')
     press_at(2)
     told('Press again to delete: A.Text B.Text')
@@ -816,7 +816,7 @@ def deleting(trial):
     press_at(3)
     told('Press again to delete: A.Text')
     press_at(3)
-    trial.check(sitting.wait(lambda: 'System.DeleteFiles' in terminal.line(ROWS), 5), terminal.line(ROWS))
+    trial.check(sitting.wait(lambda: 'System.DeleteFiles' in terminal.line(ROWS)), terminal.line(ROWS))
     trial.leaves(sitting)
     ran = subprocess.run([trial.desk, 'list', trial.path], capture_output=True, check=False)
     # (what is open and not stored has a line of other words)
@@ -845,17 +845,17 @@ def sides(trial):
     trial.check(terminal.line(0).startswith('System.Tool'), f'at the beginning {terminal.line(0)!r}')
     trial.check(terminal.line(ROWS) == within(60, ONE_SIDE), terminal.line(ROWS))
     sitting.press(b'\x1b[1;3D')
-    trial.check(sitting.wait(lambda: 'System.Tool' not in terminal.line(0), 5), terminal.line(0))
+    trial.check(sitting.wait(lambda: 'System.Tool' not in terminal.line(0)), terminal.line(0))
     sitting.press(b'\x1b[<0;31;3M\x1b[<0;31;3m\x1b[1;3C')
-    trial.check(sitting.wait(lambda: terminal.line(0).startswith('System.Tool'), 5), terminal.line(0))
+    trial.check(sitting.wait(lambda: terminal.line(0).startswith('System.Tool')), terminal.line(0))
     sitting.press(b'\x1b[<0;4;3M\x1b[<0;4;3m')
-    trial.check(sitting.wait(lambda: 25 in terminal.modes, 5), 'the click set no caret')
+    trial.check(sitting.wait(lambda: 25 in terminal.modes), 'the click set no caret')
     sitting.press(b'\x1b[1;3D')
-    trial.check(sitting.wait(lambda: 25 not in terminal.modes, 5), 'the caret is to be seen on the other side')
+    trial.check(sitting.wait(lambda: 25 not in terminal.modes), 'the caret is to be seen on the other side')
     sitting.press(b'x')
-    trial.check(sitting.wait(lambda: 25 in terminal.modes, 5), 'the side of the caret is not in sight')
+    trial.check(sitting.wait(lambda: 25 in terminal.modes), 'the side of the caret is not in sight')
     sitting.resize(33, 80)
-    trial.check(sitting.wait(lambda: terminal.line(0)[50:].startswith('System.Tool'), 5), terminal.line(0))
+    trial.check(sitting.wait(lambda: terminal.line(0)[50:].startswith('System.Tool')), terminal.line(0))
     trial.check(not terminal.mistakes, terminal.mistakes)
     trial.leaves(sitting)
 
@@ -885,7 +885,7 @@ def new_store(trial):
     trial.check('System.Tool' in sitting.terminal.line(0), 'no tool text is shown')
     trial.refused(4, trial.path, says=['my.disk', 'another program'])
     sitting.press(b'\x1a')  # there is nothing to take back
-    trial.check(sitting.wait(lambda: sitting.terminal.bells > 0, 5), 'no bell')
+    trial.check(sitting.wait(lambda: sitting.terminal.bells > 0), 'no bell')
     trial.check(sitting.look_anew() and 'System.Tool' in sitting.terminal.line(0), 'the tool text was taken back')
     trial.leaves(sitting)
     trial.check(os.listdir(trial.folder) == ['my.disk'], f'there are {os.listdir(trial.folder)}')
@@ -939,7 +939,7 @@ def appears(trial):
     """A file that gets the store's name while that is made stays."""
     for _ in range(20):
         sitting = trial.begin(trial.desk, trial.path, rows=33, columns=80)
-        end = time.monotonic() + 5
+        end = time.monotonic() + 60
         while not os.path.exists(trial.path + '.new') and not os.path.exists(trial.path) and time.monotonic() < end:
             pass
         try:
@@ -963,7 +963,7 @@ def killed_amid_making(trial):
     """Where the program is killed while it makes a store, or as soon as that has its name, it is whole or not there."""
     for turn in range(8):
         sitting = trial.begin(trial.desk, trial.path, rows=33, columns=80)
-        end = time.monotonic() + 10
+        end = time.monotonic() + 60
         first = trial.path + '.new' if turn % 2 else trial.path
         while not os.path.exists(first) and not os.path.exists(trial.path) and time.monotonic() < end:
             pass
@@ -983,7 +983,7 @@ def two_makers(trial):
     statuses = []
     for sitting in both:
         try:
-            sitting.wait(lambda: sitting.terminal.scenes > 0, 5)
+            sitting.wait(lambda: sitting.terminal.scenes > 0)
             sitting.press(b'one\x11')
         except Ended:
             pass
@@ -1017,9 +1017,9 @@ def in_memory(trial):
     trial.check('System.Tool' in sitting.terminal.line(0), 'no tool text is shown')
     trial.check('memory' in sitting.terminal.line(ROWS), f'the line below is {sitting.terminal.line(ROWS)!r}')
     sitting.press(b'\x11')
-    trial.check(sitting.wait(lambda: 'press Ctrl-Q again' in sitting.terminal.line(ROWS), 5), 'nothing is asked')
+    trial.check(sitting.wait(lambda: 'press Ctrl-Q again' in sitting.terminal.line(ROWS)), 'nothing is asked')
     sitting.press(b'\x04\x11')
-    trial.check(sitting.wait(lambda: 'press Ctrl-Q again' in sitting.terminal.line(ROWS), 5), 'another key answers')
+    trial.check(sitting.wait(lambda: 'press Ctrl-Q again' in sitting.terminal.line(ROWS)), 'another key answers')
     sitting.press(b'\x11')
     trial.check(sitting.end() == 0 and not os.listdir(trial.folder), f'status {sitting.status}')
 
@@ -1036,10 +1036,10 @@ def closing(trial):
         return (b'\x1bOQ\x1b[<0;%d;1M\x1b[<0;%d;1m' if with_f2 else b'\x1b[<1;%d;1M\x1b[<1;%d;1m') % (column, column)
 
     def told(wanted, text):
-        trial.check(sitting.wait(lambda: (asked in terminal.line(ROWS)) == wanted, 5), text)
+        trial.check(sitting.wait(lambda: (asked in terminal.line(ROWS)) == wanted), text)
 
     def gone(wanted, text):
-        trial.check(sitting.wait(lambda: terminal.line(0).startswith('A.Text') != wanted, 5), text)
+        trial.check(sitting.wait(lambda: terminal.line(0).startswith('A.Text') != wanted), text)
 
     sitting.press(b'Hello')
     for with_f2 in (False, True):

@@ -111,7 +111,7 @@ class Sitting:
             left = end - time.monotonic()
             if left <= 0:
                 return False
-            self.read(left)
+            self.read(min(left, 1))
         return True
 
     def scene(self):

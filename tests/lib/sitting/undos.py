@@ -298,7 +298,7 @@ def sit(seed, desk, oberon, folder, tool):
             if not sitting.hear_long(b''):
                 return [f'no scene came after turn {turn}']
             wanted = model.in_sight()
-            if not sitting.wait(lambda: characters(terminal.cells, model.rows) == wanted, 5):
+            if not sitting.wait(lambda: characters(terminal.cells, model.rows) == wanted):
                 seen = characters(terminal.cells, model.rows)
                 return [f'another screen after turn {turn}: ' + repr([(g, w) for g, w in zip(seen, wanted) if g != w][:3])]
             if not model.is_below(terminal.line(model.rows)):
