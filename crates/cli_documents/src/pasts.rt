@@ -11,7 +11,7 @@ use desk_journal::{Error, STORE_SECTORS, Store};
 use desk_past::{HALVES, forget, start_of};
 use host_files::{length_of, lock_alone};
 use host_stores::with_past_room;
-use sector_disk::{FILE_SECTORS, MemoryDisk, SECTOR_BYTES};
+use sector_disk::{MemoryDisk, SECTOR_BYTES};
 use std::io;
 use told_pasts::{
     Pages, Reach, counted_pages, none_where_missing, reach_of, shown_before, told_past,
@@ -30,8 +30,7 @@ pub(crate) fn past_before(
     count: u32,
 ) -> Result<Option<Store<MemoryDisk>>, Stop> {
     let mut store = past_at(rt, path)?;
-    let disk = MemoryDisk::new(rt.alloc(), FILE_SECTORS)?;
-    let found = shown_before(rt.alloc(), &mut store, count, disk);
+    let found = shown_before(rt.alloc(), &mut store, count);
     Ok(none_where_missing(found)?)
 }
 
@@ -41,8 +40,7 @@ fn start_at(
     store: &mut LockedStore,
     base: u32,
 ) -> Result<Option<(Store<MemoryDisk>, u64)>, Stop> {
-    let disk = MemoryDisk::new(rt.alloc(), FILE_SECTORS)?;
-    Ok(none_where_missing(start_of(rt.alloc(), store, base, disk))?)
+    Ok(none_where_missing(start_of(rt.alloc(), store, base))?)
 }
 
 /// Why the store in a file isn't shown as it was before so many of its last events: `Trouble`, where a page of its past

@@ -11,3 +11,4 @@ pub mod Undoing
 pub mod BackAgain
 pub mod Stepped
 pub mod Behind
+pub mod Turning

@@ -44,6 +44,10 @@ abbrev pub brought_from : PastEnd → Documents → Standing → Standing
 brought_from past documents s =
     anew_from s (1 - s.slot) past (brought_in (desktop_of s) documents).desktop
 
+-- and another desktop, this one
+abbrev pub turned_from : PastEnd → Desktop → Standing → Standing
+turned_from past desktop s = anew_from s (1 - s.slot) past desktop
+
 -- the content shows the one, or the other and has these bytes behind the store, from this sector on
 abbrev pub StandsWith : ℕ → Standing → Standing → ℕ → List ℕ → Content → Type 0
 StandsWith size s t from bytes c = (Stands size c t × HoldsBytes c from bytes) ⊎ Stands size c s
@@ -169,3 +173,10 @@ module _ {D : Type 0} (d : Ghosts D) where
       : Type 0 where
     pub moments : LeavesNextWith next from bytes old new
     pub done : IfOk answer (λ reply. reply ≡ Done → GoesToNextWith next from bytes old new)
+
+  -- where a desktop stands on the disk to which a store turns: at each moment of the turn, and at Ok
+  pub record TurnsWith {T : Type 0} (next : Standing → Standing) (from : ℕ) (bytes : List ℕ)
+      (answer : Result T Error) (old new : StoreView D)
+      : Type 0 where
+    pub moments : LeavesNextWith next from bytes old new
+    pub done : OnOk answer (GoesToNextWith next from bytes old new)

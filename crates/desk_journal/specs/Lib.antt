@@ -16,4 +16,6 @@ pub mod Leading
 pub mod Losses
 pub mod Views
 pub mod Behind
+pub mod Gathering
+pub mod Turning
 pub mod Forgetting

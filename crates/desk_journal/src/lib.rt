@@ -14,7 +14,7 @@ mod undone;
 
 pub use command_table::{NEWEST, Version};
 pub use files::{open_in_a_file, post_in_a_file};
-pub use store::{Info, NotingDisk, Store};
+pub use store::{GatheredDesktop, Info, NotingDisk, Store};
 pub use store_layout::{JOURNAL_EVENTS, STORE_SECTORS, finding_law, footprint_law, showing_law};
 pub use store_slots::{
     CaretCommand, DeskInfo, Document, Error, KeyWish, LogRow, Loss, MOST_PRESSES, Place,

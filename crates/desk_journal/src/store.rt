@@ -30,14 +30,17 @@ mod bringing;
 mod coming;
 mod copying;
 mod forgetting;
+mod gathering;
 mod leading;
 mod scrolling;
+mod turning;
 mod views;
 
 use command_table::{NEWEST, Version};
 use desktop_definitions::{Entry, Reply};
 use event_bytes::{Event, Name};
 pub use forgetting::NotingDisk;
+pub use gathering::GatheredDesktop;
 use piece_ring::Look;
 use screen_cells::Screen;
 use sector_disk::{Disk, Fault};

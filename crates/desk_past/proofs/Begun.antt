@@ -232,6 +232,7 @@ module _ (size base : ℕ) (x c : Content) (s : Standing) (room : base + STORE_S
       newest = refl;
       written = (record { standing = s; stands = stands_there; is = is; counted = sym counted }, tt);
       good = tt;
+      turns = tt;
       up_to = sym next;
       room = omega (arith, next, room);
       counted = omega (arith, told);

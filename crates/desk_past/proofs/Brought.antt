@@ -1,4 +1,4 @@
--- Documents that come into a store with a past. `d` is what is known of a disk.
+-- A store with a past whose desktop is exchanged by one deed: an import, or a turn. `d` is what is known of a disk.
 use Rattle.std.proofs.Common.{◌≡◌, ◌⊎◌, inl, inr, ◌+◌, ◌-◌, ◌*◌, ◌^◌, ◌<◌, ◌≤◌, ℕ, List, [], ◌∷◌, ◌++◌, length, refl}
 use Rattle.std.proofs.Common.{sym, ◌∙◌, ap}
 use Rattle.std.proofs.Common.{subst, arith, false, length-append}
@@ -12,21 +12,21 @@ use Rattle.sector_disk.specs.Stored.{HoldsBytes, last_sector}
 use Rattle.sector_disk.specs.Trail.{Content, now, LeavesOnly}
 use Rattle.sector_disk.proofs.Touching.{at_last, read_is_an_image, weakened}
 use Rattle.desktop_definitions.specs.Desktop.{Desktop}
-use Rattle.document_filing.specs.Bringing.{Documents, brought_in}
 use Rattle.store_layout.specs.declared.head.PastEnd.{PastEnd}
-use Rattle.store_layout.specs.declared.layout.TheConstants.{STORE_SECTORS}
 use Rattle.store_layout.specs.Meaning.{Standing, Stands, desktop_of}
-use Rattle.desk_journal.specs.Behind.{GoesToNextWith, LeavesNextWith, StaysBehind, brought_from}
+use Rattle.store_slots.specs.Written.{anew_from}
+use Rattle.desk_journal.specs.Behind.{GoesToNextWith, LeavesNextWith, StaysBehind}
 use Rattle.desk_journal.specs.View.{StoreView}
-use Rattle.desk_past.specs.Bringing.{CanBring, FitPage, IsAhead, import_of, padded, two_pages}
-use Rattle.desk_past.specs.Deeds.{PastDeed, after_deeds, all_posted, brought}
+use Rattle.desk_past.specs.Ahead.{CanAdd, IsAhead, padded, pages_added, two_pages}
+use Rattle.desk_past.specs.Deeds.{PastDeed, after_deed, after_deeds, all_posted}
 use Rattle.desk_past.specs.Page.{Page, HasPages, deeds_in, end_of_pages, page_bytes, page_sectors}
-use Rattle.desk_past.specs.Past.{AreGood, HoldsPages, IsGoodPage, KeepsAll, Remembers, Start, all_deeds, first_page}
-use Rattle.desk_past.specs.Past.{journal_of}
+use Rattle.desk_past.specs.Past.{AreGood, AreTurns, HoldsPages, IsGoodPage, IsTurn, KeepsAll, Remembers, Start}
+use Rattle.desk_past.specs.Past.{all_deeds, first_page, journal_of}
 use Rattle.desk_past.proofs.Carrying.{both_leave, good_journal, written_kept}
 use Rattle.desk_past.proofs.Moments.{after_both, joined, many_posted, stepped_on}
 use Rattle.desk_past.proofs.PageReads.{page_long}
 use Rattle.desk_past.proofs.Remembering.{IsQuiet, remembers_on}
+use Rattle.desk_past.proofs.Turns.{turns_both}
 
 -- ---- two pages, each from the beginning of a sector
 
@@ -90,7 +90,7 @@ module _ (p q : Page) where
     ),
   )
 
--- ---- a past that goes on over an import
+-- ---- a past that goes on over one deed
 
 -- pages behind others
 end_both : (pages : List Page) (at : ℕ) (p q : Page)
@@ -103,78 +103,87 @@ pages_both : (pages : List Page) (c : Content) (at : ℕ) (p q : Page) → HasPa
 pages_both [] c at p q has more = more
 pages_both (r ∷ pages) c at p q has more = (has.0, pages_both pages c (at + page_sectors r) p q has.1 more)
 
-deeds_both : (pages : List Page) (p : Page) (documents : Documents)
-    → all_deeds (pages ++ p ∷ import_of documents ∷ [])
-    ≡ (all_deeds pages ++ all_deeds (p ∷ [])) ++ brought documents ∷ []
-deeds_both [] p documents = ap (λ l. l ++ brought documents ∷ []) (sym (append-nil (deeds_in p)))
-deeds_both (q ∷ pages) p documents = ap (λ l. deeds_in q ++ l) (deeds_both pages p documents)
-    ∙ sym (joined (deeds_in q) (all_deeds pages ++ all_deeds (p ∷ [])) (brought documents ∷ []))
-    ∙ ap (λ l. l ++ brought documents ∷ []) (sym (joined (deeds_in q) (all_deeds pages) (all_deeds (p ∷ []))))
+deeds_both : (pages : List Page) (p q : Page)
+    → all_deeds (pages ++ p ∷ q ∷ []) ≡ (all_deeds pages ++ deeds_in p) ++ deeds_in q
+deeds_both [] p q = ap (λ l. deeds_in p ++ l) (append-nil (deeds_in q))
+deeds_both (r ∷ pages) p q = ap (λ l. deeds_in r ++ l) (deeds_both pages p q)
+    ∙ sym (joined (deeds_in r) (all_deeds pages ++ deeds_in p) (deeds_in q))
+    ∙ ap (λ l. l ++ deeds_in q) (sym (joined (deeds_in r) (all_deeds pages) (deeds_in p)))
 
+good_both : (pages : List Page) (p q : Page) → AreGood pages → IsGoodPage p → IsGoodPage q
+    → AreGood (pages ++ p ∷ q ∷ [])
+good_both [] p q good first second = (first, (second, tt))
+good_both (r ∷ pages) p q good first second = (good.0, good_both pages p q good.1 first second)
+
+-- the desktop behind a deed at the beginning of the next journal, in the other slot, whose head tells of this past
+abbrev pub done_from : PastEnd → PastDeed → Standing → Standing
+done_from past deed s = anew_from s (1 - s.slot) past (after_deed (desktop_of s) deed)
+
+-- `p` is the page of the deed
 module _ {size : ℕ} {start : Start} {deeds : List PastDeed} {desktop : Desktop} {c : Content}
-    (r : Remembers size start deeds desktop c) (documents : Documents) where
+    (r : Remembers size start deeds desktop c) (p : Page) (deed : PastDeed) (one : deeds_in p ≡ deed ∷ []) where
   abbrev two : List Page
-  two = journal_of r.standing ∷ import_of documents ∷ []
+  two = pages_added p r.standing
 
-  all_there : all_deeds (r.pages ++ two) ≡ deeds ++ brought documents ∷ []
-  all_there = deeds_both r.pages (journal_of r.standing) documents
-      ∙ ap (λ l. l ++ brought documents ∷ [])
-      (ap (λ l. all_deeds r.pages ++ l) (append-nil (all_posted r.standing.events)) ∙ r.all)
+  all_there : all_deeds (r.pages ++ two) ≡ deeds ++ deed ∷ []
+  all_there = deeds_both r.pages (journal_of r.standing) p ∙ (λ i. r.all i ++ one i)
 
-  led_there : after_deeds start.desktop (all_deeds (r.pages ++ two))
-      ≡ (brought_in (desktop_of r.standing) documents).desktop
-  led_there = ap (after_deeds start.desktop) (deeds_both r.pages (journal_of r.standing) documents)
-      ∙ after_both start.desktop (all_deeds r.pages ++ all_deeds (journal_of r.standing ∷ [])) (brought documents ∷ [])
-      ∙ ap (λ x. (brought_in x documents).desktop)
-      (ap (λ l. after_deeds start.desktop (all_deeds r.pages ++ l)) (append-nil (all_posted r.standing.events))
-      ∙ stepped_on start.desktop r.pages r.standing r.standing.events r.past.newest r.past.leads)
+  led_there : after_deeds start.desktop (all_deeds (r.pages ++ two)) ≡ after_deed (desktop_of r.standing) deed
+  led_there = ap (after_deeds start.desktop) (deeds_both r.pages (journal_of r.standing) p)
+      ∙ ap (λ l. after_deeds start.desktop ((all_deeds r.pages ++ all_posted r.standing.events) ++ l)) one
+      ∙ after_both start.desktop (all_deeds r.pages ++ all_posted r.standing.events) (deed ∷ [])
+      ∙ ap (λ x. after_deed x deed)
+      (stepped_on start.desktop r.pages r.standing r.standing.events r.past.newest r.past.leads)
 
-  good_two : (pages : List Page) → AreGood pages → IsGoodPage (journal_of r.standing) → IsGoodPage (import_of documents)
-      → AreGood (pages ++ two)
-  good_two [] good journal import = (journal, (import, tt))
-  good_two (q ∷ pages) good journal import = (good.0, good_two pages good.1 journal import)
+  turns_there : IsTurn start deeds p → AreTurns start [] (r.pages ++ two)
+  turns_there turn = turns_both start r.pages (journal_of r.standing) p r.past.turns tt
+      (subst (λ l. IsTurn start l p) (sym r.all) turn)
 
-remembers_brought : {size size' : ℕ} {start : Start} {deeds : List PastDeed} {desktop : Desktop} {c c' : Content}
-    (r : Remembers size start deeds desktop c) (documents : Documents) (past : PastEnd) → size' ≡ size
-    → end_of_pages r.standing.past.next (two r documents) ≡ past.next → past.next ≤ size
-    → r.standing.past.before + length r.standing.events + 1 ≡ past.before
-    → length (page_bytes (journal_of r.standing)) < 2 ^ 32 → IsGoodPage (import_of documents)
-    → Stands size' c' (brought_from past documents r.standing) → HoldsPages c' start (r.pages ++ two r documents)
-    → Remembers size' start (deeds ++ brought documents ∷ []) (brought_in desktop documents).desktop c'
-remembers_brought {start = start} {deeds = deeds} {c = c} r documents past large up_to room counted short good stands
-    written = record {
-      standing = brought_from past documents r.standing;
-      pages = r.pages ++ two r documents;
-      past = record {
-        stands = stands;
-        newest = refl;
-        written = written;
-        good = good_two r documents r.pages r.past.good (good_journal c r.standing r.past.stands r.past.newest short) good;
-        up_to = end_both r.pages (first_page start) (journal_of r.standing) (import_of documents)
-            ∙ ap (λ n. end_of_pages n (two r documents)) r.past.up_to ∙ up_to;
-        room = omega (arith, room, large);
-        counted = let all = ap length (all_there r documents) in
-            let before = ap length r.all in
-            omega (
-              arith,
-              all,
-              before,
-              length-append deeds (brought documents ∷ []),
-              length-append (all_deeds r.pages) (all_posted r.standing.events),
-              many_posted r.standing.events,
-              r.past.counted,
-              counted,
-            );
-        leads = led_there r documents;
-      };
-      all = append-nil (all_deeds (r.pages ++ two r documents)) ∙ all_there r documents;
-      is = ap (λ x. (brought_in x documents).desktop) r.is;
-    }
+  remembers_done : {size' : ℕ} {c' : Content} (past : PastEnd) → size' ≡ size
+      → end_of_pages r.standing.past.next two ≡ past.next → past.next ≤ size
+      → r.standing.past.before + length r.standing.events + 1 ≡ past.before
+      → length (page_bytes (journal_of r.standing)) < 2 ^ 32 → IsGoodPage p → IsTurn start deeds p
+      → Stands size' c' (done_from past deed r.standing) → HoldsPages c' start (r.pages ++ two)
+      → Remembers size' start (deeds ++ deed ∷ []) (after_deed desktop deed) c'
+  remembers_done past large up_to room counted short good turn stands written = record {
+    standing = done_from past deed r.standing;
+    pages = r.pages ++ two;
+    past = record {
+      stands = stands;
+      newest = refl;
+      written = written;
+      good = good_both r.pages (journal_of r.standing) p r.past.good
+          (good_journal c r.standing r.past.stands r.past.newest short) good;
+      turns = turns_there turn;
+      up_to = end_both r.pages (first_page start) (journal_of r.standing) p
+          ∙ ap (λ n. end_of_pages n two) r.past.up_to ∙ up_to;
+      room = omega (arith, room, large);
+      counted = let all = ap length all_there in
+          let before = ap length r.all in
+          omega (
+            arith,
+            all,
+            before,
+            length-append deeds (deed ∷ []),
+            length-append (all_deeds r.pages) (all_posted r.standing.events),
+            many_posted r.standing.events,
+            r.past.counted,
+            counted,
+          );
+      leads = led_there;
+    };
+    all = append-nil (all_deeds (r.pages ++ two)) ∙ all_there;
+    is = ap (λ x. after_deed x deed) r.is;
+  }
 
-module _ {D : Type 0} (d : Ghosts D) {start : Start} {deeds : List PastDeed} {desktop : Desktop} {documents : Documents}
-    {old : StoreView D} (was : KeepsAll d start deeds desktop old) {past : PastEnd} {from limit : ℕ} {bytes : List ℕ}
-    (ahead : IsAhead d documents past from limit bytes was) (honest : d.honest old.disk) (quiet : IsQuiet d old)
+module _ {D : Type 0} (d : Ghosts D) {start : Start} {deeds : List PastDeed} {desktop : Desktop} (p : Page)
+    (deed : PastDeed) (one : deeds_in p ≡ deed ∷ []) {old : StoreView D} (was : KeepsAll d start deeds desktop old)
+    (turn : IsTurn start deeds p) {past : PastEnd} {from limit : ℕ} {bytes : List ℕ}
+    (ahead : IsAhead d p past from limit bytes was) (honest : d.honest old.disk) (quiet : IsQuiet d old)
     (new : StoreView D) (within : StaysBehind d from limit old.disk new.disk) where
+  abbrev both : List Page
+  both = pages_added p was.remembers.standing
+
   kept_there : LeavesOnly (d.trail old.disk) (d.trail new.disk) (λ c. HoldsPages c start was.remembers.pages)
   kept_there = written_kept was.remembers.pages start was.behind (λ n far. quiet n) (within.moments honest)
       (λ n low high touched. elim touched [
@@ -183,52 +192,51 @@ module _ {D : Type 0} (d : Ghosts D) {start : Start} {deeds : List PastDeed} {de
       ]) was.remembers.past.written
 
   two_there : (c : Content) → HoldsPages c start was.remembers.pages → HoldsBytes c from bytes
-      → HoldsPages c start (was.remembers.pages ++ two was.remembers documents)
+      → HoldsPages c start (was.remembers.pages ++ both)
   two_there c has held = (
     has.0,
-    pages_both was.remembers.pages c (first_page start) (journal_of was.remembers.standing) (import_of documents) has.1
-        (subst (λ n. HasPages c n (two was.remembers documents)) (ahead.at ∙ sym was.remembers.past.up_to)
-        (held_both (journal_of was.remembers.standing) (import_of documents) c from
-        (subst (HoldsBytes c from) ahead.are held))),
+    pages_both was.remembers.pages c (first_page start) (journal_of was.remembers.standing) p has.1
+        (subst (λ n. HasPages c n both) (ahead.at ∙ sym was.remembers.past.up_to)
+        (held_both (journal_of was.remembers.standing) p c from (subst (HoldsBytes c from) ahead.are held))),
   )
 
-  end_there : end_of_pages was.remembers.standing.past.next (two was.remembers documents) ≡ past.next
-  end_there = ap (λ n. end_of_pages n (two was.remembers documents)) (sym ahead.at) ∙ ahead.up_to
+  end_there : end_of_pages was.remembers.standing.past.next both ≡ past.next
+  end_there = ap (λ n. end_of_pages n both) (sym ahead.at) ∙ ahead.up_to
 
-  pub brings_moments : LeavesNextWith d (brought_from past documents) from bytes old new
+  pub done_moments : LeavesNextWith d (done_from past deed) from bytes old new
       → LeavesOnly (d.trail old.disk) (d.trail new.disk) (λ c. Remembers (d.size old.disk) start deeds desktop c
-      ⊎ Remembers (d.size old.disk) start (deeds ++ brought documents ∷ []) (brought_in desktop documents).desktop c)
-  brings_moments next = weakened
+      ⊎ Remembers (d.size old.disk) start (deeds ++ deed ∷ []) (after_deed desktop deed) c)
+  done_moments next = weakened
       (both_leave (next was.usable honest was.remembers.standing was.remembers.past.stands) kept_there)
       (λ c x. elim x.0 [
-        | inl anew ↦ inr (remembers_brought was.remembers documents past refl end_there ahead.room ahead.counted
-            ahead.short ahead.good anew.0 (two_there c x.1 anew.1))
+        | inl anew ↦ inr (remembers_done was.remembers p deed one past refl end_there ahead.room ahead.counted
+            ahead.short ahead.good turn anew.0 (two_there c x.1 anew.1))
         | inr still ↦ inl (remembers_on was.remembers refl still x.1)
       ])
 
-  pub brings_keeps : new.must_reopen ≡ false → GoesToNextWith d (brought_from past documents) from bytes old new
-      → KeepsAll d start (deeds ++ brought documents ∷ []) (brought_in desktop documents).desktop new
-  brings_keeps usable goes = record {
+  pub done_keeps : new.must_reopen ≡ false → GoesToNextWith d (done_from past deed) from bytes old new
+      → KeepsAll d start (deeds ++ deed ∷ []) (after_deed desktop deed) new
+  done_keeps usable goes = record {
     usable = usable;
     behind = was.behind;
-    remembers = remembers_brought was.remembers documents past within.as_large end_there ahead.room ahead.counted
-        ahead.short ahead.good (goes.shows honest was.remembers.standing was.remembers.past.stands)
+    remembers = remembers_done was.remembers p deed one past within.as_large end_there ahead.room ahead.counted
+        ahead.short ahead.good turn (goes.shows honest was.remembers.standing was.remembers.past.stands)
         (two_there (now (d.trail new.disk)).reads
         (at_last kept_there (now (d.trail new.disk)).reads (read_is_an_image (now (d.trail new.disk))))
         (goes.held honest));
   }
 
--- ---- what is to be written before an import
+-- ---- what is to be written before it
 
-pub import_short : (documents : Documents) → FitPage documents → length (page_bytes (import_of documents)) < 2 ^ 32
-import_short documents fit = omega (arith, page_long (import_of documents), fit.short)
+pub page_few : (p : Page) → IsGoodPage p → length (page_bytes p) < 2 ^ 33
+page_few p good = omega (arith, page_long p, good.short)
 
 module _ {D : Type 0} (d : Ghosts D) {start : Start} {deeds : List PastDeed} {desktop : Desktop} {store : StoreView D}
-    (keeps : KeepsAll d start deeds desktop store) (documents : Documents) (told : PastEnd) (events : ℕ)
-    (journal import : List ℕ) (told_is : told ≡ keeps.remembers.standing.past)
+    (keeps : KeepsAll d start deeds desktop store) (p : Page) (told : PastEnd) (events : ℕ)
+    (journal page : List ℕ) (told_is : told ≡ keeps.remembers.standing.past)
     (many : length keeps.remembers.standing.events ≡ events)
     (journal_is : journal ≡ page_bytes (journal_of keeps.remembers.standing))
-    (import_is : import ≡ page_bytes (import_of documents)) where
+    (page_is : page ≡ page_bytes p) where
   next_is : told.next ≡ keeps.remembers.standing.past.next
   next_is = ap (λ (x : PastEnd). x.next) told_is
 
@@ -238,18 +246,18 @@ module _ {D : Type 0} (d : Ghosts D) {start : Start} {deeds : List PastDeed} {de
   first_is : last_sector (length journal) + 1 ≡ page_sectors (journal_of keeps.remembers.standing)
   first_is = ap (λ l. last_sector (length l) + 1) journal_is
 
-  second_is : last_sector (length import) + 1 ≡ page_sectors (import_of documents)
-  second_is = ap (λ l. last_sector (length l) + 1) import_is
+  second_is : last_sector (length page) + 1 ≡ page_sectors p
+  second_is = ap (λ l. last_sector (length l) + 1) page_is
 
-  -- it is ahead of the import
-  pub is_ahead : {past : PastEnd} {from limit : ℕ} {bytes : List ℕ} → length journal < 2 ^ 32
-      → IsGoodPage (import_of documents) → bytes ≡ padded (last_sector (length journal) + 1) journal ++ import
+  -- it is ahead of the page
+  pub is_ahead : {past : PastEnd} {from limit : ℕ} {bytes : List ℕ} → length journal < 2 ^ 32 → IsGoodPage p
+      → bytes ≡ padded (last_sector (length journal) + 1) journal ++ page
       → from ≡ told.next → from + limit ≡ past.next → past.next ≤ d.size store.disk
-      → past.next ≡ told.next + (last_sector (length journal) + 1) + (last_sector (length import) + 1)
-      → past.before ≡ told.before + events + 1 → IsAhead d documents past from limit bytes keeps
+      → past.next ≡ told.next + (last_sector (length journal) + 1) + (last_sector (length page) + 1)
+      → past.before ≡ told.before + events + 1 → IsAhead d p past from limit bytes keeps
   is_ahead short good are at ends room next before = record {
     at = at ∙ next_is;
-    are = are ∙ (λ i. padded (first_is i) (journal_is i) ++ import_is i);
+    are = are ∙ (λ i. padded (first_is i) (journal_is i) ++ page_is i);
     up_to = (λ i. at i + sym first_is i + sym second_is i) ∙ sym next;
     limit_is = ends;
     room = room;
@@ -259,9 +267,9 @@ module _ {D : Type 0} (d : Ghosts D) {start : Start} {deeds : List PastDeed} {de
   }
 
   -- and there is room for it where the past can go on
-  pub room_ahead : (can : CanBring d documents keeps) → (end : ℕ) → can.end ≤ end
-      → told.next + (last_sector (length journal) + 1) + (last_sector (length import) + 1) ≤ end
+  pub room_ahead : (can : CanAdd d p keeps) → (end : ℕ) → can.end ≤ end
+      → told.next + (last_sector (length journal) + 1) + (last_sector (length page) + 1) ≤ end
   room_ahead can end high = omega (arith, can.room.pages, first_is, second_is, next_is, high)
 
-  pub few_ahead : CanBring d documents keeps → told.before + events + 1 < 2 ^ 64
+  pub few_ahead : CanAdd d p keeps → told.before + events + 1 < 2 ^ 64
   few_ahead can = omega (arith, can.room.few, before_is, many)

@@ -102,6 +102,7 @@ past_of t past told start_is version large stands written = record {
   newest = version ∙ past.newest;
   written = written;
   good = past.good;
+  turns = past.turns;
   up_to = past.up_to ∙ sym (ap (λ (p : PastEnd). p.next) told);
   room = let same = ap (λ (p : PastEnd). p.next) told in omega (arith, past.room, large, same);
   counted = past.counted ∙ sym (ap (λ (p : PastEnd). p.before) told);

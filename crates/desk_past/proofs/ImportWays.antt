@@ -1,5 +1,5 @@
 -- An import behind a call that only reads. `d` is what is known of a disk.
-use Rattle.std.proofs.Common.{◌≡◌, ◌⊎◌, inl, inr, ◌+◌, ℕ, List, [], ◌∷◌, ◌++◌, sym, ◌∙◌, ap, subst, arith, true, false}
+use Rattle.std.proofs.Common.{◌≡◌, inl, inr, ◌+◌, ℕ, List, refl, sym, ◌∙◌, ap, subst, arith, true, false}
 use Rattle.std.specs.Prelude.{Result, Ok, Err, IfErr, IfOk, IsErrOf}
 use Rattle.std.proofs.lemmas.Bool.{false≢true}
 use Rattle.sector_disk.specs.declared.disk.Disk.{Ghosts}
@@ -23,14 +23,15 @@ use Rattle.desk_journal.specs.Posting.{AnswersMustReopen, IsLast, TurnsAway}
 use Rattle.desk_journal.specs.Undoing.{IsLeft}
 use Rattle.desk_journal.specs.declared.store.Info.{Info}
 use Rattle.desk_journal.specs.View.{StoreView, IsDurable}
-use Rattle.desk_past.specs.Bringing.{BringsOn, CanBring, IsAhead, IsBroughtIn}
+use Rattle.desk_past.specs.Ahead.{IsAhead}
+use Rattle.desk_past.specs.Bringing.{BringsOn, CanBring, IsBroughtIn, import_of}
 use Rattle.desk_past.specs.Deeds.{PastDeed, brought}
 use Rattle.desk_past.specs.Keeping.{CanTurn}
-use Rattle.desk_past.specs.Past.{KeepsAll, Remembers, Start}
+use Rattle.desk_past.specs.Past.{KeepsAll, Start}
 use Rattle.desk_past.specs.Reading.{IsOnlyReadFrom}
 use Rattle.desk_past.proofs.Begun.{desktop_spared, spared_read}
-use Rattle.desk_past.proofs.Brought.{brings_keeps, brings_moments}
-use Rattle.desk_past.proofs.Remembering.{IsQuiet, ahead_still, read_keeps, read_moments}
+use Rattle.desk_past.proofs.OverPages.{keeps_over, moments_over}
+use Rattle.desk_past.proofs.Remembering.{IsQuiet, read_keeps, read_moments}
 use Rattle.desk_past.proofs.StillReads.{read_twice}
 use Rattle.desk_past.proofs.Told.{ok_of}
 
@@ -180,23 +181,25 @@ module _ {D : Type 0} (d : Ghosts D) {old mid : StoreView D} (still : IsOnlyRead
     }
 
     -- ---- behind the pages that are written ahead of it
-    module _ (documents : Documents) (past : PastEnd) (from limit : ℕ) (bytes : List ℕ) (new : StoreView D)
+    module _ (documents : Documents) (past : PastEnd) (from limit : ℕ) {bytes made : List ℕ} (new : StoreView D)
         (second : mid.must_reopen ≡ false → d.honest mid.disk → IsQuiet d mid)
-        (within : StaysBehind d from limit mid.disk new.disk)
-        (ahead : d.honest old.disk → (start : Start) (deeds : List PastDeed) (desktop : Desktop)
-        → (keeps : KeepsAll d start deeds desktop old) → IsAhead d documents past from limit bytes keeps) where
+        (within : StaysBehind d from limit mid.disk new.disk) (same : bytes ≡ made)
+        (pages : d.honest old.disk → (start : Start) (deeds : List PastDeed) (desktop : Desktop)
+        → (keeps : KeepsAll d start deeds desktop old)
+        → IsAhead d (import_of documents) past from limit made keeps) where
+      ahead : d.honest old.disk → {start : Start} {deeds : List PastDeed} {desktop : Desktop}
+          (keeps : KeepsAll d start deeds desktop old)
+          → IsAhead d (import_of documents) past from limit bytes keeps
+      ahead honest {start = start} {deeds = deeds} {desktop = desktop} keeps =
+          subst (λ l. IsAhead d (import_of documents) past from limit l keeps) (sym same)
+          (pages honest start deeds desktop keeps)
+
       pub brings_behind : LeavesNextWith d (brought_from past documents) from bytes mid new
           → BringsOn d documents old new
       brings_behind next honest start deeds desktop keeps can =
-          let quiet_now = quiet keeps.usable honest in
-          let still_honest = still.left.disk.device.still honest in
-          chained (weakened (read_moments d keeps honest quiet_now mid still.left.disk) (λ c r. inl r))
-          (subst (λ n. LeavesOnly (d.trail mid.disk) (d.trail new.disk) (λ c. Remembers n start deeds desktop c
-          ⊎ Remembers n start (deeds ++ brought documents ∷ []) (brought_in desktop documents).desktop c))
-          still.left.disk.device.as_large
-          (ahead_still d keeps honest quiet_now mid still.left.disk still.usable documents past from limit bytes
-          (ahead honest start deeds desktop keeps) (λ was there. brings_moments d was there still_honest
-          (second still.usable still_honest) new within next)))
+          moments_over d (import_of documents) (brought documents) refl keeps tt honest (quiet keeps.usable honest)
+          still (second still.usable (still.left.disk.device.still honest)) past from limit bytes (ahead honest keeps)
+          new within next
 
       pub kept_behind : (reply : Reply) → AreBrought d documents reply mid new
           → (reply ≡ Done → GoesToNextWith d (brought_from past documents) from bytes mid new)
@@ -204,9 +207,8 @@ module _ {D : Type 0} (d : Ghosts D) {old mid : StoreView D} (still : IsOnlyRead
       kept_behind reply came goes = record {
         answers = brought_behind documents reply came;
         done = λ is honest start deeds desktop keeps can.
-            let still_honest = still.left.disk.device.still honest in
-            ahead_still d keeps honest (quiet keeps.usable honest) mid still.left.disk still.usable documents past from
-            limit bytes (ahead honest start deeds desktop keeps) (λ was there. brings_keeps d was there still_honest
-            (second still.usable still_honest) new within came.usable (goes is));
+            keeps_over d (import_of documents) (brought documents) refl keeps tt honest (quiet keeps.usable honest)
+            still (second still.usable (still.left.disk.device.still honest)) past from limit bytes
+            (ahead honest keeps) new within came.usable (goes is);
         refused = refused_behind documents reply came;
       }

@@ -17,7 +17,7 @@ pub joined : (a b c : List PastDeed) → (a ++ b) ++ c ≡ a ++ (b ++ c)
 joined [] b c = refl
 joined (e ∷ a) b c = ap (λ r. e ∷ r) (joined a b c)
 
-nil_right : (l : List PastDeed) → l ++ [] ≡ l
+pub nil_right : (l : List PastDeed) → l ++ [] ≡ l
 nil_right [] = refl
 nil_right (e ∷ l) = ap (λ r. e ∷ r) (nil_right l)
 

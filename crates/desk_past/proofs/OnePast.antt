@@ -1,10 +1,11 @@
 -- A content has one past at most.
-use Rattle.std.proofs.Common.{◌≡◌, Bool, true, false, inl, inr, ◌+◌, ◌≤◌, ◌<◌, ◌^◌, ℕ, List, [], ◌∷◌, ◌++◌, length, take, drop, refl, sym}
+use Rattle.std.proofs.Common.{◌≡◌, Bool, true, false, inl, inr, ◌+◌, ◌≤◌, ◌<◌, ◌^◌, ℕ, List, [], ◌∷◌, ◌++◌, length}
+use Rattle.std.proofs.Common.{take, drop, refl, sym}
 use Rattle.std.proofs.Common.{◌∙◌, ap, subst, arith}
-use Rattle.std.specs.Int.{w32, from_be_bytes}
+use Rattle.std.specs.Int.{w32, w64, from_be_bytes, to_be_bytes}
 use Rattle.std.specs.Prelude.{IsTrue, ◌&&◌}
 use Rattle.std.proofs.lemmas.Bool.{cases_lt, leb-true}
-use Rattle.std.proofs.lemmas.Nat.{from_be_bytes-to_be_bytes_4}
+use Rattle.std.proofs.lemmas.Nat.{from_be_bytes-to_be_bytes_4, from_be_bytes-to_be_bytes_8}
 use Rattle.sector_disk.specs.Stored.{HoldsBytes}
 use Rattle.sector_disk.specs.Trail.{Content}
 use Rattle.sector_disk.proofs.StoredLaws.{stored_held, take-stored}
@@ -14,12 +15,14 @@ use Rattle.event_bytes.specs.Spelling.{BeginsWithEvent, spelling}
 use Rattle.document_filing.specs.Bringing.{Documents}
 use Rattle.store_layout.specs.Finding.{StandingLaw}
 use Rattle.store_slots.specs.Bodies.{spellings}
-use Rattle.desk_past.specs.Deeds.{all_posted}
-use Rattle.desk_past.specs.Page.{Page, of_events, of_import, HasPages, page_count, behind_length, document_spelling}
-use Rattle.desk_past.specs.Page.{document_spellings, end_of_pages, page_kind, page_bytes, page_sectors}
+use Rattle.desk_past.specs.Deeds.{PastDeed, all_posted}
+use Rattle.desk_past.specs.Page.{Page, of_events, of_import, of_turn, HasPages, page_count, behind_length, deeds_in}
+use Rattle.desk_past.specs.Page.{document_spelling, document_spellings, end_of_pages, page_kind, page_bytes}
+use Rattle.desk_past.specs.Page.{page_sectors}
 use Rattle.desk_past.proofs.Carrying.{end_above}
 use Rattle.store_layout.specs.Meaning.{desktop_of}
-use Rattle.desk_past.specs.Past.{AreDocuments, AreEvents, AreGood, IsGoodPage, OnePastLaw, all_deeds, first_page}
+use Rattle.desk_past.specs.Past.{AreDocuments, AreEvents, AreGood, AreTurns, IsGoodPage, IsTurn, OnePastLaw, Start}
+use Rattle.desk_past.specs.Past.{all_deeds, first_page, moment}
 use Rattle.std.proofs.lemmas.List.{take-append-drop}
 
 abbrev pub BeginLaw : Type 0
@@ -63,7 +66,8 @@ counted_same a a' rest rest' short short' same =
     ∙ ap (λ l. from_be_bytes w32 (take 4 l)) same
     ∙ from_be_bytes-to_be_bytes_4 (length a') short' in
     let tails : a ++ rest ≡ a' ++ rest' = ap (drop 4) same in (
-      sym (taken_bytes a rest) ∙ ap (take (length a)) tails ∙ ap (λ n. take n (a' ++ rest')) long ∙ taken_bytes a' rest',
+      sym (taken_bytes a rest) ∙ ap (take (length a)) tails ∙ ap (λ n. take n (a' ++ rest')) long ∙ taken_bytes a'
+          rest',
       sym (dropped_bytes a rest) ∙ ap (drop (length a)) tails ∙ ap (λ n. drop n (a' ++ rest')) long
           ∙ dropped_bytes a' rest',
     )
@@ -93,10 +97,12 @@ documents_same (e ∷ l) (e' ∷ l') rest valid valid' long same =
     let second = counted_same e'.1 e.1 _ _ valid'.0.short valid.0.short first.1 in
     λ i. (sym first.0 i, sym second.0 i) ∷ documents_same l l' rest valid.1 valid'.1 (omega (arith, long)) second.1 i
 
--- pages of which the bytes begin alike are the same
+-- ---- pages of which the bytes begin alike are the same
+
 pub small_kind : (p : Page) → page_kind p < 2 ^ 32
 small_kind (of_events version events) = omega arith
 small_kind (of_import version documents) = omega arith
+small_kind (of_turn version k to) = omega arith
 
 same_kind : (p p' : Page) (rest : List ℕ) → page_bytes p' ≡ page_bytes p ++ rest → page_kind p ≡ page_kind p'
 same_kind p p' rest same =
@@ -111,22 +117,49 @@ same_count p p' rest good good' same =
     ∙ sym (ap (λ l. from_be_bytes w32 (take 4 (drop 8 l))) same)
     ∙ from_be_bytes-to_be_bytes_4 (page_count p') good'.few
 
-page_of_front : BeginLaw → (p p' : Page) (rest : List ℕ) → IsGoodPage p → IsGoodPage p'
-    → page_bytes p' ≡ page_bytes p ++ rest → p ≡ p'
-page_of_front law (of_events version events) (of_events version' events') rest good good' same =
-    let versions : version ≡ version' = good.newest ∙ sym good'.newest in
-    let long = same_count (of_events version events) (of_events version' events') rest good good' same in
-    let all = events_same law events events' rest good.valid good'.valid long (ap (drop 16) same) in
-    λ i. of_events (versions i) (all i)
-page_of_front law (of_events version events) (of_import version' documents) rest good good' same =
-    absurd (let kinds = same_kind (of_events version events) (of_import version' documents) rest same in omega (arith, kinds))
-page_of_front law (of_import version documents) (of_events version' events) rest good good' same =
-    absurd (let kinds = same_kind (of_import version documents) (of_events version' events) rest same in omega (arith, kinds))
-page_of_front law (of_import version documents) (of_import version' documents') rest good good' same =
-    let versions : version ≡ version' = good.newest ∙ sym good'.newest in
-    let long = same_count (of_import version documents) (of_import version' documents') rest good good' same in
-    let all = documents_same documents documents' rest good.valid good'.valid long (ap (drop 16) same) in
-    λ i. of_import (versions i) (all i)
+other_kind : {X : Type 0} (p p' : Page) (rest : List ℕ) → ¬ (page_kind p ≡ page_kind p')
+    → page_bytes p' ≡ page_bytes p ++ rest → X
+other_kind p p' rest other same = absurd (other (same_kind p p' rest same))
+
+-- the moment of a turn
+same_moment : (k k' : ℕ) (rest : List ℕ) → k < 2 ^ 64 → k' < 2 ^ 64
+    → to_be_bytes w64 k' ≡ to_be_bytes w64 k ++ rest → k ≡ k'
+same_moment k k' rest few few' same =
+    sym (from_be_bytes-to_be_bytes_8 k few)
+    ∙ sym (ap (λ l. from_be_bytes w64 (take 8 l)) same)
+    ∙ from_be_bytes-to_be_bytes_8 k' few'
+
+module _ (law : BeginLaw) (start : Start) (deeds : List PastDeed) where
+  -- what the desktop was then follows from the deeds before it
+  page_of_front : (p p' : Page) (rest : List ℕ) → IsGoodPage p → IsGoodPage p' → IsTurn start deeds p
+      → IsTurn start deeds p' → page_bytes p' ≡ page_bytes p ++ rest → p ≡ p'
+  page_of_front (of_events version events) (of_events version' events') rest good good' turn turn' same =
+      let versions : version ≡ version' = good.newest ∙ sym good'.newest in
+      let long = same_count (of_events version events) (of_events version' events') rest good good' same in
+      let all = events_same law events events' rest good.valid good'.valid long (ap (drop 16) same) in
+      λ i. of_events (versions i) (all i)
+  page_of_front (of_events version events) (of_import version' documents') rest good good' turn turn' same =
+      other_kind (of_events version events) (of_import version' documents') rest (λ is. omega (arith, is)) same
+  page_of_front (of_events version events) (of_turn version' k' to') rest good good' turn turn' same =
+      other_kind (of_events version events) (of_turn version' k' to') rest (λ is. omega (arith, is)) same
+  page_of_front (of_import version documents) (of_events version' events') rest good good' turn turn' same =
+      other_kind (of_import version documents) (of_events version' events') rest (λ is. omega (arith, is)) same
+  page_of_front (of_import version documents) (of_import version' documents') rest good good' turn turn' same =
+      let versions : version ≡ version' = good.newest ∙ sym good'.newest in
+      let long = same_count (of_import version documents) (of_import version' documents') rest good good' same in
+      let all = documents_same documents documents' rest good.valid good'.valid long (ap (drop 16) same) in
+      λ i. of_import (versions i) (all i)
+  page_of_front (of_import version documents) (of_turn version' k' to') rest good good' turn turn' same =
+      other_kind (of_import version documents) (of_turn version' k' to') rest (λ is. omega (arith, is)) same
+  page_of_front (of_turn version k to) (of_events version' events') rest good good' turn turn' same =
+      other_kind (of_turn version k to) (of_events version' events') rest (λ is. omega (arith, is)) same
+  page_of_front (of_turn version k to) (of_import version' documents') rest good good' turn turn' same =
+      other_kind (of_turn version k to) (of_import version' documents') rest (λ is. omega (arith, is)) same
+  page_of_front (of_turn version k to) (of_turn version' k' to') rest good good' turn turn' same =
+      let versions : version ≡ version' = good.newest ∙ sym good'.newest in
+      let ks : k ≡ k' = same_moment k k' rest good.valid good'.valid (ap (drop 16) same) in
+      let tos : to ≡ to' = turn.1 ∙ ap (moment start deeds) ks ∙ sym turn'.1 in
+      λ i. of_turn (versions i) (ks i) (tos i)
 
 front_of : (c : Content) (at : ℕ) (l l' : List ℕ) → HoldsBytes c at l → HoldsBytes c at l' → length l ≤ length l'
     → l' ≡ l ++ drop (length l) l'
@@ -136,34 +169,38 @@ front_of c at l l' held held' le =
     (ap (take (length l)) (sym (stored_held c at l' held')) ∙ take-stored c at (length l') (length l) le
     ∙ stored_held c at l held)
 
-page_same : BeginLaw → (c : Content) (at : ℕ) (p p' : Page) → IsGoodPage p → IsGoodPage p'
-    → HoldsBytes c at (page_bytes p) → HoldsBytes c at (page_bytes p') → p ≡ p'
-page_same law c at p p' good good' held held' =
+page_same : BeginLaw → (start : Start) (deeds : List PastDeed) (c : Content) (at : ℕ) (p p' : Page) → IsGoodPage p
+    → IsGoodPage p' → IsTurn start deeds p → IsTurn start deeds p' → HoldsBytes c at (page_bytes p)
+    → HoldsBytes c at (page_bytes p') → p ≡ p'
+page_same law start deeds c at p p' good good' turn turn' held held' =
     elim (cases_lt (length (page_bytes p')) (length (page_bytes p))) [
-      | inl less ↦ sym (page_of_front law p' p _ good' good
+      | inl less ↦ sym (page_of_front law start deeds p' p _ good' good turn' turn
           (front_of c at (page_bytes p') (page_bytes p) held' held (omega (arith, less))))
-      | inr ge ↦ page_of_front law p p' _ good good'
+      | inr ge ↦ page_of_front law start deeds p p' _ good good' turn turn'
           (front_of c at (page_bytes p) (page_bytes p') held held' (omega (arith, ge)))
     ]
 
 -- pages that end in the same sector are the same, one after another: each takes a sector at least
-pages_same : BeginLaw → (c : Content) (at : ℕ) (pages pages' : List Page) → AreGood pages → AreGood pages'
+pages_same : BeginLaw → (start : Start) (deeds : List PastDeed) (c : Content) (at : ℕ) (pages pages' : List Page)
+    → AreGood pages → AreGood pages' → AreTurns start deeds pages → AreTurns start deeds pages'
     → end_of_pages at pages ≡ end_of_pages at pages' → HasPages c at pages → HasPages c at pages' → pages ≡ pages'
-pages_same law c at [] [] good good' ends has has' = refl
-pages_same law c at [] (p ∷ l) good good' ends has has' =
+pages_same law start deeds c at [] [] good good' turns turns' ends has has' = refl
+pages_same law start deeds c at [] (p ∷ l) good good' turns turns' ends has has' =
     absurd (let far = end_above l (at + page_sectors p) in omega (arith, ends, far))
-pages_same law c at (p ∷ l) [] good good' ends has has' =
+pages_same law start deeds c at (p ∷ l) [] good good' turns turns' ends has has' =
     absurd (let far = end_above l (at + page_sectors p) in omega (arith, ends, far))
-pages_same law c at (p ∷ l) (p' ∷ l') good good' ends has has' =
-    let first = page_same law c at p p' good.0 good'.0 has.0 has'.0 in
-    λ i. first i ∷ pages_same law c (at + page_sectors p) l l' good.1 good'.1
+pages_same law start deeds c at (p ∷ l) (p' ∷ l') good good' turns turns' ends has has' =
+    let first = page_same law start deeds c at p p' good.0 good'.0 turns.0 turns'.0 has.0 has'.0 in
+    λ i. first i ∷ pages_same law start (deeds ++ deeds_in p) c (at + page_sectors p) l l' good.1 good'.1 turns.1
+    (subst (λ q. AreTurns start (deeds ++ deeds_in q) l') (sym first) turns'.1)
     (ends ∙ ap (λ q. end_of_pages (at + page_sectors q) l') (sym first)) has.1
     (subst (λ q. HasPages c (at + page_sectors q) l') (sym first) has'.1) i
 
 pub one_past : BeginLaw → StandingLaw → OnePastLaw
 one_past law standing size start deeds deeds' desktop desktop' c r r' =
     let same = standing size c r.standing r'.standing r.past.stands r'.past.stands in
-    let pages = pages_same law c (first_page start) r.pages r'.pages r.past.good r'.past.good
+    let pages = pages_same law start [] c (first_page start) r.pages r'.pages r.past.good r'.past.good r.past.turns
+    r'.past.turns
     (r.past.up_to ∙ ap (λ x. x.past.next) same ∙ sym r'.past.up_to) r.past.written.1 r'.past.written.1 in (
       sym r.all ∙ (λ i. all_deeds (pages i) ++ all_posted (same i).events) ∙ r'.all,
       sym r.is ∙ ap desktop_of same ∙ r'.is,

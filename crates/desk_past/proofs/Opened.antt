@@ -2,7 +2,7 @@
 use Rattle.std.proofs.Common.{◌≡◌, inl, inr, ◌+◌, ◌-◌, ◌<◌, ◌≤◌, ℕ, List, [], ◌∷◌, ◌++◌, length, take, refl, sym, ◌∙◌, ap}
 use Rattle.std.proofs.Common.{subst, arith, false, length-append}
 use Rattle.std.specs.declared.option.Option.{Option}
-use Rattle.std.specs.Prelude.{Some, None, IsSomeAnd}
+use Rattle.std.specs.Prelude.{Some, None, IfNone, IfSome, IsSomeAnd}
 use Rattle.std.proofs.Math.Seq.{take-append_seam}
 use Rattle.sector_disk.specs.declared.disk.Disk.{Ghosts}
 use Rattle.sector_disk.specs.Confined.{IsConfined}
@@ -30,6 +30,21 @@ use Rattle.desk_past.proofs.Undoing.{rest_within}
 pub some_then : {X : Type 0} {P Q : X → Type 0} (o : Option X) → IsSomeAnd o P → ((x : X) → P x → Q x) → IsSomeAnd o Q
 some_then (Some x) has then_is = then_is x has
 some_then None has then_is = has
+
+pub if_some_then : {X : Type 0} {P Q : X → Type 0} (o : Option X) → IfSome o P → ((x : X) → P x → Q x) → IfSome o Q
+if_some_then (Some x) has then_is = then_is x has
+if_some_then None has then_is = tt
+
+pub if_none_then : {X P Q : Type 0} (o : Option X) → IfNone o P → (P → Q) → IfNone o Q
+if_none_then (Some x) has then_is = tt
+if_none_then None has then_is = then_is has
+
+-- what was copied shows what was shown there
+pub copied_stands : {E : Type 0} (e : Ghosts E) {m : E} (c : Content) (t : Standing) → Stands STORE_SECTORS c t
+    → STORE_SECTORS ≤ e.size m → ((n : ℕ) → n < STORE_SECTORS → (now (e.trail m)).reads n ≡ c n)
+    → Stands (e.size m) (now (e.trail m)).reads t
+copied_stands e {m = m} c t at large same =
+    resized (e.size m) (now (e.trail m)).reads t large (stands_behind c (now (e.trail m)).reads t at same)
 
 module _ {E : Type 0} (e : Ghosts E) (law : StandingLaw) where
   pub opened_shows : {m : E} {store : StoreView E} (c : Content) (t : Standing) → Stands STORE_SECTORS c t

@@ -3,8 +3,8 @@ use Rattle.std.proofs.Common.{◌≡◌, ◌+◌, ◌*◌, ◌^◌, ◌<◌, ◌
 use Rattle.std.proofs.Common.{sym, ◌∙◌, ap, subst, arith, length-append}
 use Rattle.std.specs.declared.option.Option.{Option}
 use Rattle.std.specs.Prelude.{Some, None}
-use Rattle.std.specs.Int.{from_be_bytes, w32}
-use Rattle.std.proofs.lemmas.Nat.{from_be_bytes-to_be_bytes_4}
+use Rattle.std.specs.Int.{from_be_bytes, to_be_bytes, w32, w64}
+use Rattle.std.proofs.lemmas.Nat.{from_be_bytes-to_be_bytes_4, from_be_bytes-to_be_bytes_8}
 use Rattle.sector_disk.specs.declared.disk.TheConstants.{SECTOR_BYTES}
 use Rattle.sector_disk.specs.Stored.{HoldsBytes, last_sector, stored}
 use Rattle.sector_disk.specs.Trail.{Content}
@@ -14,9 +14,10 @@ use Rattle.event_bytes.specs.Spelling.{BeginsWithEvent, spelling}
 use Rattle.document_filing.specs.Bringing.{Documents}
 use Rattle.store_layout.specs.declared.layout.TheConstants.{LAYOUT}
 use Rattle.store_slots.specs.Bodies.{spellings}
-use Rattle.desk_past.specs.declared.page.TheConstants.{EVENTS_PAGE, IMPORT_PAGE}
-use Rattle.desk_past.specs.Page.{Page, of_events, of_import, behind_length, document_spellings, number, page_body}
-use Rattle.desk_past.specs.Page.{page_bytes, page_count, page_kind, page_sectors, page_version}
+use Rattle.desktop_definitions.specs.Desktop.{Desktop}
+use Rattle.desk_past.specs.declared.page.TheConstants.{EVENTS_PAGE, IMPORT_PAGE, TURN_PAGE}
+use Rattle.desk_past.specs.Page.{Page, of_events, of_import, of_turn, behind_length, document_spellings, number}
+use Rattle.desk_past.specs.Page.{page_body, page_bytes, page_count, page_kind, page_sectors, page_version}
 use Rattle.desk_past.specs.Past.{AreDoable, AreDocuments, AreEvents, IsGoodPage}
 use Rattle.desk_past.proofs.OnePast.{small_kind}
 use Rattle.desk_past.proofs.StillReads.{page_there}
@@ -106,6 +107,8 @@ of_events_page X (of_events version events) kind count bytes rest one is many va
     f version events (sym many) valid spelled
 of_events_page X (of_import version documents) kind count bytes rest one is many valid spelled f =
     absurd (omega (arith, one, is))
+of_events_page X (of_turn version k to) kind count bytes rest one is many valid spelled f =
+    absurd (omega (arith, one, is))
 
 -- of a page of an import
 pub of_import_page : (X : Page → Type 0) (p : Page) (kind count : ℕ) (bytes rest : List ℕ) → kind ≡ IMPORT_PAGE
@@ -116,11 +119,41 @@ of_import_page X (of_events version events) kind count bytes rest two is many va
     absurd (omega (arith, two, is))
 of_import_page X (of_import version documents) kind count bytes rest two is many valid spelled f =
     f version documents (sym many) valid spelled
+of_import_page X (of_turn version k to) kind count bytes rest two is many valid spelled f =
+    absurd (omega (arith, two, is))
+
+-- of a page of a turn: eight bytes tell its moment
+eight : (n : ℕ) → length (to_be_bytes w64 n) ≡ 8
+eight n = refl
+
+turn_told : (k : ℕ) (bytes rest : List ℕ) → k < 2 ^ 64 → bytes ≡ to_be_bytes w64 k ++ rest
+    → from_be_bytes w64 (take 8 bytes) ≡ k
+turn_told k bytes rest few spelled =
+    ap (λ l. from_be_bytes w64 (take 8 l)) spelled ∙ from_be_bytes-to_be_bytes_8 k few
+
+turn_long : (k : ℕ) (bytes rest : List ℕ) → bytes ≡ to_be_bytes w64 k ++ rest → 8 ≤ length bytes
+turn_long k bytes rest spelled =
+    let long = ap length spelled in omega (arith, long, eight k, length-append (to_be_bytes w64 k) rest)
+
+pub of_turn_page : (X : Page → Type 0) (p : Page) (kind : ℕ) (bytes rest : List ℕ) → kind ≡ TURN_PAGE → kind ≡
+    page_kind p
+    → AreDoable p → bytes ≡ page_body p ++ rest
+    → ((version k : ℕ) (to : Desktop) → from_be_bytes w64 (take 8 bytes) ≡ k → 8 ≤ length bytes → X
+    (of_turn version k to))
+    → X p
+of_turn_page X (of_events version events) kind bytes rest three is valid spelled f = absurd (omega (arith, three, is))
+of_turn_page X (of_import version documents) kind bytes rest three is valid spelled f = absurd
+    (omega (arith, three, is))
+of_turn_page X (of_turn version k to) kind bytes rest three is valid spelled f =
+    f version k to (turn_told k bytes rest valid spelled) (turn_long k bytes rest spelled)
 
 -- there is no other one
-pub of_no_page : (p : Page) (kind : ℕ) → ¬ (kind ≡ EVENTS_PAGE) → ¬ (kind ≡ IMPORT_PAGE) → kind ≡ page_kind p → ⊥
-of_no_page (of_events version events) kind one two is = one is
-of_no_page (of_import version documents) kind one two is = two is
+pub of_no_page : (p : Page) (kind : ℕ) (bytes rest : List ℕ) → ¬ (kind ≡ EVENTS_PAGE) → ¬ (kind ≡ IMPORT_PAGE)
+    → (kind ≡ TURN_PAGE → length bytes < 8) → kind ≡ page_kind p → bytes ≡ page_body p ++ rest → ⊥
+of_no_page (of_events version events) kind bytes rest one two short is spelled = one is
+of_no_page (of_import version documents) kind bytes rest one two short is spelled = two is
+of_no_page (of_turn version k to) kind bytes rest one two short is spelled =
+    let few = short is in omega (arith, few, turn_long k bytes rest spelled)
 
 -- ---- events
 

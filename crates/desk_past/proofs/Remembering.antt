@@ -10,7 +10,6 @@ use Rattle.sector_disk.proofs.Touching.{at_last, chained, read_is_an_image, weak
 use Rattle.event_bytes.specs.declared.event.Event.{Event}
 use Rattle.desktop_definitions.specs.Desktop.{Desktop}
 use Rattle.desktop_definitions.specs.Step.{Outcome, step, step_in}
-use Rattle.document_filing.specs.Bringing.{Documents}
 use Rattle.store_layout.specs.declared.head.PastEnd.{PastEnd}
 use Rattle.store_layout.specs.Filling.{InRange}
 use Rattle.store_layout.specs.Meaning.{Standing, Stands, and_then}
@@ -21,7 +20,7 @@ use Rattle.desk_journal.specs.Posting.{HasJournalRoom}
 use Rattle.desk_journal.specs.Undoing.{ShowsStanding}
 use Rattle.desk_journal.specs.View.{StoreView}
 use Rattle.desk_past.specs.Beginning.{IsApart}
-use Rattle.desk_past.specs.Bringing.{IsAhead}
+use Rattle.desk_past.specs.Ahead.{IsAhead}
 use Rattle.desk_past.specs.Page.{Page, page_bytes, page_sectors}
 use Rattle.desk_past.specs.Keeping.{HasPageRoom}
 use Rattle.desk_past.specs.Past.{HasNewPage, HoldsPast, IsHeadTold, HoldsPages, KeepsAll, LeavesAll, Remembers, Start, all_deeds}
@@ -29,18 +28,19 @@ use Rattle.desk_past.specs.Past.{first_page, journal_of}
 use Rattle.desk_past.proofs.Carrying.{both_leave, end_on, good_journal, good_on, past_of, written_front, written_kept, written_on}
 use Rattle.desk_past.specs.Deeds.{PastDeed, posted, after_deeds, all_posted}
 use Rattle.desk_past.proofs.Moments.{deeds_on, joined, many_posted, posted_both, stepped_on}
+use Rattle.desk_past.proofs.Turns.{turns_on}
 
 -- nothing is pending on the disk of a store
 abbrev pub IsQuiet : {D : Type 0} → Ghosts D → StoreView D → Type 0
 IsQuiet d store = (n : ℕ) → (now (d.trail store.disk)).pending n ≡ false
 
-moved_past : {size size' : ℕ} {start : Start} {s : Standing} {pages : List Page} {c c' : Content} → size' ≡ size → c' ≡ c
+pub moved_past : {size size' : ℕ} {start : Start} {s : Standing} {pages : List Page} {c c' : Content} → size' ≡ size → c' ≡ c
     → HoldsPast size start s pages c → HoldsPast size' start s pages c'
 moved_past {start = start} {s = s} {pages = pages} large same past =
     subst (λ (x : ℕ × Content). HoldsPast x.0 start s pages x.1) (λ i. (sym large i, sym same i)) past
 
 -- an epoch that has ended: its journal is the last page
-abbrev turned : {size size' : ℕ} {start : Start} {s : Standing} {pages : List Page} {c c' : Content}
+abbrev ended : {size size' : ℕ} {start : Start} {s : Standing} {pages : List Page} {c c' : Content}
     → HoldsPast size start s pages c → (end : PastEnd)
     → s.past.next + page_sectors (journal_of s) ≡ end.next
     → s.past.before + length s.events ≡ end.before
@@ -48,11 +48,12 @@ abbrev turned : {size size' : ℕ} {start : Start} {s : Standing} {pages : List 
     → Stands size' c' (renewed_from end s)
     → HoldsPages c' start (pages ++ journal_of s ∷ [])
     → HoldsPast size' start (renewed_from end s) (pages ++ journal_of s ∷ []) c'
-turned {start = start} {s = s} {pages = pages} {c = c} past end next before short room stands written = record {
+ended {start = start} {s = s} {pages = pages} {c = c} past end next before short room stands written = record {
   stands = stands;
   newest = refl;
   written = written;
   good = good_on pages (journal_of s) past.good (good_journal c s past.stands past.newest short);
+  turns = turns_on start pages (journal_of s) past.turns tt;
   up_to = end_on pages (first_page start) (journal_of s)
       ∙ ap (λ n. n + page_sectors (journal_of s)) past.up_to ∙ next;
   room = room;
@@ -63,17 +64,17 @@ turned {start = start} {s = s} {pages = pages} {c = c} past end next before shor
       ∙ stepped_on start.desktop pages s s.events past.newest past.leads;
 }
 
-abbrev remembers_turned : {size size' : ℕ} {start : Start} {deeds : List PastDeed} {desktop : Desktop} {c c' : Content}
+abbrev remembers_ended : {size size' : ℕ} {start : Start} {deeds : List PastDeed} {desktop : Desktop} {c c' : Content}
     (r : Remembers size start deeds desktop c) (end : PastEnd)
     → r.standing.past.next + page_sectors (journal_of r.standing) ≡ end.next
     → r.standing.past.before + length r.standing.events ≡ end.before
     → length (page_bytes (journal_of r.standing)) < 2 ^ 32 → end.next ≤ size'
     → Stands size' c' (renewed_from end r.standing)
     → HoldsPages c' start (r.pages ++ journal_of r.standing ∷ []) → Remembers size' start deeds desktop c'
-remembers_turned r end next before short room stands written = record {
+remembers_ended r end next before short room stands written = record {
   standing = renewed_from end r.standing;
   pages = r.pages ++ journal_of r.standing ∷ [];
-  past = turned r.past end next before short room stands written;
+  past = ended r.past end next before short room stands written;
   all = append-nil (all_deeds (r.pages ++ journal_of r.standing ∷ [])) ∙ deeds_on r.pages (journal_of r.standing) ∙ r.all;
   is = r.is;
 }
@@ -113,7 +114,7 @@ module _ {D : Type 0} (d : Ghosts D) {start : Start} {deeds : List PastDeed} {de
   read_moments new run = weakened (run.unwritten honest) (λ c image.
       subst (Remembers (d.size old.disk) start deeds desktop) (sym (λ i n. image n (quiet n) i)) was.remembers)
 
-  pub read_keeps : {new : StoreView D} → IsOnlyRead d old.disk new.disk → new.must_reopen ≡ false
+  unfoldable pub read_keeps : {new : StoreView D} → IsOnlyRead d old.disk new.disk → new.must_reopen ≡ false
       → KeepsAll d start deeds desktop new
   read_keeps {new = new} run usable =
       let image = at_last (run.unwritten honest) (now (d.trail new.disk)).reads (read_is_an_image (now (d.trail new.disk))) in
@@ -164,13 +165,13 @@ module _ {D : Type 0} (d : Ghosts D) {start : Start} {deeds : List PastDeed} {de
     few = room.few;
   })
 
-  -- and what is to be written before an import
+  -- and what is to be written before the desktop is exchanged
   pub ahead_still : {X : Type 0} (new : StoreView D) (run : IsOnlyRead d old.disk new.disk)
-      (usable : new.must_reopen ≡ false) (documents : Documents) (past : PastEnd) (from limit : ℕ) (bytes : List ℕ)
-      → IsAhead d documents past from limit bytes was
-      → ((keeps : KeepsAll d start deeds desktop new) → IsAhead d documents past from limit bytes keeps → X) → X
+      (usable : new.must_reopen ≡ false) (p : Page) (past : PastEnd) (from limit : ℕ) (bytes : List ℕ)
+      → IsAhead d p past from limit bytes was
+      → ((keeps : KeepsAll d start deeds desktop new) → IsAhead d p past from limit bytes keeps → X) → X
   unfolding read_keeps
-  ahead_still new run usable documents past from limit bytes ahead f = f (read_keeps {new = new} run usable) (record {
+  ahead_still new run usable p past from limit bytes ahead f = f (read_keeps {new = new} run usable) (record {
     at = ahead.at;
     are = ahead.are;
     up_to = ahead.up_to;
@@ -261,7 +262,7 @@ module _ {D : Type 0} (d : Ghosts D) {start : Start} {deeds : List PastDeed} {de
   pub turn_moments : LeavesNext d (renewed_from end) old new → LeavesAll d start deeds desktop old new
   turn_moments renewed = weakened (both_leave (renewed was.keeps.usable honest r.standing r.past.stands) pages_there)
       (λ c x. elim x.0 [
-        | inl anew ↦ remembers_turned r end was.up_to was.counted was.short was.room anew x.1
+        | inl anew ↦ remembers_ended r end was.up_to was.counted was.short was.room anew x.1
         | inr still ↦ remembers_on r refl still (written_front r.pages c start (journal_of r.standing) x.1)
       ])
 
@@ -270,7 +271,7 @@ module _ {D : Type 0} (d : Ghosts D) {start : Start} {deeds : List PastDeed} {de
   turn_keeps usable shows = record {
     usable = usable;
     behind = was.keeps.behind;
-    remembers = remembers_turned r end was.up_to was.counted was.short
+    remembers = remembers_ended r end was.up_to was.counted was.short
         (omega (arith, was.room, within.as_large)) (shows honest r.standing r.past.stands)
         (at_last pages_there (now (d.trail new.disk)).reads (read_is_an_image (now (d.trail new.disk))));
   }

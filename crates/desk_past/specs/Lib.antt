@@ -2,9 +2,13 @@ pub mod Deeds
 pub mod Page
 pub mod Past
 pub mod Reading
+pub mod Errors
 pub mod Beginning
 pub mod Going
 pub mod Forgetting
 pub mod Halves
 pub mod Keeping
+pub mod Ahead
 pub mod Bringing
+pub mod Routes
+pub mod Turning

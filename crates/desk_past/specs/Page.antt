@@ -1,24 +1,27 @@
--- A page: the events of one journal, or the documents of an import, as they stand in sectors behind a store.
+-- A page: the events of one journal, the documents of an import, or a turn, as they stand in sectors behind a store.
 use Rattle.std.specs.Prelude.{ℕ, ◌+◌, List, [], ◌∷◌, ◌++◌, length}
-use Rattle.std.specs.Int.{w32, to_be_bytes}
+use Rattle.std.specs.Int.{w32, w64, to_be_bytes}
 use Rattle.sector_disk.specs.Stored.{HoldsBytes, last_sector}
 use Rattle.sector_disk.specs.Trail.{Content}
 use Rattle.event_bytes.specs.declared.event.Event.{Event}
+use Rattle.desktop_definitions.specs.Desktop.{Desktop}
 use Rattle.document_filing.specs.Bringing.{Documents}
 use Rattle.store_slots.specs.Bodies.{spellings}
-use Rattle.desk_past.specs.Deeds.{PastDeed, all_posted, brought}
-use Rattle.desk_past.specs.declared.page.TheConstants.{EVENTS_PAGE, IMPORT_PAGE}
+use Rattle.desk_past.specs.Deeds.{PastDeed, all_posted, brought, turned}
+use Rattle.desk_past.specs.declared.page.TheConstants.{EVENTS_PAGE, IMPORT_PAGE, TURN_PAGE}
 
--- the events that a journal had when its epoch ended, or the documents of an import, and the version by which they were
--- stepped or brought
+-- The events that a journal had when its epoch ended, the documents of an import, or the moment to which the desktop was
+-- turned, with what it was then; and the version by which they were stepped or brought.
 pub data Page : Type 0 where
   of_events : ℕ → List Event → Page
   of_import : ℕ → Documents → Page
+  of_turn : ℕ → ℕ → Desktop → Page
 
 -- what it says was done
 abbrev pub deeds_in : Page → List PastDeed
 deeds_in (of_events version events) = all_posted events
 deeds_in (of_import version documents) = brought documents ∷ []
+deeds_in (of_turn version k to) = turned to ∷ []
 
 -- ---- its bytes
 
@@ -39,22 +42,26 @@ document_spellings [] = []
 document_spellings (document ∷ documents) =
     document_spelling document ++ document_spellings documents
 
--- its kind, its version, how many events or documents it has, and how they are spelled
+-- its kind, its version, how many deeds or documents it has, and how they are spelled: of a turn the moment's number alone
 abbrev pub page_kind : Page → ℕ
 page_kind (of_events version events) = EVENTS_PAGE
 page_kind (of_import version documents) = IMPORT_PAGE
+page_kind (of_turn version k to) = TURN_PAGE
 
 abbrev pub page_version : Page → ℕ
 page_version (of_events version events) = version
 page_version (of_import version documents) = version
+page_version (of_turn version k to) = version
 
 abbrev pub page_count : Page → ℕ
 page_count (of_events version events) = length events
 page_count (of_import version documents) = length documents
+page_count (of_turn version k to) = 1
 
 abbrev pub page_body : Page → List ℕ
 page_body (of_events version events) = spellings events
 page_body (of_import version documents) = document_spellings documents
+page_body (of_turn version k to) = to_be_bytes w64 k
 
 -- a page's bytes: these numbers, in how many bytes that is spelled, and these
 abbrev pub page_bytes : Page → List ℕ

@@ -14,7 +14,7 @@ use Rattle.store_layout.specs.declared.layout.TheConstants.{LAYOUT, STORE_SECTOR
 use Rattle.store_layout.specs.Meaning.{Standing, Stands, desktop_of}
 use Rattle.desk_journal.specs.View.{StoreView}
 use Rattle.desk_past.specs.Deeds.{PastDeed, after_deeds, all_posted}
-use Rattle.desk_past.specs.Page.{Page, of_events, of_import, HasPages, deeds_in, end_of_pages}
+use Rattle.desk_past.specs.Page.{Page, of_events, of_import, of_turn, HasPages, deeds_in, end_of_pages}
 use Rattle.desk_past.specs.Page.{page_body, page_bytes, page_count, page_sectors, page_version}
 
 -- Where a past begins: this desktop, before which so many deeds came. It stands as a store of its own from sector
@@ -79,6 +79,7 @@ AreDocuments (document ∷ documents) = IsDocument document × AreDocuments docu
 abbrev pub AreDoable : Page → Type 0
 AreDoable (of_events version events) = AreEvents events
 AreDoable (of_import version documents) = AreDocuments documents
+AreDoable (of_turn version k to) = k < 2 ^ 64
 
 -- A page that can be spelled, whose events are stepped as a post steps them, and whose documents are brought as an import
 -- brings them.
@@ -92,6 +93,18 @@ abbrev pub AreGood : List Page → Type 0
 AreGood [] = Unit {0}
 AreGood (p ∷ pages) = IsGoodPage p × AreGood pages
 
+-- A turn that comes behind these deeds leads to what the desktop was at its moment.
+abbrev pub IsTurn : Start → List PastDeed → Page → Type 0
+IsTurn start deeds (of_events version events) = Unit {0}
+IsTurn start deeds (of_import version documents) = Unit {0}
+IsTurn start deeds (of_turn version k to) = HasMoment start deeds k × (to ≡ moment start deeds k)
+
+-- so does each of these pages, the first of which comes behind these deeds
+abbrev pub AreTurns : Start → List PastDeed → List Page → Type 0
+AreTurns start deeds [] = Unit {0}
+AreTurns start deeds (p ∷ pages) =
+    IsTurn start deeds p × AreTurns start (deeds ++ deeds_in p) pages
+
 -- The content shows this, and has this past: the start, and pages up to the sector that the head names. As many deeds
 -- came before as the head says, and they lead from the start to what the slot in use starts from.
 pub record HoldsPast (size : ℕ) (start : Start) (s : Standing) (pages : List Page) (c : Content)
@@ -100,6 +113,7 @@ pub record HoldsPast (size : ℕ) (start : Start) (s : Standing) (pages : List P
   pub newest : s.version ≡ LAYOUT
   pub written : HoldsPages c start pages
   pub good : AreGood pages
+  pub turns : AreTurns start [] pages
   pub up_to : end_of_pages (first_page start) pages ≡ s.past.next
   pub room : s.past.next ≤ size
   pub counted : start.before + length (all_deeds pages) ≡ s.past.before

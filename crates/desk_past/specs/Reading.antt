@@ -1,16 +1,21 @@
 -- What is read of a past.
-use Rattle.std.specs.Prelude.{◌≡◌, ◌+◌, ◌≤◌, ℕ, List, length, false}
+use Rattle.std.specs.Prelude.{◌≡◌, ◌+◌, ◌≤◌, ℕ, List, length, replicate, false}
 use Rattle.sector_disk.specs.Stored.{HoldsBytes}
-use Rattle.sector_disk.specs.Trail.{Content}
+use Rattle.sector_disk.specs.Trail.{Content, now}
 use Rattle.sector_disk.specs.declared.disk.Disk.{Ghosts}
+use Rattle.sector_disk.specs.declared.disk.TheConstants.{SECTOR_BYTES}
 use Rattle.store_layout.specs.Meaning.{Standing, desktop_of}
 use Rattle.desk_journal.specs.Undoing.{IsLeft, ShowsStanding}
 use Rattle.desk_journal.specs.View.{StoreView}
 use Rattle.desk_past.specs.Deeds.{PastDeed, after_deeds}
-use Rattle.desk_past.specs.Page.{Page, of_events, of_import, page_bytes, page_sectors}
+use Rattle.desk_past.specs.Page.{Page, of_events, of_import, of_turn, page_bytes, page_sectors}
 use Rattle.desk_past.specs.Past.{IsGoodPage}
 use Rattle.desk_past.specs.declared.pages.PageDeeds.{PageDeeds}
-use Rattle.desk_past.specs.declared.pages.PageDeeds.TheVariants.{Events, Import}
+use Rattle.desk_past.specs.declared.pages.PageDeeds.TheVariants.{Events, Import, Turn}
+
+-- each sector of a disk reads as zeros
+abbrev pub ReadsZeros : {E : Type 0} → Ghosts E → E → Type 0
+ReadsZeros e disk = (n : ℕ) → (now (e.trail disk)).reads n ≡ replicate SECTOR_BYTES 0
 
 -- the page stands there, and ends before that sector
 pub record HasPage (c : Content) (at end : ℕ) (p : Page) : Type 0 where
@@ -21,14 +26,15 @@ pub record HasPage (c : Content) (at end : ℕ) (p : Page) : Type 0 where
 -- this was read of the page
 abbrev pub IsRead : PageDeeds → Page → Type 0
 IsRead (Events events) (of_events version all) = events.items ≡ all
-IsRead (Events events) (of_import version all) = ⊥
-IsRead (Import documents) (of_events version all) = ⊥
 IsRead (Import documents) (of_import version all) = documents.items ≡ all
+IsRead (Turn k) (of_turn version moment to) = k ≡ moment
+IsRead _ _ = ⊥
 
--- how much a page says was done: an import is one deed
+-- how much a page says was done: an import is one deed, and so is a turn
 abbrev pub many_deeds : PageDeeds → ℕ
 many_deeds (Events events) = length events.items
 many_deeds (Import documents) = 1
+many_deeds (Turn k) = 1
 
 -- from the one store to the other this was done
 pub record IsLed {D : Type 0} (d : Ghosts D) (deeds : List PastDeed) (old new : StoreView D)

@@ -1,11 +1,14 @@
 //! A past behind a store: the events of all epochs, and the documents of all imports, in pages.
 //!
 //! The journal of an epoch becomes a page when the epoch ends: it is written and settled, and then a checkpoint begins
-//! the next one, whose head names the sector behind that page. An import ends its epoch too, by a page of its own. So the
-//! gate that opens a slot also says which pages count, and nobody reads a page before the checkpoint is whole.
-//! `specs/Past.antt` says what a past is, and what a store keeps of it; `moment` lays any moment of it on another disk.
+//! the next one, whose head names the sector behind that page. An import or a turn ends its epoch too, by a page of its
+//! own. So the gate that opens a slot also says which pages count, and nobody reads a page before the checkpoint is
+//! whole.
+//! `specs/Past.antt` says what a past is, and what a store keeps of it; `moment` lays any moment of it in memory.
 #![tactic(auto)]
 
+mod again;
+mod ahead;
 mod beginning;
 mod bringing;
 mod documents;
@@ -17,7 +20,9 @@ mod laws;
 mod page;
 mod pages;
 mod reading;
+mod routes;
 mod sectors;
+mod turning;
 
 pub use beginning::begin;
 pub use bringing::bring;
@@ -26,6 +31,7 @@ pub use going_on::{LEAST_ROOM, Outset, go_on};
 pub use halves::{HALVES, Half, half_at};
 pub use keeping::{end_epoch, post, undo};
 pub use laws::{one_past_law, present_law};
-pub use page::{EVENTS_PAGE, IMPORT_PAGE, PAGE_FRONT};
+pub use page::{EVENTS_PAGE, IMPORT_PAGE, PAGE_FRONT, TURN_PAGE};
 pub use pages::{PageDeeds, PageRead, page_in};
-pub use reading::{moment, start_of};
+pub use reading::{copy_of, moment, post_all, start_of};
+pub use turning::{turn, turn_to};

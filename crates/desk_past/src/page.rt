@@ -6,7 +6,9 @@ ghost use Rattle.store_layout.specs.Meaning.{Standing};
 ghost use Rattle.sector_disk.specs.Faults.{FailsAs};
 ghost use Rattle.store_slots.specs.Errors.{OfLook};
 ghost use Rattle.desk_journal.specs.Undoing.{IsLeft, OfUndo, ShowsStanding};
+ghost use Rattle.desktop_definitions.specs.Desktop.{Desktop};
 ghost use Rattle.desk_past.specs.Bringing.{FitPage, import_of};
+ghost use Rattle.desk_past.specs.Turning.{turn_of};
 ghost use Rattle.desk_past.specs.declared.page.TheConstants.{MOST_SPELLED};
 ghost use Rattle.desk_past.specs.Page.{behind_length, number, page_bytes};
 ghost use Rattle.desk_past.specs.Past.{IsGoodPage, journal_of};
@@ -22,6 +24,9 @@ pub const EVENTS_PAGE: u32 = 1;
 
 /// The number with which a page of the documents of an import begins.
 pub const IMPORT_PAGE: u32 = 2;
+
+/// The number with which a page of a turn begins.
+pub const TURN_PAGE: u32 = 3;
 
 /// How many bytes stand before the first event or document of a page.
 pub const PAGE_FRONT: u32 = 16;
@@ -125,6 +130,13 @@ pub(crate) fn import_page(
     let count = documents.len() as u32;
     let page = page_of(alloc, IMPORT_PAGE, LAYOUT, count, spelled.as_slice())?;
     Ok(Some(page))
+}
+
+/// The page of a turn to moment `k`.
+pub(crate) fn turn_page(alloc: Global, k: u64) -> Result<Vec<u8>, NoMemory>
+    ensures { IfOk result (λ bytes. (to : Desktop) → bytes.items ≡ page_bytes (turn_of k to)) }
+{
+    page_of(alloc, TURN_PAGE, LAYOUT, 1, &k.to_be_bytes())
 }
 
 /// In how many sectors so many bytes stand. None where there are too many to be counted.

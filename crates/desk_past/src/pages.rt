@@ -1,17 +1,20 @@
 //! Pages that are read.
 ghost use Rattle.std.specs.Prelude.{◌≡◌, ◌+◌, ◌≤◌, ◌<◌, ◌++◌, ℕ, List, drop, false, length, take, IfNone, IfOk, IfSome, IsSomeAnd, OnOk};
 ghost use Rattle.std.specs.Int.{from_be_bytes, w32};
+ghost use Rattle.sector_disk.specs.Faults.{FailsAs};
 ghost use Rattle.sector_disk.specs.Trail.{now};
 ghost use Rattle.event_bytes.specs.declared.event.Event.{Event};
 ghost use Rattle.store_layout.specs.declared.layout.TheConstants.{LAYOUT};
 ghost use Rattle.store_slots.specs.Bodies.{spellings};
-ghost use Rattle.desk_past.specs.declared.page.TheConstants.{EVENTS_PAGE, IMPORT_PAGE, PAGE_FRONT};
+ghost use Rattle.store_slots.specs.Errors.{OfDesktop};
+ghost use Rattle.desk_journal.specs.Looking.{OnlyLooks};
+ghost use Rattle.desk_past.specs.declared.page.TheConstants.{EVENTS_PAGE, IMPORT_PAGE, PAGE_FRONT, TURN_PAGE};
 ghost use Rattle.desk_past.specs.Page.{Page, page_body, page_count, page_kind, page_sectors};
 ghost use Rattle.desk_past.specs.Past.{AreDoable, AreEvents};
 ghost use Rattle.desk_past.specs.Reading.{HasPage, IsOnlyReadFrom, IsRead};
 
 use crate::documents::documents_in;
-use crate::page::{EVENTS_PAGE, IMPORT_PAGE, PAGE_FRONT, sectors_for};
+use crate::page::{EVENTS_PAGE, IMPORT_PAGE, PAGE_FRONT, TURN_PAGE, sectors_for};
 use crate::sectors::bytes_at;
 use byteorder::{BigEndian, ByteOrder};
 use desk_journal::{Document, Error, Store};
@@ -20,11 +23,12 @@ use sector_disk::{Disk, NoMemory};
 use std::alloc::Global;
 use store_layout::LAYOUT;
 
-/// What a page says was done: events that were posted, or an import.
+/// What a page says was done: events that were posted, an import, or a turn to a moment.
 #[derive(Drop)]
 pub enum PageDeeds {
     Events(Vec<Event>),
     Import(Vec<Document>),
+    Turn(u64),
 }
 
 /// A page that was read: what it says was done, and the sector behind it.
@@ -102,6 +106,8 @@ fn deeds_of(alloc: Global, front: Front, bytes: &[u8]) -> Result<Option<PageDeed
             Some(documents) => Ok(Some(PageDeeds::Import(documents))),
             None => Ok(None),
         }
+    } else if front.kind == TURN_PAGE && bytes.len() >= 8 {
+        Ok(Some(PageDeeds::Turn(BigEndian::read_u64(&bytes[..8]))))
     } else {
         Ok(None)
     }
@@ -123,6 +129,8 @@ pub(crate) fn page_at<D: Disk>(
         → IsSomeAnd found (λ x. IsRead x.deeds p × (x.next ≡ at + page_sectors p))) }
     ensures later { IfOk result (λ found. IfSome found (λ x. (at < x.next) × (x.next ≤ end))) }
     ensures still { IsOnlyReadFrom D.Disk store.old store.new }
+    ensures faults { FailsAs Error.Fault OfDesktop result (D.failures store.old.disk)
+        (D.failures store.new.disk) }
 {
     store.shows_what_crashes_leave();
     if at >= end {
@@ -164,6 +172,7 @@ pub fn page_in<D: Disk>(
         → IsSomeAnd found (λ x. IsRead x.deeds p × (x.next ≡ at + page_sectors p))) }
     ensures later { IfOk result (λ found. IfSome found (λ x. (at < x.next) × (x.next ≤ end))) }
     ensures still { OnOk result (IsOnlyReadFrom D.Disk store.old store.new) }
+    ensures looks { OnlyLooks D.Disk result store.old store.new }
 {
     if store.info().is_err() {
         return Err(Error::MustReopen);

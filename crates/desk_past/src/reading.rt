@@ -1,5 +1,5 @@
-//! Any moment of a past: its start is opened as a store on another disk, and what its pages say is done there once more.
-ghost use Rattle.std.specs.Prelude.{◌≡◌, ◌+◌, ◌-◌, ◌*◌, ◌≤◌, ◌<◌, ◌++◌, ◌^◌, ℕ, List, length, take, drop, true, false, IfOk, IfSome, IsErrOf, IsSomeAnd, MatchOption, OnOk, Some};
+//! Any moment of a past: its start is opened as a store in memory, and what its pages say is done there again.
+ghost use Rattle.std.specs.Prelude.{◌≡◌, ◌+◌, ◌-◌, ◌*◌, ◌≤◌, ◌<◌, ◌++◌, ◌^◌, ℕ, List, length, take, drop, true, false, IfErr, IfOk, IfSome, IsErrOf, IsSomeAnd, MatchOption, OnOk, Some};
 ghost use Rattle.sector_disk.specs.Faults.{FailsAs};
 ghost use Rattle.sector_disk.specs.Trail.{now};
 ghost use Rattle.desktop_definitions.specs.Desktop.{Desktop};
@@ -9,23 +9,27 @@ ghost use Rattle.store_layout.specs.declared.head.PastEnd.{PastEnd};
 ghost use Rattle.store_layout.specs.Meaning.{Standing};
 ghost use Rattle.store_slots.specs.Errors.{OfLook};
 ghost use Rattle.desk_journal.specs.Device.{IsOnlyRead};
-ghost use Rattle.desk_journal.specs.Undoing.{IsLedOn, ShowsStanding};
-ghost use Rattle.desk_past.specs.Deeds.{PastDeed, after_deeds};
+ghost use Rattle.desk_journal.specs.Undoing.{IsLedOn, IsLeft, ShowsStanding};
+ghost use Rattle.desk_past.specs.Deeds.{PastDeed};
+ghost use Rattle.desk_past.specs.Errors.{OfDoing, OfLaying, OfMoment, OfSteps};
 ghost use Rattle.desk_past.specs.Page.{Page, HasPages, deeds_in, end_of_pages};
 ghost use Rattle.desk_past.specs.Past.{AreGood, IsHeadTold, HasMoment, KeepsAll, StandsFrom, Start, all_deeds, first_page, moment as moment_of};
-ghost use Rattle.desk_past.specs.Reading.{IsLed, IsOnlyReadFrom, IsRead, ShowsNow, many_deeds};
+ghost use Rattle.desk_past.specs.Reading.{IsLed, IsOnlyReadFrom, IsRead, ReadsZeros, ShowsNow, many_deeds};
+ghost use Rattle.desk_past.specs.Routes.{AreLegs, HasNoTurn};
 
+use crate::again::{brought, empty_disk, many_before, opened, posted, taken_back};
 use crate::pages::{PageDeeds, page_at};
+use crate::routes::{Leg, legs_to};
 use crate::sectors::copy_to;
 use desk_journal::{Error, STORE_SECTORS, Store};
 use event_bytes::Event;
-use sector_disk::Disk;
+use sector_disk::{Disk, MemoryDisk};
 use std::alloc::Global;
 use store_layout::{PastEnd, standing_law};
 
-/// The store that stands from sector `base` on, copied to another disk and opened.
+/// The store that stands from sector `base` on, copied to another disk, which is in memory, and opened.
 ///
-/// Errors: those of `Store::read_behind` and `Store::open`: `NotAStore` and `Damaged` where none stands there.
+/// Errors: those of `Store::read_behind`; `NoMemory`; `NotAStore` and `Damaged` where none stands there.
 fn opened_at<D: Disk, E: Disk + Drop>(
     alloc: Global,
     store: &mut Store<D>,
@@ -36,17 +40,19 @@ fn opened_at<D: Disk, E: Disk + Drop>(
     requires numbered { base + STORE_SECTORS < 2 ^ 32 }
     requires there { base + STORE_SECTORS ≤ D.size store.old.disk }
     requires room { STORE_SECTORS ≤ E.size disk }
+    requires zeros { ReadsZeros E.Disk disk }
     ensures shown { IfOk result (λ shown. D.honest store.old.disk → E.honest disk → (t : Standing)
         → StandsFrom (now (D.trail store.old.disk)).reads base t → ShowsNow E.Disk t shown) }
     ensures still { IsOnlyReadFrom D.Disk store.old store.new }
+    ensures faults { FailsAs Error.Fault OfLaying result (D.failures store.old.disk)
+        (D.failures store.new.disk) }
+    ensures stops { IfErr result (λ e. D.honest store.old.disk → E.honest disk → (t : Standing)
+        → StandsFrom (now (D.trail store.old.disk)).reads base t → OfSteps e) }
 {
     standing_law();
     let mut disk = disk;
     copy_to(store, base, &mut disk)?;
-    match Store::open(alloc, disk) {
-        Ok(shown) => Ok(shown),
-        Err((error, _disk)) => Err(error),
-    }
+    opened(alloc, disk)
 }
 
 /// How many deeds came before what the store shows, as its head tells. None where they are too many to be counted.
@@ -71,18 +77,19 @@ pub(crate) fn events_before<D: Disk>(store: &mut Store<D>) -> Result<Option<u64>
     Ok(told.before.checked_add(info.events as u64))
 }
 
-/// The start in sector `base` as a store on another disk, and how many deeds came before it. None where the disk is too
-/// short, or where they are too many to be counted.
+/// The start in sector `base` as a store in memory, and how many deeds came before it. None where the disk is too short,
+/// or where they are too many to be counted.
 ///
-/// Errors: those of `Store::read_behind` and `Store::open`: `NotAStore` and `Damaged` where none stands there.
-pub fn start_of<D: Disk, E: Disk + Drop>(
+/// Errors: `MustReopen`; `NotAStore` and `Damaged` where none stands there; `NoMemory`; `Fault`.
+pub fn start_of<D: Disk>(
     alloc: Global,
     store: &mut Store<D>,
     base: u32,
-    disk: E,
-) -> Result<Option<(Store<E>, u64)>, Error>
-    requires { STORE_SECTORS ≤ E.size disk }
+) -> Result<Option<(Store<MemoryDisk>, u64)>, Error>
     ensures still { OnOk result (IsOnlyReadFrom D.Disk store.old store.new) }
+    ensures faults { FailsAs Error.Fault OfMoment result (D.failures store.old.disk)
+        (D.failures store.new.disk) }
+    ensures open { IsErrOf result Error.MustReopen → store.old.must_reopen ≡ true }
 {
     store.shows_what_crashes_leave();
     if store.info().is_err() {
@@ -92,66 +99,97 @@ pub fn start_of<D: Disk, E: Disk + Drop>(
     if sectors < STORE_SECTORS || base > sectors - STORE_SECTORS {
         return Ok(None);
     }
+    let disk = empty_disk(alloc)?;
     let mut shown = opened_at(alloc, store, base, disk)?;
-    match events_before(&mut shown)? {
+    match many_before(&mut shown)? {
         None => Ok(None),
         Some(before) => Ok(Some((shown, before))),
     }
 }
 
-/// Posts the events, one after another.
+/// What a store shows, as a store in memory.
 ///
-/// Errors: those of `Store::post`.
-fn post_all<E: Disk>(alloc: Global, shown: &mut Store<E>, events: &[Event]) -> Result<(), Error>
+/// Errors: `MustReopen`; `NoMemory`; `Fault`. Over a disk that isn't honest those of `Store::open`, too.
+pub fn copy_of<D: Disk>(alloc: Global, store: &mut Store<D>) -> Result<Store<MemoryDisk>, Error>
+    ensures same { IfOk result (λ copy. D.honest store.old.disk
+        → copy.desktop ≡ store.old.desktop) }
+    ensures desktop { D.honest store.old.disk → store.new.desktop ≡ store.old.desktop }
+    ensures left { IsLeft D.Disk store.old store.new }
+    ensures usable { store.new.must_reopen ≡ store.old.must_reopen }
+    ensures faults { FailsAs Error.Fault OfMoment result (D.failures store.old.disk)
+        (D.failures store.new.disk) }
+    ensures open { IsErrOf result Error.MustReopen → store.old.must_reopen ≡ true }
+{
+    store.shows_what_crashes_leave();
+    if store.info().is_err() {
+        return Err(Error::MustReopen);
+    }
+    if store.sectors() < STORE_SECTORS {
+        return Err(Error::NotAStore);
+    }
+    let disk = empty_disk(alloc)?;
+    opened_at(alloc, store, 0, disk)
+}
+
+/// Posts the events, one after another, to a store in memory.
+///
+/// Errors: those of `posted`.
+pub fn post_all<E: Disk>(alloc: Global, shown: &mut Store<E>, events: &[Event]) -> Result<(), Error>
     ensures led { OnOk result (IsLedOn E.Disk events.now shown.old shown.new) }
+    ensures errors { IfErr result OfDoing }
 {
     for event in events {
-        let _ = shown.post(alloc, event)?;
+        let _ = posted(alloc, shown, event)?;
     }
     Ok(())
 }
 
-/// How much a page says was done: an import is one deed.
-fn count_of(deeds: &PageDeeds) -> usize
+/// How much a page says was done: an import is one deed, and so is a turn.
+pub(crate) fn count_of(deeds: &PageDeeds) -> usize
     ensures { result ≡ many_deeds deeds.now }
 {
     match deeds {
         PageDeeds::Events(events) => events.len(),
-        PageDeeds::Import(_) => 1,
+        PageDeeds::Import(_) | PageDeeds::Turn(_) => 1,
     }
 }
 
-/// Does once more what a page says was done first, so much of it.
+/// Does once more what a page says was done first, so much of it. False where that is a turn, which can't be done so.
 ///
-/// Errors: those of `Store::post` and `Store::bring`.
+/// Errors: those of `posted` and `brought`.
 fn do_first<E: Disk>(
     alloc: Global,
     shown: &mut Store<E>,
     deeds: &PageDeeds,
     count: usize,
-) -> Result<(), Error>
+) -> Result<bool, Error>
     requires { count ≤ many_deeds deeds.now }
-    ensures led { OnOk result ((p : Page) → IsRead deeds.now p
-        → IsLed E.Disk (take count (deeds_in p)) shown.old shown.new) }
+    ensures done { IfOk result (λ done. (p : Page) → IsRead deeds.now p
+        → HasNoTurn (take count (deeds_in p))
+        → (done ≡ true) × IsLed E.Disk (take count (deeds_in p)) shown.old shown.new) }
+    ensures errors { IfErr result OfDoing }
 {
+    if count == 0 {
+        return Ok(true);
+    }
     match deeds {
         PageDeeds::Events(events) => {
             let (first, _rest) = events.as_slice().split_at(count);
-            post_all(alloc, shown, first)
+            post_all(alloc, shown, first)?;
+            Ok(true)
         }
         PageDeeds::Import(documents) => {
-            if count > 0 {
-                let _ = shown.bring(alloc, documents.as_slice())?;
-            }
-            Ok(())
+            let _ = brought(alloc, shown, documents.as_slice())?;
+            Ok(true)
         }
+        PageDeeds::Turn(_) => Ok(false),
     }
 }
 
 /// Does once more the first `count` deeds of the pages from sector `at` up to sector `end`. False where these have
-/// fewer.
+/// fewer, or where a turn is among them.
 ///
-/// Errors: those of `Store::read_behind` and `do_first`.
+/// Errors: those of `page_at` and `do_first`.
 fn step_pages<D: Disk, E: Disk>(
     alloc: Global,
     store: &mut Store<D>,
@@ -162,12 +200,14 @@ fn step_pages<D: Disk, E: Disk>(
 ) -> Result<bool, Error>
     requires usable { store.old.must_reopen ≡ false }
     requires room { end ≤ D.size store.old.disk }
-    ensures led { IfOk result (λ done. D.honest store.old.disk → E.honest shown.old.disk
-        → (pages : List Page) → HasPages (now (D.trail store.old.disk)).reads at pages
-        → AreGood pages → end_of_pages at pages ≡ end → count ≤ length (all_deeds pages)
-        → (done ≡ true)
-        × (shown.new.desktop ≡ after_deeds shown.old.desktop (take count (all_deeds pages)))) }
-    ensures still { OnOk result (IsOnlyReadFrom D.Disk store.old store.new) }
+    ensures led { IfOk result (λ done. D.honest store.old.disk → (pages : List Page)
+        → HasPages (now (D.trail store.old.disk)).reads at pages → AreGood pages
+        → end_of_pages at pages ≡ end → count ≤ length (all_deeds pages)
+        → HasNoTurn (take count (all_deeds pages))
+        → (done ≡ true) × IsLed E.Disk (take count (all_deeds pages)) shown.old shown.new) }
+    ensures still { IsOnlyReadFrom D.Disk store.old store.new }
+    ensures faults { FailsAs Error.Fault OfSteps result (D.failures store.old.disk)
+        (D.failures store.new.disk) }
 {
     store.shows_what_crashes_leave();
     let mut at = at;
@@ -178,10 +218,11 @@ fn step_pages<D: Disk, E: Disk>(
         };
         let count = count_of(&page.deeds);
         if left <= count as u64 {
-            do_first(alloc, shown, &page.deeds, left as usize)?;
-            return Ok(true);
+            return do_first(alloc, shown, &page.deeds, left as usize);
         }
-        do_first(alloc, shown, &page.deeds, count)?;
+        if !do_first(alloc, shown, &page.deeds, count)? {
+            return Ok(false);
+        }
         left -= count as u64;
         at = page.next;
     }
@@ -190,19 +231,28 @@ fn step_pages<D: Disk, E: Disk>(
 
 /// The desktop of a moment of the journal in use, behind so many of its events. None where it has fewer.
 ///
-/// Errors: those of `Store::read_behind`, `Store::open` and `Store::undo`.
+/// Errors: those of `opened_at` and `taken_back`.
 fn in_journal<D: Disk, E: Disk + Drop>(
     alloc: Global,
     store: &mut Store<D>,
     count: u64,
     disk: E,
 ) -> Result<Option<Store<E>>, Error>
+    requires usable { store.old.must_reopen ≡ false }
     requires room { STORE_SECTORS ≤ E.size disk }
+    requires zeros { ReadsZeros E.Disk disk }
     ensures is_one { IfOk result (λ found. D.honest store.old.disk → E.honest disk
         → (s : Standing) → ShowsStanding D.Disk store.old s → count ≤ length s.events
         → IsSomeAnd found (λ shown.
         shown.desktop ≡ steps_in s.version s.start (take count s.events))) }
-    ensures still { OnOk result (IsOnlyReadFrom D.Disk store.old store.new) }
+    ensures there { IfOk result (λ found. IfSome found (λ shown. D.honest store.old.disk
+        → E.honest disk → (s : Standing) → ShowsStanding D.Disk store.old s
+        → (count ≤ length s.events) × E.honest shown.disk)) }
+    ensures still { IsOnlyReadFrom D.Disk store.old store.new }
+    ensures faults { FailsAs Error.Fault OfLaying result (D.failures store.old.disk)
+        (D.failures store.new.disk) }
+    ensures stops { IfErr result (λ e. D.honest store.old.disk → E.honest disk → (s : Standing)
+        → ShowsStanding D.Disk store.old s → OfSteps e) }
 {
     standing_law();
     store.shows_what_crashes_leave();
@@ -212,14 +262,43 @@ fn in_journal<D: Disk, E: Disk + Drop>(
     }
     let mut shown = opened_at(alloc, store, 0, disk)?;
     shown.shows_what_crashes_leave();
-    let _ = shown.undo(alloc, info.events - count as u32)?;
+    let _ = taken_back(alloc, &mut shown, info.events - count as u32)?;
     Ok(Some(shown))
+}
+
+/// Goes the legs of a way, the last one first. False where one of them can't be gone.
+///
+/// Errors: those of `step_pages`.
+fn go_legs<D: Disk, E: Disk>(
+    alloc: Global,
+    store: &mut Store<D>,
+    shown: &mut Store<E>,
+    legs: Vec<Leg>,
+    end: u32,
+) -> Result<bool, Error>
+    requires usable { store.old.must_reopen ≡ false }
+    requires room { end ≤ D.size store.old.disk }
+    ensures led { IfOk result (λ done. D.honest store.old.disk → (deeds : List PastDeed)
+        → AreLegs (now (D.trail store.old.disk)).reads end legs.items deeds
+        → (done ≡ true) × IsLed E.Disk deeds shown.old shown.new) }
+    ensures still { IsOnlyReadFrom D.Disk store.old store.new }
+    ensures faults { FailsAs Error.Fault OfSteps result (D.failures store.old.disk)
+        (D.failures store.new.disk) }
+{
+    store.shows_what_crashes_leave();
+    let mut legs = legs;
+    while let Some(leg) = legs.pop() {
+        if !step_pages(alloc, store, shown, leg.at, end, leg.count)? {
+            return Ok(false);
+        }
+    }
+    Ok(true)
 }
 
 /// The desktop of moment `k` of the pages behind a start, which end where `told` says. None where they have no such
 /// moment.
 ///
-/// Errors: those of `Store::read_behind`, `Store::open` and `Store::post`.
+/// Errors: those of `opened_at`, `legs_to` and `go_legs`.
 fn in_pages<D: Disk, E: Disk + Drop>(
     alloc: Global,
     store: &mut Store<D>,
@@ -230,12 +309,22 @@ fn in_pages<D: Disk, E: Disk + Drop>(
 ) -> Result<Option<Store<E>>, Error>
     requires usable { store.old.must_reopen ≡ false }
     requires room { STORE_SECTORS ≤ E.size disk }
+    requires zeros { ReadsZeros E.Disk disk }
     ensures is_one { IfOk result (λ found. D.honest store.old.disk → E.honest disk
         → (start : Start) (deeds : List PastDeed) (desktop : Desktop)
         → (keeps : KeepsAll D.Disk start deeds desktop store.old) → IsHeadTold D.Disk told keeps
         → start.base ≡ base → start.before ≤ k → k < told.before
         → IsSomeAnd found (λ shown. shown.desktop ≡ moment_of start deeds k)) }
-    ensures still { OnOk result (IsOnlyReadFrom D.Disk store.old store.new) }
+    ensures there { IfOk result (λ found. IfSome found (λ shown. D.honest store.old.disk
+        → E.honest disk → (start : Start) (deeds : List PastDeed) (desktop : Desktop)
+        → (keeps : KeepsAll D.Disk start deeds desktop store.old) → IsHeadTold D.Disk told keeps
+        → start.base ≡ base → k < told.before → (start.before ≤ k) × E.honest shown.disk)) }
+    ensures still { IsOnlyReadFrom D.Disk store.old store.new }
+    ensures faults { FailsAs Error.Fault OfLaying result (D.failures store.old.disk)
+        (D.failures store.new.disk) }
+    ensures stops { IfErr result (λ e. D.honest store.old.disk → E.honest disk → (start : Start)
+        (deeds : List PastDeed) (desktop : Desktop) → KeepsAll D.Disk start deeds desktop store.old
+        → start.base ≡ base → OfSteps e) }
 {
     store.shows_what_crashes_leave();
     if told.next > store.sectors()
@@ -245,40 +334,55 @@ fn in_pages<D: Disk, E: Disk + Drop>(
         return Ok(None);
     }
     let mut shown = opened_at(alloc, store, base, disk)?;
-    let Some(first) = events_before(&mut shown)? else {
+    let Some(first) = many_before(&mut shown)? else {
         return Ok(None);
     };
     if k < first {
         return Ok(None);
     }
-    let at = base + STORE_SECTORS;
-    if !step_pages(alloc, store, &mut shown, at, told.next, k - first)? {
+    let Some(legs) = legs_to(alloc, store, base + STORE_SECTORS, first, told.next, k)? else {
+        return Ok(None);
+    };
+    if !go_legs(alloc, store, &mut shown, legs, told.next)? {
         return Ok(None);
     }
     Ok(Some(shown))
 }
 
-/// The desktop of moment `k` of the past that begins in sector `base`, as a store on another disk: what the first deeds
-/// give, so many as came before it. None where the past has no such moment.
+/// The desktop of moment `k` of the past that begins in sector `base`, as a store in memory: what the first deeds give,
+/// so many as came before it. None where the past has no such moment.
 ///
-/// Errors: those of `Store::read_behind`, of `Store::open` where no start stands there, and of `Store::post`.
-pub fn moment<D: Disk, E: Disk + Drop>(
+/// Errors: `MustReopen`; `NotAStore` and `Damaged` where no past begins there; `Worn` where the last epoch of its start is
+/// full; `NoMemory`; `Fault`.
+pub fn moment<D: Disk>(
     alloc: Global,
     store: &mut Store<D>,
     base: u32,
     k: u64,
-    disk: E,
-) -> Result<Option<Store<E>>, Error>
-    requires { STORE_SECTORS ≤ E.size disk }
-    ensures comes_back { IfOk result (λ found. D.honest store.old.disk → E.honest disk
+) -> Result<Option<Store<MemoryDisk>>, Error>
+    ensures comes_back { IfOk result (λ found. D.honest store.old.disk
         → (start : Start) (deeds : List PastDeed) (desktop : Desktop)
         → KeepsAll D.Disk start deeds desktop store.old → start.base ≡ base
         → HasMoment start deeds k
         → IsSomeAnd found (λ shown. shown.desktop ≡ moment_of start deeds k)) }
+    ensures there { IfOk result (λ found. IfSome found (λ shown. D.honest store.old.disk
+        → (start : Start) (deeds : List PastDeed) (desktop : Desktop)
+        → KeepsAll D.Disk start deeds desktop store.old → start.base ≡ base
+        → HasMoment start deeds k)) }
     ensures still { OnOk result (IsOnlyReadFrom D.Disk store.old store.new) }
+    ensures disk { IsOnlyRead D.Disk store.old.disk store.new.disk }
+    ensures left { IsLeft D.Disk store.old store.new }
+    ensures usable { store.new.must_reopen ≡ store.old.must_reopen }
+    ensures faults { FailsAs Error.Fault OfMoment result (D.failures store.old.disk)
+        (D.failures store.new.disk) }
+    ensures open { IsErrOf result Error.MustReopen → store.old.must_reopen ≡ true }
+    ensures stops { IfErr result (λ e. D.honest store.old.disk
+        → (start : Start) (deeds : List PastDeed) (desktop : Desktop)
+        → KeepsAll D.Disk start deeds desktop store.old → start.base ≡ base → OfSteps e) }
 {
     store.shows_what_crashes_leave();
     let told = store.past()?;
+    let disk = empty_disk(alloc)?;
     if k >= told.before {
         return in_journal(alloc, store, k - told.before, disk);
     }

@@ -3,6 +3,7 @@ mod Asked
 pub mod Between
 pub mod Carrying
 pub mod Done
+mod Fetching
 mod Found
 mod Marks
 pub mod Pressed

@@ -48,12 +48,14 @@ use Rattle.earlier_presses.specs.Twice.{is_nothing, is_of_terminal}
 use Rattle.desk_sitting.specs.Scenes.{IsSceneOf, IsSeen, known_by}
 use Rattle.desk_sitting.specs.Serving.{Exchange, IsSeenUnlessDue, IsShownIfDue, TurnState, Turns, anew, sitting_shown}
 use Rattle.desk_sitting.specs.Serving.{still, store_screen}
+use Rattle.terminal_keyboard.specs.declared.completion.Completion.{Completion}
+use Rattle.desk_sitting.specs.Sittings.{after_completion, completed}
 use Rattle.desk_sitting.specs.Sittings.{Seat, acted, acted_alone, after_fetch, after_planned, after_post, after_posts}
 use Rattle.desk_sitting.specs.Sittings.{after_press}
 use Rattle.desk_sitting.specs.Sittings.{after_stage, after_task, asks_first, does, done_by, done_so, fetched}
 use Rattle.desk_sitting.specs.Sittings.{followed_cell, is_scene_due}
 use Rattle.desk_sitting.specs.Sittings.{is_still, is_unseen, looked, most_plans, noted_at, question_at}
-use Rattle.desk_sitting.specs.Sittings.{refused, replied}
+use Rattle.desk_sitting.specs.Sittings.{refused, replied, ring_reason}
 use Rattle.desk_sitting.specs.Sittings.{with_marks, task_in, task_left, turned_away, turned_by, unplaced, with_hand}
 use Rattle.press_plans.specs.Tasks.{task_of}
 use Rattle.press_plans.specs.Plans.{Plan, Aims, Asks, Events, Keeps, PutsAway, Refused as NotDone, Says, Shows, Tells, plan_of}
@@ -211,7 +213,7 @@ task_keeps (suc n) left seat =
 
 alone_keeps : (a : Action) (s : Sitting) → (acted_alone a s).changed ≡ s.changed
 unfolding acted_alone
-alone_keeps action.Ring s = refl
+alone_keeps action.Ring s = either_keeps s.completes s (refused (ring_reason s) s) s.changed refl refl
 alone_keeps action.LookAnew s = refl
 alone_keeps action.Leave s = refl
 alone_keeps action.Undo s = refl
@@ -304,23 +306,25 @@ nothing_seen hand is =
     }
 
 -- where nothing is asked for it is nothing what that would be
-no_line : (w : ℕ) (screen : List (List Cell)) (log : List ℕ) (saying : Saying) (asks asks' : AskedFor) (sought : List ℕ)
-    → line_of w screen log None asks sought None saying ≡ line_of w screen log None asks' sought None saying
+no_line : (w : ℕ) (screen : List (List Cell)) (log : List ℕ) (saying : Saying) (asks asks' : AskedFor) (names names' : ℕ)
+    (sought : List ℕ)
+    → line_of w screen log None asks names sought None saying ≡ line_of w screen log None asks' names' sought None saying
 unfolding line_of
-no_line w screen log (sayings.Asks question) asks asks' sought = refl
-no_line w screen log _ asks asks' sought = refl
+no_line w screen log (sayings.Asks question) asks asks' names names' sought = refl
+no_line w screen log _ asks asks' names names' sought = refl
 
 -- the line below where nothing of the hand is seen
-line_unseen : (w : ℕ) (screen : List (List Cell)) (log sought : List ℕ) (saying : Saying) (hand hand' : Hand)
+line_unseen : (w : ℕ) (screen : List (List Cell)) (log sought : List ℕ) (saying : Saying) (names names' : ℕ)
+    (hand hand' : Hand)
     → NothingSeen hand → NothingSeen hand'
-    → line_of w screen log hand.asked hand.asks sought hand.armed
+    → line_of w screen log hand.asked hand.asks names sought hand.armed
     (said_by_pointer (is_some (pointer_cell hand.pointer)) saying)
-    ≡ line_of w screen log hand'.asked hand'.asks sought hand'.armed
+    ≡ line_of w screen log hand'.asked hand'.asks names' sought hand'.armed
     (said_by_pointer (is_some (pointer_cell hand'.pointer)) saying)
-line_unseen w screen log sought saying hand hand' is is' =
+line_unseen w screen log sought saying names names' hand hand' is is' =
     let said = said_by_pointer false saying in
     rw (is.asked, is.armed, is.pointer, is'.asked, is'.armed, is'.pointer)
-    (no_line w screen log said hand.asks hand'.asks sought)
+    (no_line w screen log said hand.asks hand'.asks names names' sought)
 
 -- the same scene is due
 scene_stays : (press : Press) (next : Hand × Action) (s : Sitting) (screen : List (List Cell)) (scene : Scene)
@@ -335,7 +339,7 @@ scene_stays press next s screen scene none none' is = record {
   width = is.width;
   has_line = is.has_line;
   pointer = is.pointer ∙ ap (λ p. p >>= terminal_place s.sight) (none.pointer ∙ sym none'.pointer);
-  line = is.line ∙ line_unseen s.sight.width screen s.logged.items s.sought s.saying s.hand next.0 none none';
+  line = is.line ∙ line_unseen s.sight.width screen s.logged.items s.sought s.saying s.names (if is_of_terminal next.1 then s.names else 0) s.hand next.0 none none';
 }
 
 -- ---- presses
@@ -421,6 +425,15 @@ module _ (known : List (List Face)) (held : Option (List ℕ)) where
     | inr none ↦ subst (λ t. Stands t desktop) (sym (cond-false (is_some s.wanted) (fetched answer s) s none)) stands
   ]
 
+  completion_stands : (told : Completion) (s : Sitting) (desktop : Desktop) → Stands s desktop
+      → Stands (after_completion told s) desktop
+  unfolding after_completion
+  completion_stands told s desktop stands = elim (true_or_false s.completes) [
+    | inl asks ↦ subst (λ t. Stands t desktop) (sym (cond-true s.completes (completed told s) s asks))
+        (λ due. absurd (true≢false due))
+    | inr none ↦ subst (λ t. Stands t desktop) (sym (cond-false s.completes (completed told s) s none)) stands
+  ]
+
 -- ---- turns
 
 module _ {D : Type 0} (d : Ghosts D) {old new : TurnState D} where
@@ -430,9 +443,11 @@ module _ {D : Type 0} (d : Ghosts D) {old new : TurnState D} where
       subst (λ desktop. IsSeen the_desk (sitting_shown the_desk old) (shown_screen desktop) new.known new.held)
       (sym (ap (λ (s : Session). s.desktop) turn.scene.looked.session)) turn.scene.seen in
       let after : Stands new.known new.held new.sitting new.store.desktop =
-      subst (λ t. Stands new.known new.held t new.store.desktop) (sym turn.brings.brings)
-      (fetch_stands new.known new.held turn.brings.answer turn.sitting new.store.desktop
-      (presses_stand new.known new.held d turn.does start)) in
+      subst (λ t. Stands new.known new.held t new.store.desktop) (sym turn.brings.completed.completes)
+      (completion_stands new.known new.held turn.brings.completed.told turn.brings.mid new.store.desktop
+      (subst (λ t. Stands new.known new.held t new.store.desktop) (sym turn.brings.brought.brings)
+      (fetch_stands new.known new.held turn.brings.brought.answer turn.sitting new.store.desktop
+      (presses_stand new.known new.held d turn.does start)))) in
       λ due. (after due, turn.scene.handed)
 
 -- after what was taken back or done again a scene is due

@@ -5,6 +5,7 @@ use Rattle.host_files.specs.declared.HostFault.{HostFault}
 use Rattle.event_bytes.specs.declared.event.Event.{Event}
 use Rattle.screen_pictures.specs.declared.cell.Cell.{Cell}
 use Rattle.desktop_definitions.specs.Desktop.{Desktop}
+use Rattle.terminal_keyboard.specs.declared.completion.Completion.{Completion}
 use Rattle.terminal_keyboard.specs.declared.parser.Parser.{Parser}
 use Rattle.terminal_presses.specs.declared.press.Heard.{Heard}
 use Rattle.terminal_presses.specs.declared.press.Press.{Press}
@@ -39,6 +40,8 @@ pub record Desk : Type 0 where
   pub tells : Desktop → Sitting → Sitting
   -- after the keyboard was asked for the text of a host file, which will be heard, or why it won't be
   pub fetches : Result ⊤ HostFault → Sitting → Sitting
+  -- after it was asked how the name goes on that is asked for
+  pub completes : Completion → Sitting → Sitting
   -- how many events are taken back, and the sitting after these were, from one place of the store to another
   pub counts : Sitting → ℕ
   pub takes_back : List Event → StorePlace → StorePlace → Sitting → Sitting

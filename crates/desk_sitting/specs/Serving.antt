@@ -15,7 +15,8 @@ use Rattle.desk_journal.specs.View.{StoreView, IsDurable}
 use Rattle.screen_drawing.specs.declared.face.Face.{Face}
 use Rattle.terminal_keyboard.specs.declared.parser.Parser.{Parser}
 use Rattle.terminal_presses.specs.declared.press.Heard.{Heard}
-use Rattle.terminal_keyboard.specs.Hearings.{asked_for}
+use Rattle.terminal_keyboard.specs.declared.completion.Completion.{Completion}
+use Rattle.terminal_keyboard.specs.Hearings.{asked_for, asked_rest}
 use Rattle.done_presses.specs.Past.{PastView}
 use Rattle.status_line.specs.declared.saying.Saying.{Saying}
 use Rattle.desk_sitting.specs.declared.sitting.Sitting.{Sitting}
@@ -79,6 +80,11 @@ turn_state_of parser sitting store known out = record {
 abbrev pub asking_for : Option (List ℕ) → Result ⊤ HostFault → List ℕ
 asking_for None answer = []
 asking_for (Some name) answer = asked_for name answer
+
+-- and the name of which it is asked how it goes on
+abbrev pub asking_rest : Bool → Option (List ℕ) → Completion → List ℕ
+asking_rest true (Some name) told = asked_rest name told
+asking_rest _ _ told = []
 
 -- where neither the disk nor the memory failed, the store needn't be opened again
 abbrev pub IsUsableAt : {D : Type 0} → SittingEnd → StoreView D → Type 0
@@ -159,10 +165,23 @@ module _ (desk : Desk) where
       out
 
   -- the keyboard was asked for the text of the host file that is wanted, and of no other
-  pub record IsFetched (old new : Sitting) (asked asked' : List ℕ) : Type 0 where
+  pub record IsTextFetched (old new : Sitting) (asked asked' : List ℕ) : Type 0 where
     pub answer : Result ⊤ HostFault
     pub brings : new ≡ desk.fetches answer old
     pub asks : asked' ≡ asked ++ asking_for old.wanted answer
+
+  -- it was asked how the name goes on that is asked for, where that is wanted
+  pub record IsCompleted (old new : Sitting) (asked asked' : List ℕ) : Type 0 where
+    pub told : Completion
+    pub completes : new ≡ desk.completes told old
+    pub asks : asked' ≡ asked ++ asking_rest old.completes old.hand.asked told
+
+  -- the one and then the other
+  pub record IsFetched (old new : Sitting) (asked asked' : List ℕ) : Type 0 where
+    pub mid : Sitting
+    pub asked_mid : List ℕ
+    pub brought : IsTextFetched old mid asked asked_mid
+    pub completed : IsCompleted mid new asked_mid asked'
 
 module _ (desk : Desk) {D : Type 0} (d : Ghosts D) where
   -- The terminal shows the desktop, be it anew or still: all that was sent was handed on. Then this is heard.

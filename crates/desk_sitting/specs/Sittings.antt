@@ -2,7 +2,7 @@
 use Rattle.std.specs.Prelude.{◌≡◌, ℕ, zero, suc, ◌-◌, Bool, true, false, ◌==◌, ◌&&◌, ◌||◌, not}
 use Rattle.std.specs.Prelude.{if◌then◌else◌, List, []}
 use Rattle.std.specs.Prelude.{◌∷◌, ◌++◌}
-use Rattle.std.specs.Prelude.{Option, Some, None, All, IfSome, is_some, min, option_map, unwrap_or}
+use Rattle.std.specs.Prelude.{Option, Some, None, All, IfSome, fold, is_some, min, option_map, unwrap_or}
 use Rattle.std.specs.Prelude.{Result, Ok, Err, ⊤, ◌+◌, ◌^◌}
 use Rattle.event_bytes.specs.declared.event.Event.{Event}
 use Rattle.host_files.specs.declared.HostFault.{HostFault}
@@ -13,6 +13,10 @@ use Rattle.desktop_definitions.specs.declared.reply.Reply.TheVariants.{Done, No}
 use Rattle.desktop_definitions.specs.Limits.{not_found}
 use Rattle.desktop_definitions.specs.Step.{step}
 use Rattle.terminal_presses.specs.declared.press.Press.{Press}
+use Rattle.terminal_presses.specs.declared.press.Press.TheVariants.{Character}
+use Rattle.terminal_presses.specs.declared.asks.Asks.{Asks as AskedFor}
+use Rattle.terminal_presses.specs.declared.asks.Asks.TheVariants as asked_for
+use Rattle.terminal_keyboard.specs.declared.completion.Completion.{Completion}
 use Rattle.terminal_presses.specs.declared.action.Action.{Action}
 use Rattle.terminal_presses.specs.declared.action.Action.TheVariants as action
 use Rattle.terminal_presses.specs.declared.hand.Hand.{Hand}
@@ -39,7 +43,8 @@ use Rattle.earlier_presses.specs.Replacing.{TypingView, ReplacingView, is_replac
 use Rattle.earlier_presses.specs.Replacing.{replacement}
 use Rattle.done_presses.specs.Past.{PastView, past_after, named, no_past, selects, with_refused}
 use Rattle.desk_sitting.specs.Clips.{is_copying}
-use Rattle.earlier_presses.specs.Twice.{action_meant, cell_again, cell_clicked, cell_kept, is_no_deed, is_nothing, words_remembered}
+use Rattle.earlier_presses.specs.Twice.{action_meant, cell_again, cell_clicked, cell_kept, is_no_deed, is_nothing}
+use Rattle.earlier_presses.specs.Twice.{is_of_terminal, words_remembered}
 use Rattle.desk_sitting.specs.Questions.{click_made, question_of, questioned, session_place, unasked}
 use Rattle.status_line.specs.Question.{asks_to_leave, comes_first}
 use Rattle.status_line.specs.Choosing.{came_to, done_saying, first_saying, fitted_saying, fill_saying, refused_saying}
@@ -92,6 +97,8 @@ new_sitting height width greeting questions = record {
   clicked = None;
   missed = false;
   sought = [];
+  completes = false;
+  names = 0;
   changed = true;
 }
 
@@ -166,6 +173,24 @@ fetched (Err why) s = refused (Unread why) (record s { wanted = None })
 
 unfoldable pub after_fetch : Result ⊤ HostFault → Sitting → Sitting
 after_fetch answer s = if is_some s.wanted then fetched answer s else s
+
+-- bytes are typed, one after another, where a name is asked for
+abbrev pub hand_typed : Sight → Hand → List ℕ → Hand
+hand_typed sight hand bytes = fold (λ h b. (handled sight (Character b) h).0) hand bytes
+
+-- After the keyboard was asked how the name goes on that is asked for: that is typed, as far as there is room, and told how
+-- many names begin so. Where none does the terminal rings.
+abbrev pub completed : Completion → Sitting → Sitting
+completed told s = record s {
+  hand = hand_typed s.sight s.hand told.rest;
+  completes = false;
+  names = told.count;
+  rings = s.rings || (told.count == 0);
+  changed = true;
+}
+
+unfoldable pub after_completion : Completion → Sitting → Sitting
+after_completion told s = if s.completes then completed told s else s
 
 -- ---- a press
 
@@ -322,7 +347,7 @@ fitted_in rows columns s = record s {
 -- ---- a press that posts nothing
 
 unfoldable pub acted_alone : Action → Sitting → Sitting
-acted_alone action.Ring s = refused (ring_reason s) s
+acted_alone action.Ring s = if s.completes then s else refused (ring_reason s) s
 acted_alone action.LookAnew s = record s { forgets = true; asks = true }
 acted_alone action.Leave s = record s { leaves = true }
 acted_alone action.Undo s = record s { travels = Some Back }
@@ -413,6 +438,7 @@ with_hand next s = record s {
   joins = pastes_text s.hand && s.joins;
   follows = is_some (pointer_cell next.0.pointer) || s.follows;
   missed = s.missed && is_no_deed next.1;
+  names = if is_of_terminal next.1 then s.names else 0;
   changed = s.changed || not (is_still next s);
 }
 
@@ -422,8 +448,23 @@ marks_more false press marks = 0
 marks_more true press marks =
     if becomes_mark press then min (marks + 1) (2 ^ 32 - 1) else marks
 
+-- whether it is asked how the name of a host file goes on that is asked for
+abbrev pub is_file : AskedFor → Bool
+is_file asked_for.File = true
+is_file _ = false
+
+abbrev pub is_tabulator : Press → Bool
+is_tabulator (Character b) = b == 9
+is_tabulator _ = false
+
+abbrev pub asks_rest : Press → Hand → Bool
+asks_rest press hand = is_some hand.asked && is_file hand.asks && is_tabulator press
+
 abbrev pub with_marks : Press → Sitting → Sitting
-with_marks press s = record s { marks = marks_more (pastes_text s.hand) press s.marks }
+with_marks press s = record s {
+  marks = marks_more (pastes_text s.hand) press s.marks;
+  completes = asks_rest press s.hand;
+}
 
 -- what the hand makes of a press is a way to the beginning of the text, where it is a search behind one that found nothing,
 -- it goes on behind a replacement, and words that aren't typed are those that were sought last

@@ -12,7 +12,7 @@ use Rattle.status_line.specs.Sayings.{line_of, said_by_pointer}
 use Rattle.desk_sitting.specs.declared.sitting.Sitting.{Sitting}
 use Rattle.desk_sitting.specs.Clips.{clip_sent}
 use Rattle.desk_sitting.specs.Desk.{Desk, Seat, accepted_events, after_presses}
-use Rattle.desk_sitting.specs.Sittings.{accepted_of, after_fetch, after_press, looked, new_sitting}
+use Rattle.desk_sitting.specs.Sittings.{accepted_of, after_completion, after_fetch, after_press, looked, new_sitting}
 use Rattle.desk_sitting.specs.Telling.{scene_told}
 use Rattle.desk_sitting.specs.Travels.{done_again, none_again, settled, step_count, took_back}
 
@@ -23,7 +23,8 @@ pointer_of s = pointer_cell s.hand.pointer >>= terminal_place s.sight
 -- the line below a screen
 abbrev pub sitting_line : List (List Cell) → Sitting → List ℕ
 sitting_line screen s =
-    line_of s.sight.width screen s.logged.items s.hand.asked s.hand.asks s.sought s.hand.armed
+    line_of s.sight.width screen s.logged.items s.hand.asked s.hand.asks s.names s.sought
+    s.hand.armed
     (said_by_pointer (is_some (pointer_cell s.hand.pointer)) s.saying)
 
 abbrev pub the_desk : Desk
@@ -40,6 +41,7 @@ the_desk = record {
   gives = clip_sent;
   tells = scene_told;
   fetches = after_fetch;
+  completes = after_completion;
   counts = step_count;
   takes_back = λ events from to s. took_back events from to (settled s);
   follows = λ place s. next_event place s.again;

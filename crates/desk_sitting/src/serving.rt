@@ -15,6 +15,7 @@ ghost use Rattle.desk_sitting.specs.Scenes.{IsSceneOf, IsHalfPainted, IsScenePai
 ghost use Rattle.desk_sitting.specs.Endings.{EndsBy, IsOfNoKeyboard};
 ghost use Rattle.desk_sitting.specs.Scenes.{after_scene, bell_bytes, clip_bytes, known_by, request};
 ghost use Rattle.desk_sitting.specs.Serving.{CountsEnding, CountsOutput, CountsTurn, Exchange, IsFetched, IsLookedAt, exchange};
+ghost use Rattle.desk_sitting.specs.Serving.{IsTextFetched, IsCompleted, asking_rest};
 ghost use Rattle.desk_sitting.specs.Serving.{IsShownIfDue, IsUsableAt};
 ghost use Rattle.desk_sitting.specs.Serving.{StaysInUse, TakesTurn, first_place, turn_state_of, store_screen};
 ghost use Rattle.desk_sitting.specs.Sitting.{Sits, TakesEitherTurn};
@@ -32,7 +33,7 @@ use screen_cells::Screen;
 use screen_drawing::{Painter, Scene, ring, send_bytes};
 use sector_disk::Disk;
 use std::alloc::Global;
-use terminal_keyboard::{Keyboard, Parser};
+use terminal_keyboard::{Completion, Keyboard, Parser};
 use viewer_tracks::ROWS;
 
 /// How many turns a sitting has at most; after them it ends by `TooLong`.
@@ -172,7 +173,7 @@ fn turn<K: Keyboard, W: AnswerWriter, D: Disk>(
     show_if_due(alloc, store, sitting, painter, writer)?;
     let hearing = keyboard.hear()?;
     do_presses(alloc, sitting, parser, hearing.as_slice(), store)?;
-    bring(sitting, keyboard);
+    fetch(sitting, keyboard);
     if sitting.leaves {
         Err(SittingEnd::Left)
     } else {
@@ -180,9 +181,19 @@ fn turn<K: Keyboard, W: AnswerWriter, D: Disk>(
     }
 }
 
+/// Asks the keyboard for the text of a host file where one is wanted, and how a name goes on where that is.
+fn fetch<K: Keyboard>(sitting: &mut Sitting, keyboard: &mut K)
+    ensures brought { IsFetched the_desk sitting.old sitting.new (K.asked keyboard.old)
+        (K.asked keyboard.new) }
+    ensures silent { K.heard keyboard.new ≡ K.heard keyboard.old }
+{
+    bring(sitting, keyboard);
+    complete(sitting, keyboard);
+}
+
 /// Asks the keyboard for the text of a host file where one is wanted.
 fn bring<K: Keyboard>(sitting: &mut Sitting, keyboard: &mut K)
-    ensures brought { IsFetched the_desk sitting.old sitting.new (K.asked keyboard.old)
+    ensures brought { IsTextFetched the_desk sitting.old sitting.new (K.asked keyboard.old)
         (K.asked keyboard.new) }
     ensures asked { IfSome sitting.old.wanted (λ name. (answer : Result ⊤ HostFault)
         × K.answers keyboard.old keyboard.new name answer
@@ -194,6 +205,31 @@ fn bring<K: Keyboard>(sitting: &mut Sitting, keyboard: &mut K)
         None => Ok(()),
     };
     sitting.bring(answer);
+}
+
+/// Asks the keyboard how a name goes on, where that is wanted of one that is asked for.
+fn complete<K: Keyboard>(sitting: &mut Sitting, keyboard: &mut K)
+    ensures completed { IsCompleted the_desk sitting.old sitting.new (K.asked keyboard.old)
+        (K.asked keyboard.new) }
+    ensures silent { K.heard keyboard.new ≡ K.heard keyboard.old }
+{
+    let told = rest_of(sitting, keyboard);
+    sitting.complete(&told);
+}
+
+/// How the name goes on that is asked for, where that is wanted.
+fn rest_of<K: Keyboard>(sitting: &Sitting, keyboard: &mut K) -> Completion
+    ensures asks { K.asked keyboard.new ≡ K.asked keyboard.old
+        ++ asking_rest sitting.now.completes sitting.now.hand.asked result }
+    ensures silent { K.heard keyboard.new ≡ K.heard keyboard.old }
+{
+    if !sitting.completes {
+        return Completion::none();
+    }
+    match sitting.hand.asked() {
+        None => Completion::none(),
+        Some(name) => keyboard.complete(name),
+    }
 }
 
 /// Shows the desktop where a scene is due. Else the terminal shows it already: nobody looks at the store, and nothing is

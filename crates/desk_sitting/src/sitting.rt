@@ -1,5 +1,5 @@
 //! A person at a terminal, before a store.
-ghost use Rattle.std.specs.Prelude.{◌≡◌, false, Some, None, IfOk, IfErr, IfSome, ◌<◌};
+ghost use Rattle.std.specs.Prelude.{◌≡◌, false, if◌then◌else◌, Some, None, IfOk, IfErr, IfSome, ◌<◌};
 ghost use Rattle.desk_sitting.specs.Doing.{DoesAction, DoesPress, seat_of};
 ghost use Rattle.desk_sitting.specs.TheDesk.{sitting_line};
 ghost use Rattle.desk_sitting.specs.Questions.{questioned, unasked};
@@ -9,6 +9,8 @@ ghost use Rattle.desk_sitting.specs.Sittings.{turned_away, accepted_of, accepted
 ghost use Rattle.desk_sitting.specs.Sittings.{why_unreplaced, with_log_line, brought_in_sight, is_scene_due, is_unseen};
 ghost use Rattle.desk_sitting.specs.Sittings.{pointed_no_more, asked_words, with_words, meant_by, task_or_word};
 ghost use Rattle.desk_sitting.specs.Sittings.{with_hand, with_marks, marked_saying, marks_more};
+ghost use Rattle.desk_sitting.specs.Sittings.{after_completion, asks_rest, hand_typed, is_tabulator};
+ghost use Rattle.earlier_presses.specs.Twice.{is_of_terminal};
 
 use crate::clips::is_copying;
 use desk_journal::{Error, Store};
@@ -19,7 +21,7 @@ use earlier_presses::{
     Replacing, Typing, cell_again, cell_clicked, cell_kept, hand_meant, is_nothing, is_of_terminal,
     still_missed,
 };
-use event_bytes::Event;
+use event_bytes::{Event, TABULATOR};
 use host_files::HostFault;
 use host_names::HostName;
 use press_plans::{Filling, Task};
@@ -31,7 +33,8 @@ use status_line::{
     first_saying, line_of, refused_saying, resting_of, said_by_pointer, typed_more,
 };
 use std::alloc::Global;
-use terminal_presses::{Action, Hand, Press, Sight, becomes_mark};
+use terminal_keyboard::Completion;
+use terminal_presses::{Action, Asks, Hand, Press, Sight, becomes_mark};
 use viewer_tracks::{ROWS, Track};
 
 /// What is asked for beside a press: to take the last one back, or to do again what was taken back last.
@@ -99,6 +102,10 @@ pub struct Sitting {
     pub missed: bool,
     /// The words that were sought last, where they can be typed.
     pub sought: HostName,
+    /// The keyboard is to be asked how the name goes on that is asked for.
+    pub completes: bool,
+    /// How many names of host files begin so, where that was told right before.
+    pub names: u8,
     /// What is seen may have changed since the last scene.
     pub changed: bool,
 }
@@ -136,6 +143,8 @@ impl Sitting {
             clicked: None,
             missed: false,
             sought: HostName::none(),
+            completes: false,
+            names: 0,
             changed: true,
         }
     }
@@ -151,6 +160,7 @@ impl Sitting {
             &self.logged,
             self.hand.asked(),
             self.hand.asks,
+            self.names,
             self.sought.as_bytes(),
             self.hand.armed(),
             saying,
@@ -280,6 +290,20 @@ impl Sitting {
         }
     }
 
+    /// The keyboard was asked how the name goes on that is asked for.
+    #[tactic(auto, unfolding(crate::specs::Sittings::after_completion))]
+    pub fn complete(&mut self, told: &Completion)
+        ensures { self.new ≡ after_completion told.now self.old }
+    {
+        if self.completes {
+            type_on(&mut self.hand, self.sight, told.rest.as_bytes());
+            self.completes = false;
+            self.names = told.count;
+            self.rings = self.rings || told.count == 0;
+            self.changed = true;
+        }
+    }
+
     /// An event is turned away. Amid a paste the rest of that is dropped, and the line below says how far it came.
     #[tactic(auto, unfolding(crate::specs::Sittings::turned_by))]
     pub(crate) fn turn_away(&mut self, why: Saying)
@@ -357,6 +381,7 @@ impl Sitting {
             None
         };
         self.marks = marks_more(pastes, press, self.marks);
+        self.completes = asks_rest(press, &self.hand);
         self.joins = pastes && self.joins;
         let goes_on = self.replacing.is_replaced();
         let action = hand_meant(
@@ -368,6 +393,7 @@ impl Sitting {
             press,
         );
         self.missed = still_missed(self.missed, &action);
+        self.names = names_behind(self.names, &action);
         self.follows = self.hand.pointer().is_some() || self.follows;
         let is_still = is_nothing(&action) && is_unseen(&self.hand) && stays;
         self.changed = self.changed || !is_still;
@@ -419,6 +445,17 @@ impl Sitting {
             self.resting
         } else {
             Saying::NoKey
+        }
+    }
+
+    /// The terminal rings, unless the press asked how a name goes on.
+    fn ring(&mut self)
+        ensures { self.new
+            ≡ (if self.old.completes then self.old else refused (ring_reason self.old) self.old) }
+    {
+        if !self.completes {
+            let reason = self.ring_reason();
+            self.refuse(reason);
         }
     }
 
@@ -508,10 +545,7 @@ impl Sitting {
             | Action::Refill
             | Action::CallLine
             | Action::Mark => {}
-            Action::Ring => {
-                let reason = self.ring_reason();
-                self.refuse(reason);
-            }
+            Action::Ring => self.ring(),
             Action::FileFailed => self.refuse(Saying::Unfinished),
             Action::Replace => {
                 let why = self.unreplaced_reason();
@@ -579,6 +613,39 @@ fn marked_saying(marks: u32, resting: Saying) -> Saying
         resting
     } else {
         Saying::Marked(marks)
+    }
+}
+
+/// Bytes are typed, one after another, where a name is asked for.
+fn type_on(hand: &mut Hand, sight: Sight, bytes: &[u8])
+    ensures { hand.new ≡ hand_typed sight hand.old bytes.now }
+{
+    for byte in bytes {
+        let _action = hand.take(sight, Press::Character(*byte));
+    }
+}
+
+/// Whether a press asks how the name of a host file goes on.
+fn asks_rest(press: Press, hand: &Hand) -> bool
+    ensures { result ≡ asks_rest press hand.now }
+{
+    hand.asked().is_some() && matches!(hand.asks, Asks::File) && is_tabulator(press)
+}
+
+/// How many names begin so, behind an action: none is told any more, unless the action is the terminal's own.
+fn names_behind(names: u8, action: &Action) -> u8
+    ensures { result ≡ (if is_of_terminal action.now then names else 0) }
+{
+    if is_of_terminal(action) { names } else { 0 }
+}
+
+/// Whether it is the key Tab.
+fn is_tabulator(press: Press) -> bool
+    ensures { result ≡ is_tabulator press }
+{
+    match press {
+        Press::Character(byte) => byte == TABULATOR,
+        _ => false,
     }
 }
 

@@ -1,12 +1,13 @@
 -- What was taken back, as far as it can be done again.
-use Rattle.std.specs.Prelude.{◌-◌, Bool, ◌==◌, ◌&&◌, not, nat_le, if◌then◌else◌, List, [], ◌∷◌, ◌++◌, length, take}
+use Rattle.std.specs.Prelude.{◌-◌, ℕ, zero, suc, max, drop, Bool, ◌==◌, ◌&&◌, not, nat_le, if◌then◌else◌, List, [], ◌∷◌, ◌++◌, length, take}
 use Rattle.std.specs.Prelude.{Option, Some, None, option_map, reverse, slice_get}
 use Rattle.event_bytes.specs.declared.event.Event.{Event}
 use Rattle.status_line.specs.declared.deed.Deed.{Deed}
 use Rattle.done_presses.specs.declared.again.NextEvent.{NextEvent}
 use Rattle.done_presses.specs.declared.again.StorePlace.{StorePlace}
 use Rattle.done_presses.specs.declared.again.TheConstants.{FIRST_EPOCH, MOST_AGAIN}
-use Rattle.done_presses.specs.Past.{with_room}
+use Rattle.status_line.specs.declared.deed.Deed.TheVariants.{Part}
+use Rattle.done_presses.specs.Past.{PastView, back_count, back_deed, gathered, left_past, no_past, past_of, with_room}
 
 pub record TakenPressView : Type 0 where
   -- the next to be done again stands last
@@ -52,6 +53,50 @@ with_press press a = record a { presses = with_room MOST_AGAIN a.presses ++ Some
 unfoldable pub kept_at : TakenPressView → StorePlace → StorePlace → AgainView → AgainView
 kept_at press from to a =
     record (with_press press (record a { presses = presses_at from a })) { place = to }
+
+-- ---- of events
+
+-- events that are to be taken back, the presses of which they are, and what was taken back so far
+pub record Unmade : Type 0 where
+  pub events : List Event
+  pub past : PastView
+  pub again : AgainView
+
+abbrev pub unmade : List Event → PastView → AgainView → Unmade
+unmade events past a = record { events = events; past = past; again = a }
+
+abbrev pub deed_or_part : Option Deed → Deed
+deed_or_part None = Part
+deed_or_part (Some deed) = deed
+
+-- the press of these events, which are taken back
+abbrev pub press_back : List Event → PastView → TakenPressView
+press_back events past = taken_press events (deed_or_part (back_deed events past))
+
+-- the events from this one on are taken back
+abbrev pub back_from : ℕ → PastView → Unmade → Unmade
+back_from first past u = record {
+  events = take first u.events;
+  past = left_past (length (drop first u.events)) past;
+  again = with_press (press_back (drop first u.events) past) u.again;
+}
+
+-- the last press is taken back, if any event is left
+unfoldable pub one_back : Unmade → Unmade
+one_back u = if length u.events == 0 then u
+    else back_from (length u.events - max (back_count (gathered u.past)) 1) (gathered u.past) u
+
+-- so many presses, one after another
+abbrev pub many_back : ℕ → Unmade → Unmade
+many_back zero u = u
+many_back (suc n) u = one_back (many_back n u)
+
+-- these events were taken back, each of which was a press of its own, and that has led to this place
+unfoldable pub again_of : List Event → StorePlace → AgainView
+again_of events place =
+    record (many_back (length events) (unmade events (past_of events no_past) no_again)).again {
+      place = place;
+    }
 
 -- ---- event by event
 

@@ -23,6 +23,10 @@ pub record PastView : Type 0 where
 abbrev pub no_past : PastView
 no_past = record { presses = []; refused = 0; goes_on = false }
 
+-- no press is known
+abbrev pub knows_none : PastView → Bool
+knows_none past = length past.presses == 0
+
 abbrev pub last_press : PastView → Option DonePress
 last_press past = slice_get past.presses (length past.presses - 1)
 

@@ -1,12 +1,16 @@
 //! What was taken back, as far as it can be done again.
-ghost use Rattle.std.specs.Prelude.{◌≡◌, ◌-◌, length, take, slice_get};
+ghost use Rattle.std.specs.Prelude.{◌≡◌, ◌-◌, length, take, slice_get, IfOk, OnOk};
 ghost use Rattle.done_presses.specs.Again.{carried_again, events_behind, has_again, holds_at, is_first, kept_at};
 ghost use Rattle.done_presses.specs.Again.{next_event, next_of_press, no_again, put_back};
+ghost use Rattle.done_presses.specs.Again.{again_of, deed_or_part, one_back, press_back, unmade};
+ghost use Rattle.done_presses.specs.Past.{left_past};
 ghost use Rattle.done_presses.specs.Again.{rest_at, taken_press, with_press, with_rest};
 
+use crate::past::Past;
 use arrayvec::ArrayVec;
 use event_bytes::Event;
 use status_line::Deed;
+use std::alloc::AllocError;
 use std::marker::Model;
 
 /// How many presses can be done again at most.
@@ -73,6 +77,25 @@ impl TakenPress {
     }
 }
 
+/// What these events did, or a part of something.
+fn deed_or_part(deed: Option<Deed>) -> Deed
+    ensures { result ≡ deed_or_part deed }
+{
+    match deed {
+        None => Deed::Part,
+        Some(deed) => deed,
+    }
+}
+
+/// The press of these events, which are taken back.
+fn press_back(events: Vec<Event>, past: &mut Past) -> TakenPress
+    ensures past { past.new ≡ left_past (length events.items) past.old }
+    ensures press { result ≡ press_back events.items past.old }
+{
+    let deed = deed_or_part(past.take_back(events.as_slice()));
+    TakenPress::of(events, deed)
+}
+
 /// Takes the last of these events off, if there is one.
 pub fn take_last(events: &mut Vec<Event>) -> Option<Event>
     ensures last { result ≡ slice_get events.old.items (length events.old.items - 1) }
@@ -117,6 +140,37 @@ impl Again {
                 events: 0,
             },
         }
+    }
+
+    /// These events were taken back, and that has led to this place. They are of the presses of which they would be if each
+    /// was one, and the presses of the last ones were taken back first.
+    pub fn of(events: Vec<Event>, place: StorePlace) -> Result<Again, AllocError>
+        ensures { IfOk result (λ again. again ≡ again_of events.items place) }
+    {
+        let mut again = Again::none();
+        let mut past = Past::of(events.as_slice());
+        let mut events = events;
+        for _count in 0..events.len() {
+            again.take_press(&mut events, &mut past)?;
+        }
+        again.place = place;
+        Ok(again)
+    }
+
+    /// The press of the last of these events is taken back, if there are any left.
+    #[tactic(auto, unfolding(crate::specs::Again::one_back))]
+    fn take_press(&mut self, events: &mut Vec<Event>, past: &mut Past) -> Result<(), AllocError>
+        ensures { OnOk result (unmade events.new.items past.new self.new
+            ≡ one_back (unmade events.old.items past.old self.old)) }
+    {
+        if events.as_slice().is_empty() {
+            return Ok(());
+        }
+        past.gather();
+        let first = events.len().saturating_sub(past.count().max(1) as usize);
+        let last = events.split_off(first)?;
+        self.push(press_back(last, past));
+        Ok(())
     }
 
     /// Whether this is the place.

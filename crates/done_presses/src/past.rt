@@ -1,7 +1,7 @@
 //! What the presses of a sitting did, as far as they can be taken back, in the steps in which they are.
 ghost use Rattle.std.specs.Prelude.{◌≡◌, None, length};
 ghost use Rattle.done_presses.specs.Past.{past_after, past_of, past_with, back_count, back_deed, but_last_press, counted, deed_back};
-ghost use Rattle.done_presses.specs.Past.{continues, first_deed, gathered, gathered_from, last_press, left_past, moved_on};
+ghost use Rattle.done_presses.specs.Past.{continues, first_deed, gathered, gathered_from, knows_none, last_press, left_past, moved_on};
 ghost use Rattle.done_presses.specs.Past.{named, no_past, pushed, selects, with_event, with_moves, with_refused};
 
 use crate::kind::PressKind;
@@ -91,6 +91,13 @@ impl Past {
             self.gather();
             self.push(with_event(None, kind, event));
         }
+    }
+
+    /// Whether no press is known.
+    pub fn is_empty(&self) -> bool
+        ensures { result ≡ knows_none self.now }
+    {
+        self.presses.as_slice().is_empty()
     }
 
     /// The press that was done last.

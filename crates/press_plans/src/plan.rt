@@ -380,8 +380,8 @@ fn lead_plan(wish: KeyWish, told: Result<Vec<Event>, WhyNot>) -> Plan
     }
 }
 
-/// The events, of which the last one is made as the hand makes a click, where they call a command: that is what the press
-/// did.
+/// The events, of which the last one is made as the hand makes a click, where they call a command: that is what the
+/// press did.
 fn led_plan(calls: bool, deed: Option<Deed>, events: Vec<Event>) -> Plan
     ensures { seen_plan result
         ≡ (if calls then call_plan deed events.items else Events events.items None) }
@@ -393,7 +393,8 @@ fn led_plan(calls: bool, deed: Option<Deed>, events: Vec<Event>) -> Plan
     }
 }
 
-/// The events that call a command: the last one is made as the hand makes a click, and this is what the press did by it.
+/// The events that call a command: the last one is made as the hand makes a click, and this is what the press did by
+/// it.
 fn call_plan(deed: Option<Deed>, events: Vec<Event>) -> Plan
     ensures { seen_plan result ≡ call_plan deed events.items }
 {

@@ -446,13 +446,13 @@ clicks_lines = (
 
 -- a saying, and what the next click is
 abbrev said : ℕ → Saying → List ℕ
-said w saying = line_of w [] [] None File [] None saying
+said w saying = line_of w [] [] None File 0 [] None saying
 
 abbrev in_widths : List Saying → List (List ℕ × List ℕ × List ℕ)
 in_widths sayings = map (λ saying. (said 46 saying, said 60 saying, said 80 saying)) sayings
 
 abbrev armed : ℕ → Click → List ℕ
-armed w click = line_of w [] [] None File [] (Some click) ForKeys
+armed w click = line_of w [] [] None File 0 [] (Some click) ForKeys
 
 pub first_fit : in_widths first ≡ first_lines
 unfolding line_of words part_ends word_ends last_cut kept_by_parts kept_by_words parts_within

@@ -125,16 +125,18 @@ unfoldable pub called : List ℕ → Deed → List ℕ
 called [] what = told (codes "undid: ") what
 called (b ∷ word) what = codes "undid: " ++ b ∷ word
 
--- the word at a cell, but where it goes up to the edge of its track, and may go on beyond it
+-- whether the word at a cell goes up to the edge of its track, and may go on beyond it
 abbrev pub is_cut : List (List Cell) → ℕ → ℕ → Bool
 is_cut screen x y = x + length (word_from screen x y) == track_end x
 
-abbrev pub whole_word : List (List Cell) → ℕ → ℕ → List ℕ
-whole_word screen x y = if is_cut screen x y then [] else called_word screen x y
+-- there two periods stand for what isn't seen
+abbrev pub word_told : List (List Cell) → ℕ → ℕ → List ℕ
+word_told screen x y =
+    if is_cut screen x y then called_word screen x y ++ codes ".." else called_word screen x y
 
 -- what was taken back: the screen is as it was before, and so shows the word that was called
 unfoldable pub told_back : List (List Cell) → Deed → List ℕ
-told_back screen (deed.Call x y) = called (whole_word screen x y) (deed.Call x y)
+told_back screen (deed.Call x y) = called (word_told screen x y) (deed.Call x y)
 told_back screen what = told (codes "undid: ") what
 
 -- that a text isn't stored, by the name in its menu, where one is seen
@@ -302,13 +304,24 @@ search_line w before sought [] =
 search_line w before sought (b ∷ words) =
     typed_so_far w (sought_words before (nat_lt (length (b ∷ words)) MOST_SOUGHT)) (b ∷ words)
 
+-- how many names of host files begin so, if there are several
+abbrev pub names_told : ℕ → List ℕ
+names_told names =
+    if nat_lt 1 names then codes "  (" ++ decimal names ++ codes " names)" else []
+
+-- the name of a host file, and behind it how many begin so, where there is room for that
+abbrev pub file_question : ℕ → List ℕ → List ℕ → List ℕ
+file_question w told name = if nat_lt w (17 + length told)
+    then typed_so_far w (codes "Type which file? ") name
+    else typed_so_far (w - length told) (codes "Type which file? ") name ++ told
+
 -- the name of a host file, the number of a line, or words that are sought, as far as they are typed, behind words that were
 -- sought last
-abbrev pub question : ℕ → AskedFor → List ℕ → List ℕ → List ℕ
-question w asked_for.File sought name = typed_so_far w (codes "Type which file? ") name
-question w asked_for.Line sought name = typed_so_far w (codes "Line? ") name
-question w asked_for.Words sought name = search_line w false sought name
-question w asked_for.WordsBefore sought name = search_line w true sought name
+abbrev pub question : ℕ → AskedFor → ℕ → List ℕ → List ℕ → List ℕ
+question w asked_for.File names sought name = file_question w (names_told names) name
+question w asked_for.Line names sought name = typed_so_far w (codes "Line? ") name
+question w asked_for.Words names sought name = search_line w false sought name
+question w asked_for.WordsBefore names sought name = search_line w true sought name
 
 -- what is said while a pointer is shown that keys move: how to use it, where nothing else is to be said
 unfoldable pub said_by_pointer : Bool → Saying → Saying
@@ -322,18 +335,22 @@ said_by_pointer true (Unstored x y) = Pointing
 said_by_pointer true saying = saying
 
 -- the line between two presses: a name that is asked for, or else what the next click does, or what is said
-abbrev pub line_by_hand : ℕ → List (List Cell) → List ℕ → Option (List ℕ) → AskedFor → List ℕ
+abbrev pub line_by_hand : ℕ → List (List Cell) → List ℕ → Option (List ℕ) → AskedFor → ℕ → List ℕ
     → Option Click → Saying → List ℕ
-line_by_hand w screen log (Some name) asks sought armed saying = question w asks sought name
-line_by_hand w screen log None asks sought (Some click) saying = parts_within w (click_words click)
-line_by_hand w screen log None asks sought None saying = parts_within w (words screen log saying)
+line_by_hand w screen log (Some name) asks names sought armed saying =
+    question w asks names sought name
+line_by_hand w screen log None asks names sought (Some click) saying =
+    parts_within w (click_words click)
+line_by_hand w screen log None asks names sought None saying =
+    parts_within w (words screen log saying)
 
 -- the line below a screen in a window of so many columns: a question goes before all else
-unfoldable pub line_of : ℕ → List (List Cell) → List ℕ → Option (List ℕ) → AskedFor → List ℕ
+unfoldable pub line_of : ℕ → List (List Cell) → List ℕ → Option (List ℕ) → AskedFor → ℕ → List ℕ
     → Option Click → Saying → List ℕ
-line_of w screen log asked asks sought armed (Asks question) = question_within w screen question
-line_of w screen log asked asks sought armed saying =
-    line_by_hand w screen log asked asks sought armed saying
+line_of w screen log asked asks names sought armed (Asks question) =
+    question_within w screen question
+line_of w screen log asked asks names sought armed saying =
+    line_by_hand w screen log asked asks names sought armed saying
 
 abbrev pub is_in_memory : Saying → Bool
 is_in_memory InMemory = true

@@ -2,7 +2,7 @@
 ghost use Rattle.std.specs.Prelude.{◌≡◌, ◌≤◌, length, option_map, take};
 ghost use Rattle.status_line.specs.Sayings.{click_words, keys_words, other_way, sought_words, typed_so_far};
 ghost use Rattle.status_line.specs.Sayings.{words_again, search_line, line_by_hand, question, search_asked};
-ghost use Rattle.status_line.specs.Sayings.{search_shortly};
+ghost use Rattle.status_line.specs.Sayings.{file_question, names_told, search_shortly};
 
 use crate::fitting::or_shorter;
 use crate::saying::{Saying, SayingLine, cut, line};
@@ -48,17 +48,18 @@ pub(crate) fn line_by_hand(
     log: &SayingLine,
     asked: Option<&[u8]>,
     asks: Asks,
+    names: u8,
     sought: &[u8],
     armed: Option<Click>,
     saying: Saying,
 ) -> SayingLine
     requires { width ≤ 80 }
     ensures value { result.items ≡ line_by_hand width screen.now log.now.items
-        (option_map (λ name. name.now) asked.entry) asks sought.now armed saying }
+        (option_map (λ name. name.now) asked.entry) asks names sought.now armed saying }
     ensures fits { 17 ≤ width → length result.items ≤ width }
 {
     if let Some(name) = asked {
-        return question(width, asks, sought, name);
+        return question(width, asks, names, sought, name);
     }
     match armed {
         Some(click) => cut(width, click_words(click)),
@@ -66,19 +67,50 @@ pub(crate) fn line_by_hand(
     }
 }
 
-/// The name of a host file, the number of a line, or words that are sought, as far as they are typed, behind words that were
-/// sought last.
-fn question(width: usize, asks: Asks, sought: &[u8], name: &[u8]) -> SayingLine
+/// The name of a host file, the number of a line, or words that are sought, as far as they are typed, behind words that
+/// were sought last.
+fn question(width: usize, asks: Asks, names: u8, sought: &[u8], name: &[u8]) -> SayingLine
     requires { width ≤ 80 }
-    ensures value { result.items ≡ question width asks sought.now name.now }
+    ensures value { result.items ≡ question width asks names sought.now name.now }
     ensures fits { 17 ≤ width → length result.items ≤ width }
 {
     match asks {
-        Asks::File => typed_so_far(width, b"Type which file? ", name),
+        Asks::File => file_question(width, names_told(names).as_slice(), name),
         Asks::Line => typed_so_far(width, b"Line? ", name),
         Asks::Words => search_line(width, false, sought, name),
         Asks::WordsBefore => search_line(width, true, sought, name),
     }
+}
+
+/// How many names of host files begin so, if there are several.
+fn names_told(names: u8) -> SayingLine
+    ensures value { result.items ≡ names_told names }
+    ensures short { length result.items ≤ 20 }
+{
+    let mut text = SayingLine::new();
+    if names > 1 {
+        let mut digits = itoa::Buffer::new();
+        text.try_extend_from_slice(b"  (").unwrap();
+        text.try_extend_from_slice(digits.format(names).as_bytes())
+            .unwrap();
+        text.try_extend_from_slice(b" names)").unwrap();
+    }
+    text
+}
+
+/// The name of a host file, and behind it how many begin so, where there is room for that.
+fn file_question(width: usize, told: &[u8], name: &[u8]) -> SayingLine
+    requires columns { width ≤ 80 }
+    requires short { length told.now ≤ 20 }
+    ensures value { result.items ≡ file_question width told.now name.now }
+    ensures fits { 17 ≤ width → length result.items ≤ width }
+{
+    if width < 17 + told.len() {
+        return typed_so_far(width, b"Type which file? ", name);
+    }
+    let mut text = typed_so_far(width - told.len(), b"Type which file? ", name);
+    text.try_extend_from_slice(told).unwrap();
+    text
 }
 
 /// What is asked for, and what is typed, of which the end is seen.

@@ -3,9 +3,9 @@
 //! A `Deed` is what a press did, in words (`deed`). A `Saying` is what there is to be said, and `line_of` is its words over
 //! a screen, of 80 characters at most: a word that was called, or a name, is read from there (`saying`). What the hand
 //! types stands there too (`by_hand`), why something isn't done (`refusals`), and what was taken back (`taken_back`). A
-//! `Question` is asked once (`question`), in the words of `losing`, about the click of the middle button that a press makes
-//! (`clicks`). Which saying is due, by what came about, is in `choosing`, what is seen behind the word of a command in
-//! `named`, and which viewers are open in `opened`. Nothing here knows a store.
+//! `Question` is asked once (`question`), in the words of `losing`, about the click of the middle button that a press
+//! makes (`clicks`). Which saying is due, by what came about, is in `choosing`, what is seen behind the word of a
+//! command in `named`, and which viewers are open in `opened`. Nothing here knows a store.
 #![tactic(auto)]
 
 mod by_hand;

@@ -42,8 +42,8 @@ pub(crate) fn question_words(screen: &Screen, question: Question) -> SayingLine
     }
 }
 
-/// What is asked in so many columns, where this is the screen. Where there is no room for a name that stands first it is
-/// left out.
+/// What is asked in so many columns, where this is the screen. Where there is no room for a name that stands first it
+/// is left out.
 pub(crate) fn question_within(width: usize, screen: &Screen, question: Question) -> SayingLine
     requires { width ≤ 80 }
     ensures value { result.items ≡ question_within width screen.now question }

@@ -8,7 +8,7 @@ ghost use Rattle.status_line.specs.Named.{part_run, row_text, text_from};
 ghost use Rattle.viewer_tracks.specs.declared.display.TheConstants.{COLUMNS};
 
 use crate::question::Question;
-use crate::saying::SayingLine;
+use crate::saying::{SayingLine, line};
 use event_bytes::is_name_byte;
 use screen_cells::Screen;
 use screen_pictures::{Cell, Mark};
@@ -198,20 +198,10 @@ pub(crate) fn deleting_words(cells: &[Cell]) -> SayingLine
 {
     let count = part_run(Part::Listed, cells);
     if count == 0 {
-        return words(b"Press again to delete what is named there");
+        return line(b"Press again to delete what is named there");
     }
     let names = row_characters(&cells[..count.min(54)]);
     deleting(names.as_slice(), going_on(count, cells.len()))
-}
-
-/// Words of 80 characters at most.
-fn words(words: &[u8]) -> SayingLine
-    requires { length words.now ≤ 80 }
-    ensures { result.items ≡ words.now }
-{
-    let mut text = SayingLine::new();
-    text.try_extend_from_slice(words).unwrap();
-    text
 }
 
 /// That documents go whose names are these, and what stands for those that aren't seen.
@@ -220,7 +210,7 @@ fn deleting(names: &[u8], rest: &[u8]) -> SayingLine
     requires rest { length rest.now ≤ 3 }
     ensures { result.items ≡ codes "Press again to delete: " ++ names.now ++ rest.now }
 {
-    let mut text = words(b"Press again to delete: ");
+    let mut text = line(b"Press again to delete: ");
     text.try_extend_from_slice(names).unwrap();
     text.try_extend_from_slice(rest).unwrap();
     text
@@ -250,7 +240,7 @@ pub(crate) fn misnamed_shortly(cells: &[Cell]) -> SayingLine
     ensures { result.items ≡ misnamed_shortly cells.now }
 {
     let name = row_characters(&cells[..part_run(Part::Name, cells).min(31)]);
-    let mut text = words(b"No name: press again for ");
+    let mut text = line(b"No name: press again for ");
     text.try_extend_from_slice(name.as_slice()).unwrap();
     text
 }
@@ -261,7 +251,7 @@ fn misnamed(whole: &[u8], name: &[u8]) -> SayingLine
     requires name { length name.now ≤ 31 }
     ensures { result.items ≡ whole.now ++ codes " is no name: press again for " ++ name.now }
 {
-    let mut text = words(whole);
+    let mut text = line(whole);
     text.try_extend_from_slice(b" is no name: press again for ")
         .unwrap();
     text.try_extend_from_slice(name).unwrap();

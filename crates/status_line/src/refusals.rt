@@ -35,8 +35,8 @@ pub(crate) fn reason(code: u8) -> &'static [u8]
         .unwrap_or(b"refused")
 }
 
-/// There is no document of a name, or it is named twice: the name, or the first of several, is that behind the word that
-/// was called, as far as it is seen.
+/// There is no document of a name, or it is named twice: the name, or the first of several, is that behind the word
+/// that was called, as far as it is seen.
 #[tactic(auto, unfolding(crate::specs::Sayings::no_document))]
 pub(crate) fn no_document(name: &[u8]) -> SayingLine
     requires { length name.now ≤ 31 }

@@ -306,19 +306,20 @@ pub fn line_of(
     log: &SayingLine,
     asked: Option<&[u8]>,
     asks: Asks,
+    names: u8,
     sought: &[u8],
     armed: Option<Click>,
     saying: Saying,
 ) -> SayingLine
     requires { width ≤ 80 }
     ensures value { result.items ≡ line_of width screen.now log.now.items
-        (option_map (λ name. name.now) asked.entry) asks sought.now armed saying }
+        (option_map (λ name. name.now) asked.entry) asks names sought.now armed saying }
     ensures fits { 17 ≤ width → length result.items ≤ width }
 {
     let width = usize::from(width);
     match saying {
         Saying::Asks(question) => question_within(width, screen, question),
-        other => line_by_hand(width, screen, log, asked, asks, sought, armed, other),
+        other => line_by_hand(width, screen, log, asked, asks, names, sought, armed, other),
     }
 }
 

@@ -1,13 +1,12 @@
 //! What was taken back, or done again, in words.
-ghost use Rattle.std.specs.Prelude.{◌≡◌, ◌≤◌, length};
-ghost use Rattle.status_line.specs.Sayings.{called, told, is_cut, told_back, whole_word};
+ghost use Rattle.std.specs.Prelude.{◌≡◌, ◌≤◌, ◌++◌, codes, length};
+ghost use Rattle.status_line.specs.Sayings.{called, told, is_cut, told_back, word_told};
 ghost use Rattle.screen_reading.specs.Frames.{track_end};
 
 use crate::deed::Deed;
 use crate::saying::{SayingLine, line};
-use arrayvec::ArrayVec;
 use screen_cells::Screen;
-use screen_reading::{MOST_WORD, called_word, word_from};
+use screen_reading::{called_word, word_from};
 use viewer_tracks::{COLUMNS, SYSTEM_LEFT};
 
 /// The column behind the track of a column.
@@ -28,15 +27,28 @@ fn is_cut(screen: &Screen, x: u8, y: u8) -> bool
     usize::from(x) + word_from(screen, x, y).len() == track_end(x)
 }
 
-/// The word at a cell, unless it may go on beyond the edge.
-fn whole_word(screen: &Screen, x: u8, y: u8) -> ArrayVec<u8, MOST_WORD>
-    ensures { result.items ≡ whole_word screen.now x y }
+/// The word at a cell, and two periods where it may go on beyond the edge.
+fn word_told(screen: &Screen, x: u8, y: u8) -> SayingLine
+    ensures value { result.items ≡ word_told screen.now x y }
+    ensures short { length result.items ≤ 33 }
 {
+    let word = called_word(screen, x, y);
     if is_cut(screen, x, y) {
-        ArrayVec::new()
+        cut_word(word.as_slice())
     } else {
-        called_word(screen, x, y)
+        line(word.as_slice())
     }
+}
+
+/// A word, and two periods for what isn't seen of it.
+fn cut_word(word: &[u8]) -> SayingLine
+    requires { length word.now ≤ 31 }
+    ensures value { result.items ≡ word.now ++ codes ".." }
+    ensures short { length result.items ≤ 33 }
+{
+    let mut text = line(word);
+    text.try_extend_from_slice(b"..").unwrap();
+    text
 }
 
 /// What was taken back. The screen is as it was before, and so shows the word that was called.
@@ -46,7 +58,7 @@ pub(crate) fn told_back(screen: &Screen, deed: Deed) -> SayingLine
 {
     match deed {
         Deed::Call { x, y } => {
-            let word = whole_word(screen, x, y);
+            let word = word_told(screen, x, y);
             called(word.as_slice(), deed)
         }
         other => told(b"undid: ", other),
@@ -56,7 +68,7 @@ pub(crate) fn told_back(screen: &Screen, deed: Deed) -> SayingLine
 /// The word that was called is taken back; where none is seen, that it was one.
 #[tactic(auto, unfolding(crate::specs::Sayings::called))]
 fn called(word: &[u8], deed: Deed) -> SayingLine
-    requires { length word.now ≤ 31 }
+    requires { length word.now ≤ 33 }
     ensures { result.items ≡ called word.now deed }
 {
     if word.is_empty() {

@@ -40,6 +40,12 @@ only_stops (Ok value) errors sound = tt
 only_stops (Err e) (inl named) sound = named
 only_stops (Err e) (inr (n, bad)) sound = absurd (sound n (cc bad))
 
+-- no error of a desktop is damage
+pub never_damaged : {V : Type 0} (result : Result V Error) (e found : Error) (n : ℕ) → result ≡ Err e → e ≡ found
+    → OfDesktop found → IsErrOf result (Damaged n) → ⊥
+never_damaged result e found n is same (inl memory) bad = absurd (cc (is, same, memory, bad))
+never_damaged result e found n is same (inr fault) bad = absurd (cc (is, same, fault, bad))
+
 -- how many events were taken back, where that went on in the slot beside the one in use
 pub counted_across : {slot number end count events head_number k slot' number' left back : ℕ} → slot < SLOTS → end < count
     → 0 < events → events ≤ JOURNAL_EVENTS → head_number + 1 ≡ number → k ≡ events - (count - end) → slot' ≡ 1 - slot

@@ -19,5 +19,6 @@ pub mod SlotStarts
 pub mod Formers
 mod Passed
 mod Alike
+pub mod Gathered
 pub mod Brought
 pub mod Spelled

@@ -108,6 +108,34 @@ looks_stay d {disk = disk} {disk' = disk'} old new looks kept area lines live to
     looked : d.honest disk → seen_live (now (d.trail disk')).reads new ≡ seen_live (now (d.trail disk)).reads old
     looked honest = λ i. seen (looks.same honest i) (kept i)
 
+-- nothing was done
+pub stays_so : {D : Type 0} (d : Ghosts D) {disk : D} (live : LiveDesktop) → IsLive live → HasTrueCache d disk live
+    → StaysLive d disk disk live live
+stays_so d live is told = record {
+  shown_same = λ honest. refl;
+  kept_same = refl;
+  area_same = refl;
+  renewed_before = λ not. not;
+  place_same = λ not. refl;
+  told = told;
+  live = is;
+}
+
+-- after a look the disk was read once more, for something else
+pub stays_on : {D : Type 0} (d : Ghosts D) {disk mid disk' : D} (old new : LiveDesktop)
+    → IsConfined d.size d.honest d.trail Nowhere disk mid → IsConfined d.size d.honest d.trail Nowhere mid disk'
+    → StaysLive d disk mid old new → StaysLive d disk disk' old new
+stays_on d {mid = mid} {disk' = disk'} old new first second stays = record {
+  shown_same = λ honest. shown_stays (d.trail mid) (d.trail disk') new (second.moments (first.still honest))
+      (apart_nowhere new.pages) ∙ stays.shown_same honest;
+  kept_same = stays.kept_same;
+  area_same = stays.area_same;
+  renewed_before = stays.renewed_before;
+  place_same = stays.place_same;
+  told = live_stays d new second (apart_nowhere new.pages) stays.told;
+  live = stays.live;
+}
+
 -- ---- what is written while the first characters stand at the front of an area
 
 pub apart_record : (p : Pages) (area slot k : ℕ) → base_of p ≡ area_start area → slot < SLOTS → k < JOURNAL_EVENTS

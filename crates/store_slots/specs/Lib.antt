@@ -8,3 +8,4 @@ pub mod Words
 pub mod Beside
 pub mod Comparing
 pub mod Bodies
+pub mod Gathering

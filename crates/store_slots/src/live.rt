@@ -21,6 +21,7 @@ ghost use Rattle.store_slots.specs.Words.{Content, ListsUnread};
 
 mod comparing;
 mod copying;
+mod gathering;
 mod views;
 
 use crate::Error;

@@ -7,6 +7,7 @@ use Rattle.host_files.specs.declared.HostFault.{HostFault}
 use Rattle.host_files.specs.Faults.{fault_number}
 use Rattle.terminal_presses.specs.declared.press.Heard.{Heard}
 use Rattle.terminal_presses.specs.declared.press.Heard.TheVariants.{Byte, Quiet}
+use Rattle.terminal_keyboard.specs.declared.completion.Completion.{Completion}
 use Rattle.terminal_keyboard.specs.declared.keyboard.KeyboardEnd.{KeyboardEnd}
 use Rattle.terminal_keyboard.specs.declared.keyboard.KeyboardEnd.TheVariants.{Closed, Fault}
 use Rattle.terminal_keyboard.specs.declared.terminal.ReadCounts.{ReadCounts}
@@ -23,11 +24,11 @@ is_quiet [] = false
 is_quiet (Byte b ∷ more) = false
 is_quiet (Quiet ∷ more) = true
 
--- a carriage return or a line feed, with which a line ends, and the name of a host file that is typed; and the bytes of
--- Ctrl-Y and Ctrl-Z, and behind an escape byte that of Alt-Z
+-- a carriage return or a line feed, with which a line ends, and the name of a host file that is typed; a tabulator, by which
+-- it is asked how that goes on; and the bytes of Ctrl-Y and Ctrl-Z, and behind an escape byte that of Alt-Z
 abbrev pub is_line_end : Bool → Heard → Bool
 is_line_end after_escape (Byte b) =
-    (b == 13) || (b == 10) || (b == 25) || (b == 26) || (after_escape && (b == 122))
+    (b == 13) || (b == 10) || (b == 9) || (b == 25) || (b == 26) || (after_escape && (b == 122))
 is_line_end after_escape Quiet = false
 
 abbrev pub is_escape : Heard → Bool
@@ -60,6 +61,10 @@ answer_number (Err why) = fault_number why
 -- a name that is asked for, and behind it what is answered
 abbrev pub asked_for : List ℕ → Result ⊤ HostFault → List ℕ
 asked_for name answer = name ++ answer_number answer ∷ []
+
+-- a name of which it is asked how it goes on, and behind it what is answered
+abbrev pub asked_rest : List ℕ → Completion → List ℕ
+asked_rest name told = name ++ told.rest ++ told.count ∷ []
 
 -- A reader, with these bytes left, has come to this end: it gives no more, and the host says that it is no terminal; or a
 -- read has failed. After as many reads as can be counted that gave nothing to tell it counts as failed too.

@@ -8,9 +8,11 @@ ghost use Rattle.terminal_keyboard.specs.Homes.{cause_of, path_meant};
 ghost use Rattle.terminal_keyboard.specs.Hearings.{answer_number};
 ghost use Rattle.terminal_keyboard.specs.declared.desk_keyboard.TheConstants.{MOST_BROUGHT};
 
+use crate::completing::completion_of;
+use crate::completion::note_rest;
 use crate::home::{behind_home, folder_of, path_meant};
 use crate::paste::HostPaste;
-use crate::{Hearing, KeySource, Keyboard, KeyboardEnd, Trace};
+use crate::{Completion, Hearing, KeySource, Keyboard, KeyboardEnd, Trace};
 use host_files::{HostFault, home_folder, open_regular};
 use std::fs::File;
 use std::io::Read;
@@ -22,11 +24,11 @@ pub const MOST_BROUGHT: u64 = 262_144;
 /// A terminal, and files of the host's that are brought in.
 ///
 /// A file is told whole before the terminal is heard again, as if it were pasted: first an escape byte and `[200~`,
-/// then its bytes, 64 at a time, and at the end an escape byte and `[201~`. Where a read of it fails, it ends there, and
-/// an escape byte and `[202~` come behind. An escape byte of the file is told as a byte that can't be typed, so nothing in
-/// it is a key. LF and CR LF are told as they are, since a paste makes carriage returns of them (`texts_are_typed`). The
-/// terminal tells no more at one time than to the end of a line, with which the name of a file ends too: so all that was
-/// pressed behind the name is heard after the file.
+/// then its bytes, 64 at a time, and at the end an escape byte and `[201~`. Where a read of it fails, it ends there,
+/// and an escape byte and `[202~` come behind. An escape byte of the file is told as a byte that can't be typed, so
+/// nothing in it is a key. LF and CR LF are told as they are, since a paste makes carriage returns of them
+/// (`texts_are_typed`). The terminal tells no more at one time than to the end of a line, with which the name of a file
+/// ends too, or to a tabulator: so all that was pressed behind the name is heard after the file.
 #[derive(Drop)]
 pub struct DeskKeyboard<'a, K> {
     host: &'a HostRuntime,
@@ -108,6 +110,13 @@ impl<K: KeySource> Keyboard for DeskKeyboard<'_, K> {
         self.asked.add(name);
         self.asked.add(&[number_of(answer)]);
         answer
+    }
+
+    /// It is looked at the names of the folder that is meant. In front of the name a tilde stands for the home folder.
+    fn complete(&mut self, name: &[u8]) -> Completion {
+        let told = completion_of(self.host, &self.home, name);
+        note_rest(&mut self.asked, name, &told);
+        told
     }
 }
 

@@ -131,6 +131,7 @@ fn ends_line(after_escape: bool, heard: Heard) -> bool
     match heard {
         Heard::Byte(byte) => byte == b'\r'
             || byte == b'\n'
+            || byte == b'\t'
             || byte == CONTROL_Y
             || byte == CONTROL_Z
             || (after_escape && byte == b'z'),

@@ -2,8 +2,9 @@
 ghost use Rattle.std.specs.Prelude.{◌≡◌, ◌++◌, ℕ, Bool, true, false, [], List, Option, IfOk, IfErr, OnErr, is_ok};
 ghost use Rattle.std.specs.Io.KnownBytes.{Consumes};
 ghost use Rattle.terminal_presses.specs.declared.press.Heard.{Heard};
-ghost use Rattle.terminal_keyboard.specs.Hearings.{IsWithinLine, asked_for, heard_bytes};
+ghost use Rattle.terminal_keyboard.specs.Hearings.{IsWithinLine, asked_for, asked_rest, heard_bytes};
 
+use crate::completion::Completion;
 use crate::hearing::Hearing;
 use host_files::HostFault;
 
@@ -29,8 +30,8 @@ pub trait KeySource {
     /// It has come to this end.
     ghost ended: { Self → KeyboardEnd → Type 0 };
 
-    /// Waits for what is heard next, and goes no further than to the end of a line. `Closed`: nothing more will come.
-    /// `Fault`: what is below failed in this call. In both cases nothing was heard.
+    /// Waits for what is heard next, and goes no further than to the end of a line, or to a tabulator. `Closed`:
+    /// nothing more will come. `Fault`: what is below failed in this call. In both cases nothing was heard.
     fn hear(&mut self) -> Result<Hearing, KeyboardEnd>
         ensures told { IfOk result (λ told. heard self.new ≡ heard self.old ++ told) }
         ensures bytes { IfOk result (λ told.
@@ -53,8 +54,8 @@ pub trait Keyboard {
     /// The bytes of the terminal that are still to be heard, where they are known.
     ghost left: { Self → Option (List ℕ) };
 
-    /// The names for which `bring` was called so far: the bytes of each, and behind them what was answered: 0, or the
-    /// number of the cause.
+    /// The names for which `bring` and `complete` were called so far: the bytes of each, and behind them what was answered:
+    /// 0, or the number of the cause; how the name goes on, and the number of names.
     ghost asked: { Self → List ℕ };
 
     /// Whether the text of a host file is on its way in.
@@ -70,8 +71,8 @@ pub trait Keyboard {
     ghost answers: { Self → Self → List ℕ → Result ⊤ HostFault → Type 0 };
 
     /// Waits for what is heard next. It is of a host file until all of that is told, and of the terminal else, where it
-    /// goes no further than to the end of a line. No file comes that `bring` wasn't called for. `Closed`: nothing more
-    /// will come. `Fault`: what is below failed in this call. In both cases nothing was heard.
+    /// goes no further than to the end of a line, or to a tabulator. No file comes that `bring` wasn't called for.
+    /// `Closed`: nothing more will come. `Fault`: what is below failed in this call. In both cases nothing was heard.
     fn hear(&mut self) -> Result<Hearing, KeyboardEnd>
         ensures told { IfOk result (λ told. heard self.new ≡ heard self.old ++ told) }
         ensures unasked { asked self.new ≡ asked self.old }
@@ -93,4 +94,11 @@ pub trait Keyboard {
         ensures answered { answers self.old self.new name.now result }
         ensures unread { left self.new ≡ left self.old }
         ensures brings { brings self.new ≡ is_ok result };
+
+    /// How the name of a host file goes on that begins so. Nothing is heard in this call.
+    fn complete(&mut self, name: &[u8]) -> Completion
+        ensures silent { heard self.new ≡ heard self.old }
+        ensures asked { asked self.new ≡ asked self.old ++ asked_rest name.now result }
+        ensures unread { left self.new ≡ left self.old }
+        ensures brings { brings self.new ≡ brings self.old };
 }

@@ -9,6 +9,8 @@
 //! that is brought in is heard as if it were pasted (`paste`), so it is typed (`laws`).
 #![tactic(auto)]
 
+mod completing;
+mod completion;
 mod desk_keyboard;
 mod hearing;
 mod home;
@@ -21,6 +23,7 @@ mod script;
 mod sequence;
 mod terminal;
 
+pub use completion::Completion;
 pub use desk_keyboard::{DeskKeyboard, MOST_BROUGHT};
 pub use ghost_traces::{Count, Trace};
 pub use hearing::{Hearing, MOST_HEARD};

@@ -6,6 +6,7 @@ ghost use Rattle.terminal_keyboard.specs.Hearings.{IsWithinLine};
 ghost use Rattle.terminal_keyboard.specs.declared.hearing.TheConstants.{MOST_HEARD};
 
 use crate::Trace;
+use crate::completion::{Completion, note_rest};
 use crate::hearing::{Hearing, MOST_HEARD, line_length};
 use crate::keyboard::{Keyboard, KeyboardEnd};
 use host_files::HostFault;
@@ -76,5 +77,12 @@ impl Keyboard for ScriptedKeyboard<'_> {
         self.asked.add(name);
         self.asked.add(&[HostFault::Missing.number()]);
         Err(HostFault::Missing)
+    }
+
+    /// No name begins so.
+    fn complete(&mut self, name: &[u8]) -> Completion {
+        let told = Completion::none();
+        note_rest(&mut self.asked, name, &told);
+        told
     }
 }

@@ -6,11 +6,11 @@ use Rattle.sector_disk.specs.declared.disk.Disk.{Ghosts}
 use Rattle.sector_disk.specs.Trail.{Content}
 use Rattle.desk_journal.specs.View.{StoreView}
 use Rattle.desk_past.specs.Deeds.{PastDeed}
-use Rattle.desk_past.specs.Page.{Page, of_events, of_import, HasPages, deeds_in, end_of_pages, page_sectors}
+use Rattle.desk_past.specs.Page.{Page, of_events, of_import, of_turn, HasPages, deeds_in, end_of_pages, page_sectors}
 use Rattle.desk_past.specs.Past.{AreGood, all_deeds}
 use Rattle.desk_past.specs.Reading.{HasPage, IsRead, many_deeds}
 use Rattle.desk_past.specs.declared.pages.PageDeeds.{PageDeeds}
-use Rattle.desk_past.specs.declared.pages.PageDeeds.TheVariants.{Events, Import}
+use Rattle.desk_past.specs.declared.pages.PageDeeds.TheVariants.{Events, Import, Turn}
 use Rattle.desk_past.proofs.Carrying.{end_above}
 use Rattle.desk_past.proofs.Moments.{joined, many_posted}
 use Rattle.told_pasts.specs.Telling.{IsToldOn}
@@ -33,8 +33,13 @@ none_counted c end pages at written good up_to =
 many_read : (deeds : PageDeeds) (p : Page) → IsRead deeds p → many_deeds deeds ≡ length (deeds_in p)
 many_read (Events events) (of_events version all) is = ap length is ∙ sym (many_posted all)
 many_read (Events events) (of_import version all) is = absurd is
+many_read (Events events) (of_turn version k to) is = absurd is
 many_read (Import documents) (of_events version all) is = absurd is
 many_read (Import documents) (of_import version all) is = refl
+many_read (Import documents) (of_turn version k to) is = absurd is
+many_read (Turn n) (of_events version all) is = absurd is
+many_read (Turn n) (of_import version all) is = absurd is
+many_read (Turn n) (of_turn version k to) is = refl
 
 -- before the end one is left
 some_left : (todo : List Page) (at end : ℕ) → end_of_pages at todo ≡ end → at < end

@@ -9,7 +9,7 @@ use Rattle.viewer_tracks.specs.declared.tracks.Place.{Place}
 use Rattle.desktop_definitions.specs.Desktop.{Desktop}
 use Rattle.desktop_definitions.specs.Shown.{shown_screen}
 use Rattle.document_filing.specs.Bringing.{Documents}
-use Rattle.desk_past.specs.Deeds.{PastDeed, posted, brought, after_deed}
+use Rattle.desk_past.specs.Deeds.{PastDeed, posted, brought, turned, after_deed}
 use Rattle.desk_views.specs.Info.{place_at}
 use Rattle.screen_reading.specs.Called.{called_word, word_from}
 use Rattle.status_line.specs.Deeds.{deed_of, deed_words, is_middle}
@@ -80,10 +80,15 @@ abbrev pub import_line : Documents → List ℕ
 import_line documents = codes "import of "
     ++ join_by (λ (document : List ℕ × List ℕ). document.0) (codes ", ") documents
 
+-- the desktop became what it was once
+abbrev pub turn_line : List ℕ
+turn_line = codes "turn back to an earlier moment"
+
 -- what was done, in words
 abbrev pub deed_line : Desktop → PastDeed → List ℕ
 deed_line d (posted event) = event_line d event
 deed_line d (brought documents) = import_line documents
+deed_line d (turned to) = turn_line
 
 -- a line for each of some deeds, the first one first: each is over the desktop that stood before it
 abbrev pub told_lines : Desktop → List PastDeed → List (List ℕ)

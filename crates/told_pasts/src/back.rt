@@ -2,7 +2,6 @@
 ghost use Rattle.std.specs.Prelude.{◌≡◌, ◌+◌, ◌≤◌, ◌<◌, ◌^◌, ℕ, List, length, IfOk, IsSomeAnd, OnOk};
 ghost use Rattle.sector_disk.specs.Trail.{now};
 ghost use Rattle.desktop_definitions.specs.Desktop.{Desktop};
-ghost use Rattle.store_layout.specs.declared.layout.TheConstants.{STORE_SECTORS};
 ghost use Rattle.desk_past.specs.Deeds.{PastDeed};
 ghost use Rattle.desk_past.specs.Going.{LiesInHalf};
 ghost use Rattle.desk_past.specs.Page.{Page, HasPages, end_of_pages};
@@ -13,7 +12,7 @@ ghost use Rattle.told_pasts.specs.Reaching.{GoesBackBy, moment_before, none_if_m
 use crate::reach::{reach_of, sum_of};
 use desk_journal::{Error, Store};
 use desk_past::{PageDeeds, PageRead, moment, page_in};
-use sector_disk::Disk;
+use sector_disk::{Disk, MemoryDisk};
 use std::alloc::Global;
 
 /// Pages from one sector up to another: how many deeds they have, or the first sector where a page is missing.
@@ -23,18 +22,16 @@ pub enum Pages {
     Missing(u32),
 }
 
-/// The store as it was before so many of its last deeds, on another disk, by the past behind it. None where it keeps
+/// The store as it was before so many of its last deeds, in memory, by the past behind it. None where it keeps
 /// none, or one that doesn't reach so far.
 ///
 /// Errors: those of `reach_of` and of `moment`.
-pub fn shown_before<D: Disk, E: Disk + Drop>(
+pub fn shown_before<D: Disk>(
     alloc: Global,
     store: &mut Store<D>,
     count: u32,
-    disk: E,
-) -> Result<Option<Store<E>>, Error>
-    requires { STORE_SECTORS ≤ E.size disk }
-    ensures comes_back { IfOk result (λ found. D.honest store.old.disk → E.honest disk
+) -> Result<Option<Store<MemoryDisk>>, Error>
+    ensures comes_back { IfOk result (λ found. D.honest store.old.disk
         → (start : Start) (deeds : List PastDeed) (desktop : Desktop)
         → (keeps : KeepsAll D.Disk start deeds desktop store.old) → LiesInHalf D.Disk keeps
         → count ≤ length deeds → start.before + length deeds < 2 ^ 64
@@ -49,7 +46,7 @@ pub fn shown_before<D: Disk, E: Disk + Drop>(
     if count as u64 > now {
         return Ok(None);
     }
-    moment(alloc, store, reach.half.base, now - count as u64, disk)
+    moment(alloc, store, reach.half.base, now - count as u64)
 }
 
 /// What was found, and none where no start stands, or a damaged one.
@@ -72,13 +69,13 @@ pub fn takes_back<D: Disk>(alloc: Global, store: &mut Store<D>, count: u32) -> R
     Ok(taken.len() == count as usize)
 }
 
-/// How much a page says was done: an import is one deed.
+/// How much a page says was done: an import is one deed, and so is a turn.
 fn many_of(deeds: &PageDeeds) -> u64
     ensures { result ≡ many_deeds deeds.now }
 {
     match deeds {
         PageDeeds::Events(events) => events.len() as u64,
-        PageDeeds::Import(_) => 1,
+        PageDeeds::Import(_) | PageDeeds::Turn(_) => 1,
     }
 }
 

@@ -21,7 +21,7 @@ use crate::words::{import_line, line_of};
 use desk_journal::{Document, Error, Store};
 use desk_past::{PageDeeds, PageRead, moment, page_in};
 use event_bytes::Event;
-use sector_disk::{Disk, FILE_SECTORS, MemoryDisk};
+use sector_disk::{Disk, MemoryDisk};
 use std::alloc::{AllocError, Global};
 use store_layout::standing_law;
 
@@ -75,8 +75,7 @@ fn start_of<D: Disk>(
     if count > before {
         return Ok(None);
     }
-    let disk = MemoryDisk::new(alloc, FILE_SECTORS)?;
-    moment(alloc, store, reach.half.base, before - count, disk)
+    moment(alloc, store, reach.half.base, before - count)
 }
 
 /// Adds the lines of what pages say was done, from sector `first` up to sector `end`.
@@ -131,7 +130,7 @@ fn add_page<E: Disk>(
 
 /// Adds the lines of what was done, which is done then.
 ///
-/// Errors: those of `add_lines` and of `Store::bring`.
+/// Errors: those of `add_lines` and of `Store::bring`; `Damaged` of a turn, which no press and no command makes yet.
 fn add_deeds<E: Disk>(
     alloc: Global,
     shown: &mut Store<E>,
@@ -144,6 +143,7 @@ fn add_deeds<E: Disk>(
     match deeds {
         PageDeeds::Events(events) => add_lines(alloc, shown, events.as_slice(), lines),
         PageDeeds::Import(documents) => add_import(alloc, shown, documents.as_slice(), lines),
+        PageDeeds::Turn(_) => Err(Error::Damaged(0)),
     }
 }
 

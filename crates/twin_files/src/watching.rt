@@ -8,7 +8,7 @@ use crate::legs::LEG_SECTORS;
 use host_files::{HostFault, open_regular};
 use sector_disk::{Disk, FILE_SECTORS, FileDisk};
 use std::fs::File;
-use terminal_keyboard::{Hearing, Keyboard, KeyboardEnd};
+use terminal_keyboard::{Completion, Hearing, Keyboard, KeyboardEnd};
 use terminal_presses::Heard;
 use twin_disk::{Leg, flag_at};
 
@@ -138,5 +138,9 @@ impl<K: Keyboard, D: Disk + Drop> Keyboard for WatchedKeyboard<K, D> {
 
     fn bring(&mut self, name: &[u8]) -> Result<(), HostFault> {
         self.keyboard.bring(name)
+    }
+
+    fn complete(&mut self, name: &[u8]) -> Completion {
+        self.keyboard.complete(name)
     }
 }

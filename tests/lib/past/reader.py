@@ -1,6 +1,6 @@
 #!/usr/bin/env python3
 """reader.py FILE SECTORS K DISK SCRIPT: the desktop of moment K of the store in FILE, a disk of so many sectors, as docs/PAST.md
-and docs/STORE.md tell: a store DISK to start from, and what was done from there as lines of a script; an import of N documents
+and docs/STORE.md tell: a store DISK to start from, and what leads from there as lines of a script; an import of N documents
 is a line `import N`, and a line `document NAME TEXT` for each. It returns 1 where no past leads there."""
 import sys
 
@@ -91,6 +91,14 @@ def import_in(data, count):
     return [lines], place
 
 
+def turn_in(data, count):
+    """The turn on a page, as the moment to which it leads, and where it ends."""
+    return [number(data[16:24])] * count, 24
+
+
+READERS = {1: events_in, 2: import_in, 3: turn_in}
+
+
 def journal(disk, base, slot):
     lines, k = [], 0
     at = base + 5 + 512 * slot
@@ -101,20 +109,27 @@ def journal(disk, base, slot):
 
 
 def pages(disk, at, end):
-    """What the pages from one sector up to another one say was done, page by page: each event, and each import, as lines."""
+    """What the pages from one sector up to another one say was done, page by page: each event, and each import, as lines; of a turn
+    the moment."""
     while at < end:
         front = disk.at(at)
         kind, version, count, length = (number(front[4 * k:4 * k + 4]) for k in range(4))
-        if kind not in (1, 2) or version != 3:
+        if kind not in READERS or version != 3:
             raise Gone(f'no page in sector {at}')
         sectors = -(-(16 + length) // SECTOR)
-        found, place = (events_in if kind == 1 else import_in)(disk.at(at, sectors), count)
+        found, place = READERS[kind](disk.at(at, sectors), count)
         if place != 16 + length:
             raise Gone(f'a page of another length in sector {at}')
         yield found
         at += sectors
     if at != end:
         raise Gone('a page beyond the end')
+
+
+def way_to(deeds):
+    """The deeds that lead from the start to where these lead: those before the moment of the last turn, and those behind it."""
+    turns = [place for place, deed in enumerate(deeds) if isinstance(deed, int)]
+    return way_to(deeds[:deeds[turns[-1]]]) + deeds[turns[-1] + 1:] if turns else deeds
 
 
 def half_with(sectors, next_):
@@ -141,7 +156,10 @@ def moment(disk, sectors, k):
         raise Gone('the numbers do not agree')
     if k < first:
         raise Gone('it is older than the half')
-    return base, None, [line for deed in deeds[:k - first] for line in deed]
+    done = [deed - first if isinstance(deed, int) else deed for deed in deeds[:k - first]]
+    if any(isinstance(deed, int) and not 0 <= deed <= place for place, deed in enumerate(done)):
+        raise Gone('a turn to a moment that the half does not have')
+    return base, None, [line for deed in way_to(done) for line in deed]
 
 
 def main(path, sectors, k, to, script):

@@ -532,6 +532,16 @@ def steps_of_undo(trial):
     trial.leaves(sitting, forgets=True)
 
 
+def words_at_the_edge(trial):
+    """Of a command that Ctrl-E has called undo tells the word, and of one that goes up to the edge as much as stands before that."""
+    for blanks, word in ((20, 'System.Directory'), (40, 'System.Di..')):
+        sitting = trial.sit_anew()
+        sitting.press(b'\x17' + b' ' * blanks + b'System.Directory\x05\x1a')
+        trial.tells(sitting, f'undid: {word}')
+        trial.leaves(sitting, forgets=True)
+        os.remove(trial.path)
+
+
 def forgetting(trial):
     """Leaving asks while what was taken back can be done again, and the second key leaves. Nothing is asked where something else
     was done since, without questions, and where the terminal goes away."""
@@ -1138,6 +1148,7 @@ TRIALS = {
     'keys along a row': along_a_row,
     'Alt-Z': alt_z,
     'steps of undo': steps_of_undo,
+    'words at the edge': words_at_the_edge,
     'what is forgotten': forgetting,
     'presses that are refused': refused_presses,
     'the reach of undo': reach_of_undo,

@@ -105,12 +105,12 @@ def called_word(screen, x, y):
     return row[start:end][:31]
 
 
-def whole_word(screen, x, y):
-    """The same, unless it goes up to the edge of its track, where it may be cut."""
+def word_told(screen, x, y):
+    """The same, and two periods where it goes up to the edge of its track, and may go on beyond it."""
     row = screen.rows[ROWS - 1 - y].ljust(COLUMNS)
     edge = 50 if x < 50 else COLUMNS
     is_cut = all(is_in_word(character) for character in row[x:edge])
-    return '' if is_cut else called_word(screen, x, y)
+    return called_word(screen, x, y) + '..' * is_cut
 
 
 def opens_document(word):

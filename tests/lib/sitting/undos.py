@@ -8,7 +8,7 @@ import sys
 import tempfile
 
 from main import begin, beginning, characters
-from model import Model, is_draw, whole_word
+from model import Model, is_draw, word_told
 from presses import FILES, drag, press
 from sitting import MODES, Ended, Sitting, TooSlow
 
@@ -67,7 +67,7 @@ class Deed:
         """In the words of the line below. The screen as it was before the press shows the word that it called."""
         if self.typed is not None:
             return f'typed {self.typed} character' + ('s' if self.typed != 1 else '')
-        return screen and self.cell and whole_word(screen, *self.cell) or self.words
+        return screen and self.cell and word_told(screen, *self.cell) or self.words
 
 
 WORD, GAP, MOVES, SELECTS, ALONE = range(5)  # what a press was

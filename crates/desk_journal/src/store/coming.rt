@@ -20,7 +20,7 @@ use store_slots::{Document, Error, LiveDesktop, SlotPlace, renew};
 
 /// Writes the bytes to sectors behind the store, and settles them; then puts the desktop into the other slot, and makes
 /// that the slot in use.
-fn renew_behind<D: Disk>(
+pub(super) fn renew_behind<D: Disk>(
     disk: &mut D,
     desktop: &mut LiveDesktop,
     place: SlotPlace,

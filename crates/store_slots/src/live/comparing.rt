@@ -3,7 +3,7 @@ ghost use Rattle.std.specs.Prelude.{◌≡◌, ◌≤◌, IfOk};
 ghost use Rattle.std.specs.Bool.{Decides};
 ghost use Rattle.seen_desktops.specs.Shape.{all_characters_of};
 ghost use Rattle.store_slots.specs.Errors.{OfDesktop};
-ghost use Rattle.store_slots.specs.Live.{IsLiveOn, seen_live};
+ghost use Rattle.store_slots.specs.Live.{IsLiveOn, StaysLive, seen_live};
 ghost use Rattle.store_slots.specs.Words.{FailsAs, IsConfined, Nowhere, now};
 
 use super::LiveDesktop;
@@ -29,6 +29,7 @@ impl LiveDesktop {
         requires room { STORE_SECTORS ≤ D.size disk.old }
         ensures read { IfOk result (λ all. D.honest disk.old
             → all.items ≡ all_characters_of (seen_live (now (D.trail disk.old)).reads self.old)) }
+        ensures kept { StaysLive D.Disk disk.old disk.new self.old self.new }
         ensures disk { IsConfined D.size D.honest D.trail Nowhere disk.old disk.new }
         ensures faults { FailsAs Error.Fault OfDesktop result (D.failures disk.old)
             (D.failures disk.new) }
@@ -49,6 +50,7 @@ impl LiveDesktop {
         ensures same { IfOk result (λ same. D.honest disk.old → Decides same
             (seen_live (now (D.trail disk.old)).reads self.old
             ≡ seen_live (now (D.trail disk.old)).reads other.old)) }
+        ensures kept { StaysLive D.Disk disk.old disk.new self.old self.new }
         ensures disk { IsConfined D.size D.honest D.trail Nowhere disk.old disk.new }
         ensures faults { FailsAs Error.Fault OfDesktop result (D.failures disk.old)
             (D.failures disk.new) }

@@ -1,8 +1,6 @@
-use Rattle.std.proofs.Common.{◌≡◌, ◌∙◌, ap, subst, sym}
-use Rattle.std.proofs.lemmas.Bool.{false≢true}
+use Rattle.std.proofs.Common.{◌∙◌, sym}
 use Rattle.std.proofs.lemmas.Result.{IfOk-weaker, err_from_is_err_and}
-use Rattle.store_slots.specs.declared.error.Error.TheVariants.{MustReopen, NoMemory, Worn}
-use Rattle.desk_past.specs.Bringing.{IsAhead}
+use Rattle.store_slots.specs.declared.error.Error.TheVariants.{MustReopen, Worn}
 use Rattle.desk_past.proofs.ImportWays.{all_or_none_behind, both_ok, brings_behind, kept_behind, kept_or_not, left_then}
 use Rattle.desk_past.proofs.ImportWays.{none_brought, none_forgotten, none_reopen, none_worn, not_last, reopen_behind}
 use Rattle.desk_past.proofs.ImportWays.{told_epoch, unwritten_behind, worn_behind}
@@ -17,7 +15,8 @@ returns-then-info-clause-ok g c =
     IfOk-weaker c.bring.result _ _ (λ reply came. kept_or_not d (still_none d c.args.store.now usable)
     c.shows_what_crashes_leave.ensures.durable c.shows_what_crashes_leave.ensures.quiet c.args.documents.now reply came
     (λ honest start deeds desktop keeps can.
-    can.later (sym (told_epoch c.in_ok-info.was (c.info.ensures.value usable)) ∙ c.if-info.true))) c.bring.ensures.ok
+    can.add.later (sym (told_epoch c.in_ok-info.was (c.info.ensures.value usable)) ∙ c.if-info.true)))
+    c.bring.ensures.ok
 
 pub returns-then-info-clause-memory : goal.returns-then-info-clause-memory
 returns-then-info-clause-memory g c = λ is.
@@ -33,7 +32,7 @@ returns-then-info-clause-left g c =
 pub returns-then-info-clause-nothing_forgotten : goal.returns-then-info-clause-nothing_forgotten
 returns-then-info-clause-nothing_forgotten g c = λ honest start deeds desktop keeps can.
     let usable = usable_of c.args.store.now.must_reopen c.info.ensures.reopen c.in_ok-info.was in
-    absurd (can.later (sym (told_epoch c.in_ok-info.was (c.info.ensures.value usable)) ∙ c.if-info.true))
+    absurd (can.add.later (sym (told_epoch c.in_ok-info.was (c.info.ensures.value usable)) ∙ c.if-info.true))
 
 pub returns-in_err-ahead-clause-any_moment : goal.returns-in_err-ahead-clause-any_moment
 returns-in_err-ahead-clause-any_moment g c =
@@ -116,12 +115,10 @@ pub returns-clause-ok : goal.returns-clause-ok
 returns-clause-ok g c =
     both_ok c.bring_behind.result c.bring_behind.ensures.ok c.bring_behind.ensures.comes.done (λ reply came goes.
     kept_behind g.D.Disk c.pages_ahead.ensures.still c.shows_what_crashes_leave.ensures.durable
-    c.shows_what_crashes_leave.ensures.quiet
-    c.args.documents.now c.in-Some.ahead.past c.in-Some.ahead.from c.in-Some.ahead.limit _
-    c.bring_behind.new.self c.shows_what_crashes_leave-2.ensures.quiet c.bring_behind.ensures.behaves.within
-    (λ honest start deeds desktop keeps. subst (λ l. IsAhead g.D.Disk c.args.documents.now c.in-Some.ahead.past
-    c.in-Some.ahead.from c.in-Some.ahead.limit l keeps) (sym c.as_slice.ensures.value)
-    ((rw c.in-Some.is at c.in_ok-ahead.ensures.ahead) honest start deeds desktop keeps)) reply came goes)
+    c.shows_what_crashes_leave.ensures.quiet c.args.documents.now c.in-Some.ahead.past c.in-Some.ahead.from
+    c.in-Some.ahead.limit c.bring_behind.new.self c.shows_what_crashes_leave-2.ensures.quiet
+    c.bring_behind.ensures.behaves.within c.as_slice.ensures.value (rw c.in-Some.is at c.in_ok-ahead.ensures.ahead)
+    reply came goes)
 
 pub returns-clause-memory : goal.returns-clause-memory
 returns-clause-memory g c = λ is.
@@ -150,10 +147,7 @@ returns-clause-reopen g c =
 pub returns-clause-nothing_forgotten : goal.returns-clause-nothing_forgotten
 returns-clause-nothing_forgotten g c =
     brings_behind g.D.Disk c.pages_ahead.ensures.still c.shows_what_crashes_leave.ensures.durable
-    c.shows_what_crashes_leave.ensures.quiet
-    c.args.documents.now c.in-Some.ahead.past c.in-Some.ahead.from c.in-Some.ahead.limit _
-    c.bring_behind.new.self c.shows_what_crashes_leave-2.ensures.quiet c.bring_behind.ensures.behaves.within
-    (λ honest start deeds desktop keeps. subst (λ l. IsAhead g.D.Disk c.args.documents.now c.in-Some.ahead.past
-    c.in-Some.ahead.from c.in-Some.ahead.limit l keeps) (sym c.as_slice.ensures.value)
-    ((rw c.in-Some.is at c.in_ok-ahead.ensures.ahead) honest start deeds desktop keeps))
+    c.shows_what_crashes_leave.ensures.quiet c.args.documents.now c.in-Some.ahead.past c.in-Some.ahead.from
+    c.in-Some.ahead.limit c.bring_behind.new.self c.shows_what_crashes_leave-2.ensures.quiet
+    c.bring_behind.ensures.behaves.within c.as_slice.ensures.value (rw c.in-Some.is at c.in_ok-ahead.ensures.ahead)
     c.bring_behind.ensures.comes.moments

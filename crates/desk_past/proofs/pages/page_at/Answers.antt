@@ -1,7 +1,10 @@
+use Rattle.std.specs.Prelude.{Err}
+use Rattle.std.proofs.lemmas.Result.{err_from_is_err_and}
 use Rattle.std.proofs.Common.{◌≡◌, ◌+◌, ◌*◌, ◌∙◌, ap, arith, length, refl, sym}
 use Rattle.sector_disk.specs.Trail.{now}
 use Rattle.sector_disk.specs.Stored.{stored}
 use Rattle.sector_disk.specs.declared.disk.TheConstants.{SECTOR_BYTES}
+use Rattle.desk_past.proofs.InMemory.{error_from, none_failed}
 use Rattle.desk_past.proofs.PageReads.{count_is, kind_is, sectors_are, spelled_there, version_is}
 use Rattle.desk_past.proofs.StillReads.{still_both, still_reads}
 use Rattle.desk_past.proofs.pages.page_at.Goals as goal
@@ -80,3 +83,9 @@ returns-clause-found g c = λ honest p page.
           c.split_at-2.ensures.back),
       ap (λ n. c.args.at + n) are,
     )
+
+pub returns-in_err-bytes-clause-faults : goal.returns-in_err-bytes-clause-faults
+returns-in_err-bytes-clause-faults g c =
+    let p = err_from_is_err_and c.from_residual-in_err-bytes.result c.from_residual-in_err-bytes.ensures.1 in
+    let failed : c.bytes_at-2.result ≡ Err p.0 = cc (p.1, p.2, c.in_err-bytes.was) in
+    error_from c.bytes_at-2.ensures.faults (λ e named. named) (none_failed c.in_ok-first.ensures.faults) failed p.1

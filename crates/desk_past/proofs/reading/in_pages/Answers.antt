@@ -1,11 +1,13 @@
-use Rattle.std.proofs.Common.{◌≡◌, ◌+◌, ◌-◌, ◌∙◌, ap, arith, length, subst, sym, take}
+use Rattle.std.proofs.Common.{◌≡◌, ◌+◌, ◌∙◌, ap, arith, length, refl, subst, sym, ◌≤◌}
+use Rattle.std.specs.Prelude.{Err}
+use Rattle.std.proofs.lemmas.Result.{err_from_is_err_and}
 use Rattle.sector_disk.specs.Trail.{now}
-use Rattle.desk_past.specs.Deeds.{after_deeds}
 use Rattle.store_layout.specs.declared.layout.TheConstants.{STORE_SECTORS}
 use Rattle.desk_past.specs.Page.{HasPages}
-use Rattle.desk_past.specs.Past.{all_deeds}
+use Rattle.desk_past.proofs.Gone.{all_done, done_to, still_honest}
+use Rattle.desk_past.proofs.InMemory.{calm_from, doing_no_fault, error_from, fails_none, laying_of_doing, laying_of_reads}
+use Rattle.desk_past.proofs.InMemory.{laying_of_steps, none_failed, steps_of_doing, steps_of_reads, stop_from}
 use Rattle.desk_past.proofs.Opened.{pages_end, pages_there, start_room, start_there}
-use Rattle.desk_past.proofs.Stepping.{moment_in_pages}
 use Rattle.desk_past.proofs.StillReads.{still_both, still_reads}
 use Rattle.desk_past.proofs.reading.in_pages.Goals as goal
 use Rattle.desk_past.proofs.reading.in_pages.Goals.{then-told-sectors-via-then-told-sectors, then-told-sectors-via-else-told-sectors+then-told-lt-STORE_SECTORS, then-told-sectors-via-else-told-sectors+else-told-lt-STORE_SECTORS+then-base-told}
@@ -37,46 +39,137 @@ returns-then-k-first-clause-is_one g c = λ honest other start deeds desktop kee
     let first = (rw c.in-Some.is at c.in_ok-first.ensures.sum) shown.honest t.standing shown.shows in
     omega (arith, first, t.counted, low, c.if-k-first.true)
 
+pub returns-in_err-legs-clause-still : goal.returns-in_err-legs-clause-still
+returns-in_err-legs-clause-still g c = still_both g.D.Disk c.opened_at.ensures.still c.legs_to.ensures.still
+
+pub returns-in_err-go_legs-clause-still : goal.returns-in_err-go_legs-clause-still
+returns-in_err-go_legs-clause-still g c = still_both g.D.Disk
+    (still_both g.D.Disk c.opened_at.ensures.still c.legs_to.ensures.still) c.go_legs.ensures.still
+
+pub returns-in_default-2-clause-still : goal.returns-in_default-2-clause-still
+returns-in_default-2-clause-still g c = still_both g.D.Disk c.opened_at.ensures.still c.legs_to.ensures.still
+
 pub returns-then-not-branch-clause-still : goal.returns-then-not-branch-clause-still
-returns-then-not-branch-clause-still g c = still_both g.D.Disk c.opened_at.ensures.still c.in_ok-step_pages.ensures.still
+returns-then-not-branch-clause-still g c = still_both g.D.Disk
+    (still_both g.D.Disk c.opened_at.ensures.still c.legs_to.ensures.still) c.go_legs.ensures.still
 
 pub returns-clause-still : goal.returns-clause-still
-returns-clause-still g c = still_both g.D.Disk c.opened_at.ensures.still c.in_ok-step_pages.ensures.still
+returns-clause-still g c = still_both g.D.Disk
+    (still_both g.D.Disk c.opened_at.ensures.still c.legs_to.ensures.still) c.go_legs.ensures.still
+
+pub returns-in_default-2-clause-is_one : goal.returns-in_default-2-clause-is_one
+returns-in_default-2-clause-is_one g c = λ honest other start deeds desktop keeps told is low high.
+    let d = g.D.Disk in
+    let r = keeps.remembers in
+    let t = r.past.written.0 in
+    let shown = c.in_ok-shown.ensures.shown honest other t.standing (start_there d keeps c.args.base is) in
+    let first = (rw c.in-Some.is at c.in_ok-first.ensures.sum) shown.honest t.standing shown.shows in
+    let still = c.opened_at.ensures.still in
+    let quiet = c.shows_what_crashes_leave.ensures.quiet c.requires.usable honest in
+    let same = still_reads d still quiet honest in
+    let before = ap (λ p. p.before) told in
+    absurd ((rw c.in_default-2.is at c.in_ok-legs.ensures.ways) (still.left.disk.device.still honest) start r.pages
+    (sym (first ∙ t.counted))
+    (subst (λ x. HasPages x (c.args.base + STORE_SECTORS) r.pages) (sym same) (pages_there d keeps c.args.base is))
+    r.past.good r.past.turns (pages_end d keeps c.args.base is ∙ sym (ap (λ p. p.next) told))
+    (omega (arith, first, t.counted, r.past.counted, before, high)))
 
 pub returns-then-not-branch-clause-is_one : goal.returns-then-not-branch-clause-is_one
 returns-then-not-branch-clause-is_one g c = λ honest other start deeds desktop keeps told is low high.
-    let d = g.D.Disk in
-    let r = keeps.remembers in
-    let t = r.past.written.0 in
-    let shown = c.in_ok-shown.ensures.shown honest other t.standing (start_there d keeps c.args.base is) in
+    let t = keeps.remembers.past.written.0 in
+    let shown = c.in_ok-shown.ensures.shown honest other t.standing (start_there g.D.Disk keeps c.args.base is) in
     let first = (rw c.in-Some.is at c.in_ok-first.ensures.sum) shown.honest t.standing shown.shows in
-    let still = c.opened_at.ensures.still in
-    let same = still_reads d still (c.shows_what_crashes_leave.ensures.quiet c.requires.usable honest) honest in
-    let before = ap (λ p. p.before) told in
-    let led = c.in_ok-step_pages.ensures.led (still.left.disk.device.still honest)
-    (c.in_ok-first.ensures.still.left.disk.device.still shown.honest) r.pages
-    (subst (λ x. HasPages x (c.args.base + STORE_SECTORS) r.pages) (sym same) (pages_there d keeps c.args.base is))
-    r.past.good (pages_end d keeps c.args.base is ∙ sym (ap (λ p. p.next) told))
-    (omega (arith, first, t.counted, r.past.counted, before, high)) in
-    (let wrong : ⊥ = cc (led.0, c.if-not-branch.true) in wrong)
+    let all = all_done g.D.Disk g.E.Disk keeps c.args.base is honest
+    (c.shows_what_crashes_leave.ensures.quiet c.requires.usable honest) c.opened_at.ensures.still c.legs_to.ensures.still
+    c.args.told told c.in-Some.first c.args.k (first ∙ t.counted) high c.in-Some-2.legs.items
+    (rw c.in-Some-2.is at c.in_ok-legs.ensures.ways) c.in_ok-go_legs.ensures.led in
+    absurd (let wrong : ⊥ = cc (all, c.if-not-branch.true) in wrong)
 
 pub returns-clause-is_one : goal.returns-clause-is_one
 returns-clause-is_one g c = λ honest other start deeds desktop keeps told is low high.
-    let d = g.D.Disk in
-    let r = keeps.remembers in
-    let t = r.past.written.0 in
-    let shown = c.in_ok-shown.ensures.shown honest other t.standing (start_there d keeps c.args.base is) in
+    let t = keeps.remembers.past.written.0 in
+    let shown = c.in_ok-shown.ensures.shown honest other t.standing (start_there g.D.Disk keeps c.args.base is) in
     let first = (rw c.in-Some.is at c.in_ok-first.ensures.sum) shown.honest t.standing shown.shows in
-    let still = c.opened_at.ensures.still in
-    let same = still_reads d still (c.shows_what_crashes_leave.ensures.quiet c.requires.usable honest) honest in
-    let before = ap (λ p. p.before) told in
-    let led = c.in_ok-step_pages.ensures.led (still.left.disk.device.still honest)
-    (c.in_ok-first.ensures.still.left.disk.device.still shown.honest) r.pages
-    (subst (λ x. HasPages x (c.args.base + STORE_SECTORS) r.pages) (sym same) (pages_there d keeps c.args.base is))
-    r.past.good (pages_end d keeps c.args.base is ∙ sym (ap (λ p. p.next) told))
-    (omega (arith, first, t.counted, r.past.counted, before, high)) in
-    led.1
-    ∙ ap (λ x. after_deeds x (take (c.args.k - c.in-Some.first) (all_deeds r.pages)))
-    (c.in_ok-first.ensures.still.left.desktop shown.honest ∙ shown.desktop ∙ t.is)
-    ∙ ap (λ n. after_deeds start.desktop (take (c.args.k - n) (all_deeds r.pages))) (first ∙ t.counted)
-    ∙ moment_in_pages r c.args.k low (omega (arith, before, high))
+    done_to g.D.Disk g.E.Disk keeps c.args.base is honest
+    (c.shows_what_crashes_leave.ensures.quiet c.requires.usable honest) c.opened_at.ensures.still c.legs_to.ensures.still
+    c.args.told told c.in-Some.first c.args.k (first ∙ t.counted) high c.in-Some-2.legs.items
+    (rw c.in-Some-2.is at c.in_ok-legs.ensures.ways) c.in_ok-go_legs.ensures.led
+    (c.in_ok-first.ensures.still.left.disk.device.still shown.honest)
+    (c.in_ok-first.ensures.still.left.desktop shown.honest ∙ shown.desktop ∙ t.is) low
+
+pub returns-clause-there : goal.returns-clause-there
+returns-clause-there g c = λ honest other start deeds desktop keeps told is high.
+    let t = keeps.remembers.past.written.0 in
+    let shown = c.in_ok-shown.ensures.shown honest other t.standing (start_there g.D.Disk keeps c.args.base is) in
+    let first = (rw c.in-Some.is at c.in_ok-first.ensures.sum) shown.honest t.standing shown.shows in
+    let low : start.before ≤ c.args.k = omega (arith, first, t.counted, c.if-k-first.false) in (
+      low,
+      still_honest g.D.Disk g.E.Disk keeps c.args.base is honest
+          (c.shows_what_crashes_leave.ensures.quiet c.requires.usable honest) c.opened_at.ensures.still c.legs_to.ensures.still
+          c.args.told told c.in-Some.first c.args.k (first ∙ t.counted) high c.in-Some-2.legs.items
+          (rw c.in-Some-2.is at c.in_ok-legs.ensures.ways) c.in_ok-go_legs.ensures.led
+          (c.in_ok-first.ensures.still.left.disk.device.still shown.honest),
+    )
+
+pub returns-in_err-shown-clause-faults : goal.returns-in_err-shown-clause-faults
+returns-in_err-shown-clause-faults g c =
+    let p = err_from_is_err_and c.from_residual.result c.from_residual.ensures.1 in
+    let failed : c.opened_at.result ≡ Err p.0 = cc (p.1, p.2, c.in_err-shown.was) in
+    error_from c.opened_at.ensures.faults (λ e named. named) refl failed p.1
+
+pub returns-in_err-shown-clause-stops : goal.returns-in_err-shown-clause-stops
+returns-in_err-shown-clause-stops g c =
+    let p = err_from_is_err_and c.from_residual.result c.from_residual.ensures.1 in
+    let failed : c.opened_at.result ≡ Err p.0 = cc (p.1, p.2, c.in_err-shown.was) in
+    stop_from c.opened_at.ensures.stops (λ e stops honest other start deeds desktop keeps is. stops honest other
+    keeps.remembers.past.written.0.standing (start_there g.D.Disk keeps c.args.base is)) failed p.1
+
+pub returns-in_err-first-clause-faults : goal.returns-in_err-first-clause-faults
+returns-in_err-first-clause-faults g c =
+    let p = err_from_is_err_and c.from_residual-in_err-first.result c.from_residual-in_err-first.ensures.1 in
+    let failed : c.many_before.result ≡ Err p.0 = cc (p.1, p.2, c.in_err-first.was) in
+    calm_from c.many_before.ensures.errors laying_of_doing doing_no_fault (none_failed c.in_ok-shown.ensures.faults) failed p.1
+
+pub returns-in_err-first-clause-stops : goal.returns-in_err-first-clause-stops
+returns-in_err-first-clause-stops g c =
+    let p = err_from_is_err_and c.from_residual-in_err-first.result c.from_residual-in_err-first.ensures.1 in
+    let failed : c.many_before.result ≡ Err p.0 = cc (p.1, p.2, c.in_err-first.was) in
+    stop_from c.many_before.ensures.errors (λ e named honest other start deeds desktop keeps is. steps_of_doing e named)
+    failed p.1
+
+pub returns-in_err-legs-clause-faults : goal.returns-in_err-legs-clause-faults
+returns-in_err-legs-clause-faults g c =
+    let p = err_from_is_err_and c.from_residual-in_err-legs.result c.from_residual-in_err-legs.ensures.1 in
+    let failed : c.legs_to.result ≡ Err p.0 = cc (p.1, p.2, c.in_err-legs.was) in
+    error_from c.legs_to.ensures.faults laying_of_reads (none_failed c.in_ok-shown.ensures.faults) failed p.1
+
+pub returns-in_err-legs-clause-stops : goal.returns-in_err-legs-clause-stops
+returns-in_err-legs-clause-stops g c =
+    let p = err_from_is_err_and c.from_residual-in_err-legs.result c.from_residual-in_err-legs.ensures.1 in
+    let failed : c.legs_to.result ≡ Err p.0 = cc (p.1, p.2, c.in_err-legs.was) in
+    stop_from c.legs_to.ensures.faults.errors (λ e named honest other start deeds desktop keeps is. steps_of_reads e named)
+    failed p.1
+
+pub returns-in_err-go_legs-clause-faults : goal.returns-in_err-go_legs-clause-faults
+returns-in_err-go_legs-clause-faults g c =
+    let p = err_from_is_err_and c.from_residual-in_err-go_legs.result c.from_residual-in_err-go_legs.ensures.1 in
+    let failed : c.go_legs.result ≡ Err p.0 = cc (p.1, p.2, c.in_err-go_legs.was) in
+    error_from c.go_legs.ensures.faults laying_of_steps
+    (none_failed c.in_ok-legs.ensures.faults ∙ none_failed c.in_ok-shown.ensures.faults) failed p.1
+
+pub returns-in_err-go_legs-clause-stops : goal.returns-in_err-go_legs-clause-stops
+returns-in_err-go_legs-clause-stops g c =
+    let p = err_from_is_err_and c.from_residual-in_err-go_legs.result c.from_residual-in_err-go_legs.ensures.1 in
+    let failed : c.go_legs.result ≡ Err p.0 = cc (p.1, p.2, c.in_err-go_legs.was) in
+    stop_from c.go_legs.ensures.faults.errors (λ e named honest other start deeds desktop keeps is. named) failed p.1
+
+pub returns-in_default-2-clause-faults : goal.returns-in_default-2-clause-faults
+returns-in_default-2-clause-faults g c = fails_none (none_failed c.in_ok-legs.ensures.faults ∙ none_failed c.in_ok-shown.ensures.faults)
+
+pub returns-then-not-branch-clause-faults : goal.returns-then-not-branch-clause-faults
+returns-then-not-branch-clause-faults g c = fails_none
+    (none_failed c.in_ok-go_legs.ensures.faults ∙ none_failed c.in_ok-legs.ensures.faults ∙ none_failed c.in_ok-shown.ensures.faults)
+
+pub returns-clause-faults : goal.returns-clause-faults
+returns-clause-faults g c = fails_none
+    (none_failed c.in_ok-go_legs.ensures.faults ∙ none_failed c.in_ok-legs.ensures.faults ∙ none_failed c.in_ok-shown.ensures.faults)

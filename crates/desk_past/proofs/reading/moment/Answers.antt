@@ -1,16 +1,22 @@
-use Rattle.std.proofs.Common.{◌≡◌, ◌+◌, ◌-◌, ◌≤◌, ◌∙◌, ap, arith, false, length, refl, rules, subst, sym, take}
-use Rattle.std.proofs.lemmas.Result.{IfOk-weaker, on_ok_weaker}
+use Rattle.std.proofs.Common.{◌≡◌, inl, inr, ◌+◌, ◌-◌, ◌≤◌, ◌<◌, ◌∙◌, ap, arith, false, length, refl, rules, subst, sym, take}
+use Rattle.std.specs.Prelude.{Err}
+use Rattle.std.proofs.lemmas.Bool.{false≢true}
+use Rattle.std.proofs.lemmas.Result.{err_from_is_err_and, IfErr-at_err, IfErr-weaker, IfOk-weaker}
+use Rattle.store_slots.specs.Errors.{OfLook}
+use Rattle.store_slots.specs.declared.error.Error.TheVariants.{NoMemory}
 use Rattle.sector_disk.specs.Trail.{now}
 use Rattle.desktop_definitions.specs.Step.{steps_in}
-use Rattle.desk_past.proofs.Opened.{some_then}
-use Rattle.desk_past.proofs.Remembering.{told_still}
-use Rattle.desk_past.proofs.Stepping.{few_in_journal, moment_in_journal}
-use Rattle.desk_past.proofs.StillReads.{still_both, still_looked, still_none, still_shows}
+use Rattle.desk_past.proofs.InMemory.{error_calm, error_from, failing_on, left_looked, moment_of_laying, moment_of_look}
+use Rattle.desk_past.proofs.InMemory.{never_reopened, none_failed, steps_of_look, stop_at, whatever}
+use Rattle.desk_past.proofs.Opened.{if_some_then, some_then}
+use Rattle.desk_past.proofs.Remembering.{read_keeps, told_still}
+use Rattle.desk_past.proofs.Stepping.{few_in_journal, moment_in_journal, moment_of_journal, moment_of_pages}
+use Rattle.desk_past.proofs.StillReads.{read_twice, still_both, still_looked, still_none, still_shows}
 use Rattle.desk_past.proofs.reading.moment.Goals as goal
 
 pub returns-then-k-told-clause-comes_back : goal.returns-then-k-told-clause-comes_back
 returns-then-k-told-clause-comes_back g c = IfOk-weaker c.in_journal.result _ _
-    (λ found fact honest other start deeds desktop keeps is within.
+    (λ found fact honest start deeds desktop keeps is within.
     let d = g.D.Disk in
     let r = keeps.remembers in
     let still = still_looked d c.past.result (still_none d c.args.store.now keeps.usable) c.past.ensures.looks in
@@ -18,7 +24,7 @@ returns-then-k-told-clause-comes_back g c = IfOk-weaker c.in_journal.result _ _
     let told = ap (λ p. p.before) (c.in_ok-told.ensures.told honest r.standing r.past.stands) in
     let low : r.standing.past.before ≤ c.args.k = omega (arith, told, c.if-k-told.true) in
     let few = few_in_journal r c.args.k within low in
-    some_then found (fact (still.left.disk.device.still honest) other r.standing
+    some_then found (fact (still.left.disk.device.still honest) tt r.standing
     (still_shows d still quiet honest r.standing r.past.stands) (omega (arith, told, few)))
     (λ shown eq. eq
     ∙ ap (λ n. steps_in r.standing.version r.standing.start (take (c.args.k - n) r.standing.events)) told
@@ -26,26 +32,150 @@ returns-then-k-told-clause-comes_back g c = IfOk-weaker c.in_journal.result _ _
 
 pub returns-clause-comes_back : goal.returns-clause-comes_back
 returns-clause-comes_back g c = IfOk-weaker c.in_pages.result _ _
-    (λ found fact honest other start deeds desktop keeps is within.
+    (λ found fact honest start deeds desktop keeps is within.
     let d = g.D.Disk in
     let r = keeps.remembers in
     let still = still_looked d c.past.result (still_none d c.args.store.now keeps.usable) c.past.ensures.looks in
     let quiet = c.shows_what_crashes_leave.ensures.quiet keeps.usable honest in
-    told_still d keeps honest quiet c.past.new.self c.past.ensures.looks.disk (c.past.ensures.looks.usable ∙ keeps.usable) _
+    told_still d keeps honest quiet c.past.new.self c.past.ensures.looks.disk
+    (c.past.ensures.looks.usable ∙ keeps.usable) _
     (c.in_ok-told.ensures.told honest r.standing r.past.stands)
-    (λ after told. fact (still.left.disk.device.still honest) other start deeds desktop after told is within.low
+    (λ after told. fact (still.left.disk.device.still honest) tt start deeds desktop after told is within.low
     (omega (arith, c.if-k-told.false)))) c.in_pages.ensures.is_one
 
 pub returns-then-k-told-clause-still : goal.returns-then-k-told-clause-still
 returns-then-k-told-clause-still g c =
     let usable : c.args.store.now.must_reopen ≡ false = search rules in
-    on_ok_weaker c.in_journal.result (λ still. still_both g.D.Disk
-    (still_looked g.D.Disk c.past.result (still_none g.D.Disk c.args.store.now usable) c.past.ensures.looks) still)
-    c.in_journal.ensures.still
+    whatever c.in_journal.result (still_both g.D.Disk
+    (still_looked g.D.Disk c.past.result (still_none g.D.Disk c.args.store.now usable) c.past.ensures.looks) c.in_journal.ensures.still)
 
 pub returns-clause-still : goal.returns-clause-still
 returns-clause-still g c =
     let usable : c.args.store.now.must_reopen ≡ false = search rules in
-    on_ok_weaker c.in_pages.result (λ still. still_both g.D.Disk
-    (still_looked g.D.Disk c.past.result (still_none g.D.Disk c.args.store.now usable) c.past.ensures.looks) still)
-    c.in_pages.ensures.still
+    whatever c.in_pages.result (still_both g.D.Disk
+    (still_looked g.D.Disk c.past.result (still_none g.D.Disk c.args.store.now usable) c.past.ensures.looks) c.in_pages.ensures.still)
+
+pub returns-then-k-told-clause-disk : goal.returns-then-k-told-clause-disk
+returns-then-k-told-clause-disk g c = read_twice g.D.Disk c.past.ensures.looks.disk c.in_journal.ensures.still.left.disk
+
+pub returns-clause-disk : goal.returns-clause-disk
+returns-clause-disk g c = read_twice g.D.Disk c.past.ensures.looks.disk c.in_pages.ensures.still.left.disk
+
+pub returns-then-k-told-clause-there : goal.returns-then-k-told-clause-there
+returns-then-k-told-clause-there g c = IfOk-weaker c.in_journal.result _ _ (λ found fact. if_some_then found fact
+    (λ shown fact honest start deeds desktop keeps is.
+    let d = g.D.Disk in
+    let r = keeps.remembers in
+    let still = still_looked d c.past.result (still_none d c.args.store.now keeps.usable) c.past.ensures.looks in
+    let quiet = c.shows_what_crashes_leave.ensures.quiet keeps.usable honest in
+    let told = ap (λ p. p.before) (c.in_ok-told.ensures.told honest r.standing r.past.stands) in
+    let some = fact (still.left.disk.device.still honest) tt r.standing
+    (still_shows d still quiet honest r.standing r.past.stands) in
+    moment_of_journal r c.args.k (omega (arith, told, c.if-k-told.true)) (omega (arith, told, some.0))))
+    c.in_journal.ensures.there
+
+pub returns-clause-there : goal.returns-clause-there
+returns-clause-there g c = IfOk-weaker c.in_pages.result _ _ (λ found fact. if_some_then found fact
+    (λ shown fact honest start deeds desktop keeps is.
+    let d = g.D.Disk in
+    let r = keeps.remembers in
+    let still = still_looked d c.past.result (still_none d c.args.store.now keeps.usable) c.past.ensures.looks in
+    let quiet = c.shows_what_crashes_leave.ensures.quiet keeps.usable honest in
+    let told = ap (λ p. p.before) (c.in_ok-told.ensures.told honest r.standing r.past.stands) in
+    let high : c.args.k < r.standing.past.before = omega (arith, told, c.if-k-told.false) in
+    told_still d keeps honest quiet c.past.new.self c.past.ensures.looks.disk
+    (c.past.ensures.looks.usable ∙ keeps.usable) _
+    (c.in_ok-told.ensures.told honest r.standing r.past.stands)
+    (λ after head. let some = fact (still.left.disk.device.still honest) tt start deeds desktop after head is
+    (omega (arith, c.if-k-told.false)) in
+    moment_of_pages r c.args.k some.0 high))) c.in_pages.ensures.there
+
+pub returns-in_err-told-clause-left : goal.returns-in_err-told-clause-left
+returns-in_err-told-clause-left g c = left_looked g.D.Disk c.past.ensures.looks
+
+pub returns-in_err-disk-clause-left : goal.returns-in_err-disk-clause-left
+returns-in_err-disk-clause-left g c = left_looked g.D.Disk c.past.ensures.looks
+
+pub returns-then-k-told-clause-left : goal.returns-then-k-told-clause-left
+returns-then-k-told-clause-left g c =
+    let usable : c.args.store.now.must_reopen ≡ false = search rules in
+    (still_both g.D.Disk
+    (still_looked g.D.Disk c.past.result (still_none g.D.Disk c.args.store.now usable) c.past.ensures.looks) c.in_journal.ensures.still).left
+
+pub returns-clause-left : goal.returns-clause-left
+returns-clause-left g c =
+    let usable : c.args.store.now.must_reopen ≡ false = search rules in
+    (still_both g.D.Disk
+    (still_looked g.D.Disk c.past.result (still_none g.D.Disk c.args.store.now usable) c.past.ensures.looks) c.in_pages.ensures.still).left
+
+pub returns-then-k-told-clause-usable : goal.returns-then-k-told-clause-usable
+returns-then-k-told-clause-usable g c =
+    let usable : c.args.store.now.must_reopen ≡ false = search rules in c.in_journal.ensures.still.usable ∙ sym usable
+
+pub returns-clause-usable : goal.returns-clause-usable
+returns-clause-usable g c =
+    let usable : c.args.store.now.must_reopen ≡ false = search rules in c.in_pages.ensures.still.usable ∙ sym usable
+
+pub returns-in_err-told-clause-faults : goal.returns-in_err-told-clause-faults
+returns-in_err-told-clause-faults g c =
+    let p = err_from_is_err_and c.from_residual.result c.from_residual.ensures.1 in
+    let failed : c.past.result ≡ Err p.0 = cc (p.1, p.2, c.in_err-told.was) in
+    error_from c.past.ensures.looks.faults moment_of_look refl failed p.1
+
+pub returns-in_err-disk-clause-faults : goal.returns-in_err-disk-clause-faults
+returns-in_err-disk-clause-faults g c =
+    let p = err_from_is_err_and c.from_residual-in_err-disk.result c.from_residual-in_err-disk.ensures.1 in
+    error_calm {P = λ e. e ≡ NoMemory} p.2 (λ e is. inr (inl (inl is)))
+    (λ e is fault. let wrong : ⊥ = cc (is, fault) in wrong) (none_failed c.in_ok-told.ensures.looks.faults) p.1
+
+pub returns-then-k-told-clause-faults : goal.returns-then-k-told-clause-faults
+returns-then-k-told-clause-faults g c =
+    failing_on c.in_journal.ensures.faults moment_of_laying (none_failed c.in_ok-told.ensures.looks.faults)
+
+pub returns-clause-faults : goal.returns-clause-faults
+returns-clause-faults g c = failing_on c.in_pages.ensures.faults moment_of_laying (none_failed c.in_ok-told.ensures.looks.faults)
+
+pub returns-in_err-disk-clause-open : goal.returns-in_err-disk-clause-open
+returns-in_err-disk-clause-open g c =
+    let p = err_from_is_err_and c.from_residual-in_err-disk.result c.from_residual-in_err-disk.ensures.1 in
+    λ is. let wrong : ⊥ = cc (p.1, p.2, is) in absurd wrong
+
+pub returns-then-k-told-clause-open : goal.returns-then-k-told-clause-open
+returns-then-k-told-clause-open g c =
+    λ is. absurd (never_reopened c.in_journal.result c.in_journal.ensures.faults.errors is)
+
+pub returns-clause-open : goal.returns-clause-open
+returns-clause-open g c = λ is. absurd (never_reopened c.in_pages.result c.in_pages.ensures.faults.errors is)
+
+pub returns-in_err-told-clause-stops : goal.returns-in_err-told-clause-stops
+returns-in_err-told-clause-stops g c =
+    let p = err_from_is_err_and c.from_residual.result c.from_residual.ensures.1 in
+    let failed : c.past.result ≡ Err p.0 = cc (p.1, p.2, c.in_err-told.was) in
+    stop_at _ (λ honest start deeds desktop keeps is.
+    steps_of_look p.0 (IfErr-at_err OfLook failed c.past.ensures.looks.faults.errors)
+    (λ reopen. false≢true (sym keeps.usable ∙ c.past.ensures.looks.reopen.0 (failed ∙ ap (λ e. Err e) reopen)))) p.1
+
+pub returns-in_err-disk-clause-stops : goal.returns-in_err-disk-clause-stops
+returns-in_err-disk-clause-stops g c =
+    let p = err_from_is_err_and c.from_residual-in_err-disk.result c.from_residual-in_err-disk.ensures.1 in
+    stop_at _ (λ honest start deeds desktop keeps is. inl p.2) p.1
+
+pub returns-then-k-told-clause-stops : goal.returns-then-k-told-clause-stops
+returns-then-k-told-clause-stops g c = IfErr-weaker c.in_journal.result _ _
+    (λ e stops honest start deeds desktop keeps is.
+    let d = g.D.Disk in
+    let r = keeps.remembers in
+    let still = still_looked d c.past.result (still_none d c.args.store.now keeps.usable) c.past.ensures.looks in
+    let quiet = c.shows_what_crashes_leave.ensures.quiet keeps.usable honest in
+    stops (still.left.disk.device.still honest) tt r.standing
+    (still_shows d still quiet honest r.standing r.past.stands)) c.in_journal.ensures.stops
+
+pub returns-clause-stops : goal.returns-clause-stops
+returns-clause-stops g c = IfErr-weaker c.in_pages.result _ _
+    (λ e stops honest start deeds desktop keeps is.
+    let d = g.D.Disk in
+    let still = still_looked d c.past.result (still_none d c.args.store.now keeps.usable) c.past.ensures.looks in
+    let quiet = c.shows_what_crashes_leave.ensures.quiet keeps.usable honest in
+    stops (still.left.disk.device.still honest) tt start deeds desktop
+    (read_keeps d keeps honest quiet {new = c.past.new.self} c.past.ensures.looks.disk
+    (c.past.ensures.looks.usable ∙ keeps.usable)) is) c.in_pages.ensures.stops

@@ -10,12 +10,10 @@ loop-event-init g c = record { led = none_led g.E.Disk c.args.shown.now }
 pub loop-event-preserved : goal.loop-event-preserved
 loop-event-preserved g c = record {
   led = next_led g.E.Disk c.args.events.now c.loop-event.event-index c.loop-event.invariant.led
-      c.post.ensures.behaves.device c.loop-event-test.true c.event-item.is c.in_ok-post.ensures.ok;
+      c.posted.ensures.device c.loop-event-test.true c.event-item.is c.in_ok-posted.ensures.ok;
 }
 
-pub returns : goal.returns
-returns g c = record {
-  led = subst (λ l. IsLedOn g.E.Disk l c.args.shown.now c.loop-event.shown)
-      (take_all c.loop-event.event-index c.args.events.now (omega (arith, c.loop-event-test.false)))
-      c.loop-event.invariant.led;
-}
+pub returns-clause-led : goal.returns-clause-led
+returns-clause-led g c = subst (λ l. IsLedOn g.E.Disk l c.args.shown.now c.loop-event.shown)
+    (take_all c.loop-event.event-index c.args.events.now (omega (arith, c.loop-event-test.false)))
+    c.loop-event.invariant.led

@@ -1,8 +1,9 @@
-use Rattle.std.proofs.Common.{◌≡◌, ◌≤◌, ◌-◌, List, length}
+use Rattle.std.proofs.Common.{◌≡◌, ◌≤◌, ◌-◌, List, length, take}
 use Rattle.sector_disk.specs.Trail.{now}
 use Rattle.desk_past.specs.Page.{Page, HasPages, end_of_pages}
 use Rattle.desk_past.specs.Past.{AreGood, all_deeds}
 use Rattle.desk_past.specs.Reading.{IsOnlyReadFrom}
+use Rattle.desk_past.specs.Routes.{HasNoTurn}
 use Rattle.desk_past.proofs.Stepping.{HasStepped}
 use Rattle.desk_past.proofs.reading.step_pages.Given as goal
 
@@ -10,9 +11,11 @@ use Rattle.desk_past.proofs.reading.step_pages.Given as goal
 abbrev pub invariant-loop-left : goal.invariant-loop-left
 invariant-loop-left g l = record {
   still : IsOnlyReadFrom g.D.Disk l.fn.store l.store;
+  calm : g.D.Disk.failures l.store.disk ≡ g.D.Disk.failures l.fn.store.disk;
   stepped : g.D.Disk.honest l.fn.store.disk → (pages : List Page)
       → HasPages (now (g.D.Disk.trail l.fn.store.disk)).reads l.fn.at pages → AreGood pages
       → end_of_pages l.fn.at pages ≡ l.end → l.count ≤ length (all_deeds pages)
+      → HasNoTurn (take l.count (all_deeds pages))
       → HasStepped g.E.Disk (now (g.D.Disk.trail l.fn.store.disk)).reads l.end l.count pages l.at l.left
       l.fn.shown l.shown;
 }

@@ -42,10 +42,10 @@ returns-then-sitting-clause-turns g c =
       stays = tt;
       stops = λ honest durable seen. left_stops g.D.Disk
           (turned g.D.Disk c.show_if_due.new.store c.show_if_due.new.sitting c.as_slice.result.now scene.looks
-          (λ h. (scene.shown h).0) (λ h. (scene.shown h).1) (c.bring.ensures.silent
+          (λ h. (scene.shown h).0) (λ h. (scene.shown h).1) (c.fetch.ensures.silent
           ∙ heard_so (g.K.Keyboard.heard c.args.keyboard.now) c.in_ok-hearing.ensures.told c.as_slice.ensures.heard)
           c.as_slice.ensures.least c.do_presses.new.sitting done.parser done.done
-          (asked_so c.in_ok-hearing.ensures.unasked c.bring.ensures.brought) honest durable seen) c.if-sitting.true;
+          (asked_so c.in_ok-hearing.ensures.unasked c.fetch.ensures.brought) honest durable seen) c.if-sitting.true;
       usable = tt;
       still_usable = λ _ _. done.usable;
       counts = calm_presses tt _ _ _ scene.counts done.faults;
@@ -58,10 +58,10 @@ returns-else-sitting-clause-turns g c =
     let done = c.in_ok-do_presses.ensures in
     record {
       goes_on = turned g.D.Disk c.show_if_due.new.store c.show_if_due.new.sitting c.as_slice.result.now scene.looks
-          (λ h. (scene.shown h).0) (λ h. (scene.shown h).1) (c.bring.ensures.silent
+          (λ h. (scene.shown h).0) (λ h. (scene.shown h).1) (c.fetch.ensures.silent
           ∙ heard_so (g.K.Keyboard.heard c.args.keyboard.now) c.in_ok-hearing.ensures.told c.as_slice.ensures.heard)
           c.as_slice.ensures.least c.do_presses.new.sitting done.parser done.done
-          (asked_so c.in_ok-hearing.ensures.unasked c.bring.ensures.brought);
+          (asked_so c.in_ok-hearing.ensures.unasked c.fetch.ensures.brought);
       stays = c.if-sitting.false;
       stops = tt;
       usable = done.usable;

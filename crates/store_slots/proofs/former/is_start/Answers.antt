@@ -6,6 +6,7 @@ use Rattle.sector_disk.proofs.Touching.{still_all}
 use Rattle.store_layout.specs.Layout.{head}
 use Rattle.store_layout.specs.Meaning.{HasImage}
 use Rattle.store_slots.proofs.Alike.{starts_so}
+use Rattle.store_slots.proofs.Formers.{never_damaged}
 use Rattle.store_slots.proofs.Staying.{apart_nowhere, live_stays}
 use Rattle.store_slots.proofs.former.is_start.Goals as goal
 
@@ -53,3 +54,17 @@ returns-clause-kept g c =
     confined.joined d.size d.honest d.trail
     (confined.joined d.size d.honest d.trail c.starts_from.ensures.kept c.load_slot.ensures.kept)
     c.shows_same.ensures.disk
+
+pub returns-in_err-shows_same-clause-kept : goal.returns-in_err-shows_same-clause-kept
+returns-in_err-shows_same-clause-kept g c =
+    let d = g.D.Disk in
+    confined.joined d.size d.honest d.trail
+    (confined.joined d.size d.honest d.trail c.starts_from.ensures.kept c.load_slot.ensures.kept)
+    c.shows_same.ensures.disk
+
+pub returns-in_err-shows_same-clause-damaged : goal.returns-in_err-shows_same-clause-damaged
+returns-in_err-shows_same-clause-damaged g c =
+    let p = err_from_is_err_and c.from_residual-in_err-shows_same.result c.from_residual-in_err-shows_same.ensures.1 in
+    λ n bad honest is start image.
+    never_damaged c.from_residual-in_err-shows_same.result p.0 c.in_err-shows_same.field-0.0 n p.1 p.2
+    c.in_err-shows_same.ensures.faults.errors bad

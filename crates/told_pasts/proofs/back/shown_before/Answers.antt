@@ -8,11 +8,11 @@ use Rattle.told_pasts.proofs.Reached.{deeds_up_to, has_before}
 use Rattle.told_pasts.proofs.back.shown_before.Goals as goal
 
 pub returns-in_default-clause-comes_back : goal.returns-in_default-clause-comes_back
-returns-in_default-clause-comes_back g c = λ honest other start deeds desktop keeps lies low few.
+returns-in_default-clause-comes_back g c = λ honest start deeds desktop keeps lies low few.
     absurd ((rw c.in_default.is at c.in_ok-reach.ensures.told) honest start deeds desktop keeps lies)
 
 pub returns-then-count-now-clause-comes_back : goal.returns-then-count-now-clause-comes_back
-returns-then-count-now-clause-comes_back g c = λ honest other start deeds desktop keeps lies low few.
+returns-then-count-now-clause-comes_back g c = λ honest start deeds desktop keeps lies low few.
     let told = (rw c.in-Some.is at c.in_ok-reach.ensures.told) honest start deeds desktop keeps lies in
     let up = deeds_up_to keeps.remembers in
     let all = c.now-now.ensures (omega (arith, told.before, told.journal, up, few)) in
@@ -20,7 +20,7 @@ returns-then-count-now-clause-comes_back g c = λ honest other start deeds deskt
 
 pub returns-clause-comes_back : goal.returns-clause-comes_back
 returns-clause-comes_back g c = IfOk-weaker c.moment.result _ _
-    (λ found fact honest other start deeds desktop keeps lies low few.
+    (λ found fact honest start deeds desktop keeps lies low few.
     let d = g.D.Disk in
     let told = (rw c.in-Some.is at c.in_ok-reach.ensures.told) honest start deeds desktop keeps lies in
     let up = deeds_up_to keeps.remembers in
@@ -31,7 +31,7 @@ returns-clause-comes_back g c = IfOk-weaker c.moment.result _ _
     let quiet = c.shows_what_crashes_leave.ensures.quiet keeps.usable honest in
     told_still d keeps honest quiet c.reach_of.new.store still.left.disk still.usable keeps.remembers.standing.past refl
     (λ after same. some_then found
-    (fact (still.left.disk.device.still honest) other start deeds desktop after (sym told.base)
+    (fact (still.left.disk.device.still honest) start deeds desktop after (sym told.base)
     (has_before start deeds c.args.count _ k low))
     (λ shown eq. eq ∙ ap (moment start deeds) k))) c.moment.ensures.comes_back
 

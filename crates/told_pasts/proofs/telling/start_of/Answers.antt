@@ -40,7 +40,7 @@ returns-clause-is g c = IfOk-weaker c.moment.result _ _
     let still = c.in_ok-count.ensures.still in
     let quiet = c.shows_what_crashes_leave.ensures.quiet keeps.usable honest in
     some_then found
-    (fact (still.left.disk.device.still honest) tt start deeds desktop
+    (fact (still.left.disk.device.still honest) start deeds desktop
     (read_keeps d keeps honest quiet {new = c.count_of.new.store} still.left.disk still.usable) (sym told.base)
     (record { low = omega (arith, k); high = omega (arith, k) }))
     (λ shown eq. eq ∙ ap (λ n. after_deeds start.desktop (take n deeds)) none)) c.moment.ensures.comes_back

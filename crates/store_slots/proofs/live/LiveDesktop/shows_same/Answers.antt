@@ -4,7 +4,7 @@ use Rattle.sector_disk.proofs.Touching.{still_all}
 use Rattle.seen_desktops.specs.Shape.{all_characters_of}
 use Rattle.store_slots.specs.Live.{seen_live}
 use Rattle.store_slots.proofs.Alike.{by_characters, other_shape}
-use Rattle.store_slots.proofs.Staying.{apart_nowhere, live_stays}
+use Rattle.store_slots.proofs.Staying.{apart_nowhere, live_stays, stays_on, stays_so}
 use Rattle.store_slots.proofs.live.LiveDesktop.shows_same.Goals as goal
 
 pub characters-requires-2-clause-on : goal.characters-requires-2-clause-on
@@ -28,3 +28,20 @@ returns-clause-same g c = λ honest.
     (c.as_slice-2.ensures.value ∙ c.in_ok-two.ensures.read (run.still honest)
     ∙ ap (λ (x : Content). all_characters_of (seen_live x c.args.other.now)) same)
     c.are_same.ensures
+
+pub returns-in_err-has_shape_of-clause-kept : goal.returns-in_err-has_shape_of-clause-kept
+returns-in_err-has_shape_of-clause-kept g c =
+    stays_so g.D.Disk c.args.self.now c.requires.on.live c.requires.on.told
+
+pub returns-then-not-branch-clause-kept : goal.returns-then-not-branch-clause-kept
+returns-then-not-branch-clause-kept g c = stays_so g.D.Disk c.args.self.now c.requires.on.live c.requires.on.told
+
+pub returns-in_err-two-clause-kept : goal.returns-in_err-two-clause-kept
+returns-in_err-two-clause-kept g c =
+    let one = c.characters.ensures in
+    stays_on g.D.Disk c.args.self.now c.characters.new.self one.disk c.characters-2.ensures.disk one.kept
+
+pub returns-clause-kept : goal.returns-clause-kept
+returns-clause-kept g c =
+    let one = c.characters.ensures in
+    stays_on g.D.Disk c.args.self.now c.characters.new.self one.disk c.characters-2.ensures.disk one.kept

@@ -1,0 +1,303 @@
+-- Errors of what is worked out in memory, and the failures that are counted then.
+use Rattle.std.proofs.Common.{◌≡◌, ◌∙◌, ◌<◌, ℕ, inl, inr, Result, Ok, Err, refl, sym, ap, subst, true, false}
+use Rattle.std.specs.Prelude.{Bool, IfErr, OnOk, is_err, replicate}
+use Rattle.std.proofs.lemmas.Bool.{false≢true}
+use Rattle.std.proofs.lemmas.Result.{IfErr-at_err}
+use Rattle.sector_disk.specs.declared.disk.Disk.{Ghosts}
+use Rattle.sector_disk.specs.declared.disk.TheConstants.{SECTOR_BYTES}
+use Rattle.sector_disk.specs.Memory.{zeros}
+use Rattle.sector_disk.specs.Faults.{FailsAs}
+use Rattle.sector_disk.specs.Trail.{Content}
+use Rattle.store_layout.specs.Finding.{FindingLaw, IsDamagedAt, IsForeign}
+use Rattle.store_layout.specs.Meaning.{Standing, Stands}
+use Rattle.store_slots.specs.declared.error.Error.{Error}
+use Rattle.store_slots.specs.declared.error.Error.TheVariants.{Damaged, Fault, MustReopen, NoMemory, NotAStore, Worn}
+use Rattle.store_slots.specs.Errors.{OfDesktop, OfLook, OfOpen, OfPost}
+use Rattle.store_slots.proofs.TakingBack.{stops_there}
+use Rattle.store_slots.specs.Device.{IsOnlyRead}
+use Rattle.store_layout.proofs.Bits.{true_or_false}
+use Rattle.desk_journal.specs.Looking.{OnlyLooks}
+use Rattle.desk_journal.specs.Undoing.{IsLeft, OfUndo}
+use Rattle.desk_journal.specs.View.{StoreView}
+use Rattle.desk_past.specs.Reading.{IsOnlyReadFrom}
+use Rattle.desk_past.proofs.StillReads.{nothing_written}
+use Rattle.desk_past.specs.Errors.{IsNoStart, OfDoing, OfFound, OfLaying, OfMoment, OfSteps, in_memory}
+
+-- a sector that was never written
+pub zeros_are : zeros ≡ replicate SECTOR_BYTES 0
+unfolding zeros
+zeros_are = refl
+
+-- ---- what an error of a store in memory is
+
+pub of_post : (e : Error) → OfPost e → OfDoing (in_memory e)
+of_post e (inl is) = inl (ap in_memory is)
+of_post e (inr (inl is)) = inl (ap in_memory is)
+of_post e (inr (inr (inl is))) = inl (ap in_memory is)
+of_post e (inr (inr (inr is))) = inr (ap in_memory is)
+
+pub of_look : (e : Error) → OfLook e → in_memory e ≡ NoMemory
+of_look e (inl is) = ap in_memory is
+of_look e (inr (inl is)) = ap in_memory is
+of_look e (inr (inr is)) = ap in_memory is
+
+pub of_desktop : (e : Error) → OfDesktop e → in_memory e ≡ NoMemory
+of_desktop e (inl is) = ap in_memory is
+of_desktop e (inr is) = ap in_memory is
+
+pub of_open : (e : Error) → OfOpen e → OfFound (in_memory e)
+of_open e (inl (inl is)) = inl (ap in_memory is)
+of_open e (inl (inr (inl is))) = inl (ap in_memory is)
+of_open e (inl (inr (inr is))) = inr (inl (ap in_memory is))
+of_open e (inr (n, is)) = inr (inr (n, ap in_memory is))
+
+pub of_undo : (e : Error) → OfUndo e → OfFound (in_memory e)
+of_undo e (inl look) = inl (of_look e look)
+of_undo e (inr opening) = of_open e opening
+
+-- where a store stands one is found
+pub of_standing : (size : ℕ) (c : Content) (s : Standing) → FindingLaw → Stands size c s → (e : Error) → OfOpen e
+    → (e ≡ NotAStore → IsForeign size c) → ((n : ℕ) → e ≡ Damaged n → IsDamagedAt size c n) → OfDoing (in_memory e)
+of_standing size c s law stands e opening foreign damaged =
+    inl (of_desktop e (stops_there size c s law stands e opening foreign damaged))
+
+-- ---- from less to more
+
+pub steps_of_reads : (e : Error) → OfDesktop e → OfSteps e
+steps_of_reads e (inl is) = inl is
+steps_of_reads e (inr is) = inr (inl is)
+
+pub steps_of_doing : (e : Error) → OfDoing e → OfSteps e
+steps_of_doing e (inl is) = inl is
+steps_of_doing e (inr is) = inr (inr is)
+
+pub laying_of_reads : (e : Error) → OfDesktop e → OfLaying e
+laying_of_reads e is = inl (steps_of_reads e is)
+
+pub laying_of_doing : (e : Error) → OfDoing e → OfLaying e
+laying_of_doing e is = inl (steps_of_doing e is)
+
+pub laying_of_steps : (e : Error) → OfSteps e → OfLaying e
+laying_of_steps e is = inl is
+
+pub laying_of_found : (e : Error) → OfFound e → OfLaying e
+laying_of_found e (inl is) = inl (inl is)
+laying_of_found e (inr none) = inr none
+
+pub moment_of_laying : (e : Error) → OfLaying e → OfMoment e
+moment_of_laying e is = inr is
+
+pub moment_of_doing : (e : Error) → OfDoing e → OfMoment e
+moment_of_doing e is = inr (laying_of_doing e is)
+
+pub moment_of_look : (e : Error) → OfLook e → OfMoment e
+moment_of_look e (inl is) = inr (inl (inl is))
+moment_of_look e (inr (inl is)) = inr (inl (inr (inl is)))
+moment_of_look e (inr (inr is)) = inl is
+
+-- ---- in memory no disk fails, and no store need be opened again
+
+pub doing_no_fault : (e : Error) → OfDoing e → e ≡ Fault → ⊥
+doing_no_fault e (inl is) fault = let wrong : ⊥ = cc (is, fault) in wrong
+doing_no_fault e (inr is) fault = let wrong : ⊥ = cc (is, fault) in wrong
+
+pub found_no_fault : (e : Error) → OfFound e → e ≡ Fault → ⊥
+found_no_fault e (inl is) fault = let wrong : ⊥ = cc (is, fault) in wrong
+found_no_fault e (inr (inl is)) fault = let wrong : ⊥ = cc (is, fault) in wrong
+found_no_fault e (inr (inr (n, is))) fault = let wrong : ⊥ = cc (is, fault) in wrong
+
+pub laying_no_reopen : (e : Error) → OfLaying e → e ≡ MustReopen → ⊥
+laying_no_reopen e (inl (inl is)) reopen = let wrong : ⊥ = cc (is, reopen) in wrong
+laying_no_reopen e (inl (inr (inl is))) reopen = let wrong : ⊥ = cc (is, reopen) in wrong
+laying_no_reopen e (inl (inr (inr is))) reopen = let wrong : ⊥ = cc (is, reopen) in wrong
+laying_no_reopen e (inr (inl is)) reopen = let wrong : ⊥ = cc (is, reopen) in wrong
+laying_no_reopen e (inr (inr (n, is))) reopen = let wrong : ⊥ = cc (is, reopen) in wrong
+
+-- ---- failures that are counted
+
+-- an answer whose errors are none of the device
+pub calm_answer : {T : Type 0} (answer : Result T Error) {P Q : Error → Type 0} {old new : ℕ} → IfErr answer P
+    → ((e : Error) → P e → Q e) → ((e : Error) → P e → e ≡ Fault → ⊥) → new ≡ old → FailsAs Fault Q answer old new
+calm_answer (Ok x) errors wider never same = record {
+  rose = λ fault. let wrong : ⊥ = cc fault in absurd wrong;
+  calm = λ fine. same;
+  errors = tt;
+}
+calm_answer (Err e) errors wider never same = record {
+  rose = λ fault. absurd (never e errors (cc fault));
+  calm = λ fine. same;
+  errors = wider e errors;
+}
+
+-- an answer behind what counted none
+pub failing_on : {T : Type 0} {answer : Result T Error} {P Q : Error → Type 0} {old mid new : ℕ}
+    → FailsAs Fault P answer mid new → ((e : Error) → P e → Q e) → mid ≡ old → FailsAs Fault Q answer old new
+failing_on {answer = Ok x} {new = new} fails wider same = record {
+  rose = λ fault. subst (λ n. n < new) same (fails.rose fault);
+  calm = λ fine. fails.calm fine ∙ same;
+  errors = tt;
+}
+failing_on {answer = Err e} {new = new} fails wider same = record {
+  rose = λ fault. subst (λ n. n < new) same (fails.rose fault);
+  calm = λ fine. fails.calm fine ∙ same;
+  errors = wider e fails.errors;
+}
+
+-- an error that is passed on
+pub error_on : {T U : Type 0} {result : Result U Error} {e : Error} {P Q : Error → Type 0} {old mid new : ℕ}
+    → FailsAs {T = T} Fault P (Err e) mid new → ((x : Error) → P x → Q x) → mid ≡ old → result ≡ Err e
+    → FailsAs Fault Q result old new
+error_on {U = U} {e = e} {Q = Q} {old = old} {new = new} fails wider same is =
+    subst (λ r. FailsAs Fault Q r old new) (sym is) (record {
+      rose = λ fault. subst (λ n. n < new) same (fails.rose (cc fault));
+      calm = λ fine. fails.calm (λ fault. fine (cc fault)) ∙ same;
+      errors = wider e fails.errors;
+    })
+
+-- and one that is none of the device
+pub error_calm : {U : Type 0} {result : Result U Error} {e : Error} {P Q : Error → Type 0} {old new : ℕ} → P e
+    → ((x : Error) → P x → Q x) → ((x : Error) → P x → x ≡ Fault → ⊥) → new ≡ old → result ≡ Err e
+    → FailsAs Fault Q result old new
+error_calm {e = e} {P = P} {Q = Q} {old = old} {new = new} has wider never same is =
+    subst (λ r. FailsAs Fault Q r old new) (sym is)
+    (calm_answer (Err e) {P = P} has wider never same)
+
+-- what returned Ok counted none
+pub none_failed : {T : Type 0} {x : T} {P : Error → Type 0} {old new : ℕ} → FailsAs {T = T} Fault P (Ok x) old new
+    → new ≡ old
+none_failed fails = fails.calm (λ fault. let wrong : ⊥ = cc fault in wrong)
+
+-- what counted none
+pub fails_none : {T : Type 0} {x : T} {Q : Error → Type 0} {old new : ℕ} → new ≡ old → FailsAs {T = T} Fault Q (Ok x) old new
+fails_none same = record {
+  rose = λ fault. let wrong : ⊥ = cc fault in absurd wrong;
+  calm = λ fine. same;
+  errors = tt;
+}
+
+-- ---- exits at which an error is passed on
+
+pub error_from : {T U : Type 0} {answer : Result T Error} {result : Result U Error} {e : Error} {P Q : Error → Type 0}
+    {old mid new : ℕ} → FailsAs Fault P answer mid new → ((x : Error) → P x → Q x) → mid ≡ old → answer ≡ Err e
+    → result ≡ Err e → FailsAs Fault Q result old new
+error_from {P = P} {mid = mid} {new = new} fails wider same failed is =
+    error_on (subst (λ r. FailsAs Fault P r mid new) failed fails) wider same is
+
+pub calm_from : {T U : Type 0} {answer : Result T Error} {result : Result U Error} {e : Error} {P Q : Error → Type 0}
+    {old new : ℕ} → IfErr answer P → ((x : Error) → P x → Q x) → ((x : Error) → P x → x ≡ Fault → ⊥) → new ≡ old
+    → answer ≡ Err e → result ≡ Err e → FailsAs Fault Q result old new
+calm_from {P = P} errors wider never same failed is = error_calm (IfErr-at_err P failed errors) wider never same is
+
+pub stop_from : {T U : Type 0} {answer : Result T Error} {result : Result U Error} {e : Error} {P Q : Error → Type 0}
+    → IfErr answer P → ((x : Error) → P x → Q x) → answer ≡ Err e → result ≡ Err e → IfErr result Q
+stop_from {e = e} {P = P} {Q = Q} errors wider failed is =
+    subst (λ r. IfErr r Q) (sym is) (wider e (IfErr-at_err P failed errors))
+
+pub stop_at : (Q : Error → Type 0) {U : Type 0} {result : Result U Error} {e : Error} → Q e → result ≡ Err e
+    → IfErr result Q
+stop_at Q has is = subst (λ r. IfErr r Q) (sym is) has
+
+-- what is known whatever was returned
+pub whatever : {T : Type 0} (answer : Result T Error) {P : Type 0} → P → OnOk answer P
+whatever (Ok x) p = p
+whatever (Err e) p = tt
+
+pub steps_of_look : (e : Error) → OfLook e → (e ≡ MustReopen → ⊥) → OfSteps e
+steps_of_look e (inl is) usable = inl is
+steps_of_look e (inr (inl is)) usable = inr (inl is)
+steps_of_look e (inr (inr is)) usable = absurd (usable is)
+
+look_of_reads : (e : Error) → OfDesktop e → OfLook e
+look_of_reads e (inl is) = inl is
+look_of_reads e (inr is) = inr (inl is)
+
+pub never_reopened : {T : Type 0} (answer : Result T Error) → IfErr answer OfLaying → answer ≡ Err MustReopen → ⊥
+never_reopened answer errors is = laying_no_reopen MustReopen (IfErr-at_err OfLaying is errors) refl
+
+reads_no_reopen : (e : Error) → OfDesktop e → e ≡ MustReopen → ⊥
+reads_no_reopen e (inl is) reopen = let wrong : ⊥ = cc (is, reopen) in wrong
+reads_no_reopen e (inr is) reopen = let wrong : ⊥ = cc (is, reopen) in wrong
+
+never_closed : {T : Type 0} (answer : Result T Error) → IfErr answer OfDesktop → answer ≡ Err MustReopen → ⊥
+never_closed answer errors is = reads_no_reopen MustReopen (IfErr-at_err OfDesktop is errors) refl
+
+-- whether a store is in use, as an answer tells
+pub closed_of : {X : Type 0} (must : Bool) (answer : Result X Error) {y : X} → (must ≡ false → answer ≡ Ok y)
+    → is_err answer ≡ true → must ≡ true
+closed_of must answer value err = elim (true_or_false must) [
+  | inl is ↦ is
+  | inr is ↦ absurd (false≢true (sym (ap is_err (value is)) ∙ err))
+]
+
+module _ {D : Type 0} (d : Ghosts D) where
+  pub read_none : (disk : D) → IsOnlyRead d disk disk
+  read_none disk = record {
+    device = record { as_large = refl; still = λ h. h; already = λ h. h };
+    unwritten = λ honest. nothing_written (d.trail disk);
+  }
+
+  pub left_none : (store : StoreView D) → IsLeft d store store
+  left_none store = record {
+    desktop = λ honest. refl;
+    kept = refl;
+    layout = refl;
+    epoch = refl;
+    events = refl;
+    disk = read_none store.disk;
+  }
+
+  pub left_looked : {T : Type 0} {result : Result T Error} {old new : StoreView D} → OnlyLooks d result old new
+      → IsLeft d old new
+  left_looked look = record {
+    desktop = look.desktop;
+    kept = look.kept;
+    layout = look.layout;
+    epoch = look.epoch;
+    events = look.events;
+    disk = look.disk;
+  }
+
+  -- a look that finds that the store must be opened again, and one that reads nothing
+  pub looks_closed : {T : Type 0} (store : StoreView D) → store.must_reopen ≡ true
+      → OnlyLooks {T = T} d (Err MustReopen) store store
+  looks_closed store must = record {
+    desktop = λ honest. refl;
+    kept = refl;
+    layout = refl;
+    epoch = refl;
+    events = refl;
+    usable = refl;
+    disk = read_none store.disk;
+    reopen = (λ is. must, λ is. refl);
+    faults = calm_answer (Err MustReopen) {P = λ e. e ≡ MustReopen} refl (λ e is. inr (inr is))
+        (λ e is fault. let wrong : ⊥ = cc (is, fault) in wrong) refl;
+  }
+
+  pub looks_none : {T : Type 0} (x : T) (store : StoreView D) → store.must_reopen ≡ false → OnlyLooks d (Ok x) store store
+  looks_none x store usable = record {
+    desktop = λ honest. refl;
+    kept = refl;
+    layout = refl;
+    epoch = refl;
+    events = refl;
+    usable = refl;
+    disk = read_none store.disk;
+    reopen = (λ is. let wrong : ⊥ = cc is in absurd wrong, λ is. absurd (false≢true (sym usable ∙ is)));
+    faults = record { rose = λ fault. let wrong : ⊥ = cc fault in absurd wrong; calm = λ fine. refl; errors = tt };
+  }
+
+  -- pages that were read of a store in use
+  pub looks_read : {T : Type 0} (answer : Result T Error) {old new : StoreView D} → old.must_reopen ≡ false
+      → IsOnlyReadFrom d old new → FailsAs Fault OfDesktop answer (d.failures old.disk) (d.failures new.disk)
+      → OnlyLooks d answer old new
+  looks_read answer usable still faults = record {
+    desktop = still.left.desktop;
+    kept = still.left.kept;
+    layout = still.left.layout;
+    epoch = still.left.epoch;
+    events = still.left.events;
+    usable = still.usable ∙ sym usable;
+    disk = still.left.disk;
+    reopen = (λ is. absurd (never_closed answer faults.errors is), λ is. absurd (false≢true (sym usable ∙ is)));
+    faults = failing_on faults look_of_reads refl;
+  }

@@ -1,0 +1,69 @@
+-- A turn of a store with a past to one of its moments. `d` is what is known of a disk.
+use Rattle.std.specs.Prelude.{◌≡◌, ◌⊎◌, ◌++◌, ◌∷◌, [], ℕ, List}
+use Rattle.sector_disk.specs.declared.disk.Disk.{Ghosts}
+use Rattle.sector_disk.specs.Trail.{LeavesOnly}
+use Rattle.desktop_definitions.specs.Desktop.{Desktop}
+use Rattle.store_layout.specs.declared.layout.TheConstants.{LAYOUT}
+use Rattle.desk_journal.specs.View.{StoreView}
+use Rattle.desk_past.specs.Ahead.{CanAdd}
+use Rattle.desk_past.specs.Deeds.{PastDeed, turned}
+use Rattle.desk_past.specs.Going.{LiesInHalf}
+use Rattle.desk_past.specs.Page.{Page, of_turn}
+use Rattle.desk_past.specs.Past.{HasMoment, KeepsAll, Remembers, Start, moment}
+
+-- the page of a turn to moment k, with what the desktop was then
+abbrev pub turn_of : ℕ → Desktop → Page
+turn_of k to = of_turn LAYOUT k to
+
+module _ {D : Type 0} (d : Ghosts D) where
+  -- a past that the store keeps
+  pub record PastOf (store : StoreView D) : Type 0 where
+    pub start : Start
+    pub deeds : List PastDeed
+    pub desktop : Desktop
+    pub keeps : KeepsAll d start deeds desktop store
+    pub honest : d.honest store.disk
+
+  -- at its moment k the desktop was this one
+  pub record WasAt (k : ℕ) (to : Desktop) {store : StoreView D} (past : PastOf store)
+      : Type 0 where
+    pub there : HasMoment past.start past.deeds k
+    pub is : to ≡ moment past.start past.deeds k
+
+  -- and it has room for the page of a turn to that moment
+  pub record CanTurnTo (k : ℕ) (to : Desktop) (store : StoreView D) : Type 0 where
+    pub past : PastOf store
+    pub was : WasAt k to past
+    pub add : CanAdd d (turn_of k to) past.keeps
+
+  -- At every moment of the call a crash leaves all deeds from before it, and the desktop to which they led, or these and
+  -- a turn, and this desktop.
+  abbrev pub LeavesTurned : Desktop → {old : StoreView D} → PastOf old → StoreView D → Type 0
+  LeavesTurned to {old = old} past new = LeavesOnly (d.trail old.disk) (d.trail new.disk)
+      (λ c. Remembers (d.size old.disk) past.start past.deeds past.desktop c
+      ⊎ Remembers (d.size old.disk) past.start (past.deeds ++ turned to ∷ []) to c)
+
+  -- it kept the former, and keeps the latter now
+  abbrev pub KeepsTurned : Desktop → {old : StoreView D} → PastOf old → StoreView D → Type 0
+  KeepsTurned to past new = KeepsAll d past.start (past.deeds ++ turned to ∷ []) to new
+
+  -- ---- to a desktop that is known
+
+  -- nothing is forgotten, where that was the desktop at moment k
+  abbrev pub TurnsTo : ℕ → Desktop → StoreView D → StoreView D → Type 0
+  TurnsTo k to old new = (past : PastOf old) → WasAt k to past → LeavesTurned to past new
+
+  abbrev pub HasTurnedTo : ℕ → Desktop → StoreView D → StoreView D → Type 0
+  HasTurnedTo k to old new = (past : PastOf old) → WasAt k to past → KeepsTurned to past new
+
+  -- ---- to one that is worked out, of a past in a half
+
+  -- nothing is forgotten
+  abbrev pub TurnsBack : ℕ → StoreView D → StoreView D → Type 0
+  TurnsBack k old new = (past : PastOf old) → LiesInHalf d past.keeps
+      → LeavesTurned (moment past.start past.deeds k) past new
+
+  -- and there is such a moment
+  abbrev pub HasTurnedBack : ℕ → StoreView D → StoreView D → Type 0
+  HasTurnedBack k old new = (past : PastOf old) → LiesInHalf d past.keeps
+      → HasMoment past.start past.deeds k × KeepsTurned (moment past.start past.deeds k) past new

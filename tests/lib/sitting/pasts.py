@@ -1,0 +1,124 @@
+"""Random sittings at a desk that keeps its past, with Ctrl-Z and Ctrl-Y, imports, and kills amid them: the reader that was made
+from docs/PAST.md alone finds the screen that was shown at each moment."""
+import os
+import random
+import signal
+import subprocess
+import sys
+
+from endings import LETTERS, Trial
+from model import ROWS, Screen
+from sitting import Ended
+
+TESTS = os.path.dirname(os.path.dirname(os.path.dirname(os.path.realpath(__file__))))
+sys.path.insert(0, f'{TESTS}/lib/past')
+import reader  # noqa: E402, beside the other tests of a past
+
+SECTORS = 81158
+PRESSES = 120
+MOMENTS = 100
+KEYS = [b'\x7f', b'\r', b'\x1b[A', b'\x1b[D', b'\x1b[1;2D', b'\x03', b'\x16', b'\x0b']
+
+
+def press_of(chance):
+    """What is pressed next: some letters, a key, or a step back or forth."""
+    kind = chance.random()
+    if kind < 0.4:
+        return ''.join(chance.choice(LETTERS) for _ in range(chance.randrange(1, 9))).encode() + b' '
+    if kind < 0.7:
+        return chance.choice(KEYS)
+    return b'\x1a' if kind < 0.8 else b'\x19'
+
+
+def now_of(path):
+    """How many deeds came before what the store shows."""
+    disk = reader.Disk(path)
+    slot = reader.Slot(disk, 0)
+    return slot.before + len(reader.journal(disk, 0, slot.slot))
+
+
+def go_on(trial, chance, sitting):
+    """Now and then the program is killed, or left and a file imported; then somebody sits down again."""
+    kind = chance.random()
+    if kind > 0.05:
+        return sitting
+    if kind > 0.02:
+        os.kill(sitting.program(), signal.SIGKILL)
+        sitting.end()
+    else:
+        trial.leaves(sitting)
+        with open(f'{trial.folder}/B.Text', 'w', encoding='ascii') as file:
+            file.write(f'a text of {chance.random()}\n')
+        trial.desk_says('import', trial.path, '--replace', f'{trial.folder}/B.Text')
+    return trial.sit('--no-questions', trial.path)
+
+
+def screen_at(trial, moment):
+    """The screen of a moment, as the reader finds it. None where the past doesn't reach so far."""
+    disk, rest = f'{trial.folder}/moment.disk', f'{trial.folder}/rest'
+    if reader.main(trial.path, SECTORS, moment, disk, rest):
+        return None
+    with open(rest, encoding='ascii') as file:
+        lines = [line.rstrip('\n') for line in file]
+    plain = [line.replace('document ', 'file ', 1) for line in lines if not line.startswith('import ')]
+    trial.oberon_says('play', disk, lines=plain)
+    return Screen(trial.oberon_says('screen', disk).splitlines()[:-1]).rows
+
+
+def is_shown(rows, seen):
+    """Whether these are the rows that were seen, in which a mark stands at the edge where a line goes on beyond it."""
+    pairs = [pair for row, was in zip(rows, seen, strict=True) for pair in zip(row.ljust(80), was.ljust(80), strict=True)]
+    return all(character == was or was == '>' for character, was in pairs)
+
+
+def sit(trial, chance):
+    """A sitting. Returns the screens that were shown, by the number of deeds that came before each."""
+    trial.store()
+    sitting, seen = trial.sit('--past', '--no-questions', trial.path), {}
+    for _ in range(PRESSES):
+        if not sitting.hear(press_of(chance)):
+            trial.wrong.append('no scene came')
+            break
+        sitting.rest(0.05)
+        now = now_of(trial.path)
+        seen = {moment: rows for moment, rows in seen.items() if moment < now}  # (what was taken back is no moment any more)
+        seen[now] = sitting.terminal.lines()[:ROWS]
+        sitting = go_on(trial, chance, sitting)
+    trial.leaves(sitting)
+    return seen
+
+
+def attempt(seed, desk, oberon):
+    """What is wrong with a sitting, in words, and how many moments were looked at."""
+    chance = random.Random(seed)
+    trial, looked = Trial(desk, oberon, chance), 0
+    try:
+        seen = sit(trial, chance)
+        for moment in chance.sample(sorted(seen), min(MOMENTS, len(seen))):
+            found = screen_at(trial, moment)
+            looked += found is not None
+            if found is not None and not is_shown(found, seen[moment]):
+                trial.wrong.append(f'another screen at moment {moment}')
+        trial.check(looked > 0, 'no moment was found')
+    except (Ended, OSError, subprocess.CalledProcessError, reader.Gone) as error:
+        trial.wrong.append(repr(error))
+    trial.stop()
+    return trial.wrong, looked
+
+
+def main():
+    desk, oberon, runs, first = sys.argv[1:5]
+    failed = looked = 0
+    for seed in range(int(first), int(first) + int(runs)):
+        wrong, found = attempt(seed, desk, oberon)
+        looked += found
+        failed += bool(wrong)
+        if wrong:
+            print(f'{seed}: ' + '; '.join(wrong[:3]), flush=True)
+    print(f'{looked} moments', file=sys.stderr)
+    print(f'{runs} sittings with a past, {failed} differ', flush=True)
+    sys.exit(1 if failed else 0)
+
+
+if __name__ == '__main__':
+    main()
