@@ -12,6 +12,7 @@ use Rattle.desktop_definitions.specs.Desktop.{Desktop}
 use Rattle.store_layout.specs.declared.head.PastEnd.{PastEnd}
 use Rattle.store_layout.specs.declared.layout.TheConstants.{LAST_EPOCH, STORE_SECTORS}
 use Rattle.store_layout.specs.Meaning.{MeansEither}
+use Rattle.store_slots.specs.Device.{IsOnlyRead}
 use Rattle.store_slots.specs.Errors.{OfCheckpoint, OfDesktop, OfLook}
 use Rattle.store_slots.specs.declared.error.Error.{Error}
 use Rattle.store_slots.specs.declared.error.Error.TheVariants.{Fault, MustReopen, NoMemory, Worn}
@@ -43,6 +44,14 @@ turn_good k to few = record {
 
 -- ---- at each moment
 
+-- nothing was written, whatever was returned
+pub none_left : {D : Type 0} (d : Ghosts D) {old : StoreView D} (new : StoreView D)
+    → (old.must_reopen ≡ false → IsDurable d old) → (old.must_reopen ≡ false → d.honest old.disk → IsQuiet d old)
+    → IsOnlyRead d old.disk new.disk → (to : Desktop) → LeavesThisOrThat d to old new
+none_left d {old = old} new durable quiet run to usable honest =
+    weakened (desktop_spared d STORE_SECTORS 0 old new (omega arith) durable
+    (spared_read d STORE_SECTORS 0 run quiet) usable honest) (λ c means. inl means)
+
 module _ {D : Type 0} (d : Ghosts D) {old mid : StoreView D} (still : IsOnlyReadFrom d old mid)
     (durable : old.must_reopen ≡ false → IsDurable d old)
     (quiet : old.must_reopen ≡ false → d.honest old.disk → IsQuiet d old) where
@@ -53,9 +62,7 @@ module _ {D : Type 0} (d : Ghosts D) {old mid : StoreView D} (still : IsOnlyRead
       (λ c r. inl r)
 
   pub none_shown : (to : Desktop) → LeavesThisOrThat d to old mid
-  none_shown to usable honest =
-      weakened (desktop_spared d STORE_SECTORS 0 old mid (omega arith) durable
-      (spared_read d STORE_SECTORS 0 still.left.disk quiet) usable honest) (λ c means. inl means)
+  none_shown = none_left d mid durable quiet still.left.disk
 
   -- another desktop comes then
   pub shown_behind : (to : Desktop) (new : StoreView D) → LeavesThisOrThat d to mid new

@@ -12,7 +12,6 @@ use Rattle.store_slots.specs.declared.error.Error.{Error}
 use Rattle.store_slots.specs.declared.error.Error.TheVariants.{Fault}
 use Rattle.desk_journal.specs.Gathering.{GatheredView}
 use Rattle.desk_journal.specs.Looking.{OnlyLooks}
-use Rattle.desk_journal.specs.Turning.{IsTurnedTo}
 use Rattle.desk_journal.specs.Undoing.{IsLeft}
 use Rattle.desk_journal.specs.View.{StoreView}
 use Rattle.desk_past.specs.Ahead.{CanAdd}
@@ -23,8 +22,8 @@ use Rattle.desk_past.specs.Halves.{IsHalf}
 use Rattle.desk_past.specs.Page.{Page}
 use Rattle.desk_past.specs.Past.{KeepsAll, Start}
 use Rattle.desk_past.specs.Reading.{IsOnlyReadFrom}
-use Rattle.desk_past.specs.Turning.{CanTurnTo, HasTurnedBack, HasTurnedTo, KeepsTurned, LeavesTurned, PastOf, TurnsBack}
-use Rattle.desk_past.specs.Turning.{TurnsTo, WasAt, turn_of}
+use Rattle.desk_past.specs.Turning.{CanTurnTo, ComesToMoment, HasTurnedBack, HasTurnedTo, KeepsTurned, LeavesTurned}
+use Rattle.desk_past.specs.Turning.{PastOf, StaysUnturned, TurnsBack, TurnsTo, WasAt, turn_of}
 use Rattle.desk_past.proofs.OverPages.{LeavesDone}
 use Rattle.desk_past.proofs.Remembering.{IsQuiet, read_keeps, read_moments}
 use Rattle.desk_past.proofs.Rooms.{behind_start}
@@ -151,12 +150,13 @@ module _ {D : Type 0} (d : Ghosts D) {old mid : StoreView D} (still : IsOnlyRead
 
 -- ---- what was returned
 
-pub in_use_then : {D : Type 0} (d : Ghosts D) (to : GatheredView) (mid new : StoreView D) (answer : Result Bool Error)
-    → IfOk answer (λ done. done ≡ true → IsTurnedTo d to mid new)
-    → IfOk answer (λ done. done ≡ false → IsOnlyReadFrom d mid new) → OnOk answer (new.must_reopen ≡ false)
-in_use_then d to mid new (Ok true) is not = (is refl).usable
-in_use_then d to mid new (Ok false) is not = (not refl).usable
-in_use_then d to mid new (Err e) is not = tt
+pub in_use_then : {D : Type 0} (d : Ghosts D) (k : ℕ) (to : GatheredView) (mid new : StoreView D)
+    (answer : Result Bool Error) → IfOk answer (λ done. done ≡ true → ComesToMoment d k to mid new)
+    → IfOk answer (λ done. done ≡ false → StaysUnturned d (CanTurnTo d k to.desktop mid) mid new)
+    → OnOk answer (new.must_reopen ≡ false)
+in_use_then d k to mid new (Ok true) is not = (is refl).shows.usable
+in_use_then d k to mid new (Ok false) is not = (not refl).still.usable
+in_use_then d k to mid new (Err e) is not = tt
 
 -- an error of a look is one of a moment
 look_of : (e : Error) → OfLook e → OfMoment e

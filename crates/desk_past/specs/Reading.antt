@@ -4,6 +4,7 @@ use Rattle.sector_disk.specs.Stored.{HoldsBytes}
 use Rattle.sector_disk.specs.Trail.{Content, now}
 use Rattle.sector_disk.specs.declared.disk.Disk.{Ghosts}
 use Rattle.sector_disk.specs.declared.disk.TheConstants.{SECTOR_BYTES}
+use Rattle.store_layout.specs.declared.layout.TheConstants.{STORE_SECTORS}
 use Rattle.store_layout.specs.Meaning.{Standing, desktop_of}
 use Rattle.desk_journal.specs.Undoing.{IsLeft, ShowsStanding}
 use Rattle.desk_journal.specs.View.{StoreView}
@@ -16,6 +17,11 @@ use Rattle.desk_past.specs.declared.pages.PageDeeds.TheVariants.{Events, Import,
 -- each sector of a disk reads as zeros
 abbrev pub ReadsZeros : {E : Type 0} → Ghosts E → E → Type 0
 ReadsZeros e disk = (n : ℕ) → (now (e.trail disk)).reads n ≡ replicate SECTOR_BYTES 0
+
+-- it has room for a store, and no byte of it was written
+pub record IsBlankRoom {E : Type 0} (e : Ghosts E) (disk : E) : Type 0 where
+  pub room : STORE_SECTORS ≤ e.size disk
+  pub zeros : ReadsZeros e disk
 
 -- the page stands there, and ends before that sector
 pub record HasPage (c : Content) (at end : ℕ) (p : Page) : Type 0 where

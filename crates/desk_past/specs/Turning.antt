@@ -4,12 +4,15 @@ use Rattle.sector_disk.specs.declared.disk.Disk.{Ghosts}
 use Rattle.sector_disk.specs.Trail.{LeavesOnly}
 use Rattle.desktop_definitions.specs.Desktop.{Desktop}
 use Rattle.store_layout.specs.declared.layout.TheConstants.{LAYOUT}
+use Rattle.desk_journal.specs.Gathering.{GatheredView}
+use Rattle.desk_journal.specs.Turning.{IsTurnedTo}
 use Rattle.desk_journal.specs.View.{StoreView}
 use Rattle.desk_past.specs.Ahead.{CanAdd}
 use Rattle.desk_past.specs.Deeds.{PastDeed, turned}
 use Rattle.desk_past.specs.Going.{LiesInHalf}
 use Rattle.desk_past.specs.Page.{Page, of_turn}
 use Rattle.desk_past.specs.Past.{HasMoment, KeepsAll, Remembers, Start, moment}
+use Rattle.desk_past.specs.Reading.{IsOnlyReadFrom}
 
 -- the page of a turn to moment k, with what the desktop was then
 abbrev pub turn_of : ℕ → Desktop → Page
@@ -55,6 +58,16 @@ module _ {D : Type 0} (d : Ghosts D) where
 
   abbrev pub HasTurnedTo : ℕ → Desktop → StoreView D → StoreView D → Type 0
   HasTurnedTo k to old new = (past : PastOf old) → WasAt k to past → KeepsTurned to past new
+
+  -- True: the store shows that desktop, and where it was that at moment k its past goes on over the turn.
+  pub record ComesToMoment (k : ℕ) (to : GatheredView) (old new : StoreView D) : Type 0 where
+    pub shows : IsTurnedTo d to old new
+    pub past : HasTurnedTo k to.desktop old new
+
+  -- False: nothing was written, and the past couldn't take the turn.
+  pub record StaysUnturned (Can : Type 0) (old new : StoreView D) : Type 0 where
+    pub still : IsOnlyReadFrom d old new
+    pub none : Can → ⊥
 
   -- ---- to one that is worked out, of a past in a half
 

@@ -14,7 +14,7 @@ ghost use Rattle.desk_past.specs.Deeds.{PastDeed};
 ghost use Rattle.desk_past.specs.Errors.{OfDoing, OfLaying, OfMoment, OfSteps};
 ghost use Rattle.desk_past.specs.Page.{Page, HasPages, deeds_in, end_of_pages};
 ghost use Rattle.desk_past.specs.Past.{AreGood, IsHeadTold, HasMoment, KeepsAll, StandsFrom, Start, all_deeds, first_page, moment as moment_of};
-ghost use Rattle.desk_past.specs.Reading.{IsLed, IsOnlyReadFrom, IsRead, ReadsZeros, ShowsNow, many_deeds};
+ghost use Rattle.desk_past.specs.Reading.{IsBlankRoom, IsLed, IsOnlyReadFrom, IsRead, ShowsNow, many_deeds};
 ghost use Rattle.desk_past.specs.Routes.{AreLegs, HasNoTurn};
 
 use crate::again::{brought, empty_disk, many_before, opened, posted, taken_back};
@@ -39,8 +39,7 @@ fn opened_at<D: Disk, E: Disk + Drop>(
     requires usable { store.old.must_reopen ≡ false }
     requires numbered { base + STORE_SECTORS < 2 ^ 32 }
     requires there { base + STORE_SECTORS ≤ D.size store.old.disk }
-    requires room { STORE_SECTORS ≤ E.size disk }
-    requires zeros { ReadsZeros E.Disk disk }
+    requires blank { IsBlankRoom E.Disk disk }
     ensures shown { IfOk result (λ shown. D.honest store.old.disk → E.honest disk → (t : Standing)
         → StandsFrom (now (D.trail store.old.disk)).reads base t → ShowsNow E.Disk t shown) }
     ensures still { IsOnlyReadFrom D.Disk store.old store.new }
@@ -239,8 +238,7 @@ fn in_journal<D: Disk, E: Disk + Drop>(
     disk: E,
 ) -> Result<Option<Store<E>>, Error>
     requires usable { store.old.must_reopen ≡ false }
-    requires room { STORE_SECTORS ≤ E.size disk }
-    requires zeros { ReadsZeros E.Disk disk }
+    requires blank { IsBlankRoom E.Disk disk }
     ensures is_one { IfOk result (λ found. D.honest store.old.disk → E.honest disk
         → (s : Standing) → ShowsStanding D.Disk store.old s → count ≤ length s.events
         → IsSomeAnd found (λ shown.
@@ -308,8 +306,7 @@ fn in_pages<D: Disk, E: Disk + Drop>(
     disk: E,
 ) -> Result<Option<Store<E>>, Error>
     requires usable { store.old.must_reopen ≡ false }
-    requires room { STORE_SECTORS ≤ E.size disk }
-    requires zeros { ReadsZeros E.Disk disk }
+    requires blank { IsBlankRoom E.Disk disk }
     ensures is_one { IfOk result (λ found. D.honest store.old.disk → E.honest disk
         → (start : Start) (deeds : List PastDeed) (desktop : Desktop)
         → (keeps : KeepsAll D.Disk start deeds desktop store.old) → IsHeadTold D.Disk told keeps
@@ -370,7 +367,6 @@ pub fn moment<D: Disk>(
         → KeepsAll D.Disk start deeds desktop store.old → start.base ≡ base
         → HasMoment start deeds k)) }
     ensures still { OnOk result (IsOnlyReadFrom D.Disk store.old store.new) }
-    ensures disk { IsOnlyRead D.Disk store.old.disk store.new.disk }
     ensures left { IsLeft D.Disk store.old store.new }
     ensures usable { store.new.must_reopen ≡ store.old.must_reopen }
     ensures faults { FailsAs Error.Fault OfMoment result (D.failures store.old.disk)

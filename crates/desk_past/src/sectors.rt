@@ -9,7 +9,7 @@ ghost use Rattle.store_slots.specs.Errors.{OfDesktop};
 ghost use Rattle.desk_journal.specs.Device.{IsSameDevice};
 ghost use Rattle.desk_journal.specs.Looking.{OnlyLooks};
 ghost use Rattle.desk_past.specs.Beginning.{HasCopies, HoldsSame};
-ghost use Rattle.desk_past.specs.Reading.{IsOnlyReadFrom, ReadsZeros};
+ghost use Rattle.desk_past.specs.Reading.{IsBlankRoom, IsOnlyReadFrom};
 
 use desk_journal::{Error, STORE_SECTORS, Store};
 use sector_disk::{Disk, NoMemory, SECTOR_BYTES, Sector};
@@ -116,8 +116,7 @@ pub(crate) fn copy_to<D: Disk, E: Disk>(
     requires usable { store.old.must_reopen ≡ false }
     requires numbered { base + STORE_SECTORS < 2 ^ 32 }
     requires there { base + STORE_SECTORS ≤ D.size store.old.disk }
-    requires room { STORE_SECTORS ≤ E.size disk.old }
-    requires zeros { ReadsZeros E.Disk disk.old }
+    requires blank { IsBlankRoom E.Disk disk.old }
     ensures same { OnOk result (D.honest store.old.disk → E.honest disk.old → (n : ℕ)
         → n < STORE_SECTORS → (now (E.trail disk.new)).reads n
         ≡ (now (D.trail store.old.disk)).reads (base + n)) }

@@ -5,7 +5,7 @@ ghost use Rattle.store_slots.specs.Errors.{OfDesktop, OfLook};
 ghost use Rattle.desktop_definitions.specs.Desktop.{Desktop};
 ghost use Rattle.desk_journal.specs.Behind.{FitBehind};
 ghost use Rattle.desk_journal.specs.Posting.{AnswersMustReopen};
-ghost use Rattle.desk_journal.specs.Turning.{IsTurnedTo, LeavesThisOrThat};
+ghost use Rattle.desk_journal.specs.Turning.{LeavesThisOrThat};
 ghost use Rattle.desk_journal.specs.Undoing.{IsLeft};
 ghost use Rattle.desk_past.specs.Ahead.{IsAhead};
 ghost use Rattle.desk_past.specs.Errors.{OfMoment};
@@ -13,7 +13,8 @@ ghost use Rattle.desk_past.specs.Going.{LiesInHalf};
 ghost use Rattle.desk_past.specs.Keeping.{UsesDevice};
 ghost use Rattle.desk_past.specs.Past.{HasMoment};
 ghost use Rattle.desk_past.specs.Reading.{IsOnlyReadFrom};
-ghost use Rattle.desk_past.specs.Turning.{CanTurnTo, HasTurnedBack, HasTurnedTo, PastOf, TurnsBack, TurnsTo, WasAt, turn_of};
+ghost use Rattle.desk_past.specs.Turning.{CanTurnTo, ComesToMoment, HasTurnedBack, PastOf, StaysUnturned, TurnsBack, TurnsTo};
+ghost use Rattle.desk_past.specs.Turning.{WasAt, turn_of};
 
 use crate::ahead::{Ahead, page_ahead};
 use crate::halves::half_at;
@@ -60,13 +61,10 @@ pub fn turn_to<D: Disk>(
 ) -> Result<bool, Error>
     ensures any_store { LeavesThisOrThat D.Disk to.desktop store.old store.new }
     ensures any_moment { TurnsTo D.Disk k to.desktop store.old store.new }
-    ensures turned { IfOk result (λ done. done ≡ true → IsTurnedTo D.Disk to store.old store.new) }
     ensures done { IfOk result (λ done. done ≡ true
-        → HasTurnedTo D.Disk k to.desktop store.old store.new) }
-    ensures not_done { IfOk result (λ done. done ≡ false
-        → IsOnlyReadFrom D.Disk store.old store.new) }
-    ensures why { IfOk result (λ done. done ≡ false → CanTurnTo D.Disk k to.desktop store.old
-        → ⊥) }
+        → ComesToMoment D.Disk k to store.old store.new) }
+    ensures not_done { IfOk result (λ done. done ≡ false → StaysUnturned D.Disk
+        (CanTurnTo D.Disk k to.desktop store.old) store.old store.new) }
     ensures memory { IsErrOf result Error.NoMemory → IsOnlyReadFrom D.Disk store.old store.new }
     ensures left { IfErr result (λ _. store.new.must_reopen ≡ false
         → IsLeft D.Disk store.old store.new) }
@@ -139,13 +137,12 @@ fn desktop_at<D: Disk>(
 ///
 /// Errors: those of `moment`, by which nothing was written; those of `turn_to`.
 pub fn turn<D: Disk>(alloc: Global, store: &mut Store<D>, k: u64) -> Result<bool, Error>
+    ensures any_store { (to : Desktop) × LeavesThisOrThat D.Disk to store.old store.new }
     ensures any_moment { TurnsBack D.Disk k store.old store.new }
     ensures done { IfOk result (λ done. done ≡ true
         → HasTurnedBack D.Disk k store.old store.new) }
-    ensures not_done { IfOk result (λ done. done ≡ false
-        → IsOnlyReadFrom D.Disk store.old store.new) }
-    ensures why { IfOk result (λ done. done ≡ false → (to : Desktop)
-        → CanTurnTo D.Disk k to store.old → ⊥) }
+    ensures not_done { IfOk result (λ done. done ≡ false → StaysUnturned D.Disk
+        ((to : Desktop) × CanTurnTo D.Disk k to store.old) store.old store.new) }
     ensures usable { OnOk result (store.new.must_reopen ≡ false) }
     ensures left { IfErr result (λ _. store.new.must_reopen ≡ false
         → IsLeft D.Disk store.old store.new) }

@@ -55,12 +55,6 @@ returns-clause-still g c =
     whatever c.in_pages.result (still_both g.D.Disk
     (still_looked g.D.Disk c.past.result (still_none g.D.Disk c.args.store.now usable) c.past.ensures.looks) c.in_pages.ensures.still)
 
-pub returns-then-k-told-clause-disk : goal.returns-then-k-told-clause-disk
-returns-then-k-told-clause-disk g c = read_twice g.D.Disk c.past.ensures.looks.disk c.in_journal.ensures.still.left.disk
-
-pub returns-clause-disk : goal.returns-clause-disk
-returns-clause-disk g c = read_twice g.D.Disk c.past.ensures.looks.disk c.in_pages.ensures.still.left.disk
-
 pub returns-then-k-told-clause-there : goal.returns-then-k-told-clause-there
 returns-then-k-told-clause-there g c = IfOk-weaker c.in_journal.result _ _ (λ found fact. if_some_then found fact
     (λ shown fact honest start deeds desktop keeps is.

@@ -24,7 +24,7 @@ pub returns-clause-shown : goal.returns-clause-shown
 returns-clause-shown g c = both_weaker c.opened.result c.opened.ensures.ok c.opened.ensures.untouched
     (λ shown ok untouched honest other t at. opened_shows g.E.Disk c.standing_law.ensures
     (λ n. (now (g.D.Disk.trail c.args.store.now.disk)).reads (c.args.base + n)) t at
-    (omega (arith, c.requires.room, c.copy_to.ensures.device.as_large))
+    (omega (arith, c.requires.blank.room, c.copy_to.ensures.device.as_large))
     (c.in_ok-copy_to.ensures.same honest other) (c.copy_to.ensures.device.still other) ok untouched)
 
 pub returns-clause-faults : goal.returns-clause-faults
@@ -35,5 +35,5 @@ pub returns-clause-stops : goal.returns-clause-stops
 returns-clause-stops g c = IfErr-weaker c.opened.result _ _ (λ e stops honest other t at.
     steps_of_doing e (stops (c.copy_to.ensures.device.still other) t
     (copied_stands g.E.Disk (λ n. (now (g.D.Disk.trail c.args.store.now.disk)).reads (c.args.base + n)) t at
-    (omega (arith, c.requires.room, c.copy_to.ensures.device.as_large))
+    (omega (arith, c.requires.blank.room, c.copy_to.ensures.device.as_large))
     (c.in_ok-copy_to.ensures.same honest other)))) c.opened.ensures.stops

@@ -10,7 +10,7 @@ loop-n-init g c = record {
   calm = refl;
   device = record { as_large = refl; still = λ h. h; already = λ h. h };
   same = λ honest other k low. absurd (omega (arith, low));
-  rest = λ other k high. c.requires.zeros k;
+  rest = λ other k high. c.requires.blank.zeros k;
 }
 
 pub returns-in_err-sector-clause-still : goal.returns-in_err-sector-clause-still

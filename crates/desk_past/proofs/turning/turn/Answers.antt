@@ -1,7 +1,7 @@
 use Rattle.std.proofs.lemmas.Result.{IfOk-weaker, IfErr-weaker}
 use Rattle.desk_past.proofs.Begun.{same_both}
 use Rattle.desk_past.proofs.StillReads.{still_both}
-use Rattle.desk_past.proofs.TurnWays.{err_then}
+use Rattle.desk_past.proofs.TurnWays.{err_then, none_left, none_shown, shown_behind}
 use Rattle.desk_past.proofs.TurnedBack.{fails_behind, in_use_then, left_twice, lies_there, none_back, none_can, turned_back}
 use Rattle.desk_past.proofs.TurnedBack.{turns_back}
 use Rattle.desk_past.specs.Turning.{turn_of}
@@ -11,6 +11,13 @@ pub returns-in_err-to-clause-any_moment : goal.returns-in_err-to-clause-any_mome
 returns-in_err-to-clause-any_moment g c =
     none_back g.D.Disk c.desktop_at.new.store c.shows_what_crashes_leave.ensures.quiet c.desktop_at.ensures.left.disk c.args.k
 
+pub returns-in_err-to-clause-any_store : goal.returns-in_err-to-clause-any_store
+returns-in_err-to-clause-any_store g c = (
+  c.args.store.now.desktop,
+  none_left g.D.Disk c.desktop_at.new.store c.shows_what_crashes_leave.ensures.durable
+      c.shows_what_crashes_leave.ensures.quiet c.desktop_at.ensures.left.disk c.args.store.now.desktop,
+)
+
 pub returns-in_err-to-clause-left : goal.returns-in_err-to-clause-left
 returns-in_err-to-clause-left g c = err_then c.from_residual.result (λ _. c.desktop_at.ensures.left)
 
@@ -18,10 +25,26 @@ pub returns-in_default-clause-any_moment : goal.returns-in_default-clause-any_mo
 returns-in_default-clause-any_moment g c =
     none_back g.D.Disk c.desktop_at.new.store c.shows_what_crashes_leave.ensures.quiet c.desktop_at.ensures.left.disk c.args.k
 
-pub returns-in_default-clause-why : goal.returns-in_default-clause-why
-returns-in_default-clause-why g c = λ _ to can.
-    (rw c.in_default.is at c.in_ok-to.ensures.none) can.past
-    (lies_there g.D.Disk (turn_of c.args.k to) can.add) can.was.there
+pub returns-in_default-clause-any_store : goal.returns-in_default-clause-any_store
+returns-in_default-clause-any_store g c = (
+  c.args.store.now.desktop,
+  none_shown g.D.Disk c.in_ok-to.ensures.still c.shows_what_crashes_leave.ensures.durable
+      c.shows_what_crashes_leave.ensures.quiet c.args.store.now.desktop,
+)
+
+pub returns-in_default-clause-not_done : goal.returns-in_default-clause-not_done
+returns-in_default-clause-not_done g c = λ _. record {
+  still = c.in_ok-to.ensures.still;
+  none = λ p. (rw c.in_default.is at c.in_ok-to.ensures.none) p.1.past
+      (lies_there g.D.Disk (turn_of c.args.k p.0) p.1.add) p.1.was.there;
+}
+
+pub returns-clause-any_store : goal.returns-clause-any_store
+returns-clause-any_store g c = (
+  c.in-Some.to.desktop,
+  shown_behind g.D.Disk c.in_ok-to.ensures.still c.shows_what_crashes_leave.ensures.durable
+      c.shows_what_crashes_leave.ensures.quiet c.in-Some.to.desktop c.turn_to.new.store c.turn_to.ensures.any_store,
+)
 
 pub returns-clause-any_moment : goal.returns-clause-any_moment
 returns-clause-any_moment g c =
@@ -32,22 +55,19 @@ returns-clause-any_moment g c =
 pub returns-clause-done : goal.returns-clause-done
 returns-clause-done g c = IfOk-weaker c.turn_to.result _ _ (λ done has is.
     turned_back g.D.Disk c.in_ok-to.ensures.still c.shows_what_crashes_leave.ensures.quiet c.args.k
-    c.in-Some.to.desktop c.turn_to.new.store (rw c.in-Some.is at c.in_ok-to.ensures.was) (has is))
+    c.in-Some.to.desktop c.turn_to.new.store (rw c.in-Some.is at c.in_ok-to.ensures.was) (has is).past)
     c.turn_to.ensures.done
 
 pub returns-clause-not_done : goal.returns-clause-not_done
-returns-clause-not_done g c = IfOk-weaker c.turn_to.result _ _ (λ done left is.
-    still_both g.D.Disk c.in_ok-to.ensures.still (left is)) c.turn_to.ensures.not_done
-
-pub returns-clause-why : goal.returns-clause-why
-returns-clause-why g c = IfOk-weaker c.turn_to.result _ _ (λ done none is.
-    none_can g.D.Disk c.in_ok-to.ensures.still c.shows_what_crashes_leave.ensures.quiet c.args.k
-    c.in-Some.to.desktop c.turn_to.new.store (rw c.in-Some.is at c.in_ok-to.ensures.was) (none is))
-    c.turn_to.ensures.why
+returns-clause-not_done g c = IfOk-weaker c.turn_to.result _ _ (λ done stays is. record {
+  still = still_both g.D.Disk c.in_ok-to.ensures.still (stays is).still;
+  none = λ p. none_can g.D.Disk c.in_ok-to.ensures.still c.shows_what_crashes_leave.ensures.quiet c.args.k
+      c.in-Some.to.desktop c.turn_to.new.store (rw c.in-Some.is at c.in_ok-to.ensures.was) (stays is).none p.0 p.1;
+}) c.turn_to.ensures.not_done
 
 pub returns-clause-usable : goal.returns-clause-usable
-returns-clause-usable g c = in_use_then g.D.Disk c.in-Some.to c.desktop_at.new.store c.turn_to.new.store c.turn_to.result c.turn_to.ensures.turned
-    c.turn_to.ensures.not_done
+returns-clause-usable g c = in_use_then g.D.Disk c.args.k c.in-Some.to c.desktop_at.new.store c.turn_to.new.store
+    c.turn_to.result c.turn_to.ensures.done c.turn_to.ensures.not_done
 
 pub returns-clause-left : goal.returns-clause-left
 returns-clause-left g c = IfErr-weaker c.turn_to.result _ _ (λ e left usable.

@@ -25,13 +25,12 @@ returns-then-info-clause-any_moment g c =
     c.shows_what_crashes_leave.ensures.quiet c.args.k c.args.to.desktop
 
 pub returns-then-info-clause-not_done : goal.returns-then-info-clause-not_done
-returns-then-info-clause-not_done g c = λ _. still_none g.D.Disk c.args.store.now
-    (usable_of c.args.store.now.must_reopen c.info.ensures.reopen c.in_ok-info.was)
-
-pub returns-then-info-clause-why : goal.returns-then-info-clause-why
-returns-then-info-clause-why g c = λ _ can.
+returns-then-info-clause-not_done g c = λ _.
     let usable = usable_of c.args.store.now.must_reopen c.info.ensures.reopen c.in_ok-info.was in
-    can.add.later (sym (told_epoch c.in_ok-info.was (c.info.ensures.value usable)) ∙ c.if-info.true)
+    record {
+      still = still_none g.D.Disk c.args.store.now usable;
+      none = λ can. can.add.later (sym (told_epoch c.in_ok-info.was (c.info.ensures.value usable)) ∙ c.if-info.true);
+    }
 
 -- ---- the pages can't be made
 
@@ -64,9 +63,11 @@ returns-in_default-clause-any_moment g c =
     none_turned g.D.Disk c.turn_ahead.ensures.still c.shows_what_crashes_leave.ensures.durable
     c.shows_what_crashes_leave.ensures.quiet c.args.k c.args.to.desktop
 
-pub returns-in_default-clause-why : goal.returns-in_default-clause-why
-returns-in_default-clause-why g c = λ _ can.
-    (rw c.in_default.is at c.in_ok-ahead.ensures.none) c.args.to.desktop can
+pub returns-in_default-clause-not_done : goal.returns-in_default-clause-not_done
+returns-in_default-clause-not_done g c = λ _. record {
+  still = c.turn_ahead.ensures.still;
+  none = λ can. (rw c.in_default.is at c.in_ok-ahead.ensures.none) c.args.to.desktop can;
+}
 
 -- ---- the desktop is exchanged
 
@@ -144,15 +145,13 @@ returns-clause-any_moment g c =
     c.turn_behind.ensures.behaves.within c.as_slice.ensures.value
     (rw c.in-Some.is at c.in_ok-ahead.ensures.ahead) c.turn_behind.ensures.comes.moments
 
-pub returns-clause-turned : goal.returns-clause-turned
-returns-clause-turned g c = λ _.
-    turned_then g.D.Disk c.turn_ahead.ensures.still c.args.to c.in_ok-turn_behind.ensures.ok
-
 pub returns-clause-done : goal.returns-clause-done
-returns-clause-done g c = λ _.
-    turned_behind g.D.Disk c.turn_ahead.ensures.still c.shows_what_crashes_leave.ensures.durable
-    c.shows_what_crashes_leave.ensures.quiet c.args.k c.args.to.desktop c.in-Some.ahead.past c.in-Some.ahead.from
-    c.in-Some.ahead.limit c.turn_behind.new.self c.shows_what_crashes_leave-2.ensures.quiet
-    c.turn_behind.ensures.behaves.within c.as_slice.ensures.value
-    (rw c.in-Some.is at c.in_ok-ahead.ensures.ahead)
-    c.in_ok-turn_behind.ensures.ok.usable c.in_ok-turn_behind.ensures.comes.done
+returns-clause-done g c = λ _. record {
+  shows = turned_then g.D.Disk c.turn_ahead.ensures.still c.args.to c.in_ok-turn_behind.ensures.ok;
+  past = turned_behind g.D.Disk c.turn_ahead.ensures.still c.shows_what_crashes_leave.ensures.durable
+      c.shows_what_crashes_leave.ensures.quiet c.args.k c.args.to.desktop c.in-Some.ahead.past c.in-Some.ahead.from
+      c.in-Some.ahead.limit c.turn_behind.new.self c.shows_what_crashes_leave-2.ensures.quiet
+      c.turn_behind.ensures.behaves.within c.as_slice.ensures.value
+      (rw c.in-Some.is at c.in_ok-ahead.ensures.ahead)
+      c.in_ok-turn_behind.ensures.ok.usable c.in_ok-turn_behind.ensures.comes.done;
+}
