@@ -45,10 +45,10 @@ turn_good k to few = record {
 -- ---- at each moment
 
 -- nothing was written, whatever was returned
-pub none_left : {D : Type 0} (d : Ghosts D) {old : StoreView D} (new : StoreView D)
+pub none_left : {D : Type 0} (d : Ghosts D) (old new : StoreView D)
     → (old.must_reopen ≡ false → IsDurable d old) → (old.must_reopen ≡ false → d.honest old.disk → IsQuiet d old)
     → IsOnlyRead d old.disk new.disk → (to : Desktop) → LeavesThisOrThat d to old new
-none_left d {old = old} new durable quiet run to usable honest =
+none_left d old new durable quiet run to usable honest =
     weakened (desktop_spared d STORE_SECTORS 0 old new (omega arith) durable
     (spared_read d STORE_SECTORS 0 run quiet) usable honest) (λ c means. inl means)
 
@@ -62,7 +62,7 @@ module _ {D : Type 0} (d : Ghosts D) {old mid : StoreView D} (still : IsOnlyRead
       (λ c r. inl r)
 
   pub none_shown : (to : Desktop) → LeavesThisOrThat d to old mid
-  none_shown = none_left d mid durable quiet still.left.disk
+  none_shown = none_left d old mid durable quiet still.left.disk
 
   -- another desktop comes then
   pub shown_behind : (to : Desktop) (new : StoreView D) → LeavesThisOrThat d to mid new

@@ -14,7 +14,7 @@ returns-in_err-to-clause-any_moment g c =
 pub returns-in_err-to-clause-any_store : goal.returns-in_err-to-clause-any_store
 returns-in_err-to-clause-any_store g c = (
   c.args.store.now.desktop,
-  none_left g.D.Disk c.desktop_at.new.store c.shows_what_crashes_leave.ensures.durable
+  none_left g.D.Disk c.args.store.now c.desktop_at.new.store c.shows_what_crashes_leave.ensures.durable
       c.shows_what_crashes_leave.ensures.quiet c.desktop_at.ensures.left.disk c.args.store.now.desktop,
 )
 
