@@ -36,6 +36,8 @@ RINGING = [b'\x1bOQ\x1b\x00', b'\x1b1\x1b\x00', b'\x04', b'\x00', '\u00e4'.encod
 FILES = {'note.txt': b'a short note\n', 'long.txt': b'a line of a long file\r\n' * 100, 'odd': bytes(range(256)) * 2,
          'empty': b''}
 NO_FILES = ['none.txt', '.', 'pipe']
+# How far their names are typed before Tab, so that no other name beside them begins so.
+BEGUN = {'note.txt': ['note', 'note.t'], 'long.txt': ['lo', 'long.'], 'odd': ['od'], 'empty': ['em', 'empt']}
 
 
 def report(key, column, row, is_down, flags=0):
@@ -98,7 +100,8 @@ def brought(random):
     """A file of the host's is asked for, by a name that is typed or pasted."""
     name = random.choice([*FILES, *NO_FILES])
     pasted_name = f'\x1b[200~{name}\r\x11\x1b[201~'
-    typed = random.choice([name, 'x\x7f' + name, name + 'xy\b\b', pasted_name])
+    begun = [part + '\t' for part in BEGUN.get(name, [])]
+    typed = random.choice([name, 'x\x7f' + name, name + 'xy\b\b', pasted_name, *begun])
     rings = [('ring at a name',)] if typed == pasted_name else []
     return random.choice([b'\x0f', b'\x1b[19~']) + typed.encode() + random.choice([b'\r', b'\n']), [*rings, ('file', name)]
 
