@@ -7,7 +7,7 @@ import subprocess
 import sys
 
 from endings import LETTERS, Trial
-from model import ROWS, Screen
+from model import ROWS, WIDTHS, Screen
 from sitting import Ended
 
 TESTS = os.path.dirname(os.path.dirname(os.path.dirname(os.path.realpath(__file__))))
@@ -66,9 +66,11 @@ def screen_at(trial, moment):
 
 
 def is_shown(rows, seen):
-    """Whether these are the rows that were seen, in which a mark stands at the edge where a line goes on beyond it."""
-    pairs = [pair for row, was in zip(rows, seen, strict=True) for pair in zip(row.ljust(80), was.ljust(80), strict=True)]
-    return all(character == was or was == '>' for character, was in pairs)
+    """Whether these are the rows that were seen, in which a mark may stand in the last column of a track, where a line goes on."""
+    edges = [left + width - 1 for left, width in WIDTHS.items()]
+    return all(character == was or was == '>' and column in edges
+               for row, was_row in zip(rows, seen, strict=True)
+               for column, (character, was) in enumerate(zip(row.ljust(80), was_row.ljust(80), strict=True)))
 
 
 def sit(trial, chance):
