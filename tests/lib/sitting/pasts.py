@@ -78,7 +78,7 @@ def sit(trial, chance):
     trial.store()
     sitting, seen = trial.sit('--past', '--no-questions', trial.path), {}
     for _ in range(PRESSES):
-        if not sitting.hear(press_of(chance)):
+        if not sitting.hear_long(press_of(chance)):
             trial.wrong.append('no scene came')
             break
         sitting.rest(0.05)
