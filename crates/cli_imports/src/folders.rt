@@ -16,6 +16,8 @@ pub(crate) enum EntryKind {
     Dangling,
     /// A pipe, a socket or a device.
     Other,
+    /// Something whose name is no UTF-8, and so isn't known.
+    Unnamed,
 }
 
 /// An entry of a folder.
@@ -29,17 +31,26 @@ pub(crate) struct FolderEntry {
 pub(crate) fn entries_of(rt: &HostRuntime, folder: &str) -> io::Result<Vec<FolderEntry>> {
     let mut entries = Vec::new(rt.alloc());
     for entry in fs::read_dir(rt, folder)? {
-        add_entry(rt, &entry?, &mut entries)?;
+        entries.push(told_entry(rt, entry)?)?;
     }
     Ok(entries)
 }
 
-/// Adds an entry.
-fn add_entry(rt: &HostRuntime, entry: &DirEntry, entries: &mut Vec<FolderEntry>) -> io::Result<()> {
-    let name = String::from_str(rt.alloc(), entry.file_name())?;
-    let kind = kind_of(rt, entry);
-    entries.push(FolderEntry { name, kind })?;
-    Ok(())
+/// An entry as the host tells it; where its name is no UTF-8, one with the name `?`.
+fn told_entry(rt: &HostRuntime, told: io::Result<DirEntry>) -> io::Result<FolderEntry> {
+    match told {
+        Ok(entry) => entry_named(rt, entry.file_name(), kind_of(rt, &entry)),
+        Err(error) if error.kind() == io::ErrorKind::InvalidFilename => {
+            entry_named(rt, "?", EntryKind::Unnamed)
+        }
+        Err(error) => Err(error),
+    }
+}
+
+/// An entry of this name.
+fn entry_named(rt: &HostRuntime, name: &str, kind: EntryKind) -> io::Result<FolderEntry> {
+    let name = String::from_str(rt.alloc(), name)?;
+    Ok(FolderEntry { name, kind })
 }
 
 /// What an entry is, behind a link too.
@@ -63,5 +74,6 @@ pub(crate) fn reason_left_out(kind: EntryKind) -> &'static str {
         EntryKind::Folder => "it is a folder; name it too, and its files come",
         EntryKind::Dangling => "it is a link to nothing",
         EntryKind::Other => "it is a pipe or a device",
+        EntryKind::Unnamed => "its name is no UTF-8",
     }
 }

@@ -50,3 +50,10 @@ echo '--- how commands are used'
 desk import my.disk notes.txt --nothing
 desk list
 desk nothing
+
+echo '--- a name that is no UTF-8'
+mkdir odd
+echo one > odd/One.Text
+echo two > "odd/$(printf 'two\377')"
+desk import odd.disk odd
+desk list odd.disk
