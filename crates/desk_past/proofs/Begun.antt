@@ -23,10 +23,10 @@ use Rattle.desk_journal.specs.View.{StoreView, IsDurable}
 use Rattle.desk_past.specs.Beginning.{GoesOnFrom, IsApart, IsAside, SparesAllBut, SparesOthers, begun_at, copied_back}
 use Rattle.desk_past.specs.Deeds.{PastDeed, all_posted}
 use Rattle.desk_past.specs.Past.{HoldsPages, KeepsAll, Remembers, StandsFrom, Start, all_deeds}
-use Rattle.desk_past.specs.Reading.{IsOnlyReadFrom}
+use Rattle.desk_past.specs.Reading.{IsOnlyReadFrom, IsQuiet}
 use Rattle.desk_past.proofs.Carrying.{both_leave, written_stays}
 use Rattle.desk_past.proofs.Moments.{many_posted}
-use Rattle.desk_past.proofs.Remembering.{IsQuiet, remembers_on}
+use Rattle.desk_past.proofs.Remembering.{remembers_on}
 use Rattle.desk_past.proofs.StillReads.{nothing_written, resized}
 
 pub same_both : {D : Type 0} (d : Ghosts D) {old mid new : D} → IsSameDevice d old mid → IsSameDevice d mid new

@@ -17,6 +17,7 @@ use Rattle.store_layout.specs.Meaning.{Standing, Stands, desktop_of}
 use Rattle.store_slots.specs.Written.{anew_from}
 use Rattle.desk_journal.specs.Behind.{GoesToNextWith, LeavesNextWith, StaysBehind}
 use Rattle.desk_journal.specs.View.{StoreView}
+use Rattle.desk_past.specs.Reading.{IsQuiet}
 use Rattle.desk_past.specs.Ahead.{CanAdd, IsAhead, padded, pages_added, two_pages}
 use Rattle.desk_past.specs.Deeds.{PastDeed, after_deed, after_deeds, all_posted}
 use Rattle.desk_past.specs.Page.{Page, HasPages, deeds_in, end_of_pages, page_bytes, page_sectors}
@@ -25,7 +26,7 @@ use Rattle.desk_past.specs.Past.{all_deeds, first_page, journal_of}
 use Rattle.desk_past.proofs.Carrying.{both_leave, good_journal, written_kept}
 use Rattle.desk_past.proofs.Moments.{after_both, joined, many_posted, stepped_on}
 use Rattle.desk_past.proofs.PageReads.{page_long}
-use Rattle.desk_past.proofs.Remembering.{IsQuiet, remembers_on}
+use Rattle.desk_past.proofs.Remembering.{remembers_on}
 use Rattle.desk_past.proofs.Turns.{turns_both}
 
 -- ---- two pages, each from the beginning of a sector

@@ -24,8 +24,8 @@ use Rattle.desk_past.specs.declared.halves.TheConstants.{HALVES}
 use Rattle.desk_past.specs.Past.{HoldsPages, KeepsAll, Start}
 use Rattle.desk_past.proofs.Carrying.{written_stays}
 use Rattle.desk_past.proofs.Copied.{copies_as, spared_reads}
-use Rattle.desk_past.specs.Reading.{IsOnlyReadFrom}
-use Rattle.desk_past.proofs.Remembering.{IsQuiet, remembers_on}
+use Rattle.desk_past.specs.Reading.{IsOnlyReadFrom, IsQuiet}
+use Rattle.desk_past.proofs.Remembering.{remembers_on}
 use Rattle.desk_past.proofs.StillReads.{still_reads}
 
 -- ---- zeros

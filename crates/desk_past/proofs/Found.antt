@@ -15,8 +15,7 @@ use Rattle.desk_past.specs.declared.halves.TheConstants.{HALVES}
 use Rattle.desk_past.specs.Beginning.{AreUncounted}
 use Rattle.desk_past.specs.Going.{CanGoOn, IsDueOutset, IsInHalf, IsWanted, slot_epoch, start_epoch}
 use Rattle.desk_past.specs.Halves.{HasHalves, IsHalf, middle}
-use Rattle.desk_past.specs.Reading.{IsOnlyReadFrom}
-use Rattle.desk_past.proofs.Remembering.{IsQuiet}
+use Rattle.desk_past.specs.Reading.{IsOnlyReadFrom, IsQuiet}
 use Rattle.desk_past.proofs.StillReads.{still_shows}
 
 -- ---- epochs

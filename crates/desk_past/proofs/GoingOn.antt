@@ -14,9 +14,9 @@ use Rattle.desk_past.specs.Going.{BeginsNow, ForgetsNone, LiesInHalf}
 use Rattle.desk_past.specs.Halves.{HasHalves, LiesBeside, IsHalf, middle}
 use Rattle.desk_past.specs.declared.halves.TheConstants.{HALVES}
 use Rattle.desk_past.specs.Past.{KeepsAll, Remembers, Start}
-use Rattle.desk_past.specs.Reading.{IsOnlyReadFrom}
+use Rattle.desk_past.specs.Reading.{IsOnlyReadFrom, IsQuiet}
 use Rattle.desk_past.proofs.Begun.{aside_read, desktop_spared, desktop_then, spared_read}
-use Rattle.desk_past.proofs.Remembering.{IsQuiet, apart_still, read_moments}
+use Rattle.desk_past.proofs.Remembering.{apart_still, read_moments}
 use Rattle.desk_past.proofs.Rooms.{behind_start}
 
 -- ---- halves

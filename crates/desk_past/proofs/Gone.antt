@@ -10,11 +10,10 @@ use Rattle.desk_journal.specs.View.{StoreView}
 use Rattle.desk_past.specs.Deeds.{PastDeed, after_deeds}
 use Rattle.desk_past.specs.Page.{Page, HasPages, end_of_pages}
 use Rattle.desk_past.specs.Past.{AreGood, AreTurns, IsHeadTold, KeepsAll, Start, all_deeds, moment}
-use Rattle.desk_past.specs.Reading.{IsLed, IsOnlyReadFrom}
+use Rattle.desk_past.specs.Reading.{IsLed, IsOnlyReadFrom, IsQuiet}
 use Rattle.desk_past.specs.Routes.{AreLegs}
 use Rattle.desk_past.specs.declared.routes.Leg.{Leg}
 use Rattle.desk_past.proofs.Opened.{pages_end, pages_there}
-use Rattle.desk_past.proofs.Remembering.{IsQuiet}
 use Rattle.desk_past.proofs.Stepping.{moment_in_pages}
 use Rattle.desk_past.proofs.StillReads.{still_both, still_reads}
 

@@ -28,10 +28,10 @@ use Rattle.desk_past.specs.Bringing.{BringsOn, CanBring, IsBroughtIn, import_of}
 use Rattle.desk_past.specs.Deeds.{PastDeed, brought}
 use Rattle.desk_past.specs.Keeping.{CanTurn}
 use Rattle.desk_past.specs.Past.{KeepsAll, Start}
-use Rattle.desk_past.specs.Reading.{IsOnlyReadFrom}
+use Rattle.desk_past.specs.Reading.{IsOnlyReadFrom, IsQuiet}
 use Rattle.desk_past.proofs.Begun.{desktop_spared, spared_read}
 use Rattle.desk_past.proofs.OverPages.{keeps_over, moments_over}
-use Rattle.desk_past.proofs.Remembering.{IsQuiet, read_keeps, read_moments}
+use Rattle.desk_past.proofs.Remembering.{read_keeps, read_moments}
 use Rattle.desk_past.proofs.StillReads.{read_twice}
 use Rattle.desk_past.proofs.Told.{ok_of}
 

@@ -19,6 +19,7 @@ use Rattle.store_layout.proofs.Bits.{true_or_false}
 use Rattle.desk_journal.specs.Looking.{OnlyLooks}
 use Rattle.desk_journal.specs.Undoing.{IsLeft, OfUndo}
 use Rattle.desk_journal.specs.View.{StoreView}
+use Rattle.desk_past.specs.Keeping.{UsesDevice}
 use Rattle.desk_past.specs.Reading.{IsOnlyReadFrom}
 use Rattle.desk_past.proofs.StillReads.{nothing_written}
 use Rattle.desk_past.specs.Errors.{IsNoStart, OfDoing, OfFound, OfLaying, OfMoment, OfSteps, in_memory}
@@ -285,6 +286,25 @@ module _ {D : Type 0} (d : Ghosts D) where
     reopen = (λ is. let wrong : ⊥ = cc is in absurd wrong, λ is. absurd (false≢true (sym usable ∙ is)));
     faults = record { rose = λ fault. let wrong : ⊥ = cc fault in absurd wrong; calm = λ fine. refl; errors = tt };
   }
+
+  -- an undo that finds that the store must be opened again
+  pub undo_refused : {T U : Type 0} {told : Result U Error} {x : U} {e : Error} {answer : Result T Error}
+      (store : StoreView D) → (store.must_reopen ≡ false → told ≡ Ok x) → (store.must_reopen ≡ true → told ≡ Err MustReopen)
+      → told ≡ Err e → answer ≡ Err e → UsesDevice d OfUndo answer store store
+  undo_refused {T = T} {e = e} {answer = answer} store value closed failed is = elim (true_or_false store.must_reopen) [
+    | inl must ↦ let looks = looks_closed {T = T} store must in
+        let e_is : e ≡ MustReopen = cc (failed, closed must) in record {
+          same = looks.disk.device;
+          faults = error_from looks.faults (λ e look. inl look) refl refl (is ∙ ap (λ x. Err x) e_is);
+        }
+    | inr usable ↦ absurd (let wrong : ⊥ = cc (failed, value usable) in wrong)
+  ]
+
+  -- one that takes nothing back
+  pub undo_none : {T : Type 0} (x : T) (store : StoreView D) → store.must_reopen ≡ false
+      → UsesDevice d OfUndo (Ok x) store store
+  undo_none x store usable = let looks = looks_none x store usable in
+      record { same = looks.disk.device; faults = fails_none refl }
 
   -- pages that were read of a store in use
   pub looks_read : {T : Type 0} (answer : Result T Error) {old new : StoreView D} → old.must_reopen ≡ false

@@ -11,9 +11,9 @@ use Rattle.desk_past.specs.Ahead.{IsAhead}
 use Rattle.desk_past.specs.Deeds.{PastDeed, after_deed}
 use Rattle.desk_past.specs.Page.{Page, deeds_in}
 use Rattle.desk_past.specs.Past.{IsTurn, KeepsAll, Remembers, Start}
-use Rattle.desk_past.specs.Reading.{IsOnlyReadFrom}
+use Rattle.desk_past.specs.Reading.{IsOnlyReadFrom, IsQuiet}
 use Rattle.desk_past.proofs.Brought.{done_from, done_keeps, done_moments}
-use Rattle.desk_past.proofs.Remembering.{IsQuiet, ahead_still, read_moments}
+use Rattle.desk_past.proofs.Remembering.{ahead_still, read_moments}
 
 -- at every moment a crash leaves what there was, or the deed, too
 abbrev pub LeavesDone : {D : Type 0} (d : Ghosts D) → ℕ → Start → List PastDeed → Desktop → PastDeed → D → D → Type 0

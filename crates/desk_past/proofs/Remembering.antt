@@ -25,14 +25,11 @@ use Rattle.desk_past.specs.Page.{Page, page_bytes, page_sectors}
 use Rattle.desk_past.specs.Keeping.{HasPageRoom}
 use Rattle.desk_past.specs.Past.{HasNewPage, HoldsPast, IsHeadTold, HoldsPages, KeepsAll, LeavesAll, Remembers, Start, all_deeds}
 use Rattle.desk_past.specs.Past.{first_page, journal_of}
+use Rattle.desk_past.specs.Reading.{IsQuiet}
 use Rattle.desk_past.proofs.Carrying.{both_leave, end_on, good_journal, good_on, past_of, written_front, written_kept, written_on}
 use Rattle.desk_past.specs.Deeds.{PastDeed, posted, after_deeds, all_posted}
 use Rattle.desk_past.proofs.Moments.{deeds_on, joined, many_posted, posted_both, stepped_on}
 use Rattle.desk_past.proofs.Turns.{turns_on}
-
--- nothing is pending on the disk of a store
-abbrev pub IsQuiet : {D : Type 0} → Ghosts D → StoreView D → Type 0
-IsQuiet d store = (n : ℕ) → (now (d.trail store.disk)).pending n ≡ false
 
 pub moved_past : {size size' : ℕ} {start : Start} {s : Standing} {pages : List Page} {c c' : Content} → size' ≡ size → c' ≡ c
     → HoldsPast size start s pages c → HoldsPast size' start s pages c'

@@ -18,8 +18,7 @@ use Rattle.store_layout.specs.Meaning.{Standing, Stands}
 use Rattle.desk_journal.specs.Undoing.{IsLeft, ShowsStanding}
 use Rattle.desk_journal.specs.View.{StoreView}
 use Rattle.desk_past.specs.Page.{Page, page_bytes}
-use Rattle.desk_past.specs.Reading.{IsOnlyReadFrom}
-use Rattle.desk_past.proofs.Remembering.{IsQuiet}
+use Rattle.desk_past.specs.Reading.{IsOnlyReadFrom, IsQuiet}
 
 pub nothing_written : (t : Trail) → LeavesOnly t t (IsCrashImage (now t))
 nothing_written t = record {

@@ -24,11 +24,11 @@ use Rattle.desk_journal.specs.View.{StoreView, IsDurable}
 use Rattle.desk_past.specs.Ahead.{IsAhead}
 use Rattle.desk_past.specs.Deeds.{turned}
 use Rattle.desk_past.specs.Past.{IsGoodPage}
-use Rattle.desk_past.specs.Reading.{IsOnlyReadFrom}
+use Rattle.desk_past.specs.Reading.{IsOnlyReadFrom, IsQuiet}
 use Rattle.desk_past.specs.Turning.{HasTurnedTo, PastOf, TurnsTo, turn_of}
 use Rattle.desk_past.proofs.Begun.{desktop_spared, spared_read}
 use Rattle.desk_past.proofs.OverPages.{keeps_over, moments_over}
-use Rattle.desk_past.proofs.Remembering.{IsQuiet, read_moments}
+use Rattle.desk_past.proofs.Remembering.{read_moments}
 
 -- its page can be spelled
 eight : (k : ℕ) → length (to_be_bytes w64 k) ≡ 8

@@ -21,11 +21,11 @@ use Rattle.desk_past.specs.Going.{LiesInHalf}
 use Rattle.desk_past.specs.Halves.{IsHalf}
 use Rattle.desk_past.specs.Page.{Page}
 use Rattle.desk_past.specs.Past.{KeepsAll, Start}
-use Rattle.desk_past.specs.Reading.{IsOnlyReadFrom}
+use Rattle.desk_past.specs.Reading.{IsOnlyReadFrom, IsQuiet}
 use Rattle.desk_past.specs.Turning.{CanTurnTo, ComesToMoment, HasTurnedBack, HasTurnedTo, KeepsTurned, LeavesTurned}
 use Rattle.desk_past.specs.Turning.{PastOf, StaysUnturned, TurnsBack, TurnsTo, WasAt, turn_of}
 use Rattle.desk_past.proofs.OverPages.{LeavesDone}
-use Rattle.desk_past.proofs.Remembering.{IsQuiet, read_keeps, read_moments}
+use Rattle.desk_past.proofs.Remembering.{read_keeps, read_moments}
 use Rattle.desk_past.proofs.Rooms.{behind_start}
 use Rattle.desk_past.proofs.StillReads.{read_twice}
 

@@ -18,6 +18,10 @@ use Rattle.desk_past.specs.declared.pages.PageDeeds.TheVariants.{Events, Import,
 abbrev pub ReadsZeros : {E : Type 0} → Ghosts E → E → Type 0
 ReadsZeros e disk = (n : ℕ) → (now (e.trail disk)).reads n ≡ replicate SECTOR_BYTES 0
 
+-- nothing is pending on the disk of a store, as on that of every store in use (`shows_what_crashes_leave`)
+abbrev pub IsQuiet : {D : Type 0} → Ghosts D → StoreView D → Type 0
+IsQuiet d store = (n : ℕ) → (now (d.trail store.disk)).pending n ≡ false
+
 -- it has room for a store, and no byte of it was written
 pub record IsBlankRoom {E : Type 0} (e : Ghosts E) (disk : E) : Type 0 where
   pub room : STORE_SECTORS ≤ e.size disk

@@ -7,6 +7,7 @@ ghost use Rattle.store_layout.specs.declared.layout.TheConstants.{STORE_SECTORS}
 ghost use Rattle.store_slots.specs.Errors.{OfDesktop, OfLook, OfPost};
 ghost use Rattle.desk_journal.specs.Checkpointing.{IsRenewed, LeavesDesktop};
 ghost use Rattle.desk_journal.specs.Posting.{AnswersMustReopen, AnswersWorn, HasJournalRoom, IsAcknowledged, IsDueBefore, LeavesEither};
+ghost use Rattle.desk_journal.specs.Undoing.{OfUndo};
 ghost use Rattle.desk_past.specs.Beginning.{IsAside};
 ghost use Rattle.desk_past.specs.Deeds.{PastDeed};
 ghost use Rattle.desk_past.specs.Keeping.{CanKeep, CanTurn, HasKept, HasPageRoom, IsWayMade, KeepsOn, UsesDevice};
@@ -263,6 +264,7 @@ pub fn undo<D: Disk>(
     ensures any_moment { UndoesSome D.Disk count store.old store.new }
     ensures kept { IfOk result (λ back. IfSome back (λ events. KeepsOthers D.Disk events.items
         store.old store.new)) }
+    ensures device { UsesDevice D.Disk OfUndo result store.old store.new }
 {
     standing_law();
     store.shows_what_crashes_leave();

@@ -16,8 +16,9 @@ use Rattle.press_plans.specs.declared.task.Task.{Task}
 use Rattle.press_plans.specs.declared.task.TheConstants.{MOST_PLANS}
 use Rattle.desk_sitting.specs.Sittings.{most_plans}
 use Rattle.desk_sitting.specs.Doing.{ComesToSeat, DoesPress, seat_of}
+use Rattle.desk_sitting.specs.Pasts.{KeepsPast}
 use Rattle.desk_sitting.specs.Sittings.{Seat, accepted_by, accepted_in, accepted_stage, after_planned, after_post}
-use Rattle.desk_sitting.specs.Sittings.{after_posts}
+use Rattle.desk_sitting.specs.Sittings.{accepted_one, after_posts}
 use Rattle.desk_sitting.specs.Sittings.{after_stage, after_task, does, kept_follows, left_by, task_left, planned}
 use Rattle.desk_sitting.specs.Sittings.{went_on}
 use Rattle.press_plans.specs.Tasks.{deed_of_task}
@@ -117,11 +118,12 @@ module _ {D : Type 0} (d : Ghosts D) where
   -- one event is a list of one
   pub one_event : {T : Type 0} (event : Event) (result : Result T Error) (s s' : Sitting) (old new : StoreView D)
       → ComesToSeat d (after_post event (seat_of s old)) result s' old new
+      → KeepsPast d (accepted_one (session_of old) event) result old new
       → DoesPress d (accepted_by (session_of old) (event ∷ [])) (after_posts (event ∷ []) (seat_of s old)) result s' old new
-  one_event event result s s' old new comes = press_same d result (λ honest durable. (
+  one_event event result s s' old new comes past = press_same d result (λ honest durable. (
     sym (alone_accepted event (session_of old)),
     sym (alone_posted event (seat_of s old)),
-  )) (event_press d event result s s' old new comes)
+  )) (event_press d event result s s' old new comes past)
 
   -- a slice has the events
   pub of_slice : {T : Type 0} {slice events : List Event} (same : slice ≡ events) {result : Result T Error} (s : Sitting)

@@ -6,6 +6,7 @@ pub mod Done
 mod Fetching
 mod Found
 mod Marks
+mod Posts
 pub mod Pressed
 mod Questions
 pub mod Seen

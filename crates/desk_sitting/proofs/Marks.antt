@@ -1,5 +1,5 @@
 -- Looks at a store, and what is told of a desktop with a scene.
-use Rattle.std.proofs.Common.{◌≡◌, ◌<◌, ◌∙◌, ℕ, Bool, true, false, List, Ok, Err, refl, sym, ap, subst}
+use Rattle.std.proofs.Common.{◌≡◌, ◌<◌, ◌∙◌, ℕ, Bool, true, false, List, Ok, Err, inl, refl, sym, ap, subst}
 use Rattle.std.specs.Prelude.{◌&&◌, if◌then◌else◌, Option, Some, None, Result}
 use Rattle.std.proofs.lemmas.Bool.{cond-true, cond-false, false≢true}
 use Rattle.sector_disk.specs.declared.disk.Disk.{Ghosts}
@@ -7,7 +7,7 @@ use Rattle.sector_disk.specs.Trail.{IsCrashImage, now}
 use Rattle.screen_pictures.specs.declared.cell.Cell.{Cell}
 use Rattle.desktop_definitions.specs.Desktop.{Desktop}
 use Rattle.desktop_definitions.specs.Shown.{shown_screen}
-use Rattle.desk_journal.specs.Errors.{Error}
+use Rattle.desk_journal.specs.Errors.{Error, NoMemory}
 use Rattle.desk_journal.specs.Looking.{OnlyLooks}
 use Rattle.desk_journal.specs.View.{StoreView}
 use Rattle.desk_journal.specs.Views.{Place}
@@ -97,6 +97,25 @@ module _ {D : Type 0} (d : Ghosts D) where
       rose = λ fault. looks.faults.rose (cc fault);
       calm = λ fine. looks.faults.calm (λ fault. fine (cc fault));
       errors = looks.faults.errors;
+    };
+  }
+
+  -- and one behind which memory runs out
+  pub looks_starved : {A T : Type 0} (value : A) (old new : StoreView D) → OnlyLooks d (Ok value) old new
+      → OnlyLooks {T = T} d (Err NoMemory) old new
+  looks_starved value old new looks = record {
+    desktop = looks.desktop;
+    kept = looks.kept;
+    layout = looks.layout;
+    epoch = looks.epoch;
+    events = looks.events;
+    usable = looks.usable;
+    disk = looks.disk;
+    reopen = (λ wrong. absurd (cc wrong), λ is. absurd (cc (looks.reopen.1 is)));
+    faults = record {
+      rose = λ wrong. absurd (cc wrong);
+      calm = λ other. looks.faults.calm (λ wrong. absurd (cc wrong));
+      errors = inl refl;
     };
   }
 

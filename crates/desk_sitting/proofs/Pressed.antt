@@ -20,6 +20,7 @@ use Rattle.desk_journal.specs.Looking.{OnlyLooks}
 use Rattle.desk_journal.specs.Session.{Session, session_of, taken}
 use Rattle.desk_journal.specs.Prefixes.{MeansPrefix}
 use Rattle.desk_journal.specs.View.{StoreView, IsDurable}
+use Rattle.desk_sitting.specs.Pasts.{KeepsPast, PostsOn, PostsUpTo, none as nothing_posted}
 use Rattle.desk_journal.proofs.Passing.{at_start, shows_means}
 use Rattle.desk_journal.proofs.Prefixes.{steps_both, whole_prefix, no_prefix, fewer_acknowledged, prefix_of_more}
 use Rattle.desk_journal.proofs.Prefixes.{prefix_behind}
@@ -30,6 +31,7 @@ use Rattle.desk_sitting.specs.Doing.{SittingSurvives, seat_of}
 use Rattle.desk_sitting.specs.Sittings.{Seat, accepted_by, accepted_one, after_post, after_posts, does, does_all}
 use Rattle.desk_sitting.specs.Serving.{IsLookedAt}
 use Rattle.desk_sitting.proofs.Accepted.{accepted_both, all_both, alone_accepted, alone_posted, one_steps, posted_both}
+use Rattle.desk_sitting.proofs.Posts.{posts_both, posts_look, posts_then, up_to_look}
 use Rattle.desk_sitting.proofs.Taking.{of_look, takes_alone}
 use Rattle.desk_sitting.proofs.Turning.{looked_at, same_device}
 
@@ -64,6 +66,7 @@ module _ {D : Type 0} (d : Ghosts D) where
       → GoesBy d (events ++ more) old new
   goes_on events more old mid new first second = record {
     survives = survives_on events more [] old mid new first second.survives;
+    past = posts_both d events first.past second.past;
     shows = second.shows ∙ ap (λ e. steps e more) first.shows ∙ sym (steps_both old.desktop events more);
     durable = second.durable;
     device = same_device d old.disk mid.disk new.disk first.device second.device;
@@ -100,22 +103,24 @@ module _ {D : Type 0} (d : Ghosts D) where
 
   pub look_survives : (old new : StoreView D) → IsLookedAt d old new → d.honest old.disk → IsDurable d old
       → LeavesOnly (d.trail old.disk) (d.trail new.disk) (Means (d.size old.disk) old.desktop)
-  look_survives old new looks honest durable = weakened (looks.disk.unwritten honest)
+  look_survives old new looks honest durable = weakened (looks.read.left.disk.unwritten honest)
       (durable_means old honest durable)
 
   pub goes_by_look : (old new : StoreView D) → IsLookedAt d old new → d.honest old.disk → IsDurable d old
       → GoesBy d [] old new
   goes_by_look old new looks honest durable = record {
     survives = same_survives old new (look_survives old new looks honest durable);
+    past = posts_look d looks.read;
     shows = ap (λ (s : Session). s.desktop) looks.session;
     durable = looks.durable;
-    device = looks.disk.device;
+    device = looks.read.left.disk.device;
   }
 
   pub goes_nowhere : (store : StoreView D) → d.honest store.disk → IsDurable d store → GoesBy d [] store store
   goes_nowhere store honest durable = record {
     survives = same_survives store store (at_start (d.trail store.disk) (Means (d.size store.disk) store.desktop)
         (durable_means store honest durable));
+    past = nothing_posted;
     shows = refl;
     durable = durable;
     device = record { as_large = refl; still = λ honest. honest; already = λ honest. honest };
@@ -124,9 +129,9 @@ module _ {D : Type 0} (d : Ghosts D) where
   -- a store that shows the desktop after some events, and meant it or the one before
   goes_by_either : (events : List Event) (old new : StoreView D)
       → LeavesOnly (d.trail old.disk) (d.trail new.disk) (MeansEither (d.size old.disk) old.desktop new.desktop)
-      → new.desktop ≡ steps old.desktop events → d.honest new.disk → IsDurable d new
+      → PostsOn d events old new → new.desktop ≡ steps old.desktop events → d.honest new.disk → IsDurable d new
       → IsSameDevice d old.disk new.disk → GoesBy d events old new
-  goes_by_either events old new moments shows honest durable device =
+  goes_by_either events old new moments past shows honest durable device =
       let size : ℕ = d.size old.disk in
       let either : LeavesOnly (d.trail old.disk) (d.trail new.disk)
       (MeansEither size old.desktop (steps old.desktop events)) =
@@ -140,6 +145,7 @@ module _ {D : Type 0} (d : Ghosts D) where
               (subst (λ e. Means size e c) shows
               (subst (λ n. Means n new.desktop c) device.as_large (durable_means new honest durable c image)));
         };
+        past = past;
         shows = shows;
         durable = durable;
         device = device;
@@ -148,9 +154,9 @@ module _ {D : Type 0} (d : Ghosts D) where
   -- ---- a press that has one event at most
 
   undone_so : (events : List Event) → length events ≤ 1 → {next : Desktop} {old new : StoreView D}
-      → next ≡ steps old.desktop events → (error : Error) → IsUndone d error next old new
+      → next ≡ steps old.desktop events → (error : Error) → IsUndone d error next old new → PostsUpTo d [] events old new
       → IsPressUndone d error events old new
-  undone_so events few {old = old} {new = new} leads error undone = record {
+  undone_so events few {old = old} {new = new} leads error undone past = record {
     acknowledged = [];
     begun = events;
     rest = [];
@@ -159,25 +165,32 @@ module _ {D : Type 0} (d : Ghosts D) where
     survives = either_survives events old new (subst (λ e. LeavesOnly (d.trail old.disk) (d.trail new.disk)
         (MeansEither (d.size old.disk) old.desktop e)) leads undone.any_moment);
     starved = λ is. same_survives old new (undone.starved is);
+    past = past;
     device = undone.device;
   }
 
   module _ (events : List Event) (few : length events ≤ 1) {next : Seat} {old new : StoreView D}
       (leads : next.session.desktop ≡ steps old.desktop events) where
-    done_so : {s' : Sitting} → IsDone d next s' old new → d.honest new.disk → IsPressDone d events next s' old new
-    done_so done honest = record {
+    done_so : {s' : Sitting} → IsDone d next s' old new → PostsOn d events old new → d.honest new.disk
+        → IsPressDone d events next s' old new
+    done_so done past honest = record {
       seat = done.seat;
-      goes = goes_by_either events old new done.any_moment (ap (λ (e : Seat). e.session.desktop) done.seat ∙ leads)
+      goes = goes_by_either events old new done.any_moment past (ap (λ (e : Seat). e.session.desktop) done.seat ∙ leads)
           honest done.durable done.device;
     }
 
     pub one_press : {T : Type 0} {s' : Sitting} (result : Result T Error) → ComesToSeat d next result s' old new
-        → DoesPress d events next result s' old new
-    one_press result takes = record {
-      done = on_ok_weaker result (λ done honest durable. done_so (done honest durable) (takes.device.still honest))
-          takes.done;
-      undone = IfErr-weaker result _ _ (λ error undone honest durable. undone_so events few leads error (undone honest durable))
-          takes.undone;
+        → KeepsPast d events result old new → DoesPress d events next result s' old new
+    one_press (Ok value) takes past = record {
+      done = λ honest durable. done_so (takes.done honest durable) past.posted (takes.device.still honest);
+      undone = tt;
+      usable = takes.usable;
+      faults = takes.faults;
+      device = takes.device;
+    }
+    one_press (Err error) takes past = record {
+      done = tt;
+      undone = λ honest durable. undone_so events few leads error (takes.undone honest durable) past.begun;
       usable = takes.usable;
       faults = takes.faults;
       device = takes.device;
@@ -188,7 +201,7 @@ module _ {D : Type 0} (d : Ghosts D) where
       → store.must_reopen ≡ false → seat_of s store ≡ next → DoesPress d [] next (Ok value) s store store
   alone_press value next s store usable is =
       one_press [] (omega arith) (ap (λ (e : Seat). e.session.desktop) (sym is)) (Ok value)
-      (takes_alone d value next s store usable is)
+      (takes_alone d value next s store usable is) (record { posted = nothing_posted; begun = tt })
 
   -- ---- one after another
 
@@ -213,6 +226,7 @@ module _ {D : Type 0} (d : Ghosts D) where
     one = undone.one;
     survives = survives_on some undone.acknowledged undone.begun old mid new first.goes undone.survives;
     starved = λ is. survives_on some undone.acknowledged [] old mid new first.goes (undone.starved is);
+    past = posts_then d some first.goes.past undone.past;
     device = same_device d old.disk mid.disk new.disk first.goes.device undone.device;
   }
 
@@ -228,6 +242,7 @@ module _ {D : Type 0} (d : Ghosts D) where
     one = undone.one;
     survives = undone.survives;
     starved = undone.starved;
+    past = undone.past;
     device = undone.device;
   }
 
@@ -286,7 +301,7 @@ module _ {D : Type 0} (d : Ghosts D) where
     look_press value s looks = record {
       done = λ honest durable. record {
         seat = refl;
-        goes = goes_by_look old mid (looked_at d (Ok value) old mid looks honest durable) honest durable;
+        goes = goes_by_look old mid (looked_at d (Ok value) old mid usable looks honest durable) honest durable;
       };
       undone = tt;
       usable = looks.usable ∙ usable;
@@ -303,7 +318,7 @@ module _ {D : Type 0} (d : Ghosts D) where
     unseen_press error events next s looks = record {
       done = tt;
       undone = λ honest durable.
-          let goes = goes_by_look old mid (looked_at d {T = A} (Err error) old mid looks honest durable) honest durable in
+          let goes = goes_by_look old mid (looked_at d {T = A} (Err error) old mid usable looks honest durable) honest durable in
           record {
             acknowledged = [];
             begun = [];
@@ -312,6 +327,7 @@ module _ {D : Type 0} (d : Ghosts D) where
             one = omega arith;
             survives = goes.survives;
             starved = λ is. goes.survives;
+            past = up_to_look d looks.disk;
             device = goes.device;
           };
       usable = tt;
@@ -348,10 +364,11 @@ module _ {D : Type 0} (d : Ghosts D) where
   -- an event is one press of its own
   pub event_press : {T : Type 0} (event : Event) (result : Result T Error) (s s' : Sitting) (old new : StoreView D)
       → ComesToSeat d (after_post event (seat_of s old)) result s' old new
+      → KeepsPast d (accepted_one (session_of old) event) result old new
       → DoesPress d (accepted_one (session_of old) event) (after_post event (seat_of s old)) result s' old new
-  event_press event result s s' old new takes =
+  event_press event result s s' old new takes past =
       let steps_so = one_steps event (seat_of s old) in
-      one_press (accepted_one (session_of old) event) steps_so.0 steps_so.1 result takes
+      one_press (accepted_one (session_of old) event) steps_so.0 steps_so.1 result takes past
 
   -- an event more
   module _ (events : List Event) (i : ℕ) (filler event : Event) (room : i < length events)
@@ -385,9 +402,10 @@ module _ {D : Type 0} (d : Ghosts D) where
       -- up to this one
       pub next_posted : {T : Type 0} (result : Result T Error)
           → ComesToSeat d (after_post event (seat_of s' mid)) result s'' mid new
+          → KeepsPast d (accepted_one (session_of mid) event) result mid new
           → DoesPress d (accepted_by (session_of old) (take (i + 1) events)) (after_posts (take (i + 1) events) start) result s''
           old new
-      next_posted result takes = press_same result (λ honest durable. (
+      next_posted result takes past = press_same result (λ honest durable. (
         ap (λ (e : Seat). accepted_by (session_of old) front ++ accepted_one e.session event) (same honest durable)
             ∙ ap (λ es. accepted_by (session_of old) front ++ es) (sym (alone_accepted event there.session))
             ∙ sym (accepted_both front (event ∷ []) start (all honest durable))
@@ -396,7 +414,7 @@ module _ {D : Type 0} (d : Ghosts D) where
             ∙ sym (posted_both front (event ∷ []) start (all honest durable))
             ∙ ap (λ es. after_posts es start) (sym split),
       ))
-          (press_both before (event_press event result s' s'' mid new takes))
+          (press_both before (event_press event result s' s'' mid new takes past))
 
       -- whether it is done, as it was told
       told_so : (done : Bool) → (d.honest mid.disk → done ≡ does (session_of mid) event) → d.honest old.disk
@@ -423,8 +441,9 @@ module _ {D : Type 0} (d : Ghosts D) where
 
       pub stopped_at : (done value : Bool) → (d.honest mid.disk → done ≡ does (session_of mid) event) → done ≡ false
           → ComesToSeat d (after_post event (seat_of s' mid)) (Ok done) s'' mid new
+          → KeepsPast d (accepted_one (session_of mid) event) (Ok done) mid new
           → DoesPress d (accepted_by (session_of old) events) (after_posts events start) (Ok value) s'' old new
-      stopped_at done value told is takes = press_same (Ok value) (λ honest durable.
+      stopped_at done value told is takes past = press_same (Ok value) (λ honest durable.
           let stops = told_so done told honest durable ∙ is in
           let more : List Event = accepted_by (taken there.session event) behind in (
             ap (accepted_by (session_of old)) split
@@ -442,13 +461,14 @@ module _ {D : Type 0} (d : Ghosts D) where
                 ∙ sym (posted_both front (event ∷ behind) start (all honest durable))
                 ∙ ap (λ es. after_posts es start) whole,
           ))
-          (press_told value (next_posted (Ok done) takes))
+          (press_told value (next_posted (Ok done) takes past))
 
       -- it fails, and those behind it aren't posted
       pub next_unposted : {T : Type 0} (error : Error) → ComesToSeat d {T = T} (after_post event (seat_of s' mid)) (Err error) s''
           mid new
+          → KeepsPast d {T = T} (accepted_one (session_of mid) event) (Err error) mid new
           → DoesPress d {T = T} (accepted_by (session_of old) events) (after_posts events start) (Err error) s'' old new
-      next_unposted error takes =
+      next_unposted error takes past =
           let more : List Event = if does there.session event then accepted_by (taken there.session event) behind else [] in
           press_same (Err error) (λ honest durable. (
             ap (λ es. accepted_by (session_of old) es ++ more) split
@@ -459,4 +479,4 @@ module _ {D : Type 0} (d : Ghosts D) where
                 ∙ ap (accepted_by (session_of old)) whole,
             refl,
           ))
-          (press_short more (after_posts events start) (next_posted (Err error) takes))
+          (press_short more (after_posts events start) (next_posted (Err error) takes past))

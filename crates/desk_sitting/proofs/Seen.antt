@@ -60,8 +60,8 @@ use Rattle.desk_sitting.specs.Sittings.{with_marks, task_in, task_left, turned_a
 use Rattle.press_plans.specs.Tasks.{task_of}
 use Rattle.press_plans.specs.Plans.{Plan, Aims, Asks, Events, Keeps, PutsAway, Refused as NotDone, Says, Shows, Tells, plan_of}
 use Rattle.desk_sitting.specs.Travelling.{IsBetween}
-use Rattle.desk_sitting.specs.Travels.{Travelled, did_again, goes_again, is_unmoved, none_again, none_back, settled, store_place}
-use Rattle.desk_sitting.specs.Travels.{took_deed, took_back}
+use Rattle.desk_sitting.specs.Travels.{Travelled, did_again, foreseen, goes_again, is_unmoved, none_again, none_back, recalled, settled, store_place}
+use Rattle.desk_sitting.specs.Travels.{took_deed, took_back, still_kept}
 use Rattle.desk_sitting.specs.Travels.{none as not_asked, back, nothing, again}
 use Rattle.desk_sitting.specs.Sittings.{is_missed}
 use Rattle.desk_sitting.specs.Clips.{clip_saying, clip_sent, copied_text}
@@ -484,7 +484,8 @@ told_due (Some deed) events from to s = follows_due (took_deed (Some deed) event
 back_due : (events : List Event) (from to : StorePlace) (s : Sitting) → IsDue (took_back events from to s)
 back_due events from to s =
     either_due (length events == 0) (refused (none_back to) s) _ (rings_due (refused (none_back to) s) refl)
-    (told_due (back_deed events s.past) events from to (record s { past = left_past (length events) s.past }))
+    (told_due (back_deed events s.past) events from to
+    (record s { past = left_past (length events) s.past; kept = still_kept from to s }))
 
 again_due : (deed : Deed) (from to : StorePlace) (s : Sitting) → IsDue s → IsDue (did_again deed from to s)
 again_due deed from to s due = either_due (is_unmoved from to) s _ due (changed_due _ refl)
@@ -493,13 +494,13 @@ module _ {D : Type 0} (d : Ghosts D) {s s' : Sitting} {old new : StoreView D} wh
   -- or nothing was asked for
   travelled_due : Travelled the_desk d s s' old new → ((s' ≡ s) × (new ≡ old)) ⊎ IsDue s'
   travelled_due (not_asked none same unmoved) = inl (same, unmoved)
-  travelled_due (back events asked taken is) = inr (subst IsDue (sym is)
-      (back_due events (store_place old) (store_place new) (settled s)))
-  travelled_due (nothing asked none is unmoved) = inr (subst IsDue (sym is)
-      (rings_due (none_again (store_place old) s) refl))
-  travelled_due (again event asked next takes is) = inr (subst IsDue (sym is)
+  travelled_due (back told events asked taken is) = inr (subst IsDue (sym is)
+      (back_due events (store_place old) (store_place new) (settled (recalled told s))))
+  travelled_due (nothing told asked none is left) = inr (subst IsDue (sym is)
+      (rings_due (none_again (store_place old) (foreseen (store_place old) told s)) refl))
+  travelled_due (again told event asked next takes past is) = inr (subst IsDue (sym is)
       (again_due event.deed (store_place old) (store_place new) _
-      (post_due event.event (seat_of (goes_again (store_place old) s) old))))
+      (post_due event.event (seat_of (goes_again (store_place old) (foreseen (store_place old) told s)) old))))
 
 pub between_seen : {D : Type 0} (d : Ghosts D) {old new : TurnState D} → IsBetween the_desk d old new
     → IsSeenUnlessDue the_desk old

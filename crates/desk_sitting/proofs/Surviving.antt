@@ -18,8 +18,10 @@ use Rattle.desk_sitting.specs.Serving.{sitting_shown}
 use Rattle.desk_sitting.specs.Serving.{none as no_turn, one_more as one_more_turn}
 use Rattle.desk_sitting.specs.Serving.{left, closed, unheard, unseen, faulty, starved, faulty_press, starved_press}
 use Rattle.desk_sitting.specs.Serving.{stopped, too_long}
+use Rattle.desk_sitting.specs.Pasts.{PostsUpTo}
 use Rattle.desk_sitting.specs.Surviving.{SurvivesEnd}
 use Rattle.desk_sitting.specs.Surviving.{ScenesSurvive, TurnsSurvive, EndsSurvive}
+use Rattle.desk_sitting.proofs.Posts.{posts_look, posts_then, up_to_none}
 use Rattle.desk_sitting.proofs.Pressed.{goes_by_look, goes_nowhere, goes_on, look_survives, survives_on}
 
 -- ---- the events of presses
@@ -89,6 +91,14 @@ module _ (desk : Desk) where
         survives_on d (accepted_events desk breaks.done (seat_of s old)) breaks.undone.acknowledged breaks.undone.begun old
         breaks.mid new first.goes breaks.undone.survives
 
+    past_break : (error : Error) (presses : List Press) (s : Sitting) (old new : StoreView D)
+        → (breaks : Breaks desk d error presses s old new) → d.honest old.disk → IsDurable d old
+        → PostsUpTo d (accepted_events desk breaks.done (seat_of s old) ++ breaks.undone.acknowledged)
+        breaks.undone.begun old new
+    past_break error presses s old new breaks honest durable =
+        let first : Leads breaks.done s breaks.sitting old breaks.mid = leads breaks.does honest durable in
+        posts_then d (accepted_events desk breaks.done (seat_of s old)) first.goes.past breaks.undone.past
+
     -- for want of memory
     survives_starving : (presses : List Press) (s : Sitting) (old new : StoreView D)
         → (breaks : Breaks desk d NoMemory presses s old new) → d.honest old.disk → IsDurable d old
@@ -105,7 +115,7 @@ module _ (desk : Desk) where
     turn_goes events old new turn honest durable =
         let looks : IsLookedAt d old.store turn.mid = turn.scene.looked in
         let done : Leads _ (sitting_shown desk old) turn.sitting turn.mid new.store =
-        leads turn.does (looks.disk.device.still honest) looks.durable in
+        leads turn.does (looks.read.left.disk.device.still honest) looks.durable in
         subst (λ es. GoesBy d es old.store new.store) (sym turn.are)
         (goes_on d [] _ old.store turn.mid new.store (goes_by_look d old.store turn.mid looks honest durable) done.goes)
 
@@ -130,6 +140,7 @@ module _ (desk : Desk) where
       one = omega arith;
       none_begun = λ _. refl;
       goes_by = λ _ _. goes;
+      past = ([], up_to_none d goes.past);
     }
 
     -- a press that fails behind the scene
@@ -137,6 +148,19 @@ module _ (desk : Desk) where
         → IsDurable d old → SittingSurvives d events begun mid new → SittingSurvives d events begun old new
     behind_scene events begun old mid new looks honest durable rest =
         survives_on d [] events begun old mid new (goes_by_look d old mid looks honest durable) rest
+
+    past_broke : {error : Error} {events begun : List Event} {old new : TurnState D}
+        → Broke desk d error events begun old new → d.honest old.store.disk
+        → (tried : List Event) × PostsUpTo d events tried old.store new.store
+    past_broke {error = error} {events = events} {old = old} {new = new} broke honest =
+        let looks : IsLookedAt d old.store broke.mid = broke.scene.looked in
+        let tried : List Event = broke.breaks.undone.begun in (
+          tried,
+          posts_then d [] (posts_look d looks.read)
+              (subst (λ (es : List Event). PostsUpTo d es tried broke.mid new.store) (sym broke.are)
+              (past_break error _ (sitting_shown desk old) broke.mid new.store broke.breaks
+              (looks.read.left.disk.device.still honest) looks.durable)),
+        )
 
     faulty_survives : (events begun : List Event) (old new : TurnState D) → Broke desk d DiskFault events begun old new
         → d.honest old.store.disk → IsDurable d old.store → SurvivesEnd d Fault events begun old.store new.store
@@ -147,10 +171,11 @@ module _ (desk : Desk) where
               (subst (λ es. SittingSurvives d events es broke.mid new.store) (sym broke.fails)
               (subst (λ es. SittingSurvives d es broke.breaks.undone.begun broke.mid new.store) (sym broke.are)
               (survives_break DiskFault _ (sitting_shown desk old) broke.mid new.store broke.breaks
-              (looks.disk.device.still honest) looks.durable)));
+              (looks.read.left.disk.device.still honest) looks.durable)));
           one = subst (λ es. length es ≤ 1) (sym broke.fails) broke.breaks.undone.one;
           none_begun = λ wrong. absurd (wrong refl);
           goes_by = λ wrong _. absurd (wrong refl);
+          past = past_broke broke honest;
         }
 
     starved_survives : (events begun : List Event) (old new : TurnState D) → Broke desk d NoMemory events begun old new
@@ -161,10 +186,11 @@ module _ (desk : Desk) where
           survives = behind_scene events [] old.store broke.mid new.store looks honest durable
               (subst (λ es. SittingSurvives d es [] broke.mid new.store) (sym broke.are)
               (survives_starving _ (sitting_shown desk old) broke.mid new.store broke.breaks
-              (looks.disk.device.still honest) looks.durable));
+              (looks.read.left.disk.device.still honest) looks.durable));
           one = omega arith;
           none_begun = λ _. refl;
           goes_by = λ _ wrong. absurd (wrong refl);
+          past = past_broke broke honest;
         }
 
     -- in the turn in which the sitting ends
@@ -197,6 +223,7 @@ module _ (desk : Desk) where
       one = rest.one;
       none_begun = rest.none_begun;
       goes_by = λ no_fault no_want. goes_on d events more old mid new goes (rest.goes_by no_fault no_want);
+      past = (rest.past.0, posts_then d events goes.past rest.past.1);
     }
 
     end_survives : {end : SittingEnd} {turns : ℕ} {more begun : List Event} {mid new : TurnState D}

@@ -1,5 +1,5 @@
 -- What a press takes a sitting and its store to.
-use Rattle.std.proofs.Common.{◌≡◌, ◌≢◌, inl, inr, true, false, refl, sym, ap, ◌∙◌, subst}
+use Rattle.std.proofs.Common.{◌≡◌, ◌≢◌, inl, inr, true, false, refl, sym, ap, ◌∙◌, subst, List, [], ◌∷◌}
 use Rattle.std.specs.Prelude.{ℕ, Bool, not, ◌&&◌, Result, Ok, Err, OnOk, IfOk, IfErr, IsErrOf}
 use Rattle.std.proofs.lemmas.Bool.{cond-true, cond-false, false≢true}
 use Rattle.std.proofs.lemmas.Result.{on_ok_weaker, IfErr-weaker}
@@ -18,7 +18,7 @@ use Rattle.desk_journal.specs.Looking.{OnlyLooks}
 use Rattle.desk_journal.specs.Checkpointing.{LeavesDesktop}
 use Rattle.desk_journal.specs.Posting.{LeavesEither, IsAcknowledged, AnswersWorn, AnswersMustReopen}
 use Rattle.desk_past.specs.Keeping.{HasKept, KeepsOn}
-use Rattle.desk_sitting.specs.Pasts.{KeepsPast}
+use Rattle.desk_sitting.specs.Pasts.{KeepsPast, PostsOn, PostsUpTo, none as none_posted}
 use Rattle.desk_journal.proofs.Stepped.{stepped_newest}
 use Rattle.desk_journal.specs.Session.{Session, session_of, is_worn, taken}
 use Rattle.desk_journal.specs.View.{StoreView, IsDurable}
@@ -29,8 +29,9 @@ use Rattle.desk_sitting.specs.Sittings.{meant_by}
 use Rattle.status_line.specs.declared.saying.Saying.TheVariants as saying
 use Rattle.desk_sitting.specs.declared.sitting.Sitting.{Sitting}
 use Rattle.desk_sitting.specs.Doing.{OfPresses, ComesToSeat, seat_of}
-use Rattle.desk_sitting.specs.Sittings.{Seat, acted, after_press, after_post, does, is_done, replied, turned_away}
+use Rattle.desk_sitting.specs.Sittings.{Seat, accepted_one, acted, after_press, after_post, does, is_done, replied, turned_away}
 use Rattle.desk_sitting.specs.Sittings.{with_marks, with_hand}
+use Rattle.desk_sitting.proofs.Posts.{posts_one, up_to_one}
 use Rattle.desk_sitting.proofs.Sessions.{session_parts, is_it_worn, not_worn, taken_steps, is_taken}
 
 -- a seat by its two parts
@@ -86,7 +87,7 @@ module _ {D : Type 0} (d : Ghosts D) where
   same_device : (disk : D) → IsSameDevice d disk disk
   same_device disk = record { as_large = refl; still = λ honest. honest; already = λ honest. honest }
 
-  joined_device : (old mid new : D) → IsSameDevice d old mid → IsSameDevice d mid new → IsSameDevice d old new
+  pub joined_device : (old mid new : D) → IsSameDevice d old mid → IsSameDevice d mid new → IsSameDevice d old new
   joined_device old mid new first second = record {
     as_large = second.as_large ∙ first.as_large;
     still = λ honest. second.still (first.still honest);
@@ -219,18 +220,41 @@ module _ {D : Type 0} (d : Ghosts D) where
 
   -- ---- the past of the store
 
-  pub keeps_acknowledged : {T : Type 0} (value : T) (event : Event) {old new : StoreView D} → KeepsOn d event old new
-      → HasKept d event old new → KeepsPast d event (Ok value) old new
-  keeps_acknowledged value event any_moment kept = record { any_moment = any_moment; kept = inl kept }
+  -- a store that isn't worn accepts the event
+  accepts_it : (session : Session) (event : Event) → is_worn session ≡ false → event ∷ [] ≡ accepted_one session event
+  accepts_it session event room = sym (cond-false (is_worn session) [] (event ∷ []) room)
 
-  pub keeps_turned_away : {T : Type 0} (event : Event) (error : Error) (s s' : Sitting) {old new : StoreView D}
-      (result : Result T Error) → KeepsOn d event old new → AnswersWorn (Err error) old new
-      → OnOk result ((error ≡ Worn) × (s' ≡ turned_away saying.Worn s)) → KeepsPast d event result old new
-  keeps_turned_away event error s s' {old = old} {new = new} (Ok value) any_moment worn is = record {
-    any_moment = any_moment;
-    kept = inr (worn.only (ap (λ e. Err e) is.0));
-  }
-  keeps_turned_away event error s s' (Err passed) any_moment worn is = record { any_moment = any_moment; kept = tt }
+  module _ (event : Event) {old new : StoreView D} (usable : old.must_reopen ≡ false) (amid : KeepsOn d event old new)
+      (device : IsSameDevice d old.disk new.disk) where
+    pub keeps_acknowledged : {T : Type 0} (value : T) (reply : Reply) → HasKept d event old new
+        → AnswersWorn (Ok reply) old new → KeepsPast d (accepted_one (session_of old) event) (Ok value) old new
+    keeps_acknowledged value reply kept worn = record {
+      posted = subst (λ (es : List Event). PostsOn d es old new)
+          (accepts_it (session_of old) event (not_worn (session_of old) (λ when. absurd (cc (worn.always ((usable, when.0), when.1))))))
+          (posts_one d event (record { any_moment = amid; kept = kept; device = device }));
+      begun = tt;
+    }
+
+    pub keeps_turned_away : {T : Type 0} (error : Error) (s s' : Sitting) (result : Result T Error)
+        → AnswersWorn (Err error) old new
+        → OnOk result ((error ≡ Worn) × (s' ≡ turned_away saying.Worn s))
+        → IfErr result (λ passed. (error ≢ Worn) × (passed ≡ error))
+        → KeepsPast d (accepted_one (session_of old) event) result old new
+    keeps_turned_away error s s' (Ok value) worn is other =
+        let when = worn.only (ap (λ e. Err e) is.0) in
+        let full = is_it_worn (session_of old) when.0.1 when.1 in
+        record {
+          posted = subst (λ (es : List Event). PostsOn d es old new)
+              (sym (cond-true (is_worn (session_of old)) [] (event ∷ []) full))
+              (subst (λ store. PostsOn d [] old store) (sym (worn.unchanged (ap (λ e. Err e) is.0))) none_posted);
+          begun = tt;
+        }
+    keeps_turned_away error s s' (Err passed) worn is other = record {
+      posted = tt;
+      begun = subst (λ (es : List Event). PostsUpTo d [] es old new)
+          (accepts_it (session_of old) event (not_worn (session_of old) (λ when. other.0 (cc (worn.always ((usable, when.0), when.1))))))
+          (up_to_one d event amid device);
+    }
 
   -- ---- a look at the screen comes first
 
@@ -241,10 +265,10 @@ module _ {D : Type 0} (d : Ghosts D) where
 
     module _ (honest : d.honest old.disk) (durable : IsDurable d old) where
       -- each image means what it meant before
-      still_means : LeavesOnly (d.trail old.disk) (d.trail mid.disk) (Means (d.size old.disk) old.desktop)
+      pub still_means : LeavesOnly (d.trail old.disk) (d.trail mid.disk) (Means (d.size old.disk) old.desktop)
       still_means = weakened (looks.disk.unwritten honest) (λ c image. durable_means old durable honest c image)
 
-      still_durable : IsDurable d mid
+      pub still_durable : IsDurable d mid
       still_durable = λ same c image.
           subst (λ (s : Session). Shows (d.size mid.disk) s.layout s.epoch s.events s.desktop c)
           (sym (same_session honest))
@@ -252,7 +276,7 @@ module _ {D : Type 0} (d : Ghosts D) where
           (durable honest c (at_last (looks.disk.unwritten honest) c image)))
 
       -- what a crash leaves from then on it leaves from before the look on
-      moments_on : (P : ℕ → Desktop → Content → Type 0) (new : StoreView D)
+      pub moments_on : (P : ℕ → Desktop → Content → Type 0) (new : StoreView D)
           → ((c : Content) → Means (d.size old.disk) old.desktop c → P (d.size old.disk) old.desktop c)
           → LeavesOnly (d.trail mid.disk) (d.trail new.disk) (P (d.size mid.disk) mid.desktop)
           → LeavesOnly (d.trail old.disk) (d.trail new.disk) (P (d.size old.disk) old.desktop)

@@ -1,19 +1,23 @@
 -- What taking back and doing again come to.
-use Rattle.std.proofs.Common.{◌≡◌, ◌≢◌, inl, inr, ℕ, List, false, refl, sym, ap, ◌∙◌}
-use Rattle.std.proofs.Common.{Option, Some, None, subst}
+use Rattle.std.proofs.Common.{◌≡◌, ◌≢◌, ◌<◌, inl, inr, ℕ, List, [], false, refl, sym, ap, ◌∙◌}
+use Rattle.std.proofs.Common.{Option, Some, None, subst, arith, ◌≤◌}
 use Rattle.done_presses.specs.declared.again.NextEvent.{NextEvent}
 use Rattle.std.specs.Prelude.{Result, Ok, Err, OnOk, IfErr}
-use Rattle.std.proofs.lemmas.Bool.{false≢true}
+use Rattle.std.proofs.lemmas.Bool.{cases_lt, false≢true, ltb-true}
 use Rattle.sector_disk.specs.declared.disk.Disk.{Ghosts}
-use Rattle.sector_disk.specs.Faults.{FailsAs}
 use Rattle.sector_disk.specs.Trail.{now, LeavesOnly}
-use Rattle.sector_disk.proofs.Touching.{read_is_an_image, weakened}
+use Rattle.sector_disk.proofs.Touching.{at_last, chained, read_is_an_image, weakened}
 use Rattle.event_bytes.specs.declared.event.Event.{Event}
-use Rattle.store_layout.specs.Meaning.{MeansEither}
-use Rattle.desk_journal.specs.Device.{IsSameDevice}
+use Rattle.desktop_definitions.specs.Desktop.{Desktop}
+use Rattle.store_layout.specs.Meaning.{MeansEither, Shows}
 use Rattle.desk_journal.specs.Errors.{Error, NoMemory, Fault, MustReopen, OfLook}
 use Rattle.desk_journal.specs.Posting.{AnswersMustReopen}
-use Rattle.desk_journal.specs.Undoing.{IsLeft, IsTakenBack, LeavesUndone, OfUndo}
+use Rattle.desk_journal.specs.Looking.{OnlyLooks}
+use Rattle.desk_journal.specs.Undoing.{IsLeft, IsTakenBack, OfUndo}
+use Rattle.desk_past.specs.Keeping.{UsesDevice}
+use Rattle.desk_past.specs.Reading.{IsOnlyReadFrom}
+use Rattle.desk_past.proofs.StillReads.{read_twice, still_both, still_left, still_looked, still_none}
+use Rattle.past_steps.specs.Steps.{IsSteppedBack, LeavesSteppedBack, TakesBack, goes_back as left_by, only_read, turned, undone}
 use Rattle.desk_journal.specs.View.{StoreView, IsDurable}
 use Rattle.desk_journal.proofs.Passing.{at_start, shows_means}
 use Rattle.status_line.specs.declared.saying.Saying.TheVariants.{NotBack, NothingAgain}
@@ -22,12 +26,17 @@ use Rattle.desk_sitting.specs.declared.sitting.Travel.TheVariants.{Back, Again}
 use Rattle.done_presses.specs.Again.{next_event}
 use Rattle.done_presses.specs.declared.again.StorePlace.{StorePlace}
 use Rattle.desk_sitting.specs.Doing.{IsUndone, OfPresses, ComesToSeat, seat_of}
-use Rattle.desk_sitting.specs.Sittings.{after_post, refused}
-use Rattle.desk_sitting.specs.Travels.{Travelled, Travels, did_again, goes_again, settled, step_count, store_place, took_back}
-use Rattle.desk_sitting.specs.Travels.{ComesBack, back, nothing, again, not_taken, taken as came_back}
-use Rattle.desk_journal.specs.Session.{Session, taken}
+use Rattle.desk_sitting.specs.Pasts.{KeepsPast, PostsOn, PostsUpTo}
+use Rattle.desk_sitting.specs.Sittings.{accepted_one, after_post, refused}
+use Rattle.desk_sitting.specs.Travels.{Travelled, Travels, did_again, foreseen, goes_again, is_turn, recalled, settled, step_count}
+use Rattle.desk_sitting.specs.Travels.{store_place, took_back}
+use Rattle.desk_sitting.specs.Travels.{ComesBack, LaterStepsAreTurns, back, nothing, again, not_taken, taken as came_back, unread}
+use Rattle.desk_journal.specs.Session.{Session, session_of, taken}
 use Rattle.desk_sitting.specs.Desk.{Seat}
 use Rattle.desk_sitting.specs.TheDesk.{the_desk}
+use Rattle.desk_sitting.proofs.Posts.{posts_both, posts_look, posts_then}
+use Rattle.desk_sitting.proofs.Sessions.{session_parts}
+use Rattle.desk_sitting.proofs.Taking.{joined_device, of_look, same_session, takes_seen}
 
 -- what the session is after a post
 posted_session : (event : Event) (seat : Seat) → (after_post event seat).session ≡ taken seat.session event
@@ -43,18 +52,96 @@ not_look error (inr (inr reopen)) no_memory no_fault no_reopen = no_reopen reope
 again_not_back : {A : Type 0} → Some Again ≡ Some Back → A
 again_not_back is = absurd (cc is)
 
+-- a past told of the place at which the store stands
+pub foreseen_at : (here place : StorePlace) (told : Option (List Event)) (s s' : Sitting) → here ≡ place
+    → s' ≡ foreseen here told s → (known : Option (List Event)) × (s' ≡ foreseen place known s)
+foreseen_at here place told s s' at is = (told, is ∙ ap (λ p. foreseen p told s) at)
+
 module _ {D : Type 0} (d : Ghosts D) where
-  -- a crash leaves the desktop before the events were taken back or the one after it
-  undone_either : (count : ℕ) (events : List Event) (old new : StoreView D) → IsTakenBack d count events old new
-      → LeavesUndone d count old new → old.must_reopen ≡ false → d.honest old.disk → IsDurable d old
+  -- ---- what is read first
+
+  place_still : {old mid : StoreView D} → IsOnlyReadFrom d old mid → store_place mid ≡ store_place old
+  place_still still = λ i. record { epoch = still.left.epoch i; events = still.left.events i }
+
+  durable_still : {old mid : StoreView D} → IsOnlyReadFrom d old mid → IsDurable d old → IsDurable d mid
+  durable_still {old = old} {mid = mid} still durable = λ same c image.
+      let honest = still.left.disk.device.already same in
+      subst (λ (s : Session). Shows (d.size mid.disk) s.layout s.epoch s.events s.desktop c)
+      (sym (session_parts (session_of mid) (session_of old) (still.left.desktop honest) still.left.layout still.left.epoch
+      still.left.events))
+      (subst (λ size. Shows size old.layout old.epoch old.events old.desktop c) (sym still.left.disk.device.as_large)
+      (durable honest c (at_last (still.left.disk.unwritten honest) c image)))
+
+  -- what a crash leaves from then on it leaves from before it on
+  either_still : {old mid : StoreView D} (new : StoreView D) → IsOnlyReadFrom d old mid → d.honest old.disk → IsDurable d old
+      → LeavesOnly (d.trail mid.disk) (d.trail new.disk) (MeansEither (d.size mid.disk) mid.desktop new.desktop)
       → LeavesOnly (d.trail old.disk) (d.trail new.disk) (MeansEither (d.size old.disk) old.desktop new.desktop)
-  undone_either count events old new taken moments usable honest durable =
+  either_still {old = old} {mid = mid} new still honest durable later =
+      chained (weakened (still.left.disk.unwritten honest) (λ c image. inl
+      (shows_means (d.size old.disk) old.epoch old.events old.desktop c (durable honest c image))))
+      (subst (λ size. LeavesOnly (d.trail mid.disk) (d.trail new.disk) (MeansEither size old.desktop new.desktop))
+      still.left.disk.device.as_large
+      (subst (λ (desktop : Desktop). LeavesOnly (d.trail mid.disk) (d.trail new.disk)
+      (MeansEither (d.size mid.disk) desktop new.desktop)) (still.left.desktop honest) later))
+
+  leaves_still : {old mid new : StoreView D} (count : ℕ) → IsOnlyReadFrom d old mid → LeavesSteppedBack d count mid new
+      → LeavesSteppedBack d count old new
+  leaves_still count still (only_read read) = only_read (read_twice d still.left.disk read)
+  leaves_still count still (left_by between read leaves) = left_by between (still_both d still read) leaves
+
+  -- ---- what is taken back
+
+  -- a crash leaves the desktop before the events were taken back or the one after it
+  taken_either : (count : ℕ) (events : List Event) (old new : StoreView D) → TakesBack d count events old new
+      → d.honest old.disk → IsDurable d old
+      → LeavesOnly (d.trail old.disk) (d.trail new.disk) (MeansEither (d.size old.disk) old.desktop new.desktop)
+  taken_either count events old new (turned made) honest durable = made.leaves.any_moment honest
+  taken_either count events old new (undone taken_back) honest durable =
       let shows = durable honest (now (d.trail old.disk)).reads (read_is_an_image (now (d.trail old.disk))) in
-      let w = taken.back honest shows.standing shows.stands in
+      let w = taken_back.back honest shows.standing shows.stands in
       weakened w.1.leaves.any_moment (λ c either. elim either [
         | inl rest ↦ inr (w.0, rest, sym w.1.desktop)
         | inr all ↦ inl (shows.standing, all, shows.is)
       ])
+
+  taken_durable : (count : ℕ) (events : List Event) (old new : StoreView D) → TakesBack d count events old new
+      → IsDurable d new
+  taken_durable count events old new (turned made) = made.durable
+  taken_durable count events old new (undone taken_back) = taken_back.durable
+
+  taken_usable : (count : ℕ) (events : List Event) (old new : StoreView D) → TakesBack d count events old new
+      → new.must_reopen ≡ false
+  taken_usable count events old new (turned made) = made.usable
+  taken_usable count events old new (undone taken_back) = taken_back.usable
+
+  -- an undo leads to no later epoch
+  undone_below : (count : ℕ) (events : List Event) {old new : StoreView D} → IsTakenBack d count events old new
+      → new.epoch ≤ old.epoch
+  undone_below count events {old = old} taken_back = elim (cases_lt old.events count) [
+    | inl other ↦ elim (taken_back.other other) [
+      | inl same ↦ omega (arith, same.0)
+      | inr before ↦ omega (arith, before.0)
+    ]
+    | inr own ↦ omega (arith, (taken_back.own own).0)
+  ]
+
+  pub later_is_turned : LaterStepsAreTurns d
+  later_is_turned count events old new stepped later =
+      let above = ltb-true old.epoch new.epoch later in
+      let same = stepped.read.left.epoch in
+      elim stepped.takes [
+        | turned made ↦ (stepped.between, stepped.read, made)
+        | undone taken_back ↦
+            let below = undone_below count events taken_back in absurd (omega (arith, above, same, below))
+      ]
+
+  stepped_either : (count : ℕ) (events : List Event) (old new : StoreView D) → IsSteppedBack d count events old new
+      → d.honest old.disk → IsDurable d old
+      → LeavesOnly (d.trail old.disk) (d.trail new.disk) (MeansEither (d.size old.disk) old.desktop new.desktop)
+  stepped_either count events old new stepped honest durable =
+      either_still new stepped.read honest durable
+      (taken_either count events stepped.between new stepped.takes (stepped.read.left.disk.device.still honest)
+      (durable_still stepped.read durable))
 
   -- nothing was written
   pub stays_there : {T : Type 0} (value : T) {s s' : Sitting} (store : StoreView D) → store.must_reopen ≡ false
@@ -74,139 +161,225 @@ module _ {D : Type 0} (d : Ghosts D) where
     device = record { as_large = refl; still = λ honest. honest; already = λ honest. honest };
   }
 
-  module _ {s s' : Sitting} {old new : StoreView D} (count : ℕ) (counts : count ≡ step_count s)
-      (asked : s.travels ≡ Some Back) (usable : old.must_reopen ≡ false)
-      (moments : LeavesUndone d count old new) (device : IsSameDevice d old.disk new.disk) where
+  -- nothing could be read of a past
+  pub goes_unread : {A T : Type 0} (error : Error) (result : Result T Error) {s s' : Sitting} (old new : StoreView D)
+      → old.must_reopen ≡ false → result ≡ Err error → OnlyLooks {T = A} d (Err error) old new
+      → Travels the_desk d result s s' old new
+  goes_unread {T = T} error result {s = s} {s' = s'} old new usable is looks =
+      subst (λ (r : Result T Error). Travels the_desk d r s s' old new) (sym is) (record {
+        done = tt;
+        stuck = λ honest durable. unread looks.disk;
+        told = tt;
+        usable = tt;
+        faults = record {
+          rose = λ fault. looks.faults.rose (cc fault);
+          calm = λ fine. looks.faults.calm (λ fault. fine (cc fault));
+          errors = of_look error looks.faults.errors
+              (λ reopen. false≢true (sym usable ∙ looks.reopen.0 (ap (λ e. Err e) reopen)));
+        };
+        device = looks.disk.device;
+      })
+
+  module _ (s : Sitting) {known : Sitting} {old mid : StoreView D} (told : Option (List Event)) (knows : known ≡ recalled told s)
+      (count : ℕ) (counts : count ≡ step_count known) (asked : s.travels ≡ Some Back) (usable : old.must_reopen ≡ false)
+      (looks : OnlyLooks {T = Unit {0}} d (Ok tt) old mid) where
+    still : IsOnlyReadFrom d old mid
+    still = still_looked d (Ok tt) (still_none d old usable) looks
+
+    calm : d.failures mid.disk ≡ d.failures old.disk
+    calm = looks.faults.calm (λ wrong. absurd (cc wrong))
+
+    counted : count ≡ step_count (recalled told s)
+    counted = counts ∙ ap step_count knows
+
     -- the events of the last press were taken back
-    pub goes_back : {T U : Type 0} (value : T) (x : U) (events : List Event) (from to : StorePlace)
-        → IsTakenBack d count events old new
-        → FailsAs {T = U} Fault OfUndo (Ok x) (d.failures old.disk) (d.failures new.disk)
-        → from ≡ store_place old → to ≡ store_place new
-        → s' ≡ took_back events from to (settled s) → Travels the_desk d (Ok value) s s' old new
-    goes_back value x events from to taken faults at come is = record {
+    pub goes_back : {T U : Type 0} {s' : Sitting} {new : StoreView D} (value : T) (x : U) (events : List Event) (from to : StorePlace)
+        → IsSteppedBack d count events mid new → UsesDevice d {T = U} OfUndo (Ok x) mid new
+        → from ≡ store_place mid → to ≡ store_place new
+        → s' ≡ took_back events from to (settled known) → Travels the_desk d (Ok value) s s' old new
+    goes_back {s' = s'} {new = new} value x events from to stepped device at come is = record {
       done = λ honest durable. record {
-        what = back events asked taken_back so;
-        any_moment = undone_either count events old new taken moments usable honest durable;
-        durable = taken.durable;
+        what = back told events asked taken_back so;
+        any_moment = stepped_either (step_count (recalled told s)) events old new taken_back honest durable;
+        durable = taken_durable count events stepped.between new stepped.takes;
       };
       stuck = tt;
-      told = λ _. came_back events taken_back so;
-      usable = taken.usable;
+      told = λ _. came_back told events taken_back so;
+      usable = taken_usable count events stepped.between new stepped.takes;
       faults = record {
         rose = λ wrong. absurd (cc wrong);
-        calm = λ other. faults.calm (λ wrong. absurd (cc wrong));
+        calm = λ other. device.faults.calm (λ wrong. absurd (cc wrong)) ∙ calm;
         errors = tt;
       };
-      device = device;
+      device = joined_device d old.disk mid.disk new.disk looks.disk.device device.same;
     }
       where
-        taken_back : IsTakenBack d (step_count s) events old new
-        taken_back = subst (λ n. IsTakenBack d n events old new) counts taken
+        taken_back : IsSteppedBack d (step_count (recalled told s)) events old new
+        taken_back = record {
+          between = stepped.between;
+          read = still_both d still stepped.read;
+          takes = subst (λ n. TakesBack d n events stepped.between new) counted stepped.takes;
+        }
 
-        so : s' ≡ took_back events (store_place old) (store_place new) (settled s)
-        so = is ∙ ap (λ p. took_back events p to (settled s)) at
-            ∙ ap (λ p. took_back events (store_place old) p (settled s)) come
+        so : s' ≡ took_back events (store_place old) (store_place new) (settled (recalled told s))
+        so = is ∙ ap (λ p. took_back events p to (settled known)) (at ∙ place_still still)
+            ∙ ap (λ p. took_back events (store_place old) p (settled known)) come
+            ∙ ap (λ t. took_back events (store_place old) (store_place new) (settled t)) knows
 
     -- they weren't
-    pub goes_not : {U : Type 0} (error : Error) (result : Result Unit Error)
-        → (error ≢ Fault → error ≢ MustReopen → new.must_reopen ≡ false) → (d.honest old.disk → OfLook error)
-        → AnswersMustReopen {T = U} (Err error) old new
-        → FailsAs {T = U} Fault OfUndo (Err error) (d.failures old.disk) (d.failures new.disk)
-        → (old.must_reopen ≡ false → new.must_reopen ≡ false → IsLeft d old new)
+    pub goes_not : {U : Type 0} {s' : Sitting} {new : StoreView D} (error : Error) (result : Result Unit Error)
+        → (error ≢ Fault → error ≢ MustReopen → new.must_reopen ≡ false) → (d.honest mid.disk → OfLook error)
+        → AnswersMustReopen {T = U} (Err error) mid new → UsesDevice d {T = U} OfUndo (Err error) mid new
+        → LeavesSteppedBack d count mid new
+        → (mid.must_reopen ≡ false → new.must_reopen ≡ false → IsLeft d mid new)
         → OnOk result ((error ≢ NoMemory) × (error ≢ Fault))
-        → OnOk result (s' ≡ refused NotBack (settled s))
+        → OnOk result (s' ≡ refused NotBack (settled known))
         → IfErr result (λ e. (e ≡ error) × OfPresses error) → Travels the_desk d result s s' old new
-    goes_not error (Ok value) in_use stops reopen faults left stays said passed =
+    goes_not {new = new} error (Ok value) in_use stops reopen device moments left stays said passed =
         let open_still : error ≢ MustReopen =
-        λ is. false≢true (sym usable ∙ reopen.only (ap (λ e. Err e) is)) in
+        λ is. false≢true (sym still.usable ∙ reopen.only (ap (λ e. Err e) is)) in
+        let in_use_still : new.must_reopen ≡ false = in_use stays.1 open_still in
         record {
-          done = λ honest durable. absurd (not_look error (stops honest) stays.0 stays.1 open_still);
+          done = λ honest durable. absurd
+              (not_look error (stops (looks.disk.device.still honest)) stays.0 stays.1 open_still);
           stuck = tt;
-          told = λ _. not_taken (left usable (in_use stays.1 open_still)) said;
-          usable = in_use stays.1 open_still;
+          told = λ _. not_taken told (still_left d still (left still.usable in_use_still) (in_use_still ∙ sym still.usable)).left
+              (said ∙ ap (λ t. refused NotBack (settled t)) knows);
+          usable = in_use_still;
           faults = record {
             rose = λ wrong. absurd (cc wrong);
-            calm = λ other. faults.calm (λ fault. stays.1 (cc fault));
+            calm = λ other. device.faults.calm (λ fault. stays.1 (cc fault)) ∙ calm;
             errors = tt;
           };
-          device = device;
+          device = joined_device d old.disk mid.disk new.disk looks.disk.device device.same;
         }
-    goes_not error (Err e) in_use stops reopen faults left stays said passed = record {
+    goes_not {new = new} error (Err e) in_use stops reopen device moments left stays said passed = record {
       done = tt;
-      stuck = λ honest durable. back asked (subst (λ n. LeavesUndone d n old new) counts moments);
+      stuck = λ honest durable. back told asked
+          (leaves_still (step_count (recalled told s)) still (subst (λ n. LeavesSteppedBack d n mid new) counted moments));
       told = tt;
       usable = tt;
       faults = record {
-        rose = λ fault. faults.rose (cc (passed.0, fault));
-        calm = λ fine. faults.calm (λ fault. fine (cc (passed.0, fault)));
+        rose = λ fault. subst (λ (n : ℕ). n < d.failures new.disk) calm (device.faults.rose (cc (passed.0, fault)));
+        calm = λ fine. device.faults.calm (λ fault. fine (cc (passed.0, fault))) ∙ calm;
         errors = subst OfPresses (sym passed.0) passed.1;
       };
-      device = device;
+      device = joined_device d old.disk mid.disk new.disk looks.disk.device device.same;
     }
 
-  -- nothing can be done again
-  pub nothing_again : {T : Type 0} (value : T) {s s' : Sitting} (store : StoreView D) (from : StorePlace)
-      (gone : Sitting) (found : Option NextEvent) → s.travels ≡ Some Again → store.must_reopen ≡ false
-      → from ≡ store_place store → found ≡ next_event from s.again → found ≡ None → gone ≡ goes_again from s
-      → s' ≡ refused NothingAgain gone → Travels the_desk d (Ok value) s s' store store
-  nothing_again value {s = s} store from gone found asked usable at found_is none_left left is =
-      stays_there value store usable (λ wrong. again_not_back (sym asked ∙ wrong)) (nothing asked
-      (ap (λ p. next_event p s.again) (sym at) ∙ sym found_is ∙ none_left)
-      (is ∙ ap (refused NothingAgain) (left ∙ ap (λ p. goes_again p s) at)) refl)
+  -- ---- done again
 
-  module _ (s mid : Sitting) (old new : StoreView D) (asked : s.travels ≡ Some Again) (event : NextEvent) (from : StorePlace)
-      (gone : Sitting) (found : Option NextEvent) (at : from ≡ store_place old)
-      (found_is : found ≡ next_event from s.again) (is_event : found ≡ Some event) (left : gone ≡ goes_again from s) where
-    there : next_event (store_place old) s.again ≡ Some event
-    there = ap (λ p. next_event p s.again) (sym at) ∙ sym found_is ∙ is_event
+  module _ (s : Sitting) {known : Sitting} {old mid : StoreView D} (told : Option (List Event))
+      (knows : known ≡ foreseen (store_place old) told s) (asked : s.travels ≡ Some Again)
+      (usable : old.must_reopen ≡ false) (looks : OnlyLooks {T = Unit {0}} d (Ok tt) old mid)
+      (from : StorePlace) (at_mid : from ≡ store_place mid) (gone : Sitting) (found : Option NextEvent)
+      (found_is : found ≡ next_event from known.again) (left : gone ≡ goes_again from known) where
+    seen_still : IsOnlyReadFrom d old mid
+    seen_still = still_looked d (Ok tt) (still_none d old usable) looks
 
-    -- the sitting before it
-    same : gone ≡ goes_again (store_place old) s
-    same = left ∙ ap (λ p. goes_again p s) at
+    at : from ≡ store_place old
+    at = at_mid ∙ place_still seen_still
 
-    -- the event is done again
-    pub goes_on : {T U : Type 0} (value : T) (x : U) {s' : Sitting} (to : StorePlace) → to ≡ store_place new
-        → ComesToSeat d {T = U} (after_post event.event (seat_of gone old)) (Ok x) mid old new
-        → s' ≡ did_again event.deed from to mid → Travels the_desk d (Ok value) s s' old new
-    goes_on value x to come takes is = record {
-      done = λ honest durable.
-          let done = takes.done honest durable in
-          record {
-            what = again event asked there
-                (ap (λ (t : Seat). t.session) done.seat ∙ posted_session event.event (seat_of gone old))
-                (is ∙ ap (λ p. did_again event.deed p to mid) at
-                ∙ ap (λ p. did_again event.deed (store_place old) p mid) come
-                ∙ ap (λ (t : Seat). did_again event.deed (store_place old) (store_place new) t.sitting)
-                (done.seat ∙ ap (λ t. after_post event.event (seat_of t old)) same));
-            any_moment = done.any_moment;
-            durable = done.durable;
-          };
+    followed : next_event (store_place old) (foreseen (store_place old) told s).again ≡ found
+    followed = ap (λ (t : Sitting). next_event (store_place old) t.again) (sym knows)
+        ∙ ap (λ p. next_event p known.again) (sym at) ∙ sym found_is
+
+    -- the sitting before the event
+    same : gone ≡ goes_again (store_place old) (foreseen (store_place old) told s)
+    same = left ∙ ap (λ p. goes_again p known) at ∙ ap (goes_again (store_place old)) knows
+
+    -- nothing can be done again
+    pub nothing_again : {T : Type 0} (value : T) {s' : Sitting} → found ≡ None → s' ≡ refused NothingAgain gone
+        → Travels the_desk d (Ok value) s s' old mid
+    nothing_again value none_left is = record {
+      done = λ honest durable. record {
+        what = nothing told asked (followed ∙ none_left) (is ∙ ap (refused NothingAgain) same) seen_still.left;
+        any_moment = either_still mid seen_still honest durable (at_start (d.trail mid.disk) _ (λ c image. inl
+            (shows_means (d.size mid.disk) mid.epoch mid.events mid.desktop c
+            (durable_still seen_still durable (looks.disk.device.still honest) c image))));
+        durable = durable_still seen_still durable;
+      };
       stuck = tt;
       told = λ wrong. again_not_back (sym asked ∙ wrong);
-      usable = takes.usable;
+      usable = seen_still.usable;
       faults = record {
         rose = λ wrong. absurd (cc wrong);
-        calm = λ other. takes.faults.calm (λ wrong. absurd (cc wrong));
+        calm = λ other. looks.faults.calm (λ wrong. absurd (cc wrong));
         errors = tt;
       };
-      device = takes.device;
+      device = looks.disk.device;
     }
 
-    -- it fails
-    pub goes_wrong : {T U : Type 0} (result : Result T Error) (error : Error) → result ≡ Err error
-        → ComesToSeat d {T = U} (after_post event.event (seat_of gone old)) (Err error) mid old new
-        → Travels the_desk d result s mid old new
-    goes_wrong {T = T} result error is takes = subst (λ r. Travels the_desk d r s mid old new) (sym is) (record {
-      done = tt;
-      stuck = λ honest durable. again event asked there
-          (subst (λ (t : Session). IsUndone d error t.desktop old new) (posted_session event.event (seat_of gone old))
-          (takes.undone honest durable));
-      told = tt;
-      usable = tt;
-      faults = record {
-        rose = λ fault. takes.faults.rose (cc fault);
-        calm = λ fine. takes.faults.calm (λ fault. fine (cc fault));
-        errors = takes.faults.errors;
-      };
-      device = takes.device;
-    })
+    module _ (event : NextEvent) (is_event : found ≡ Some event) (done_so : Sitting) (new : StoreView D) where
+      there : next_event (store_place old) (foreseen (store_place old) told s).again ≡ Some event
+      there = followed ∙ is_event
+
+      takes_there : {T : Type 0} (result : Result T Error)
+          → ComesToSeat d {T = T} (after_post event.event (seat_of gone mid)) result done_so mid new
+          → ComesToSeat d {T = T} (after_post event.event (seat_of gone old)) result done_so old new
+      takes_there result takes = takes_seen d tt result (after_post event.event (seat_of gone old))
+          (after_post event.event (seat_of gone mid)) done_so old mid new looks
+          (λ honest. ap (λ (x : Session). after_post event.event (record { sitting = gone; session = x }))
+          (same_session d looks honest)) takes
+
+      -- the event that the store accepts, which was only looked at
+      accepts : d.honest old.disk
+          → accepted_one (session_of mid) event.event ≡ accepted_one (session_of old) event.event
+      accepts honest = ap (λ (x : Session). accepted_one x event.event) (same_session d looks honest)
+
+      -- the event is done again
+      pub goes_on : {T U : Type 0} (value : T) (x : U) {s' : Sitting} (to : StorePlace) → to ≡ store_place new
+          → ComesToSeat d {T = U} (after_post event.event (seat_of gone mid)) (Ok x) done_so mid new
+          → KeepsPast d {T = U} (accepted_one (session_of mid) event.event) (Ok x) mid new
+          → s' ≡ did_again event.deed from to done_so → Travels the_desk d (Ok value) s s' old new
+      goes_on {U = U} value x to come posted keeps is =
+          let takes = takes_there {T = U} (Ok x) posted in
+          record {
+            done = λ honest durable.
+                let done = takes.done honest durable in
+                record {
+                  what = again told event asked there
+                      (ap (λ (t : Seat). t.session) done.seat ∙ posted_session event.event (seat_of gone old))
+                      (subst (λ (es : List Event). PostsOn d es old new) (accepts honest)
+                      (posts_both d [] (posts_look d seen_still) keeps.posted))
+                      (is ∙ ap (λ p. did_again event.deed p to done_so) at
+                      ∙ ap (λ p. did_again event.deed (store_place old) p done_so) come
+                      ∙ ap (λ (t : Seat). did_again event.deed (store_place old) (store_place new) t.sitting)
+                      (done.seat ∙ ap (λ t. after_post event.event (seat_of t old)) same));
+                  any_moment = done.any_moment;
+                  durable = done.durable;
+                };
+            stuck = tt;
+            told = λ wrong. again_not_back (sym asked ∙ wrong);
+            usable = takes.usable;
+            faults = record {
+              rose = λ wrong. absurd (cc wrong);
+              calm = λ other. takes.faults.calm (λ wrong. absurd (cc wrong));
+              errors = tt;
+            };
+            device = takes.device;
+          }
+
+      -- it fails
+      pub goes_wrong : {T U : Type 0} (result : Result T Error) (error : Error) → result ≡ Err error
+          → ComesToSeat d {T = U} (after_post event.event (seat_of gone mid)) (Err error) done_so mid new
+          → KeepsPast d {T = U} (accepted_one (session_of mid) event.event) (Err error) mid new
+          → Travels the_desk d result s done_so old new
+      goes_wrong {T = T} {U = U} result error is posted keeps =
+          let takes = takes_there {T = U} (Err error) posted in
+          subst (λ (r : Result T Error). Travels the_desk d r s done_so old new) (sym is) (record {
+            done = tt;
+            stuck = λ honest durable. again told event asked there
+                (subst (λ (t : Session). IsUndone d error t.desktop old new)
+                (posted_session event.event (seat_of gone old)) (takes.undone honest durable))
+                (subst (λ (es : List Event). PostsUpTo d [] es old new) (accepts honest)
+                (posts_then d [] (posts_look d seen_still) keeps.begun));
+            told = tt;
+            usable = tt;
+            faults = record {
+              rose = λ fault. takes.faults.rose (cc fault);
+              calm = λ fine. takes.faults.calm (λ fault. fine (cc fault));
+              errors = takes.faults.errors;
+            };
+            device = takes.device;
+          })

@@ -24,7 +24,7 @@ use Rattle.desk_journal.specs.Looking.{OnlyLooks}
 use Rattle.desk_journal.specs.Session.{Session, session_of}
 use Rattle.desk_journal.specs.View.{StoreView, IsDurable}
 use Rattle.desk_journal.proofs.Passing.{at_start}
-use Rattle.store_documents.proofs.Looks.{read_twice}
+use Rattle.desk_past.proofs.StillReads.{still_both, still_looked, still_none}
 use Rattle.desk_sitting.specs.declared.sitting.Sitting.{Sitting}
 use Rattle.desk_sitting.specs.Doing.{Breaks, DoesPresses, OfPresses, seat_of}
 use Rattle.desk_sitting.specs.Sittings.{is_scene_due, looked}
@@ -61,13 +61,13 @@ module _ {D : Type 0} (d : Ghosts D) where
       all (d.size new.disk) (session_of new) (sym read.device.as_large) (sym same)
 
   -- a look
-  pub looked_at : {T : Type 0} (result : Result T Error) (old new : StoreView D) → OnlyLooks d result old new
-      → d.honest old.disk → IsDurable d old → IsLookedAt d old new
-  looked_at result old new looks honest durable =
+  pub looked_at : {T : Type 0} (result : Result T Error) (old new : StoreView D) → old.must_reopen ≡ false
+      → OnlyLooks d result old new → d.honest old.disk → IsDurable d old → IsLookedAt d old new
+  looked_at result old new usable looks honest durable =
       let same : session_of new ≡ session_of old = cc (looks.desktop honest) in
       record {
         session = same;
-        disk = looks.disk;
+        read = still_looked d result (still_none d old usable) looks;
         durable = still_durable old new looks.disk same durable;
       }
 
@@ -75,7 +75,7 @@ module _ {D : Type 0} (d : Ghosts D) where
   pub looked_on : (old mid new : StoreView D) → IsLookedAt d old mid → IsLookedAt d mid new → IsLookedAt d old new
   looked_on old mid new first second = record {
     session = second.session ∙ first.session;
-    disk = read_twice d first.disk second.disk;
+    read = still_both d first.read second.read;
     durable = second.durable;
   }
 
@@ -83,13 +83,10 @@ module _ {D : Type 0} (d : Ghosts D) where
   same_disk : (disk : D) → IsSameDevice d disk disk
   same_disk disk = record { as_large = refl; still = λ honest. honest; already = λ honest. honest }
 
-  pub unlooked : (store : StoreView D) → IsDurable d store → IsLookedAt d store store
-  unlooked store durable = record {
+  pub unlooked : (store : StoreView D) → store.must_reopen ≡ false → IsDurable d store → IsLookedAt d store store
+  unlooked store usable durable = record {
     session = refl;
-    disk = record {
-      device = same_disk store.disk;
-      unwritten = λ honest. at_start (d.trail store.disk) (IsCrashImage (now (d.trail store.disk))) (λ c image. image);
-    };
+    read = still_none d store usable;
     durable = durable;
   }
 
@@ -356,7 +353,7 @@ module _ {D : Type 0} (d : Ghosts D) where
         parser = parser;
         sitting = s';
         does = subst (λ t. DoesPresses the_desk d (presses_heard old.parser hearing) t s' mid new.store) (sees honest)
-            (does ((looks honest durable).disk.device.still honest) (looks honest durable).durable);
+            (does ((looks honest durable).read.left.disk.device.still honest) (looks honest durable).durable);
         are = refl;
         brings = brings;
       },
@@ -370,7 +367,7 @@ module _ {D : Type 0} (d : Ghosts D) where
     broken error why unasked fails honest durable seen =
         let breaks : Breaks the_desk d error (presses_heard old.parser hearing) (sitting_shown the_desk old) mid new.store =
         subst (λ t. Breaks the_desk d error (presses_heard old.parser hearing) t mid new.store) (sees honest)
-        (fails ((looks honest durable).disk.device.still honest) (looks honest durable).durable) in
+        (fails ((looks honest durable).read.left.disk.device.still honest) (looks honest durable).durable) in
         let events : List Event = accepted_events the_desk breaks.done (seat_of (sitting_shown the_desk old) mid)
         ++ breaks.undone.acknowledged in
         let begun : List Event = breaks.undone.begun in

@@ -42,6 +42,9 @@ pub record Desk : Type 0 where
   pub fetches : Result ⊤ HostFault → Sitting → Sitting
   -- after it was asked how the name goes on that is asked for
   pub completes : Completion → Sitting → Sitting
+  -- the sitting once a past told of the events that were done last, or at a place of those that were taken back last
+  pub recalls : Option (List Event) → Sitting → Sitting
+  pub foresees : StorePlace → Option (List Event) → Sitting → Sitting
   -- how many events are taken back, and the sitting after these were, from one place of the store to another
   pub counts : Sitting → ℕ
   pub takes_back : List Event → StorePlace → StorePlace → Sitting → Sitting

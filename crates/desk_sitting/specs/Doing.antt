@@ -16,6 +16,7 @@ use Rattle.terminal_presses.specs.declared.press.Press.{Press}
 use Rattle.desk_sitting.specs.declared.sitting.Sitting.{Sitting}
 use Rattle.desk_journal.specs.Session.{session_of}
 use Rattle.desk_sitting.specs.Desk.{Desk, Seat}
+use Rattle.desk_sitting.specs.Pasts.{PostsOn, PostsUpTo}
 use Rattle.desk_sitting.specs.Sittings.{accepted_as, done_by, does}
 
 abbrev pub seat_of : {D : Type 0} → Sitting → StoreView D → Seat
@@ -73,9 +74,11 @@ module _ {D : Type 0} (d : Ghosts D) where
     pub at_last : Leaves (now (d.trail new.disk))
         (MeansPrefix (d.size old.disk) old.desktop acknowledged (acknowledged ++ begun))
 
-  -- A store goes on by these events: it shows the desktop after them, and from now on a crash leaves that.
+  -- A store goes on by these events: it shows the desktop after them, and from now on a crash leaves that. Of a past
+  -- nothing is forgotten.
   pub record GoesBy (events : List Event) (old new : StoreView D) : Type 0 where
     pub survives : SittingSurvives events [] old new
+    pub past : PostsOn d events old new
     pub shows : new.desktop ≡ steps old.desktop events
     pub durable : IsDurable d new
     pub device : IsSameDevice d old.disk new.disk
@@ -97,6 +100,7 @@ module _ {D : Type 0} (d : Ghosts D) where
     pub one : length begun ≤ 1
     pub survives : SittingSurvives acknowledged begun old new
     pub starved : error ≡ NoMemory → SittingSurvives acknowledged [] old new
+    pub past : PostsUpTo d acknowledged begun old new
     pub device : IsSameDevice d old.disk new.disk
 
   -- All that a call promises that is to come to this seat by these events.

@@ -73,9 +73,10 @@ is_leave _ = false
 abbrev pub session_place : Session → StorePlace
 session_place session = record { epoch = session.epoch; events = session.events }
 
--- what leaving would lose at this place of the store: a desktop in memory, or what can be done again
+-- what leaving would lose at this place of the store: a desktop in memory, or what can be done again and is in no past
 abbrev pub leaving_loses : StorePlace → Sitting → Option Question
-leaving_loses place s = left_behind (is_in_memory s.resting) (has_again place s.again)
+leaving_loses place s =
+    left_behind (is_in_memory s.resting) (has_again place s.again && not s.kept)
 
 -- what a press would lose, where leaving would lose that
 abbrev pub loss_of : Action → Option Question → Desktop → Option Question

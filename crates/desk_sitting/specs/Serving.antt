@@ -8,10 +8,11 @@ use Rattle.sector_disk.specs.declared.disk.Disk.{Ghosts}
 use Rattle.event_bytes.specs.declared.event.Event.{Event}
 use Rattle.screen_pictures.specs.declared.cell.Cell.{Cell}
 use Rattle.desktop_definitions.specs.Shown.{shown_screen}
-use Rattle.desk_journal.specs.Device.{IsOnlyRead, IsSameDevice}
+use Rattle.desk_journal.specs.Device.{IsSameDevice}
 use Rattle.desk_journal.specs.Errors.{Error, NoMemory, Fault as DiskFault}
 use Rattle.desk_journal.specs.Session.{session_of}
 use Rattle.desk_journal.specs.View.{StoreView, IsDurable}
+use Rattle.desk_past.specs.Reading.{IsOnlyReadFrom}
 use Rattle.screen_drawing.specs.declared.face.Face.{Face}
 use Rattle.terminal_keyboard.specs.declared.parser.Parser.{Parser}
 use Rattle.terminal_presses.specs.declared.press.Heard.{Heard}
@@ -114,7 +115,7 @@ module _ {D : Type 0} (d : Ghosts D) where
   -- the store was looked at: nothing is posted, and the disk is only read
   pub record IsLookedAt (old new : StoreView D) : Type 0 where
     pub session : session_of new ≡ session_of old
-    pub disk : IsOnlyRead d old.disk new.disk
+    pub read : IsOnlyReadFrom d old new
     pub durable : IsDurable d new
 
   -- it can be used, over the same device

@@ -88,6 +88,7 @@ new_sitting height width greeting questions = record {
   marks = 0;
   travels = None;
   again = no_again;
+  kept = false;
   past = no_past;
   joins = false;
   fills = true;

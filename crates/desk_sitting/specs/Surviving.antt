@@ -11,6 +11,7 @@ use Rattle.desk_sitting.specs.declared.ending.SittingEnd.{SittingEnd}
 use Rattle.desk_sitting.specs.declared.ending.SittingEnd.TheVariants.{Fault, Memory}
 use Rattle.desk_sitting.specs.Desk.{Desk}
 use Rattle.desk_sitting.specs.Doing.{GoesBy, SittingSurvives}
+use Rattle.desk_sitting.specs.Pasts.{PostsUpTo}
 use Rattle.desk_sitting.specs.Serving.{TurnState, HearsAfterScene, IsTurnRun, Ends}
 
 module _ {D : Type 0} (d : Ghosts D) where
@@ -22,6 +23,8 @@ module _ {D : Type 0} (d : Ghosts D) where
     pub one : length begun ≤ 1
     pub none_begun : end ≢ Fault → begun ≡ []
     pub goes_by : end ≢ Fault → end ≢ Memory → GoesBy d acknowledged old new
+    -- of a past nothing is forgotten, also where an event was tried for which memory was wanting
+    pub past : (tried : List Event) × PostsUpTo d acknowledged tried old new
 
 -- ---- what holds of all sittings, from any of their places on, at any desk
 

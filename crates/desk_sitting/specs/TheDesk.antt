@@ -14,7 +14,7 @@ use Rattle.desk_sitting.specs.Clips.{clip_sent}
 use Rattle.desk_sitting.specs.Desk.{Desk, Seat, accepted_events, after_presses}
 use Rattle.desk_sitting.specs.Sittings.{accepted_of, after_completion, after_fetch, after_press, looked, new_sitting}
 use Rattle.desk_sitting.specs.Telling.{scene_told}
-use Rattle.desk_sitting.specs.Travels.{done_again, none_again, settled, step_count, took_back}
+use Rattle.desk_sitting.specs.Travels.{done_again, foreseen, none_again, recalled, settled, step_count, took_back}
 
 -- where in the terminal the pointer is that keys move, while it is shown
 abbrev pub pointer_of : Sitting → Option (ℕ × ℕ)
@@ -42,6 +42,8 @@ the_desk = record {
   tells = scene_told;
   fetches = after_fetch;
   completes = after_completion;
+  recalls = recalled;
+  foresees = foreseen;
   counts = step_count;
   takes_back = λ events from to s. took_back events from to (settled s);
   follows = λ place s. next_event place s.again;

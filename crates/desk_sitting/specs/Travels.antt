@@ -1,15 +1,17 @@
 -- Taking back and doing again, at the desk. `d` is what is known of a disk.
-use Rattle.std.specs.Prelude.{◌≡◌, ℕ, true, false, Bool, length, Option, ◌==◌, ◌&&◌, if◌then◌else◌, List, Some, None}
-use Rattle.std.specs.Prelude.{Result, OnOk, IfErr}
+use Rattle.std.specs.Prelude.{◌≡◌, ℕ, true, false, Bool, length, Option, ◌==◌, ◌&&◌, ◌||◌, not, nat_lt, if◌then◌else◌}
+use Rattle.std.specs.Prelude.{List, [], Some, None, Result, OnOk, IfErr}
 use Rattle.sector_disk.specs.declared.disk.Disk.{Ghosts}
 use Rattle.sector_disk.specs.Faults.{FailsAs}
 use Rattle.sector_disk.specs.Trail.{LeavesOnly}
 use Rattle.event_bytes.specs.declared.event.Event.{Event}
 use Rattle.store_layout.specs.Meaning.{MeansEither}
-use Rattle.desk_journal.specs.Device.{IsSameDevice}
+use Rattle.desk_journal.specs.Device.{IsOnlyRead, IsSameDevice}
 use Rattle.desk_journal.specs.Errors.{Error, Fault}
-use Rattle.desk_journal.specs.Undoing.{IsLeft, IsTakenBack, LeavesUndone}
+use Rattle.desk_journal.specs.Undoing.{IsLeft}
 use Rattle.desk_journal.specs.View.{StoreView, IsDurable}
+use Rattle.desk_past.specs.Reading.{IsOnlyReadFrom}
+use Rattle.past_steps.specs.Steps.{IsSteppedBack, IsTurnedBack, LeavesSteppedBack}
 use Rattle.done_presses.specs.declared.again.StorePlace.{StorePlace}
 use Rattle.status_line.specs.declared.saying.Saying.{Saying}
 use Rattle.status_line.specs.declared.saying.Saying.TheVariants.{TookBack, DidAgain, NotBack, NothingBack, NoFurtherBack}
@@ -19,12 +21,13 @@ use Rattle.desk_sitting.specs.declared.sitting.Travel.TheVariants.{Back, Again}
 use Rattle.done_presses.specs.declared.again.NextEvent.{NextEvent}
 use Rattle.status_line.specs.declared.deed.Deed.{Deed}
 use Rattle.desk_sitting.specs.declared.sitting.Travel.{Travel}
-use Rattle.done_presses.specs.Again.{is_first, kept_at, carried_again, next_event, rest_at, taken_press}
-use Rattle.done_presses.specs.Past.{back_count, back_deed, gathered, left_past, named}
+use Rattle.done_presses.specs.Again.{again_of, has_again, is_first, kept_at, carried_again, next_event, rest_at, taken_press}
+use Rattle.done_presses.specs.Past.{back_count, back_deed, gathered, knows_none, left_past, named, no_past, past_of}
 use Rattle.desk_sitting.specs.Doing.{IsUndone, OfPresses}
 use Rattle.desk_journal.specs.Session.{Session, session_of, taken as meant_by}
 use Rattle.desk_sitting.specs.Desk.{Desk}
-use Rattle.desk_sitting.specs.Sittings.{after_post, refused}
+use Rattle.desk_sitting.specs.Pasts.{PostsOn, PostsUpTo}
+use Rattle.desk_sitting.specs.Sittings.{accepted_one, after_post, refused}
 
 -- where a store stands
 abbrev pub store_place : {D : Type 0} → StoreView D → StorePlace
@@ -32,6 +35,27 @@ store_place store = record { epoch = store.epoch; events = store.events }
 
 abbrev pub is_unmoved : StorePlace → StorePlace → Bool
 is_unmoved from to = (from.epoch == to.epoch) && (from.events == to.events)
+
+-- Whether what was taken back between these places is in a past: only a turn leads to a later epoch.
+abbrev pub is_turn : StorePlace → StorePlace → Bool
+is_turn from to = nat_lt from.epoch to.epoch
+
+-- ---- what a past tells
+
+-- Where no press is known that was done, these events were, if any are told of.
+abbrev pub recalled : Option (List Event) → Sitting → Sitting
+recalled None s = s
+recalled (Some events) s =
+    if knows_none s.past then record s { past = past_of events no_past } else s
+
+-- Where nothing is known that was taken back, these events were, if any are told of, which led to this place.
+abbrev pub foreseen : StorePlace → Option (List Event) → Sitting → Sitting
+foreseen place None s = s
+foreseen place (Some events) s =
+    if has_again place s.again then s
+    else record s { again = again_of events place; kept = true }
+
+-- ---- and what becomes of the sitting
 
 -- nothing is asked for any more, and what only moved goes with the press before it
 abbrev pub settled : Sitting → Sitting
@@ -55,11 +79,15 @@ took_deed (Some deed) events from to s = record s {
   again = kept_at (taken_press events deed) from to s.again;
 }
 
+-- Whether a past has all that can be done again, once events were taken back: these, and what could be done again before.
+abbrev pub still_kept : StorePlace → StorePlace → Sitting → Bool
+still_kept from to s = is_turn from to && (s.kept || not (has_again from s.again))
+
 -- the sitting after these events were taken back, which led from one place to another
 abbrev pub took_back : List Event → StorePlace → StorePlace → Sitting → Sitting
 took_back events from to s = if length events == 0 then refused (none_back to) s
     else took_deed (back_deed events s.past) events from to
-    (record s { past = left_past (length events) s.past })
+    (record s { past = left_past (length events) s.past; kept = still_kept from to s })
 
 -- what is asked for once the next event is done again: the other events of its press, if any are left
 abbrev pub on_to : Option NextEvent → Option Travel
@@ -95,32 +123,44 @@ none_again place s = refused NothingAgain (goes_again place s)
 
 module _ {D : Type 0} (d : Ghosts D) where
   -- Over any disk: the events of the last press were taken back, or nothing was done, and that is said. Nothing more is
-  -- asked for.
+  -- asked for. Of which presses they were a past may have told.
   pub data ComesBack (s s' : Sitting) (old new : StoreView D) : Type 0 where
-    taken : (events : List Event) → IsTakenBack d (step_count s) events old new
-        → s' ≡ took_back events (store_place old) (store_place new) (settled s)
+    taken : (told : Option (List Event)) (events : List Event)
+        → IsSteppedBack d (step_count (recalled told s)) events old new
+        → s' ≡ took_back events (store_place old) (store_place new) (settled (recalled told s))
         → ComesBack s s' old new
-    not_taken : IsLeft d old new → s' ≡ refused NotBack (settled s) → ComesBack s s' old new
+    not_taken : (told : Option (List Event)) → IsLeft d old new
+        → s' ≡ refused NotBack (settled (recalled told s)) → ComesBack s s' old new
+
+  -- A step back that leads to a later epoch is a turn, over which a past goes on.
+  abbrev pub LaterStepsAreTurns : Type 0
+  LaterStepsAreTurns = (count : ℕ) (events : List Event) (old new : StoreView D)
+      → IsSteppedBack d count events old new → is_turn (store_place old) (store_place new) ≡ true
+      → (between : StoreView D) × IsOnlyReadFrom d old between
+      × IsTurnedBack d count events between new
 
 module _ (desk : Desk) {D : Type 0} (d : Ghosts D) where
-  -- what was asked for beside the presses is done
+  -- What was asked for beside the presses is done. Where nothing was known of that, a past may have told.
   pub data Travelled (s s' : Sitting) (old new : StoreView D) : Type 0 where
     -- nothing was asked for
     none : s.travels ≡ None → s' ≡ s → new ≡ old → Travelled s s' old new
     -- the events of the last press were taken back, as far as there were any
-    back : (events : List Event) → s.travels ≡ Some Back
-        → IsTakenBack d (desk.counts s) events old new
-        → s' ≡ desk.takes_back events (store_place old) (store_place new) s
+    back : (told : Option (List Event)) (events : List Event) → s.travels ≡ Some Back
+        → IsSteppedBack d (desk.counts (desk.recalls told s)) events old new
+        → s' ≡ desk.takes_back events (store_place old) (store_place new) (desk.recalls told s)
         → Travelled s s' old new
     -- there was nothing to do again
-    nothing : s.travels ≡ Some Again → desk.follows (store_place old) s ≡ None
-        → s' ≡ desk.ends_there (store_place old) s → new ≡ old
-        → Travelled s s' old new
+    nothing : (told : Option (List Event)) → s.travels ≡ Some Again
+        → desk.follows (store_place old) (desk.foresees (store_place old) told s) ≡ None
+        → s' ≡ desk.ends_there (store_place old) (desk.foresees (store_place old) told s)
+        → IsLeft d old new → Travelled s s' old new
     -- the next event of the press that was taken back last was done again
-    again : (event : NextEvent) → s.travels ≡ Some Again
-        → desk.follows (store_place old) s ≡ Some event
+    again : (told : Option (List Event)) (event : NextEvent) → s.travels ≡ Some Again
+        → desk.follows (store_place old) (desk.foresees (store_place old) told s) ≡ Some event
         → session_of new ≡ meant_by (session_of old) event.event
-        → s' ≡ desk.repeats event (session_of old) (store_place old) (store_place new) s
+        → PostsOn d (accepted_one (session_of old) event.event) old new
+        → s' ≡ desk.repeats event (session_of old) (store_place old) (store_place new)
+        (desk.foresees (store_place old) told s)
         → Travelled s s' old new
 
   -- At every moment between a crash leaves the desktop before it or the one after it, and from then on the one after it.
@@ -132,11 +172,14 @@ module _ (desk : Desk) {D : Type 0} (d : Ghosts D) where
 
   -- It fails. A crash leaves what was shown, or what was asked for.
   pub data IsStuck (error : Error) (s : Sitting) (old new : StoreView D) : Type 0 where
-    back : s.travels ≡ Some Back → LeavesUndone d (desk.counts s) old new
-        → IsStuck error s old new
-    again : (event : NextEvent) → s.travels ≡ Some Again
-        → desk.follows (store_place old) s ≡ Some event
+    -- nothing was written
+    unread : IsOnlyRead d old.disk new.disk → IsStuck error s old new
+    back : (told : Option (List Event)) → s.travels ≡ Some Back
+        → LeavesSteppedBack d (desk.counts (desk.recalls told s)) old new → IsStuck error s old new
+    again : (told : Option (List Event)) (event : NextEvent) → s.travels ≡ Some Again
+        → desk.follows (store_place old) (desk.foresees (store_place old) told s) ≡ Some event
         → IsUndone d error (meant_by (session_of old) event.event).desktop old new
+        → PostsUpTo d [] (accepted_one (session_of old) event.event) old new
         → IsStuck error s old new
 
   -- All that a call promises that is to do what was asked for.

@@ -58,7 +58,8 @@ impl Sitting {
     fn leaving_loses(&self, place: StorePlace) -> Option<Question>
         ensures { result ≡ leaving_loses place self.now }
     {
-        left_behind(is_in_memory(self.resting), self.again.has_again(place))
+        let goes_again = self.again.has_again(place) && !self.kept;
+        left_behind(is_in_memory(self.resting), goes_again)
     }
 
     /// What the click of the middle button would lose that a press makes. It only looks at the store.

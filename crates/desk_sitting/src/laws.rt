@@ -1,6 +1,9 @@
 //! What holds of all sittings.
 ghost use Rattle.desk_sitting.specs.Sittings.{ClicksAreTold, QuestionsComeOnce, QuestionsPostNothing};
 ghost use Rattle.desk_sitting.specs.TheDesk.{PressesAreSteps};
+ghost use Rattle.desk_sitting.specs.Travels.{LaterStepsAreTurns};
+
+use sector_disk::Disk;
 
 /// Presses lead to the desktop to which the events lead that are accepted of them.
 pub fn presses_are_steps()
@@ -18,4 +21,9 @@ pub fn questions_post_nothing()
 /// accepted.
 pub fn clicks_are_told()
     ensures { ClicksAreTold }
+{}
+
+/// Where a step back leads to a later epoch, what was taken back is in a past: that goes on over a turn.
+pub fn later_steps_are_turns<D: Disk>()
+    ensures { LaterStepsAreTurns D.Disk }
 {}

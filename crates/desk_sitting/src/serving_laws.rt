@@ -1,6 +1,7 @@
 //! What holds of all sittings.
 ghost use Rattle.desk_sitting.specs.Desk.{Desk};
 ghost use Rattle.desk_sitting.specs.Files.{FileSittingsSurvive};
+ghost use Rattle.desk_sitting.specs.Pasts.{PostsForgetNothing};
 ghost use Rattle.desk_sitting.specs.Surviving.{EndsSurvive, ScenesSurvive, TurnsSurvive};
 
 use sector_disk::{Disk, FileDisk, HostFile};
@@ -11,6 +12,12 @@ pub fn sittings_survive<D: Disk>()
     ensures turns { (desk : Desk) → TurnsSurvive desk D.Disk }
     ensures scenes { (desk : Desk) → ScenesSurvive desk D.Disk }
     ensures ends { (desk : Desk) → EndsSurvive desk D.Disk }
+{}
+
+/// Of a past nothing is forgotten while events are posted in a sitting (the parts `past` of `GoesBy` and `SurvivesEnd`).
+/// Wherever a crash cuts it off, what it leaves has the past from before, and all events that were acknowledged since then.
+pub fn sittings_keep_pasts<D: Disk>()
+    ensures { PostsForgetNothing D.Disk }
 {}
 
 /// What a sitting leaves of a store in a file (the part `survives` of `IsSat`), it leaves of the bytes of the file: no

@@ -83,6 +83,8 @@ pub struct Sitting {
     pub travels: Option<Travel>,
     /// What was taken back, as far as it can be done again.
     pub again: Again,
+    /// A past has all of that, and so the next sitting can do it again.
+    pub kept: bool,
     /// What was done, as far as it can be taken back.
     pub past: Past,
     /// The next event that is done is one of the press that was done last, as amid a paste.
@@ -134,6 +136,7 @@ impl Sitting {
             marks: 0,
             travels: None,
             again: Again::none(),
+            kept: false,
             past: Past::none(),
             joins: false,
             fills: true,

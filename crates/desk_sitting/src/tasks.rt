@@ -4,9 +4,9 @@ ghost use Rattle.desk_journal.specs.Session.{session_of};
 ghost use Rattle.desk_sitting.specs.Doing.{ComesToSeat, DoesPress, TellsDone, seat_of};
 ghost use Rattle.desk_sitting.specs.Pasts.{KeepsPast};
 ghost use Rattle.desk_journal.specs.View.{IsDurable};
-ghost use Rattle.desk_sitting.specs.Sittings.{after_post, turned_away, accepted_by, after_posts, does_all, went_on};
+ghost use Rattle.desk_sitting.specs.Sittings.{after_post, turned_away, accepted_by, accepted_one, after_posts, does_all};
 ghost use Rattle.desk_sitting.specs.Sittings.{accepted_in, accepted_stage, after_planned, after_stage, after_task};
-ghost use Rattle.desk_sitting.specs.Sittings.{kept_follows, left_by, most_plans, task_left, planned};
+ghost use Rattle.desk_sitting.specs.Sittings.{kept_follows, left_by, most_plans, task_left, planned, went_on};
 ghost use Rattle.press_plans.specs.Plans.{seen_plan};
 
 use crate::sitting::{Doing, Sitting};
@@ -200,7 +200,8 @@ impl Sitting {
         ensures comes { ComesToSeat D.Disk (after_post event.now (seat_of self.old store.old))
             result self.new store.old store.new }
         ensures done { TellsDone D.Disk event.now result store.old }
-        ensures past { KeepsPast D.Disk event.now result store.old store.new }
+        ensures past { KeepsPast D.Disk (accepted_one (session_of store.old) event.now) result
+            store.old store.new }
     {
         match desk_past::post(alloc, store, event) {
             Ok(reply) => Ok(self.reply(event, reply)),

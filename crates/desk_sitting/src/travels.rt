@@ -1,21 +1,31 @@
 //! Taking back and doing again.
-ghost use Rattle.std.specs.Prelude.{◌≡◌, ◌≢◌, ◌==◌, length, false, Some, None, OnOk, IfErr, IfOk};
+ghost use Rattle.std.specs.Prelude.{◌≡◌, ◌≢◌, ◌==◌, List, Option, length, option_map, false, true, Some, None, OnOk, IfErr, IfOk};
+ghost use Rattle.event_bytes.specs.declared.event.Event.{Event};
+ghost use Rattle.desk_journal.specs.Looking.{OnlyLooks};
+ghost use Rattle.done_presses.specs.Past.{knows_none};
 ghost use Rattle.desk_sitting.specs.declared.sitting.Travel.TheVariants.{Back, Again as Forth};
 ghost use Rattle.status_line.specs.declared.saying.Saying.TheVariants.{NotBack};
-ghost use Rattle.done_presses.specs.Again.{next_event};
+ghost use Rattle.done_presses.specs.Again.{has_again, next_event};
 ghost use Rattle.desk_sitting.specs.Doing.{OfPresses, ComesToSeat, seat_of};
 ghost use Rattle.desk_sitting.specs.Sittings.{after_post, refused};
-ghost use Rattle.desk_sitting.specs.Travels.{Travels, did_again, goes_again, none_back, on_to, settled, step_count, store_place};
-ghost use Rattle.desk_sitting.specs.Travels.{took_deed, took_back};
+ghost use Rattle.desk_sitting.specs.Travels.{Travels, did_again, foreseen, goes_again, none_back, on_to, recalled, settled, step_count, store_place};
+ghost use Rattle.desk_sitting.specs.Travels.{still_kept, took_deed, took_back};
 ghost use Rattle.desk_sitting.specs.TheDesk.{the_desk};
 
 use crate::sitting::{Doing, Sitting, Travel};
 use desk_journal::{Error, Store};
-use done_presses::{NextEvent, StorePlace, TakenPress};
+use done_presses::{Again, MOST_DONE, NextEvent, Past, StorePlace, TakenPress};
 use event_bytes::Event;
+use past_steps::{events_ahead, events_behind, step_back};
 use sector_disk::Disk;
 use status_line::{Deed, Saying};
-use std::alloc::Global;
+use std::alloc::{AllocError, Global};
+
+/// Of how many events before what the store shows it is asked which presses they were.
+const MOST_BEHIND: usize = 1024;
+
+/// Of how many events that can be done again it is asked at a time. As many presses are known as so many events can be.
+const MOST_AHEAD: usize = MOST_DONE;
 
 /// Takes the last press back, or does the next event again of what was taken back last, where that was asked for.
 ///
@@ -51,9 +61,10 @@ fn take_back<D: Disk>(alloc: Global, sitting: &mut Sitting, store: &mut Store<D>
     requires asked { sitting.old.travels ≡ Some Back }
     ensures { Travels the_desk D.Disk result sitting.old sitting.new store.old store.new }
 {
+    sitting.look_behind(alloc, store)?;
     let from = place(store);
     let count = sitting.settle();
-    match store.undo(alloc, count) {
+    match step_back(alloc, store, count) {
         Ok(events) => {
             sitting.took_back(events, from, place(store));
             Ok(())
@@ -68,6 +79,7 @@ fn do_again<D: Disk>(alloc: Global, sitting: &mut Sitting, store: &mut Store<D>)
     requires asked { sitting.old.travels ≡ Some Forth }
     ensures { Travels the_desk D.Disk result sitting.old sitting.new store.old store.new }
 {
+    sitting.look_ahead(alloc, store)?;
     let from = place(store);
     match sitting.next_again(from) {
         None => {
@@ -83,6 +95,64 @@ fn do_again<D: Disk>(alloc: Global, sitting: &mut Sitting, store: &mut Store<D>)
 }
 
 impl Sitting {
+    /// Where no press is known that was done, those are of which the past tells.
+    ///
+    /// Errors: those of `events_behind`.
+    fn look_behind<D: Disk>(&mut self, alloc: Global, store: &mut Store<D>) -> Result<(), Error>
+        requires { store.old.must_reopen ≡ false }
+        ensures knows { OnOk result ((told : Option (List Event))
+            × (self.new ≡ recalled told self.old)) }
+        ensures looks { OnlyLooks D.Disk result store.old store.new }
+    {
+        if !self.past.is_empty() {
+            return Ok(());
+        }
+        let found = events_behind(alloc, store, MOST_BEHIND)?;
+        self.recall(found);
+        Ok(())
+    }
+
+    /// These events were done before, if any are told of.
+    fn recall(&mut self, told: Option<Vec<Event>>)
+        requires { knows_none self.old.past ≡ true }
+        ensures { self.new ≡ recalled (option_map (λ events. events.items) told) self.old }
+    {
+        if let Some(events) = told {
+            self.past = Past::of(events.as_slice());
+        }
+    }
+
+    /// Where nothing is known that was taken back, those presses are of which the past tells.
+    ///
+    /// Errors: those of `events_ahead`; `NoMemory`.
+    fn look_ahead<D: Disk>(&mut self, alloc: Global, store: &mut Store<D>) -> Result<(), Error>
+        requires { store.old.must_reopen ≡ false }
+        ensures knows { OnOk result ((told : Option (List Event))
+            × (self.new ≡ foreseen (store_place store.old) told self.old)) }
+        ensures looks { OnlyLooks D.Disk result store.old store.new }
+    {
+        let here = place(store);
+        if self.again.has_again(here) {
+            return Ok(());
+        }
+        let found = events_ahead(alloc, store, MOST_AHEAD)?;
+        self.foresee(found, here)?;
+        Ok(())
+    }
+
+    /// These events were taken back, if any are told of, which led to this place.
+    fn foresee(&mut self, told: Option<Vec<Event>>, here: StorePlace) -> Result<(), AllocError>
+        requires { has_again here self.old.again ≡ false }
+        ensures { OnOk result (self.new
+            ≡ foreseen here (option_map (λ events. events.items) told) self.old) }
+    {
+        if let Some(events) = told {
+            self.again = Again::of(events, here)?;
+            self.kept = true;
+        }
+        Ok(())
+    }
+
     /// The next event that is to be done again, at this place. While others of its press are left, they are asked for.
     fn next_again(&mut self, place: StorePlace) -> Option<NextEvent>
         ensures event { result ≡ next_event place self.old.again }
@@ -123,7 +193,15 @@ impl Sitting {
         ensures { self.new ≡ took_back events.items from to self.old }
     {
         let deed = self.past.take_back(events.as_slice());
+        self.kept = self.still_kept(from, to);
         self.tell_back(deed, events, from, to);
+    }
+
+    /// Whether a past has all that can be done again, once events were taken back.
+    fn still_kept(&self, from: StorePlace, to: StorePlace) -> bool
+        ensures { result ≡ still_kept from to self.now }
+    {
+        from.epoch < to.epoch && (self.kept || !self.again.has_again(from))
     }
 
     /// What they did is said, and they can be done again. Where they did nothing, that is said.

@@ -12,7 +12,8 @@ use Rattle.desk_past.specs.Deeds.{PastDeed, after_deeds, brought, posted, turned
 use Rattle.desk_past.specs.Past.{KeepsAll, Remembers, Start}
 use Rattle.desk_past.specs.Turning.{PastOf}
 use Rattle.desk_past.proofs.Moments.{the_present}
-use Rattle.past_runs.specs.Calls.{Asks, HasDone, RemembersPast, IsQuiet, KeepsAmid, KeepsDeeds, LeadsPast, LeavesPast, Past, PastCall, begins}
+use Rattle.desk_past.specs.Reading.{IsQuiet}
+use Rattle.past_runs.specs.Calls.{Asks, HasDone, RemembersPast, KeepsAmid, KeepsDeeds, LeadsPast, LeavesPast, Past, PastCall, begins}
 use Rattle.past_runs.specs.Calls.{begun_behind, brings, ends, looks, posts, present, takes_back, turns, turns_to, was_then, with_deeds}
 
 -- what a past shows is what its deeds led to

@@ -1,8 +1,8 @@
 -- Calls on a store with a past: what each promises, where it leads, and what a crash leaves amid it. `d` is what is known
 -- of a disk.
-use Rattle.std.specs.Prelude.{◌≡◌, ◌⊎◌, ◌+◌, ◌≤◌, ◌++◌, ◌∷◌, [], ℕ, false, List, length}
+use Rattle.std.specs.Prelude.{◌≡◌, ◌⊎◌, ◌+◌, ◌≤◌, ◌++◌, ◌∷◌, [], ℕ, List, length}
 use Rattle.sector_disk.specs.declared.disk.Disk.{Ghosts}
-use Rattle.sector_disk.specs.Trail.{Content, LeavesOnly, now}
+use Rattle.sector_disk.specs.Trail.{Content, LeavesOnly}
 use Rattle.event_bytes.specs.declared.event.Event.{Event}
 use Rattle.desktop_definitions.specs.Desktop.{Desktop}
 use Rattle.desktop_definitions.specs.declared.reply.Reply.TheVariants.{Done}
@@ -16,7 +16,7 @@ use Rattle.desk_past.specs.Deeds.{PastDeed, after_deeds, all_posted, brought, po
 use Rattle.desk_past.specs.Going.{LiesInHalf}
 use Rattle.desk_past.specs.Keeping.{CanKeep, HasKept, KeepsOn}
 use Rattle.desk_past.specs.Past.{HasMoment, KeepsAll, KeepsOthers, LeavesAll, Remembers, Start, UndoesSome, moment}
-use Rattle.desk_past.specs.Reading.{IsOnlyReadFrom}
+use Rattle.desk_past.specs.Reading.{IsOnlyReadFrom, IsQuiet}
 use Rattle.desk_past.specs.Turning.{HasTurnedBack, HasTurnedTo, TurnsBack, TurnsTo}
 
 -- ---- pasts
@@ -135,10 +135,6 @@ module _ {D : Type 0} (d : Ghosts D) where
       (d.honest old.disk → HasBegun d base old new) × BeginsBehind d base old new
   HasDone looks old new = IsOnlyReadFrom d old new
 
-  -- nothing is pending, as on the disk of every store in use (`shows_what_crashes_leave`)
-  abbrev pub IsQuiet : StoreView D → Type 0
-  IsQuiet store = (n : ℕ) → (now (d.trail store.disk)).pending n ≡ false
-
   -- what these promises ask of the past that the store keeps: room, or that there is such a moment
   abbrev pub Asks : PastCall → (past : Past) (store : StoreView D) → KeepsDeeds past store → Type 0
   Asks (posts event) past store keeps = IsDueBefore store → CanKeep d keeps
@@ -148,12 +144,12 @@ module _ {D : Type 0} (d : Ghosts D) where
   Asks (takes_back count back) past store keeps = Unit {0}
   Asks ends past store keeps = Unit {0}
   Asks (begins base) past store keeps = IsApart d base keeps
-  Asks looks past store keeps = IsQuiet store
+  Asks looks past store keeps = IsQuiet d store
 
   abbrev pub FindsRoom : PastCall → Past → StoreView D → Type 0
   FindsRoom call past store = (keeps : KeepsDeeds past store) → Asks call past store keeps
 
-  -- The call was tried on a device, which is the same one behind it. Each call says so but `undo` of desk_past.
+  -- The call was tried on a device, which is the same one behind it.
   pub record TriesCall (call : PastCall) (old new : StoreView D) : Type 0 where
     pub amid : KeepsAmid call old new
     pub device : IsSameDevice d old.disk new.disk

@@ -3,7 +3,8 @@ use Rattle.std.specs.Prelude.{◌≡◌, ◌∷◌, ◌++◌, [], ℕ, List}
 use Rattle.sector_disk.specs.declared.disk.Disk.{Ghosts}
 use Rattle.sector_disk.specs.Trail.{Leaves, now}
 use Rattle.desk_journal.specs.View.{StoreView}
-use Rattle.past_runs.specs.Calls.{DoesCall, FindsRoom, RemembersPast, HasThen, IsQuiet, KeepsDeeds, LeadsPast, LeavesPast, Past, PastCall}
+use Rattle.desk_past.specs.Reading.{IsQuiet}
+use Rattle.past_runs.specs.Calls.{DoesCall, FindsRoom, RemembersPast, HasThen, KeepsDeeds, LeadsPast, LeavesPast, Past, PastCall}
 use Rattle.past_runs.specs.Calls.{TriesCall, begins, takes_back, was_then}
 
 -- where calls lead a past, one after another

@@ -1,20 +1,14 @@
--- Pages that are read one after another. `d` is what is known of a disk.
-use Rattle.std.proofs.Common.{◌≡◌, ◌+◌, ◌<◌, ◌≤◌, ◌^◌, ℕ, List, [], ◌∷◌, ◌++◌, length, refl, sym, ◌∙◌, ap, subst}
+-- Pages that are counted one after another.
+use Rattle.std.proofs.Common.{◌≡◌, ◌+◌, ◌<◌, ◌≤◌, ℕ, List, [], ◌∷◌, length, refl, sym, ◌∙◌, ap, subst}
 use Rattle.std.proofs.Common.{arith, length-append}
-use Rattle.std.proofs.lemmas.List.{append-nil}
-use Rattle.sector_disk.specs.declared.disk.Disk.{Ghosts}
 use Rattle.sector_disk.specs.Trail.{Content}
-use Rattle.desk_journal.specs.View.{StoreView}
-use Rattle.desk_past.specs.Deeds.{PastDeed}
 use Rattle.desk_past.specs.Page.{Page, of_events, of_import, of_turn, HasPages, deeds_in, end_of_pages, page_sectors}
 use Rattle.desk_past.specs.Past.{AreGood, all_deeds}
 use Rattle.desk_past.specs.Reading.{HasPage, IsRead, many_deeds}
 use Rattle.desk_past.specs.declared.pages.PageDeeds.{PageDeeds}
 use Rattle.desk_past.specs.declared.pages.PageDeeds.TheVariants.{Events, Import, Turn}
 use Rattle.desk_past.proofs.Carrying.{end_above}
-use Rattle.desk_past.proofs.Moments.{joined, many_posted}
-use Rattle.told_pasts.specs.Telling.{IsToldOn}
-use Rattle.told_pasts.proofs.Lines.{both_told, none_told}
+use Rattle.desk_past.proofs.Moments.{many_posted}
 
 -- These pages are left to be read, from this sector on; those before them have so many deeds.
 pub record HasCounted (c : Content) (end : ℕ) (pages : List Page) (at count : ℕ) : Type 0 where
@@ -42,13 +36,13 @@ many_read (Turn n) (of_import version all) is = absurd is
 many_read (Turn n) (of_turn version k to) is = refl
 
 -- before the end one is left
-some_left : (todo : List Page) (at end : ℕ) → end_of_pages at todo ≡ end → at < end
+pub some_left : (todo : List Page) (at end : ℕ) → end_of_pages at todo ≡ end → at < end
     → (p : Page) × (more : List Page) × (todo ≡ p ∷ more)
 some_left [] at end up_to low = absurd (omega (arith, up_to, low))
 some_left (p ∷ more) at end up_to low = (p, more, refl)
 
 -- and behind it none is
-none_left : (todo : List Page) (at end : ℕ) → end_of_pages at todo ≡ end → end ≤ at → todo ≡ []
+pub none_left : (todo : List Page) (at end : ℕ) → end_of_pages at todo ≡ end → end ≤ at → todo ≡ []
 none_left [] at end up_to high = refl
 none_left (p ∷ more) at end up_to high =
     let far = end_above more (at + page_sectors p) in absurd (omega (arith, up_to, high, far))
@@ -95,59 +89,3 @@ module _ {c : Content} {end : ℕ} {pages : List Page} {at count : ℕ} (was : H
   all_counted high =
       let none = ap (λ l. length (all_deeds l)) (none_left was.todo at end was.up_to high) in
       omega (arith, was.counted, none)
-
--- ---- pages that are told
-
--- These pages are left, and the deeds of those before them were told.
-pub record HasTold {D : Type 0} (d : Ghosts D) (c : Content) (end : ℕ) (pages : List Page) (at : ℕ)
-    (first lines : List (List ℕ)) (old new : StoreView D)
-    : Type 0 where
-  pub todo : List Page
-  pub done : List PastDeed
-  pub written : HasPages c at todo
-  pub good : AreGood todo
-  pub up_to : end_of_pages at todo ≡ end
-  pub all : done ++ all_deeds todo ≡ all_deeds pages
-  pub told : IsToldOn d done first lines old new
-
-module _ {D : Type 0} (d : Ghosts D) where
-  pub no_page_told : (c : Content) (end : ℕ) (pages : List Page) (at : ℕ) (lines : List (List ℕ)) (store : StoreView D)
-      → HasPages c at pages → AreGood pages → end_of_pages at pages ≡ end
-      → HasTold d c end pages at lines lines store store
-  no_page_told c end pages at lines store written good up_to = record {
-    todo = pages;
-    done = [];
-    written = written;
-    good = good;
-    up_to = up_to;
-    all = refl;
-    told = none_told d lines store;
-  }
-
-  module _ {c : Content} {end : ℕ} {pages : List Page} {at : ℕ} {first lines : List (List ℕ)} {old mid : StoreView D}
-      (was : HasTold d c end pages at first lines old mid) where
-    pub page_left : at < end → (p : Page) × (more : List Page) × (was.todo ≡ p ∷ more)
-    page_left low = some_left was.todo at end was.up_to low
-
-    pub page_there : (p : Page) (more : List Page) → was.todo ≡ p ∷ more → HasPage c at end p
-    page_there p more is = first_page c was.todo at end p more is was.written was.good was.up_to
-
-    pub page_told : {new : StoreView D} {last : List (List ℕ)} (p : Page) (more : List Page) → was.todo ≡ p ∷ more
-        → IsToldOn d (deeds_in p) lines last mid new → {next : ℕ} → next ≡ at + page_sectors p
-        → HasTold d c end pages next first last old new
-    page_told {new = new} {last = last} p more is told {next = next} behind = record {
-      todo = more;
-      done = was.done ++ deeds_in p;
-      written = subst (λ n. HasPages c n more) (sym behind) (subst (HasPages c at) is was.written).1;
-      good = (subst AreGood is was.good).1;
-      up_to = ap (λ n. end_of_pages n more) behind ∙ sym (ap (end_of_pages at) is) ∙ was.up_to;
-      all = joined was.done (deeds_in p) (all_deeds more) ∙ sym (ap (λ l. was.done ++ all_deeds l) is) ∙ was.all;
-      told = both_told d mid was.told told;
-    }
-
-    pub all_told : end ≤ at → IsToldOn d (all_deeds pages) first lines old mid
-    all_told high =
-        subst (λ l. IsToldOn d l first lines old mid)
-        (sym (append-nil was.done)
-        ∙ sym (ap (λ l. was.done ++ all_deeds l) (none_left was.todo at end was.up_to high))
-        ∙ was.all) was.told

@@ -1,5 +1,5 @@
 -- How far a past reaches. `d` is what is known of a disk.
-use Rattle.std.proofs.Common.{◌≡◌, ◌+◌, ◌-◌, ◌≤◌, ℕ, List, false, length, refl, sym, ◌∙◌, ap, subst, arith}
+use Rattle.std.proofs.Common.{◌≡◌, ◌+◌, ◌-◌, ◌<◌, ◌≤◌, ◌^◌, ℕ, List, false, length, refl, sym, ◌∙◌, ap, subst, arith}
 use Rattle.std.proofs.Common.{length-append}
 use Rattle.std.specs.Prelude.{IsSomeAnd}
 use Rattle.std.specs.declared.option.Option.{Option}
@@ -13,13 +13,16 @@ use Rattle.desk_past.specs.declared.halves.Half.{Half}
 use Rattle.desk_past.specs.Deeds.{PastDeed, all_posted}
 use Rattle.desk_past.specs.Going.{LiesInHalf}
 use Rattle.desk_past.specs.Halves.{IsHalf}
+use Rattle.desk_past.specs.Page.{HasPages, end_of_pages}
 use Rattle.desk_past.specs.Past.{HasMoment, KeepsAll, Remembers, Start, all_deeds}
 use Rattle.desk_past.proofs.Moments.{many_posted}
-use Rattle.desk_past.proofs.Opened.{start_room}
-use Rattle.desk_past.specs.Reading.{IsOnlyReadFrom}
-use Rattle.desk_past.proofs.Remembering.{IsQuiet, read_keeps}
+use Rattle.desk_past.proofs.Opened.{pages_end, pages_there, start_room}
+use Rattle.desk_past.specs.Reading.{IsOnlyReadFrom, IsQuiet}
+use Rattle.desk_past.specs.Turning.{PastOf}
+use Rattle.desk_past.proofs.Remembering.{read_keeps}
 use Rattle.desk_past.proofs.StillReads.{still_shows}
-use Rattle.told_pasts.specs.Reaching.{IsReach}
+use Rattle.desk_past.proofs.TurnedBack.{past_behind}
+use Rattle.told_pasts.specs.Reaching.{HasCountable, HasReach, IsReach}
 use Rattle.told_pasts.specs.declared.reach.Reach.{Reach}
 
 -- as many deeds came before the journal in use as the head tells, and as many up to the present
@@ -69,3 +72,54 @@ module _ {D : Type 0} (d : Ghosts D) {start : Start} {deeds : List PastDeed} {de
         before = is.before ∙ ap (λ x. x.past.before) same;
         journal = is.journal ∙ ap (λ x. length x.events) same;
       }
+
+-- the numbers of a past, and where its first page stands
+abbrev pub has_reach : {D : Type 0} (d : Ghosts D) {store : StoreView D} {reach : Reach} {first : ℕ}
+    (past : PastOf d store) → IsReach d past.keeps reach → first ≡ reach.half.base + STORE_SECTORS
+    → HasReach d store reach first
+has_reach d past told at = record { past = past; numbers = told; at = at ∙ ap (λ n. n + STORE_SECTORS) told.base }
+
+-- ---- behind a call that only reads
+
+module _ {D : Type 0} (d : Ghosts D) {old mid : StoreView D} (still : IsOnlyReadFrom d old mid)
+    (quiet : old.must_reopen ≡ false → d.honest old.disk → IsQuiet d old) where
+  abbrev pub reach_behind : StandingLaw → {reach : Reach} {first : ℕ} → HasReach d old reach first
+      → HasReach d mid reach first
+  reach_behind law {reach = reach} h = record {
+    past = past_behind d still quiet h.past;
+    numbers = reach_still d h.past.keeps law h.past.honest (quiet h.past.keeps.usable h.past.honest) {new = mid} still
+        reach h.numbers;
+    at = h.at;
+  }
+
+-- ---- pages of a past
+
+module _ {D : Type 0} (d : Ghosts D) {store : StoreView D} {reach : Reach} {first : ℕ}
+    (h : HasReach d store reach first) where
+  pub its_pages : HasPages (now (d.trail store.disk)).reads first h.past.keeps.remembers.pages
+  its_pages = subst (λ n. HasPages (now (d.trail store.disk)).reads n h.past.keeps.remembers.pages) (sym h.at)
+      (pages_there d h.past.keeps h.past.start.base refl)
+
+  pub its_end : end_of_pages first h.past.keeps.remembers.pages ≡ reach.next
+  its_end = ap (λ n. end_of_pages n h.past.keeps.remembers.pages) h.at
+      ∙ pages_end d h.past.keeps h.past.start.base refl ∙ sym h.numbers.next
+
+  pub its_room : reach.next ≤ d.size store.disk
+  its_room = let room = h.past.keeps.remembers.past.room in
+      let is = h.numbers.next in
+      omega (arith, room, is)
+
+  -- they can be counted
+  abbrev pub its_count : (before : ℕ) → before ≡ reach.before → before < 2 ^ 64 → HasCountable d store first reach.next
+  its_count before is few = record {
+    usable = h.past.keeps.usable;
+    honest = h.past.honest;
+    pages = h.past.keeps.remembers.pages;
+    written = its_pages;
+    good = h.past.keeps.remembers.past.good;
+    up_to = its_end;
+    room = its_room;
+    few = let counted = h.past.keeps.remembers.past.counted in
+        let told = h.numbers.before in
+        omega (arith, counted, told, is, few);
+  }

@@ -1,3 +1,4 @@
 pub mod Reaching
+pub mod Stopping
 pub mod Telling
 pub mod Words

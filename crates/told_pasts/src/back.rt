@@ -1,5 +1,5 @@
 //! The store as it was before so many of its last deeds.
-ghost use Rattle.std.specs.Prelude.{◌≡◌, ◌+◌, ◌≤◌, ◌<◌, ◌^◌, ℕ, List, length, IfOk, IsSomeAnd, OnOk};
+ghost use Rattle.std.specs.Prelude.{◌≡◌, ◌+◌, ◌≤◌, ◌<◌, ◌^◌, ℕ, List, length, IfOk, IfSome, IsSomeAnd, OnOk, false};
 ghost use Rattle.sector_disk.specs.Trail.{now};
 ghost use Rattle.desktop_definitions.specs.Desktop.{Desktop};
 ghost use Rattle.desk_past.specs.Deeds.{PastDeed};
@@ -7,7 +7,9 @@ ghost use Rattle.desk_past.specs.Going.{LiesInHalf};
 ghost use Rattle.desk_past.specs.Page.{Page, HasPages, end_of_pages};
 ghost use Rattle.desk_past.specs.Past.{AreGood, KeepsAll, Start, all_deeds};
 ghost use Rattle.desk_past.specs.Reading.{IsOnlyReadFrom, many_deeds};
-ghost use Rattle.told_pasts.specs.Reaching.{GoesBackBy, moment_before, none_if_missing};
+ghost use Rattle.desk_past.specs.Turning.{PastOf};
+ghost use Rattle.told_pasts.specs.Reaching.{GoesBackBy, HasCountable, KeepsInHalf, moment_before, none_if_missing};
+ghost use Rattle.told_pasts.specs.Stopping.{StopsAs};
 
 use crate::reach::{reach_of, sum_of};
 use desk_journal::{Error, Store};
@@ -25,7 +27,7 @@ pub enum Pages {
 /// The store as it was before so many of its last deeds, in memory, by the past behind it. None where it keeps
 /// none, or one that doesn't reach so far.
 ///
-/// Errors: those of `reach_of` and of `moment`.
+/// Errors: those of `reach_of` and of `moment`. Of a past that is kept whole `NoMemory`, `Fault` and `Worn` alone.
 pub fn shown_before<D: Disk>(
     alloc: Global,
     store: &mut Store<D>,
@@ -36,7 +38,11 @@ pub fn shown_before<D: Disk>(
         → (keeps : KeepsAll D.Disk start deeds desktop store.old) → LiesInHalf D.Disk keeps
         → count ≤ length deeds → start.before + length deeds < 2 ^ 64
         → IsSomeAnd found (λ shown. shown.desktop ≡ moment_before start deeds count)) }
+    ensures there { IfOk result (λ found. IfSome found (λ shown.
+        (past : PastOf D.Disk store.old) → LiesInHalf D.Disk past.keeps
+        → count ≤ length past.deeds)) }
     ensures still { OnOk result (IsOnlyReadFrom D.Disk store.old store.new) }
+    ensures stops { StopsAs D.Disk (KeepsInHalf D.Disk store.old) result store.old store.new }
 {
     store.shows_what_crashes_leave();
     let Some(reach) = reach_of(store)? else {
@@ -102,6 +108,7 @@ pub fn counted_pages<D: Disk>(
         → length (all_deeds pages) < 2 ^ 64
         → found ≡ Pages.Whole (length (all_deeds pages))) }
     ensures still { OnOk result (IsOnlyReadFrom D.Disk store.old store.new) }
+    ensures stops { StopsAs D.Disk (store.old.must_reopen ≡ false) result store.old store.new }
 {
     store.shows_what_crashes_leave();
     if store.info().is_err() {
@@ -134,6 +141,8 @@ pub(crate) fn count_of<D: Disk>(
         → end_of_pages first pages ≡ end → end ≤ D.size store.old.disk
         → length (all_deeds pages) < 2 ^ 64 → count ≡ length (all_deeds pages)) }
     ensures still { OnOk result (IsOnlyReadFrom D.Disk store.old store.new) }
+    ensures stops { StopsAs D.Disk (HasCountable D.Disk store.old first end) result store.old
+        store.new }
 {
     match counted_pages(alloc, store, first, end)? {
         Pages::Whole(count) => Ok(count),

@@ -1,11 +1,12 @@
 //! A past as it is told: how far it reaches (`reach`), the store as it was before so many of its last deeds (`back`),
-//! and all its deeds in words (`telling`), each over the desktop that stood there (`words`). A deed is an event or an
-//! import.
+//! and all its deeds in words (`telling`, `replay`), each over the desktop that stood there (`words`). A deed is an event, an
+//! import or a turn.
 #![tactic(auto)]
 
 mod back;
 mod line;
 mod reach;
+mod replay;
 mod telling;
 mod words;
 

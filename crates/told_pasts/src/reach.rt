@@ -1,5 +1,5 @@
 //! How far a past reaches.
-ghost use Rattle.std.specs.Prelude.{◌≡◌, ◌+◌, ◌<◌, ◌^◌, List, length, IfNone, IfOk, IfSome, IsSomeAnd, OnOk};
+ghost use Rattle.std.specs.Prelude.{◌≡◌, ◌+◌, ◌<◌, ◌≤◌, ◌^◌, List, false, length, IfNone, IfOk, IfSome, IsSomeAnd, OnOk};
 ghost use Rattle.desktop_definitions.specs.Desktop.{Desktop};
 ghost use Rattle.store_layout.specs.declared.layout.TheConstants.{STORE_SECTORS};
 ghost use Rattle.desk_past.specs.Deeds.{PastDeed};
@@ -7,6 +7,7 @@ ghost use Rattle.desk_past.specs.Going.{LiesInHalf};
 ghost use Rattle.desk_past.specs.Past.{KeepsAll, Start};
 ghost use Rattle.desk_past.specs.Reading.{IsOnlyReadFrom};
 ghost use Rattle.told_pasts.specs.Reaching.{IsReach};
+ghost use Rattle.told_pasts.specs.Stopping.{StopsAs};
 
 use desk_journal::{Error, STORE_SECTORS, Store};
 use desk_past::{Half, half_at};
@@ -26,7 +27,8 @@ pub struct Reach {
 impl Reach {
     /// How many deeds came before what the store shows, as far as they can be counted.
     pub fn now(self) -> u64
-        ensures { self.before + self.journal < 2 ^ 64 → result ≡ self.before + self.journal }
+        ensures sum { self.before + self.journal < 2 ^ 64 → result ≡ self.before + self.journal }
+        ensures most { result ≤ self.before + self.journal }
     {
         sum_of(self.before, self.journal as u64)
     }
@@ -46,20 +48,22 @@ pub(crate) fn first_of(reach: Reach) -> Option<u32>
 
 /// The sum of two numbers, as far as it can be counted.
 pub(crate) fn sum_of(first: u64, second: u64) -> u64
-    ensures { first + second < 2 ^ 64 → result ≡ first + second }
+    ensures sum { first + second < 2 ^ 64 → result ≡ first + second }
+    ensures most { result ≤ first + second }
 {
     first.saturating_add(second)
 }
 
 /// How far the past of a store reaches. None where its head tells of none.
 ///
-/// Error: `MustReopen`; those of `Store::past`.
+/// Errors: `MustReopen`; `Fault`.
 pub fn reach_of<D: Disk>(store: &mut Store<D>) -> Result<Option<Reach>, Error>
     ensures told { IfOk result (λ found. D.honest store.old.disk
         → (start : Start) (deeds : List PastDeed) (desktop : Desktop)
         → (keeps : KeepsAll D.Disk start deeds desktop store.old) → LiesInHalf D.Disk keeps
         → IsSomeAnd found (IsReach D.Disk keeps)) }
     ensures still { OnOk result (IsOnlyReadFrom D.Disk store.old store.new) }
+    ensures stops { StopsAs D.Disk (store.old.must_reopen ≡ false) result store.old store.new }
 {
     standing_law();
     store.shows_what_crashes_leave();

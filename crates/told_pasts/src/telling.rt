@@ -1,25 +1,25 @@
 //! All deeds of a past in words.
-ghost use Rattle.std.specs.Prelude.{◌≡◌, ◌+◌, ◌-◌, ◌≤◌, ◌++◌, ◌∷◌, [], List, drop, length, IfOk, IsSomeAnd, OnOk};
-ghost use Rattle.sector_disk.specs.Trail.{now};
+ghost use Rattle.std.specs.Prelude.{◌≡◌, ◌-◌, ◌++◌, ◌∷◌, [], List, drop, false, length, IfErr, IfOk, IsSomeAnd, OnOk};
 ghost use Rattle.desktop_definitions.specs.Desktop.{Desktop};
-ghost use Rattle.store_layout.specs.declared.layout.TheConstants.{STORE_SECTORS};
 ghost use Rattle.store_layout.specs.Meaning.{Standing};
+ghost use Rattle.store_slots.specs.Errors.{OfPost};
 ghost use Rattle.desk_journal.specs.Undoing.{IsLeft, ShowsStanding};
 ghost use Rattle.desk_past.specs.Deeds.{PastDeed, all_posted, brought};
 ghost use Rattle.desk_past.specs.Going.{LiesInHalf};
-ghost use Rattle.desk_past.specs.Page.{Page, HasPages, deeds_in, end_of_pages};
-ghost use Rattle.desk_past.specs.Past.{AreGood, KeepsAll, Start, all_deeds};
-ghost use Rattle.desk_past.specs.Reading.{IsOnlyReadFrom, IsRead};
-ghost use Rattle.told_pasts.specs.Reaching.{IsReach};
+ghost use Rattle.desk_past.specs.Past.{KeepsAll, Start};
+ghost use Rattle.desk_past.specs.Reading.{IsOnlyReadFrom};
+ghost use Rattle.told_pasts.specs.Reaching.{HasReach, KeepsInHalf};
+ghost use Rattle.told_pasts.specs.Stopping.{StopsAs};
 ghost use Rattle.told_pasts.specs.Telling.{IsToldOn};
 ghost use Rattle.told_pasts.specs.Words.{told_lines};
 
 use crate::back::count_of;
 use crate::line::Line;
 use crate::reach::{Reach, first_of, reach_of};
+use crate::replay::{Replay, add_pages, in_memory, turn_if_due};
 use crate::words::{import_line, line_of};
 use desk_journal::{Document, Error, Store};
-use desk_past::{PageDeeds, PageRead, moment, page_in};
+use desk_past::moment;
 use event_bytes::Event;
 use sector_disk::{Disk, MemoryDisk};
 use std::alloc::{AllocError, Global};
@@ -27,13 +27,15 @@ use store_layout::standing_law;
 
 /// All deeds of the past of a store in words, the first one first. None where it keeps none, or one without its start.
 ///
-/// Errors: those of `reach_of`, of `page_in`, of `moment` and of `Store::post`; `Damaged` where a page is missing.
+/// Errors: `MustReopen`; `NotAStore` and `Damaged` where no start stands; `Damaged` where a page is missing; `Worn` where
+/// the last epoch of the start is full; `NoMemory`; `Fault`. Of a past that is kept whole, the last three alone.
 pub fn told_past<D: Disk>(alloc: Global, store: &mut Store<D>) -> Result<Option<Vec<Line>>, Error>
     ensures told { IfOk result (λ found. D.honest store.old.disk
         → (start : Start) (deeds : List PastDeed) (desktop : Desktop)
         → (keeps : KeepsAll D.Disk start deeds desktop store.old) → LiesInHalf D.Disk keeps
         → IsSomeAnd found (λ lines. lines.items ≡ told_lines start.desktop deeds)) }
     ensures still { OnOk result (IsOnlyReadFrom D.Disk store.old store.new) }
+    ensures stops { StopsAs D.Disk (KeepsInHalf D.Disk store.old) result store.old store.new }
 {
     standing_law();
     store.shows_what_crashes_leave();
@@ -43,12 +45,10 @@ pub fn told_past<D: Disk>(alloc: Global, store: &mut Store<D>) -> Result<Option<
     let Some(first) = first_of(reach) else {
         return Ok(None);
     };
-    let Some(mut shown) = start_of(alloc, store, reach, first, reach.before)? else {
+    let Some(shown) = start_of(alloc, store, reach, first, reach.before)? else {
         return Ok(None);
     };
-    let mut lines = Vec::new(alloc);
-    add_pages(alloc, store, &mut shown, first, reach.next, &mut lines)?;
-    add_journal(alloc, store, &mut shown, reach.journal, &mut lines)?;
+    let lines = tell_all(alloc, store, reach, first, shown)?;
     Ok(Some(lines))
 }
 
@@ -63,12 +63,12 @@ fn start_of<D: Disk>(
     first: u32,
     before: u64,
 ) -> Result<Option<Store<MemoryDisk>>, Error>
-    ensures is { IfOk result (λ found. D.honest store.old.disk
-        → (start : Start) (deeds : List PastDeed) (desktop : Desktop)
-        → (keeps : KeepsAll D.Disk start deeds desktop store.old)
-        → IsReach D.Disk keeps reach → first ≡ start.base + STORE_SECTORS → before ≡ reach.before
-        → IsSomeAnd found (λ shown. shown.desktop ≡ start.desktop)) }
+    ensures is { IfOk result (λ found. (h : HasReach D.Disk store.old reach first)
+        → before ≡ reach.before
+        → IsSomeAnd found (λ shown. shown.desktop ≡ h.past.start.desktop)) }
     ensures still { OnOk result (IsOnlyReadFrom D.Disk store.old store.new) }
+    ensures stops { StopsAs D.Disk (HasReach D.Disk store.old reach first × (before ≡ reach.before))
+        result store.old store.new }
 {
     store.shows_what_crashes_leave();
     let count = count_of(alloc, store, first, reach.next)?;
@@ -78,86 +78,46 @@ fn start_of<D: Disk>(
     moment(alloc, store, reach.half.base, before - count)
 }
 
-/// Adds the lines of what pages say was done, from sector `first` up to sector `end`.
+/// All deeds of a past in words, whose start is this store in memory, and whose first page stands in sector `first`.
 ///
-/// Errors: those of `page_in` and of `add_lines`; `Damaged` where a page is missing.
-fn add_pages<D: Disk, E: Disk>(
+/// Errors: those of `page_in`, of `moment` and of `Store::history`; `Damaged` where a page is missing; `Worn`.
+fn tell_all<D: Disk>(
     alloc: Global,
     store: &mut Store<D>,
-    shown: &mut Store<E>,
+    reach: Reach,
     first: u32,
-    end: u32,
-    lines: &mut Vec<Line>,
-) -> Result<(), Error>
-    ensures told { OnOk result (D.honest store.old.disk → (pages : List Page)
-        → HasPages (now (D.trail store.old.disk)).reads first pages → AreGood pages
-        → end_of_pages first pages ≡ end → end ≤ D.size store.old.disk
-        → IsToldOn E.Disk (all_deeds pages) lines.old.items lines.new.items
-        shown.old shown.new) }
+    shown: Store<MemoryDisk>,
+) -> Result<Vec<Line>, Error>
+    requires { store.old.must_reopen ≡ false }
+    ensures told { IfOk result (λ lines. (h : HasReach D.Disk store.old reach first)
+        → shown.desktop ≡ h.past.start.desktop
+        → lines.items ≡ told_lines h.past.start.desktop h.past.deeds) }
     ensures still { OnOk result (IsOnlyReadFrom D.Disk store.old store.new) }
+    ensures stops { StopsAs D.Disk ((h : HasReach D.Disk store.old reach first)
+        × (shown.desktop ≡ h.past.start.desktop)) result store.old store.new }
 {
+    standing_law();
     store.shows_what_crashes_leave();
-    if store.info().is_err() {
-        return Err(Error::MustReopen);
-    }
-    let mut at = first;
-    while at < end {
-        let Some(page) = page_in(alloc, store, at, end)? else {
-            return Err(Error::Damaged(at));
-        };
-        let next = add_page(alloc, shown, page, lines)?;
-        at = next;
-    }
-    Ok(())
-}
-
-/// Adds the lines of what a page says was done, which is done then, and returns the sector behind the page.
-///
-/// Errors: those of `add_lines` and of `Store::bring`.
-fn add_page<E: Disk>(
-    alloc: Global,
-    shown: &mut Store<E>,
-    page: PageRead,
-    lines: &mut Vec<Line>,
-) -> Result<u32, Error>
-    ensures next { IfOk result (λ next. next ≡ page.next) }
-    ensures told { OnOk result ((p : Page) → IsRead page.deeds p
-        → IsToldOn E.Disk (deeds_in p) lines.old.items lines.new.items shown.old shown.new) }
-{
-    add_deeds(alloc, shown, &page.deeds, lines)?;
-    Ok(page.next)
-}
-
-/// Adds the lines of what was done, which is done then.
-///
-/// Errors: those of `add_lines` and of `Store::bring`; `Damaged` of a turn, which no press and no command makes yet.
-fn add_deeds<E: Disk>(
-    alloc: Global,
-    shown: &mut Store<E>,
-    deeds: &PageDeeds,
-    lines: &mut Vec<Line>,
-) -> Result<(), Error>
-    ensures { OnOk result ((p : Page) → IsRead deeds.now p
-        → IsToldOn E.Disk (deeds_in p) lines.old.items lines.new.items shown.old shown.new) }
-{
-    match deeds {
-        PageDeeds::Events(events) => add_lines(alloc, shown, events.as_slice(), lines),
-        PageDeeds::Import(documents) => add_import(alloc, shown, documents.as_slice(), lines),
-        PageDeeds::Turn(_) => Err(Error::Damaged(0)),
-    }
+    let mut replay = Replay { shown, due: None };
+    let mut lines = Vec::new(alloc);
+    add_pages(alloc, store, reach, first, &mut replay, &mut lines)?;
+    turn_if_due(alloc, store, reach.half.base, &mut replay)?;
+    add_journal(alloc, store, &mut replay.shown, reach.journal, &mut lines)?;
+    Ok(lines)
 }
 
 /// Adds the line of an import, which is done then.
 ///
 /// Errors: those of `Store::bring`.
-fn add_import<E: Disk>(
+pub(crate) fn add_import<E: Disk>(
     alloc: Global,
     shown: &mut Store<E>,
     documents: &[Document],
     lines: &mut Vec<Line>,
 ) -> Result<(), Error>
-    ensures { OnOk result (IsToldOn E.Disk (brought documents.now ∷ []) lines.old.items
+    ensures told { OnOk result (IsToldOn E.Disk (brought documents.now ∷ []) lines.old.items
         lines.new.items shown.old shown.new) }
+    ensures errors { IfErr result OfPost }
 {
     push_line(lines, import_line(alloc, documents)?)?;
     let _reply = shown.bring(alloc, documents)?;
@@ -166,7 +126,7 @@ fn add_import<E: Disk>(
 
 /// Adds the lines of the events in the journal in use, which are so many.
 ///
-/// Errors: those of `Store::history` and of `add_lines`.
+/// Errors: those of `Store::history`; `NoMemory`; `Worn`.
 fn add_journal<D: Disk, E: Disk>(
     alloc: Global,
     store: &mut Store<D>,
@@ -180,10 +140,12 @@ fn add_journal<D: Disk, E: Disk>(
         shown.old shown.new) }
     ensures left { IsLeft D.Disk store.old store.new }
     ensures usable { store.new.must_reopen ≡ store.old.must_reopen }
+    ensures stops { StopsAs D.Disk (D.honest store.old.disk × (store.old.must_reopen ≡ false))
+        result store.old store.new }
 {
     let events = store.history(alloc)?;
     let last = last_of(events.as_slice(), journal);
-    add_lines(alloc, shown, last, lines)
+    in_memory(add_lines(alloc, shown, last, lines))
 }
 
 /// So many of the last events; all, where there are fewer.
@@ -203,8 +165,9 @@ pub fn add_lines<E: Disk>(
     events: &[Event],
     lines: &mut Vec<Line>,
 ) -> Result<(), Error>
-    ensures { OnOk result (IsToldOn E.Disk (all_posted events.now) lines.old.items lines.new.items
-        shown.old shown.new) }
+    ensures told { OnOk result (IsToldOn E.Disk (all_posted events.now) lines.old.items
+        lines.new.items shown.old shown.new) }
+    ensures errors { IfErr result OfPost }
 {
     for event in events {
         let line = line_of(alloc, shown, event)?;
@@ -215,7 +178,7 @@ pub fn add_lines<E: Disk>(
 }
 
 /// Adds a line of these bytes.
-fn push_line(lines: &mut Vec<Line>, bytes: Vec<u8>) -> Result<(), AllocError>
+pub(crate) fn push_line(lines: &mut Vec<Line>, bytes: Vec<u8>) -> Result<(), AllocError>
     ensures { OnOk result (lines.new.items ≡ lines.old.items ++ (bytes.items ∷ [])) }
 {
     lines.push(Line::new(bytes))?;

@@ -1,8 +1,9 @@
 //! What an event does to a desktop, in words.
 ghost use Rattle.std.specs.List.{join_by};
-ghost use Rattle.std.specs.Prelude.{◌≡◌, ◌++◌, ℕ, List, codes, flat_map, take, IfOk, OnOk};
+ghost use Rattle.std.specs.Prelude.{◌≡◌, ◌++◌, ℕ, List, codes, flat_map, take, IfErr, IfOk, OnOk};
 ghost use Rattle.desktop_definitions.specs.Desktop.{Desktop};
 ghost use Rattle.desktop_definitions.specs.Shown.{shown_screen};
+ghost use Rattle.store_slots.specs.Errors.{OfLook};
 ghost use Rattle.desk_journal.specs.Undoing.{IsLeft};
 ghost use Rattle.status_line.specs.Deeds.{is_middle};
 ghost use Rattle.told_pasts.specs.Words.{call_words, cell_line, event_line, file_line, import_line, shown_name, quoted, quoted_byte, told_end, typed_line, word_called, words_in as words_within};
@@ -32,6 +33,7 @@ pub(crate) fn line_of<D: Disk>(
         → line.items ≡ event_line store.old.desktop event.now) }
     ensures left { IsLeft D.Disk store.old store.new }
     ensures usable { store.new.must_reopen ≡ store.old.must_reopen }
+    ensures errors { IfErr result OfLook }
 {
     match event {
         Event::Typed(bytes) => Ok(typed_line(alloc, bytes.as_bytes())?),
@@ -170,6 +172,7 @@ fn cell_line<D: Disk>(
         → line.items ≡ cell_line store.old.desktop event.now calls cell) }
     ensures left { IsLeft D.Disk store.old store.new }
     ensures usable { store.new.must_reopen ≡ store.old.must_reopen }
+    ensures errors { IfErr result OfLook }
 {
     let mut screen = Screen::new();
     store.screen(alloc, &mut screen)?;

@@ -5,13 +5,13 @@ use Rattle.desk_sitting.proofs.Turning.{looked_at, looked_on, told_shown, told_u
 use Rattle.desk_sitting.proofs.serving.show.Goals as goal
 
 pub returns-in_err-clip-clause-looks : goal.returns-in_err-clip-clause-looks
-returns-in_err-clip-clause-looks g c = looked_at g.D.Disk c.tell.result _ _ c.tell.ensures.looks
+returns-in_err-clip-clause-looks g c = looked_at g.D.Disk c.tell.result _ _ c.requires c.tell.ensures.looks
 
 pub returns-clause-looks : goal.returns-clause-looks
 returns-clause-looks g c = λ honest durable.
     let first : IsLookedAt g.D.Disk c.args.store.now c.tell.new.store =
-    looked_at g.D.Disk c.tell.result _ _ c.tell.ensures.looks honest durable in
-    looked_on g.D.Disk _ _ _ first (c.show_with.ensures.looks (first.disk.device.still honest) first.durable)
+    looked_at g.D.Disk c.tell.result _ _ c.requires c.tell.ensures.looks honest durable in
+    looked_on g.D.Disk _ _ _ first (c.show_with.ensures.looks (first.read.left.disk.device.still honest) first.durable)
 
 pub returns-clause-shown : goal.returns-clause-shown
 returns-clause-shown g c =

@@ -14,7 +14,7 @@ returns-then-is_scene_due-clause-unshown g c = IfErr-weaker c.show.result _ _ (�
     (sym c.is_scene_due.ensures ∙ c.if-is_scene_due.true, why)) c.show.ensures.unshown
 
 pub returns-else-is_scene_due-clause-looks : goal.returns-else-is_scene_due-clause-looks
-returns-else-is_scene_due-clause-looks g c = λ honest durable. unlooked g.D.Disk c.args.store.now durable
+returns-else-is_scene_due-clause-looks g c = λ honest durable. unlooked g.D.Disk c.args.store.now c.requires durable
 
 pub returns-else-is_scene_due-clause-shown : goal.returns-else-is_scene_due-clause-shown
 returns-else-is_scene_due-clause-shown g c = λ honest.

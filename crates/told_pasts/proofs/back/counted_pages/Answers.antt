@@ -1,9 +1,12 @@
-use Rattle.std.proofs.Common.{◌≡◌, ◌+◌, ◌∙◌, ap, arith, false, rules, subst, sym}
-use Rattle.sector_disk.specs.Trail.{now}
+use Rattle.std.proofs.Common.{◌≡◌, ◌+◌, ◌∙◌, ap, arith, false, refl, rules, subst, sym}
+use Rattle.std.specs.Prelude.{Err}
+use Rattle.std.proofs.lemmas.Result.{err_from_is_err_and}
 use Rattle.desk_past.specs.Reading.{HasPage}
+use Rattle.desk_past.proofs.InMemory.{none_failed}
 use Rattle.desk_past.proofs.StillReads.{still_both, still_none, still_reads}
 use Rattle.told_pasts.specs.declared.back.Pages.TheVariants.{Whole}
 use Rattle.told_pasts.proofs.Counted.{all_counted, count_left, counted_page, few_counted, none_counted, page_counted}
+use Rattle.told_pasts.proofs.Stops.{closed_stops, looks_stop, stops_later, stops_none}
 use Rattle.told_pasts.proofs.back.counted_pages.Goals as goal
 
 pub loop-at-init : goal.loop-at-init
@@ -11,6 +14,7 @@ loop-at-init g c =
     let usable : c.args.store.now.must_reopen ≡ false = search rules in
     record {
       still = still_none g.D.Disk c.args.store.now usable;
+      calm = refl;
       counted = λ honest pages written good ends room few.
           none_counted _ c.args.end pages c.args.first written good ends;
     }
@@ -35,6 +39,7 @@ loop-at-preserved g c =
     let i = c.loop-at.invariant in
     record {
       still = still_both g.D.Disk i.still c.in_ok-page.ensures.still;
+      calm = none_failed c.in_ok-page.ensures.looks.faults ∙ i.calm;
       counted = λ honest pages written good ends room few.
           let was = i.counted honest pages written good ends room few in
           let left = count_left was c.loop-at-test.true in
@@ -45,7 +50,7 @@ loop-at-preserved g c =
           let most = few_counted was left.0 left.1 left.2 c.in-Some.page.deeds read.0 in
           let many = c.counted-many.ensures.many in
           page_counted was left.0 left.1 left.2 c.in-Some.page.deeds read.0 (c.counted-many.ensures.next ∙ read.1)
-          (c.sum_of-count.ensures (omega (arith, few, most, many)) ∙ ap (λ n. c.loop-at.count + n) many);
+          (c.sum_of-count.ensures.sum (omega (arith, few, most, many)) ∙ ap (λ n. c.loop-at.count + n) many);
     }
 
 pub returns-clause-whole : goal.returns-clause-whole
@@ -55,3 +60,22 @@ returns-clause-whole g c = λ honest pages written good ends room few.
 
 pub returns-clause-still : goal.returns-clause-still
 returns-clause-still g c = c.loop-at.invariant.still
+
+pub returns-then-is_err-clause-stops : goal.returns-then-is_err-clause-stops
+returns-then-is_err-clause-stops g c = closed_stops g.D.Disk c.args.store.now c.info.result c.info.ensures.value
+    (sym c.is_err.ensures.value ∙ c.if-is_err.true)
+
+pub returns-in_err-page-clause-stops : goal.returns-in_err-page-clause-stops
+returns-in_err-page-clause-stops g c =
+    let p = err_from_is_err_and c.from_residual.result c.from_residual.ensures.1 in
+    let failed : c.page_in.result ≡ Err p.0 = cc (p.2, c.in_err-page.was) in
+    let i = c.loop-at.invariant in
+    stops_later g.D.Disk i.still.usable i.calm (looks_stop g.D.Disk c.page_in.result c.page_in.ensures.looks)
+    (λ known. i.still.usable) failed p.1
+
+pub returns-in_default-clause-stops : goal.returns-in_default-clause-stops
+returns-in_default-clause-stops g c = stops_none g.D.Disk
+    (none_failed c.in_ok-page.ensures.looks.faults ∙ c.loop-at.invariant.calm)
+
+pub returns-clause-stops : goal.returns-clause-stops
+returns-clause-stops g c = stops_none g.D.Disk c.loop-at.invariant.calm

@@ -10,6 +10,7 @@ use Rattle.told_pasts.proofs.back.counted_pages.Given as goal
 abbrev pub invariant-loop-at : goal.invariant-loop-at
 invariant-loop-at g l = record {
   still : IsOnlyReadFrom g.D.Disk l.fn.store l.store;
+  calm : g.D.Disk.failures l.store.disk ≡ g.D.Disk.failures l.fn.store.disk;
   counted : g.D.Disk.honest l.fn.store.disk → (pages : List Page)
       → HasPages (now (g.D.Disk.trail l.fn.store.disk)).reads l.first pages → AreGood pages
       → end_of_pages l.first pages ≡ l.end → l.end ≤ g.D.Disk.size l.fn.store.disk

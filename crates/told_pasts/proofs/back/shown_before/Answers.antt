@@ -1,10 +1,14 @@
-use Rattle.std.proofs.Common.{◌≡◌, ◌+◌, ◌-◌, ◌≤◌, ◌∙◌, ap, arith, length, refl, sym}
-use Rattle.std.proofs.lemmas.Result.{IfOk-weaker, on_ok_weaker}
+use Rattle.std.proofs.Common.{◌≡◌, ◌+◌, ◌-◌, ◌∙◌, ap, arith, length, refl, sym}
+use Rattle.std.specs.Prelude.{Err}
+use Rattle.std.proofs.lemmas.Result.{IfOk-weaker, err_from_is_err_and, on_ok_weaker}
 use Rattle.desk_past.specs.Past.{moment}
-use Rattle.desk_past.proofs.Opened.{some_then}
-use Rattle.desk_past.proofs.Remembering.{told_still}
+use Rattle.desk_past.proofs.InMemory.{none_failed}
+use Rattle.desk_past.proofs.Opened.{if_some_then, some_then}
+use Rattle.desk_past.proofs.Remembering.{read_keeps, told_still}
 use Rattle.desk_past.proofs.StillReads.{still_both}
+use Rattle.desk_past.proofs.TurnedBack.{past_behind}
 use Rattle.told_pasts.proofs.Reached.{deeds_up_to, has_before}
+use Rattle.told_pasts.proofs.Stops.{moment_stops, stops_first, stops_none, stops_on}
 use Rattle.told_pasts.proofs.back.shown_before.Goals as goal
 
 pub returns-in_default-clause-comes_back : goal.returns-in_default-clause-comes_back
@@ -15,7 +19,7 @@ pub returns-then-count-now-clause-comes_back : goal.returns-then-count-now-claus
 returns-then-count-now-clause-comes_back g c = λ honest start deeds desktop keeps lies low few.
     let told = (rw c.in-Some.is at c.in_ok-reach.ensures.told) honest start deeds desktop keeps lies in
     let up = deeds_up_to keeps.remembers in
-    let all = c.now-now.ensures (omega (arith, told.before, told.journal, up, few)) in
+    let all = c.now-now.ensures.sum (omega (arith, told.before, told.journal, up, few)) in
     absurd (omega (arith, all, told.before, told.journal, up, low, c.if-count-now.true))
 
 pub returns-clause-comes_back : goal.returns-clause-comes_back
@@ -24,7 +28,7 @@ returns-clause-comes_back g c = IfOk-weaker c.moment.result _ _
     let d = g.D.Disk in
     let told = (rw c.in-Some.is at c.in_ok-reach.ensures.told) honest start deeds desktop keeps lies in
     let up = deeds_up_to keeps.remembers in
-    let all = c.now-now.ensures (omega (arith, told.before, told.journal, up, few)) in
+    let all = c.now-now.ensures.sum (omega (arith, told.before, told.journal, up, few)) in
     let k : c.now-now.result - c.args.count ≡ start.before + length deeds - c.args.count =
     omega (arith, all, told.before, told.journal, up) in
     let still = c.in_ok-reach.ensures.still in
@@ -38,3 +42,44 @@ returns-clause-comes_back g c = IfOk-weaker c.moment.result _ _
 pub returns-clause-still : goal.returns-clause-still
 returns-clause-still g c = on_ok_weaker c.moment.result (λ still. still_both g.D.Disk c.in_ok-reach.ensures.still still)
     c.moment.ensures.still
+
+pub returns-clause-there : goal.returns-clause-there
+returns-clause-there g c = IfOk-weaker c.moment.result _ _ (λ found fact. if_some_then found fact
+    (λ shown fact past lies.
+    let d = g.D.Disk in
+    let told = (rw c.in-Some.is at c.in_ok-reach.ensures.told) past.honest past.start past.deeds past.desktop past.keeps
+    lies in
+    let still = c.in_ok-reach.ensures.still in
+    let quiet = c.shows_what_crashes_leave.ensures.quiet past.keeps.usable past.honest in
+    let there = fact (still.left.disk.device.still past.honest) past.start past.deeds past.desktop
+    (read_keeps d past.keeps past.honest quiet {new = c.reach_of.new.store} still.left.disk still.usable)
+    (sym told.base) in
+    let low = there.low in
+    let up = deeds_up_to past.keeps.remembers in
+    let most = c.now-now.ensures.most in
+    omega (arith, low, up, told.before, told.journal, most, c.if-count-now.false))) c.moment.ensures.there
+
+pub returns-in_err-reach-clause-stops : goal.returns-in_err-reach-clause-stops
+returns-in_err-reach-clause-stops g c =
+    let p = err_from_is_err_and c.from_residual.result c.from_residual.ensures.1 in
+    let failed : c.reach_of.result ≡ Err p.0 = cc (p.2, c.in_err-reach.was) in
+    stops_first g.D.Disk c.reach_of.ensures.stops (λ known. known.0.keeps.usable) failed p.1
+
+pub returns-in_default-clause-stops : goal.returns-in_default-clause-stops
+returns-in_default-clause-stops g c = stops_none g.D.Disk (none_failed c.in_ok-reach.ensures.stops.faults)
+
+pub returns-then-count-now-clause-stops : goal.returns-then-count-now-clause-stops
+returns-then-count-now-clause-stops g c = stops_none g.D.Disk (none_failed c.in_ok-reach.ensures.stops.faults)
+
+pub returns-clause-stops : goal.returns-clause-stops
+returns-clause-stops g c =
+    let still = c.in_ok-reach.ensures.still in
+    stops_on g.D.Disk c.moment.result still.usable (none_failed c.in_ok-reach.ensures.stops.faults)
+    (moment_stops g.D.Disk c.moment.result c.moment.ensures.faults c.moment.ensures.open c.moment.ensures.stops)
+    (λ known.
+    let past = known.0 in
+    let told = (rw c.in-Some.is at c.in_ok-reach.ensures.told) past.honest past.start past.deeds past.desktop past.keeps
+    known.1 in (
+      past_behind g.D.Disk still c.shows_what_crashes_leave.ensures.quiet past,
+      sym told.base,
+    ))

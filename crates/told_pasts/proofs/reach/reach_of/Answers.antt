@@ -1,9 +1,12 @@
-use Rattle.std.proofs.Common.{◌≡◌, ◌∙◌, ap, false, length, sym}
-use Rattle.std.specs.Prelude.{IsSomeAnd}
+use Rattle.std.proofs.Common.{◌≡◌, ◌∙◌, ap, false, rules, sym}
+use Rattle.std.specs.Prelude.{Err, IsSomeAnd}
+use Rattle.std.proofs.lemmas.Result.{err_from_is_err_and}
 use Rattle.sector_disk.specs.Trail.{now}
+use Rattle.desk_past.proofs.InMemory.{none_failed}
 use Rattle.desk_past.proofs.StillReads.{still_looked, still_none}
 use Rattle.desk_past.proofs.Told.{ok_of, shown_as}
 use Rattle.told_pasts.proofs.Reached.{half_found}
+use Rattle.told_pasts.proofs.Stops.{looks_stop, stops_first, stops_none}
 use Rattle.told_pasts.proofs.reach.reach_of.Goals as goal
 
 pub returns-in-None-clause-told : goal.returns-in-None-clause-told
@@ -35,3 +38,21 @@ returns-in-Some-clause-told g c = λ honest start deeds desktop keeps lies.
       before = ap (λ p. p.before) told;
       journal = ap (λ x. x.events) info_is ∙ c.past.ensures.looks.events ∙ sym is.events;
     }
+
+pub returns-in_err-told-clause-stops : goal.returns-in_err-told-clause-stops
+returns-in_err-told-clause-stops g c =
+    let p = err_from_is_err_and c.from_residual.result c.from_residual.ensures.1 in
+    let failed : c.past.result ≡ Err p.0 = cc (p.2, c.in_err-told.was) in
+    stops_first g.D.Disk (looks_stop g.D.Disk c.past.result c.past.ensures.looks) (λ usable. usable) failed p.1
+
+pub returns-in_err-info-clause-stops : goal.returns-in_err-info-clause-stops
+returns-in_err-info-clause-stops g c =
+    let usable : c.args.store.now.must_reopen ≡ false = search rules in
+    let there = c.info.ensures.value (c.past.ensures.looks.usable ∙ usable) in
+    absurd (let wrong : ⊥ = cc (there, c.in_err-info.was) in wrong)
+
+pub returns-in-None-clause-stops : goal.returns-in-None-clause-stops
+returns-in-None-clause-stops g c = stops_none g.D.Disk (none_failed c.in_ok-told.ensures.looks.faults)
+
+pub returns-in-Some-clause-stops : goal.returns-in-Some-clause-stops
+returns-in-Some-clause-stops g c = stops_none g.D.Disk (none_failed c.in_ok-told.ensures.looks.faults)

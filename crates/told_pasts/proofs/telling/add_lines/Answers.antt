@@ -15,8 +15,8 @@ loop-event-preserved g c = record {
       c.loop-event-test.true c.event-item.is c.in_ok-_reply.ensures.ok;
 }
 
-pub returns : goal.returns
-returns g c =
+pub returns-clause-told : goal.returns-clause-told
+returns-clause-told g c =
     subst (λ l. IsToldOn g.E.Disk (all_posted l) c.args.lines.now.items c.loop-event.lines.items c.args.shown.now
     c.loop-event.shown)
     (take_all c.loop-event.event-index c.args.events.now (omega (arith, c.loop-event-test.false)))

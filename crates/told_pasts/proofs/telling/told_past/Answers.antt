@@ -1,18 +1,25 @@
-use Rattle.std.proofs.Common.{◌≡◌, ◌+◌, ◌∙◌, ◌++◌, ℕ, ap, arith, refl, subst, sym}
-use Rattle.sector_disk.specs.Trail.{Content, now}
-use Rattle.store_layout.specs.declared.layout.TheConstants.{STORE_SECTORS}
-use Rattle.desk_past.specs.Page.{HasPages, end_of_pages}
-use Rattle.desk_past.proofs.Opened.{pages_end, pages_there, start_room}
-use Rattle.desk_past.proofs.Remembering.{read_keeps}
-use Rattle.desk_past.proofs.StillReads.{still_both, still_left, still_reads, still_shows}
-use Rattle.told_pasts.specs.Words.{told_lines}
-use Rattle.told_pasts.proofs.Lines.{both_told}
-use Rattle.told_pasts.proofs.Reached.{reach_still}
+use Rattle.std.proofs.Common.{◌≡◌, ◌∙◌, arith, refl}
+use Rattle.std.specs.Prelude.{Err}
+use Rattle.std.proofs.lemmas.Result.{err_from_is_err_and}
+use Rattle.desk_past.proofs.InMemory.{none_failed}
+use Rattle.desk_past.proofs.Opened.{start_room}
+use Rattle.desk_past.proofs.StillReads.{still_both}
+use Rattle.told_pasts.proofs.Reached.{has_reach, reach_behind}
+use Rattle.told_pasts.proofs.Stops.{stops_first, stops_later, stops_none}
 use Rattle.told_pasts.proofs.telling.told_past.Goals as goal
+
+pub returns-in_err-reach-clause-stops : goal.returns-in_err-reach-clause-stops
+returns-in_err-reach-clause-stops g c =
+    let p = err_from_is_err_and c.from_residual.result c.from_residual.ensures.1 in
+    let failed : c.reach_of.result ≡ Err p.0 = cc (p.2, c.in_err-reach.was) in
+    stops_first g.D.Disk c.reach_of.ensures.stops (λ known. known.0.keeps.usable) failed p.1
 
 pub returns-in_default-clause-told : goal.returns-in_default-clause-told
 returns-in_default-clause-told g c = λ honest start deeds desktop keeps lies.
     absurd ((rw c.in_default.is at c.in_ok-reach.ensures.told) honest start deeds desktop keeps lies)
+
+pub returns-in_default-clause-stops : goal.returns-in_default-clause-stops
+returns-in_default-clause-stops g c = stops_none g.D.Disk (none_failed c.in_ok-reach.ensures.stops.faults)
 
 pub returns-in_default-first_of-clause-told : goal.returns-in_default-first_of-clause-told
 returns-in_default-first_of-clause-told g c = λ honest start deeds desktop keeps lies.
@@ -21,48 +28,75 @@ returns-in_default-first_of-clause-told g c = λ honest start deeds desktop keep
     let low = rw c.in_default-first_of.is at c.first_of.ensures.none in
     absurd (omega (arith, low, room, told.base, told.next))
 
+pub returns-in_default-first_of-clause-stops : goal.returns-in_default-first_of-clause-stops
+returns-in_default-first_of-clause-stops g c = stops_none g.D.Disk (none_failed c.in_ok-reach.ensures.stops.faults)
+
+pub returns-in_err-shown-clause-stops : goal.returns-in_err-shown-clause-stops
+returns-in_err-shown-clause-stops g c =
+    let p = err_from_is_err_and c.from_residual-in_err-shown.result c.from_residual-in_err-shown.ensures.1 in
+    let failed : c.start_of.result ≡ Err p.0 = cc (p.2, c.in_err-shown.was) in
+    let one = c.in_ok-reach.ensures.still in
+    stops_later g.D.Disk one.usable (none_failed c.in_ok-reach.ensures.stops.faults) c.start_of.ensures.stops (λ known.
+    let past = known.0 in
+    let told = (rw c.in-Some.is at c.in_ok-reach.ensures.told) past.honest past.start past.deeds past.desktop past.keeps
+    known.1 in (
+      reach_behind g.D.Disk one c.shows_what_crashes_leave.ensures.quiet c.standing_law.ensures
+          (has_reach g.D.Disk past told c.in-Some-first_of.ensures.at),
+      refl,
+    )) failed p.1
+
 pub returns-in_default-2-clause-told : goal.returns-in_default-2-clause-told
 returns-in_default-2-clause-told g c = λ honest start deeds desktop keeps lies.
-    let d = g.D.Disk in
-    let quiet = c.shows_what_crashes_leave.ensures.quiet keeps.usable honest in
     let told = (rw c.in-Some.is at c.in_ok-reach.ensures.told) honest start deeds desktop keeps lies in
-    let at : c.in-Some-first_of.first ≡ start.base + STORE_SECTORS =
-    c.in-Some-first_of.ensures.at ∙ ap (λ n. n + STORE_SECTORS) told.base in
-    let one = c.in_ok-reach.ensures.still in
-    absurd ((rw c.in_default-2.is at c.in_ok-shown.ensures.is) (one.left.disk.device.still honest) start deeds desktop
-    (read_keeps d keeps honest quiet {new = c.reach_of.new.store} one.left.disk one.usable)
-    (reach_still d keeps c.standing_law.ensures honest quiet one c.in-Some.reach told) at refl)
+    absurd ((rw c.in_default-2.is at c.in_ok-shown.ensures.is)
+    (reach_behind g.D.Disk c.in_ok-reach.ensures.still c.shows_what_crashes_leave.ensures.quiet c.standing_law.ensures
+    (has_reach g.D.Disk (record { start = start; deeds = deeds; desktop = desktop; keeps = keeps; honest = honest }) told
+    c.in-Some-first_of.ensures.at)) refl)
 
 pub returns-in_default-2-clause-still : goal.returns-in_default-2-clause-still
 returns-in_default-2-clause-still g c = still_both g.D.Disk c.in_ok-reach.ensures.still c.in_ok-shown.ensures.still
 
+pub returns-in_default-2-clause-stops : goal.returns-in_default-2-clause-stops
+returns-in_default-2-clause-stops g c = stops_none g.D.Disk
+    (none_failed c.in_ok-shown.ensures.stops.faults ∙ none_failed c.in_ok-reach.ensures.stops.faults)
+
+pub returns-in_err-lines-clause-stops : goal.returns-in_err-lines-clause-stops
+returns-in_err-lines-clause-stops g c =
+    let p = err_from_is_err_and c.from_residual-in_err-lines.result c.from_residual-in_err-lines.ensures.1 in
+    let failed : c.tell_all.result ≡ Err p.0 = cc (p.2, c.in_err-lines.was) in
+    let d = g.D.Disk in
+    let quiet = c.shows_what_crashes_leave.ensures.quiet in
+    let one = c.in_ok-reach.ensures.still in
+    let two = still_both d one c.in_ok-shown.ensures.still in
+    stops_later d two.usable
+    (none_failed c.in_ok-shown.ensures.stops.faults ∙ none_failed c.in_ok-reach.ensures.stops.faults)
+    c.tell_all.ensures.stops (λ known.
+    let past = known.0 in
+    let told = (rw c.in-Some.is at c.in_ok-reach.ensures.told) past.honest past.start past.deeds past.desktop past.keeps
+    known.1 in
+    let has = has_reach d past told c.in-Some-first_of.ensures.at in (
+      reach_behind d two quiet c.standing_law.ensures has,
+      (rw c.in-Some-2.is at c.in_ok-shown.ensures.is) (reach_behind d one quiet c.standing_law.ensures has) refl,
+    )) failed p.1
+
 pub returns-clause-told : goal.returns-clause-told
 returns-clause-told g c = λ honest start deeds desktop keeps lies.
     let d = g.D.Disk in
-    let r = keeps.remembers in
-    let quiet = c.shows_what_crashes_leave.ensures.quiet keeps.usable honest in
+    let quiet = c.shows_what_crashes_leave.ensures.quiet in
     let told = (rw c.in-Some.is at c.in_ok-reach.ensures.told) honest start deeds desktop keeps lies in
-    let at : c.in-Some-first_of.first ≡ start.base + STORE_SECTORS =
-    c.in-Some-first_of.ensures.at ∙ ap (λ n. n + STORE_SECTORS) told.base in
     let one = c.in_ok-reach.ensures.still in
     let two = still_both d one c.in_ok-shown.ensures.still in
-    let three = still_both d two c.in_ok-add_pages.ensures.still in
-    let begun = (rw c.in-Some-2.is at c.in_ok-shown.ensures.is) (one.left.disk.device.still honest) start deeds desktop
-    (read_keeps d keeps honest quiet {new = c.reach_of.new.store} one.left.disk one.usable)
-    (reach_still d keeps c.standing_law.ensures honest quiet one c.in-Some.reach told) at refl in
-    let pages = c.in_ok-add_pages.ensures.told (two.left.disk.device.still honest) r.pages
-    (subst (λ (x : ℕ × Content). HasPages x.1 x.0 r.pages) (λ i. (sym at i, sym (still_reads d two quiet honest) i))
-    (pages_there d keeps start.base refl))
-    r.past.good (ap (λ n. end_of_pages n r.pages) at ∙ pages_end d keeps start.base refl ∙ sym told.next)
-    (omega (arith, told.next, r.past.room, two.left.disk.device.as_large)) in
-    let journal = c.in_ok-add_journal.ensures.told (three.left.disk.device.still honest) r.standing
-    (still_shows d three quiet honest r.standing r.past.stands) told.journal in
-    let all = both_told _ _ pages journal in
-    all.lines tt ∙ (λ i. c.new-lines.ensures.items i ++ told_lines (begun i) (r.all i))
+    let has = has_reach d
+    (record { start = start; deeds = deeds; desktop = desktop; keeps = keeps; honest = honest }) told
+    c.in-Some-first_of.ensures.at in
+    c.in_ok-lines.ensures.told (reach_behind d two quiet c.standing_law.ensures has)
+    ((rw c.in-Some-2.is at c.in_ok-shown.ensures.is) (reach_behind d one quiet c.standing_law.ensures has) refl)
 
 pub returns-clause-still : goal.returns-clause-still
-returns-clause-still g c =
-    let d = g.D.Disk in
-    let two = still_both d c.in_ok-reach.ensures.still c.in_ok-shown.ensures.still in
-    still_left d (still_both d two c.in_ok-add_pages.ensures.still) c.add_journal.ensures.left
-    c.add_journal.ensures.usable
+returns-clause-still g c = still_both g.D.Disk
+    (still_both g.D.Disk c.in_ok-reach.ensures.still c.in_ok-shown.ensures.still) c.in_ok-lines.ensures.still
+
+pub returns-clause-stops : goal.returns-clause-stops
+returns-clause-stops g c = stops_none g.D.Disk
+    (none_failed c.in_ok-lines.ensures.stops.faults ∙ none_failed c.in_ok-shown.ensures.stops.faults
+    ∙ none_failed c.in_ok-reach.ensures.stops.faults)

@@ -29,10 +29,13 @@ returns-in-Err-clause-done g c =
     c.turned_away.ensures.worn c.turned_away.ensures.never
 
 pub returns-in-Ok-clause-past : goal.returns-in-Ok-clause-past
-returns-in-Ok-clause-past g c = keeps_acknowledged g.D.Disk c.reply.result c.args.event.now
-    c.in-Ok.ensures.nothing_forgotten c.in-Ok.ensures.kept
+returns-in-Ok-clause-past g c =
+    let e = c.in-Ok.ensures in
+    keeps_acknowledged g.D.Disk c.args.event.now c.requires e.nothing_forgotten e.device.same c.reply.result c.in-Ok.reply
+    e.kept e.worn
 
 pub returns-in-Err-clause-past : goal.returns-in-Err-clause-past
-returns-in-Err-clause-past g c = keeps_turned_away g.D.Disk c.args.event.now c.in-Err.error c.args.self.now
-    c.turned_away.new.self c.turned_away.result c.in-Err.ensures.nothing_forgotten c.in-Err.ensures.worn
-    c.turned_away.ensures.worn
+returns-in-Err-clause-past g c =
+    let e = c.in-Err.ensures in
+    keeps_turned_away g.D.Disk c.args.event.now c.requires e.nothing_forgotten e.device.same c.in-Err.error c.args.self.now
+    c.turned_away.new.self c.turned_away.result e.worn c.turned_away.ensures.worn c.turned_away.ensures.other

@@ -16,7 +16,7 @@ loop-event-preserved g c =
     record {
       takes = press_told g.D.Disk true (next_posted g.D.Disk c.args.events.now c.loop-event.event-index _ c.event-item.result
           c.loop-event-test.true c.event-item.is c.args.self.now _ _ c.args.store.now _ _ i.takes i.all (Ok _)
-          c.in_ok-done.ensures.comes);
+          c.in_ok-done.ensures.comes c.in_ok-done.ensures.past);
       all = all_next g.D.Disk c.args.events.now c.loop-event.event-index _ c.event-item.result c.loop-event-test.true
           c.event-item.is c.args.self.now _ c.post.new.self c.args.store.now _ c.post.new.store i.takes i.all
           c.in_ok-done.done c.in_ok-done.ensures.done c.if-not-done.false;
@@ -27,7 +27,7 @@ returns-then-not-done-clause-does g c =
     let i = c.loop-event.invariant in
     stopped_at g.D.Disk c.args.events.now c.loop-event.event-index _ c.event-item.result c.loop-event-test.true
     c.event-item.is c.args.self.now _ c.post.new.self c.args.store.now _ c.post.new.store i.takes i.all c.in_ok-done.done
-    false c.in_ok-done.ensures.done c.if-not-done.true c.in_ok-done.ensures.comes
+    false c.in_ok-done.ensures.done c.if-not-done.true c.in_ok-done.ensures.comes c.in_ok-done.ensures.past
 
 pub returns-then-not-done-clause-done : goal.returns-then-not-done-clause-done
 returns-then-not-done-clause-done g c =
@@ -42,4 +42,4 @@ returns-in_err-done-clause-does g c =
     let i = c.loop-event.invariant in
     rw (p.1, p.2) (next_unposted g.D.Disk c.args.events.now c.loop-event.event-index _ c.event-item.result
     c.loop-event-test.true c.event-item.is c.args.self.now _ _ c.args.store.now _ _ i.takes i.all
-    c.in_err-done.field-0.0 c.in_err-done.ensures.comes)
+    c.in_err-done.field-0.0 c.in_err-done.ensures.comes c.in_err-done.ensures.past)

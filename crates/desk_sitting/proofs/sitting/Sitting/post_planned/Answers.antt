@@ -47,7 +47,7 @@ returns-in-Next-clause-does g c = rw c.in-Next.is (alone_press g.D.Disk _ _ _ c.
 pub returns-in_ok-done-in-Event-clause-does : goal.returns-in_ok-done-in-Event-clause-does
 returns-in_ok-done-in-Event-clause-does g c = rw c.in-Event.is (press_told g.D.Disk _
     (one_event g.D.Disk c.in-Event.event (Ok _) c.args.self.now c.post.new.self c.args.store.now c.post.new.store
-    c.in_ok-done-in-Event.ensures.comes))
+    c.in_ok-done-in-Event.ensures.comes c.in_ok-done-in-Event.ensures.past))
 
 pub returns-in_ok-done-in-Event-clause-left : goal.returns-in_ok-done-in-Event-clause-left
 returns-in_ok-done-in-Event-clause-left g c = rw c.in-Event.is (λ honest durable.
@@ -58,7 +58,7 @@ pub returns-in_err-done-in-Event-clause-does : goal.returns-in_err-done-in-Event
 returns-in_err-done-in-Event-clause-does g c =
     let p = err_from_is_err_and c.from_residual.result c.from_residual.ensures.1 in
     rw (p.1, p.2, c.in-Event.is) (press_broken g.D.Disk _ (one_event g.D.Disk c.in-Event.event _ c.args.self.now
-    c.post.new.self c.args.store.now c.post.new.store c.in_err-done-in-Event.ensures.comes))
+    c.post.new.self c.args.store.now c.post.new.store c.in_err-done-in-Event.ensures.comes c.in_err-done-in-Event.ensures.past))
 
 pub returns-in_ok-all-in-Events-clause-does : goal.returns-in_ok-all-in-Events-clause-does
 returns-in_ok-all-in-Events-clause-does g c = rw c.in-Events.is (press_told g.D.Disk _
