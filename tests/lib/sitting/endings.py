@@ -203,8 +203,8 @@ def killed_over_twins(trial):
 
 
 def killed_with_a_past(trial):
-    """Signal 9 at the program, three times, at a desk that keeps its past from the first time on. Each letter is listed, but what
-    a Ctrl-Z took back, and a store that is gone back to shows the letters up to there."""
+    """Signal 9 at the program, three times, at a desk that keeps its past from the first time on. Each letter is listed, also
+    those that a Ctrl-Z took back, and a store that is gone back to shows the letters up to there. Ctrl-Y does it again."""
     trial.store()
     typed = ''
     for turn, options in enumerate((['--past'], [], [])):
@@ -218,13 +218,46 @@ def killed_with_a_past(trial):
         os.kill(sitting.program(), signal.SIGKILL)
         trial.check(sitting.end() == 137 and sitting.is_put_back, f'status {sitting.status}')
     kept = trial.text()
-    trial.check(len(kept) > 400 and typed.startswith(kept), f'{kept!r} is kept of {typed!r}')
-    listed = re.findall('typed "(.)"', trial.desk_says('history', trial.path, '--all'))
-    trial.check(''.join(reversed(listed)) == kept, f'{len(listed)} letters are listed, {len(kept)} are kept')
-    for back in (0, 1, 170, 400):
+    trial.check(400 < len(kept) < 450 and typed.startswith(kept), f'{kept!r} is kept of {typed!r}')
+    history = trial.desk_says('history', trial.path, '--all')
+    trial.check(history.splitlines()[0].endswith('turn back to an earlier moment'), history.splitlines()[0])
+    listed = re.findall('typed "(.)"', history)
+    trial.check(''.join(reversed(listed)) == typed, f'{len(listed)} letters are listed of {len(typed)}')
+    for back in (1, 171, 401):
         now = trial.desk_says('earlier', trial.path, str(back), f'{trial.folder}/then{back}')
         was = trial.text(f'{trial.folder}/then{back}')
-        trial.check(kept.startswith(was) and 0 <= back - (len(kept) - len(was)) <= 25, f'{back} back: {was!r}, {now}')
+        trial.check(typed.startswith(was) and 0 <= back - 1 - (len(typed) - len(was)) <= 25, f'{back} back: {was!r}, {now}')
+    sitting = trial.sit(trial.path)
+    trial.check(sitting.hear(b'\x19'), 'no scene')
+    trial.leaves(sitting)
+    trial.check(trial.text() == typed, f'{trial.text()!r} is done again of {typed!r}')
+
+
+def undone_to_the_beginning(trial):
+    """A letter is taken back to the beginning at a desk that keeps its past, further than two journals reach, the program is
+    killed, and all of it is done again."""
+    trial.store()
+    sitting = trial.sit('--past', trial.path)
+    before = shown(sitting.terminal.cells)
+    words = [''.join(trial.chance.choice(LETTERS) for _ in range(trial.chance.randrange(1, 12))) for _ in range(110)]
+    for place, word in enumerate(words):
+        sitting.press(word.encode() + (b'\r' if place % 9 == 8 else b' '))
+    trial.check(sitting.look_anew(), 'no scene')
+    written = text_of(shown(sitting.terminal.cells))
+    for _ in range(400):
+        trial.check(sitting.hear(b'\x1a'), 'no scene')
+        if re.search('nothing to take back|no further back', sitting.terminal.line(ROWS)):
+            break
+    trial.check(text_of(shown(sitting.terminal.cells)) == text_of(before), f'it goes back to {shown(sitting.terminal.cells)}')
+    os.kill(sitting.program(), signal.SIGKILL)
+    sitting.end()
+    sitting = trial.sit(trial.path)
+    for _ in range(400):
+        trial.check(sitting.hear(b'\x19'), 'no scene')
+        if 'nothing to do again' in sitting.terminal.line(ROWS):
+            break
+    trial.check(text_of(shown(sitting.terminal.cells)) == written, f'it is done again as {shown(sitting.terminal.cells)}')
+    trial.leaves(sitting)
 
 
 def script_killed(trial):
@@ -544,7 +577,8 @@ def words_at_the_edge(trial):
 
 def forgetting(trial):
     """Leaving asks while what was taken back can be done again, and the second key leaves. Nothing is asked where something else
-    was done since, without questions, and where the terminal goes away."""
+    was done since, without questions, where the terminal goes away, and where a past has it: then the next sitting does it
+    again."""
     sitting = trial.sit_anew()
     sitting.press(b'two words\x1a\x11')
     trial.tells(sitting, FORGETTING)
@@ -574,6 +608,13 @@ def forgetting(trial):
     sitting.press(b'six\x1a')
     trial.tells(sitting, 'undid: typed 3 characters')
     trial.check(sitting.hang_up() is not None, 'the script does not end')
+    trial.store()
+    for options, keys, line in ((['--past'], b'seven words\x1a', 'undid: typed 5 characters'), ([], b'\x19', 'did again: typed 5 characters'),
+                                ([], b'\x1a\x1a', 'undid: typed 6 characters'), ([], b'\x19', 'did again: typed 6 characters')):
+        sitting = trial.sit(*options, trial.path)
+        sitting.press(keys)
+        trial.tells(sitting, line)
+        trial.leaves(sitting)
 
 
 def refused_presses(trial):
@@ -1120,6 +1161,7 @@ def no_file(trial):
 TRIALS = {
     'signal 9 at the program': killed(signal.SIGKILL, True, 137),
     'signal 9 at the program, with a past': killed_with_a_past,
+    'undone to the beginning': undone_to_the_beginning,
     'TERM at the program': killed(signal.SIGTERM, True, 143),
     'TERM at the script': killed(signal.SIGTERM, False, 143),
     'HUP at the script': killed(signal.SIGHUP, False, 129),
