@@ -223,7 +223,8 @@ pub(crate) fn last_events<D: Disk>(
     }))
 }
 
-/// The last events that led to what a store shows, as its past tells: at most so many, in their order. None where it keeps no past, or where its pages can't be read.
+/// The last events that led to what a store shows, as its past tells: at most so many, in their order. None where it keeps
+/// no past, where its pages can't be read or are too many, or where too much was done since its half began.
 ///
 /// Errors: `MustReopen`; `NoMemory`; `Fault`.
 pub fn events_behind<D: Disk>(
@@ -242,7 +243,7 @@ pub fn events_behind<D: Disk>(
 
 /// The events that the last turns took back, as the past tells, in their order, without those that were done again since;
 /// the first of them, at most so many. None of them where something else was done since. None where the store keeps no
-/// past, or its pages can't be read.
+/// past, or its pages can't be read or are too many.
 ///
 /// Errors: `MustReopen`; `NoMemory`; `Fault`.
 pub fn events_ahead<D: Disk>(
