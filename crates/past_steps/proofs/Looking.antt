@@ -1,7 +1,6 @@
 -- Looks at a store, one after another. `d` is what is known of a disk.
 use Rattle.std.proofs.Common.{◌≡◌, ◌+◌, ◌<◌, ◌≤◌, ◌∙◌, ℕ, true, false, Ok, Err, inl, refl, sym, ap, subst, arith}
 use Rattle.std.specs.Prelude.{Bool, IfSome, IsErrAnd, IsSomeAnd, None, Option, Result, Some}
-use Rattle.std.proofs.lemmas.Bool.{false≢true}
 use Rattle.std.proofs.lemmas.Result.{err_from_is_err_and}
 use Rattle.sector_disk.specs.declared.disk.Disk.{Ghosts}
 use Rattle.store_layout.specs.declared.layout.TheConstants.{STORE_SECTORS}
@@ -14,7 +13,7 @@ use Rattle.desk_past.specs.declared.halves.Half.{Half}
 use Rattle.desk_past.specs.Halves.{IsHalf}
 use Rattle.desk_past.specs.Reading.{IsOnlyReadFrom}
 use Rattle.desk_past.proofs.Opened.{start_room}
-use Rattle.desk_past.proofs.StillReads.{nothing_written, read_twice}
+use Rattle.desk_past.proofs.StillReads.{read_twice}
 use Rattle.past_steps.specs.Steps.{IsHalfInUse}
 
 -- what isn't true is false
@@ -23,23 +22,6 @@ never_true true never = absurd (never refl)
 never_true false never = refl
 
 module _ {D : Type 0} (d : Ghosts D) where
-  -- nobody looks
-  pub looks_none : {T : Type 0} (value : T) (store : StoreView D) → store.must_reopen ≡ false → OnlyLooks d (Ok value) store store
-  looks_none value store usable = record {
-    desktop = λ honest. refl;
-    kept = refl;
-    layout = refl;
-    epoch = refl;
-    events = refl;
-    usable = refl;
-    disk = record {
-      device = record { as_large = refl; still = λ honest. honest; already = λ honest. honest };
-      unwritten = λ honest. nothing_written (d.trail store.disk);
-    };
-    reopen = (λ wrong. absurd (cc wrong), λ is. absurd (false≢true (sym usable ∙ is)));
-    faults = record { rose = λ wrong. absurd (cc wrong); calm = λ other. refl; errors = tt };
-  }
-
   -- one look after another
   module _ {A T : Type 0} (value : A) (result : Result T Error) (old mid new : StoreView D)
       (first : OnlyLooks d (Ok value) old mid) (second : OnlyLooks d result mid new) where
