@@ -127,10 +127,11 @@ ssize_t pwrite(int file, const void *bytes, size_t size, off_t to) {
     char text[64];
     snprintf(text, sizeof text, "pwrite %ld\n", (long)(to / 1024));
     tell(text);
-    if (getenv("SPOILED") && size && is_refused("pwrite", &pwrites)) {
+    if (getenv("SPOILED")) {
+        ssize_t moved = syscall(SYS_pwrite64, file, bytes, size, to);
+        if (!size || !is_refused("pwrite", &pwrites)) return moved;
         char first = *(const char *)bytes ^ 1;
         tell("failed\n");
-        ssize_t moved = syscall(SYS_pwrite64, file, bytes, size, to);
         return syscall(SYS_pwrite64, file, &first, 1, to) == 1 ? moved : -1;
     }
     ssize_t moved = share("pwrite", &pwrites, size);

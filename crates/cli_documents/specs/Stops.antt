@@ -1,21 +1,13 @@
--- Why an order about documents was not done, and the status of the program then.
+-- Why an order about documents was not done.
 use Rattle.std.specs.Prelude.{◌≡◌, ◌⊎◌, ℕ}
 use Rattle.host_files.specs.declared.HostFault.{HostFault}
 use Rattle.host_files.specs.declared.HostFault.TheVariants.{NoMemory}
 use Rattle.store_documents.specs.declared.exporting.ExportFault.{ExportFault}
 use Rattle.store_documents.specs.declared.exporting.ExportFault.TheVariants.{Store, Output}
 use Rattle.cli_stores.specs.declared.trouble.Trouble.TheVariants.{Memory, Store as StoreThere, Output as OutputThere}
-use Rattle.cli_stores.specs.Statuses.{trouble_status}
 use Rattle.desk_journal.specs.Errors.{Damaged}
-use Rattle.cli_documents.specs.declared.sentences.Stop.{Stop}
-use Rattle.cli_documents.specs.declared.sentences.Stop.TheVariants.{Trouble, Refused, Host, Cut}
-
--- the status of the program
-abbrev pub stop_status : Stop → ℕ
-stop_status (Trouble trouble) = trouble_status trouble
-stop_status Refused = 1
-stop_status Host = 4
-stop_status Cut = 3
+use Rattle.cli_copies.specs.declared.sentences.Stop.{Stop}
+use Rattle.cli_copies.specs.declared.sentences.Stop.TheVariants.{Trouble, Refused, Host}
 
 -- where the host does not do with a file or a folder what it is asked
 abbrev pub host_stop : HostFault → Stop

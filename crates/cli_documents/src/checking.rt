@@ -2,20 +2,16 @@
 ghost use Rattle.std.specs.Prelude.{◌≤◌};
 
 use crate::pasts::tell_past;
-use crate::sentences::Stop;
-use crate::stores::{LockedDisk, LockedStore};
+use cli_copies::{LockedDisk, LockedStore, Stop, WHOLE};
 use cli_stores::{Trouble, looked_at};
 use desk_journal::{Error, Info};
 use desktop_definitions::MOST_WRITTEN;
 use host_files::length_of;
 use host_stores::{FileDisk, PAST_SECTORS, opened};
-use sector_disk::{Disk, FILE_SECTORS, SECTOR_BYTES};
+use sector_disk::{Disk, FILE_SECTORS};
 use std::io;
 use store_documents::{Examined, Part, SlotState, examine, part_of};
 use store_layout::{JOURNAL_EVENTS, LAST_EPOCH};
-
-/// How many bytes the file of a store has.
-pub(crate) const WHOLE: u64 = FILE_SECTORS as u64 * SECTOR_BYTES as u64;
 
 /// Tells how the store in a file is: how long its file is, what its label and both slots say, whether it opens, and how far
 /// its past reaches, if it keeps one. The file is locked beside other programs that look, and nothing is written. `Cut`: it

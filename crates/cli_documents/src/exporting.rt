@@ -1,12 +1,11 @@
 //! Documents on their way out.
 ghost use Rattle.std.specs.Prelude.{◌≡◌};
-ghost use Rattle.cli_documents.specs.declared.sentences.Stop.TheVariants.{Refused};
+ghost use Rattle.cli_copies.specs.declared.sentences.Stop.TheVariants.{Refused};
 
 use crate::history::store_as;
-use crate::progress::Progress;
-use crate::sentences::{Stop, cut_off, refused_folder, word_of};
-use crate::stores::{store_at, store_in_memory};
+use crate::sentences::{cut_off, refused_folder, word_of};
 use byte_streams::CountedWriter;
+use cli_copies::{Progress, Stop, store_at, store_in_memory};
 use cli_stores::Trouble;
 use desk_journal::Store;
 use desktop_definitions::Entry;

@@ -1,12 +1,10 @@
 //! What can be taken back in a store, and a store as it was.
 
-use crate::copies::{copy_to, put_copy, refuse_taken};
 use crate::pasts::{out_of_reach, past_before};
-use crate::sentences::Stop;
-use crate::stores::{store_at, store_in_memory};
+use cli_copies::{Stop, copy_to, put_copy, refuse_taken, store_at, store_in_memory};
 use cli_stores::Trouble;
 use desk_journal::Store;
-use sector_disk::MemoryDisk;
+use sector_disk::{FILE_SECTORS, MemoryDisk};
 use std::io;
 use told_pasts::{Line, add_lines, takes_back};
 
@@ -77,7 +75,7 @@ pub fn earlier(rt: &HostRuntime, path: &str, count: u32, copy: &str) -> Result<(
     };
     refuse_taken(rt, copy)?;
     let last = events.as_slice().get(first..).unwrap_or(&[]);
-    copy_to(rt, path, store, copy, last)?;
+    copy_to(rt, path, store, copy, FILE_SECTORS, last)?;
     match println!(rt;
         "{copy}: a copy of the store, compared and synced; events taken back there: {count}"
     ) {

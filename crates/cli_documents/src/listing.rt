@@ -1,7 +1,8 @@
 //! What a store has.
 
 use crate::history::store_as;
-use crate::sentences::{Stop, word_of};
+use crate::sentences::word_of;
+use cli_copies::Stop;
 use cli_stores::Trouble;
 use desktop_definitions::{Entry, MOST_FILES, MOST_HELD, MOST_WRITTEN};
 use serde_json::{Value, json};

@@ -1,14 +1,13 @@
 //! The past that a store keeps behind it: all its events in words, the store as it was, and how far both reach.
 ghost use Rattle.std.specs.Prelude.{◌≡◌, IfOk};
 ghost use Rattle.cli_documents.specs.Stops.{IsOutOfReach};
-ghost use Rattle.cli_documents.specs.declared.sentences.Stop.TheVariants.{Refused};
+ghost use Rattle.cli_copies.specs.declared.sentences.Stop.TheVariants.{Refused};
 
 use crate::history::print_lines;
-use crate::sentences::Stop;
-use crate::stores::LockedStore;
+use cli_copies::{LockedStore, Stop};
 use cli_stores::{Trouble, looked_at};
 use desk_journal::{Error, STORE_SECTORS, Store};
-use desk_past::{HALVES, forget, start_of};
+use desk_past::{PARTS, first_start, forget, start_of};
 use host_files::{length_of, lock_alone};
 use host_stores::with_past_room;
 use sector_disk::{MemoryDisk, SECTOR_BYTES};
@@ -43,6 +42,17 @@ fn start_at(
     Ok(none_where_missing(start_of(rt.alloc(), store, base))?)
 }
 
+/// How many events came before the start of the oldest part of a past. None where the part in use has no start.
+fn first_kept(rt: &HostRuntime, store: &mut LockedStore) -> Result<Option<u64>, Stop> {
+    let Some(base) = first_start(store)? else {
+        return Ok(None);
+    };
+    match start_at(rt, store, base)? {
+        None => Ok(None),
+        Some((_shown, before)) => Ok(Some(before)),
+    }
+}
+
 /// Why the store in a file isn't shown as it was before so many of its last events: `Trouble`, where a page of its past
 /// is missing, and `Refused`, which is said, where neither its past nor what can be taken back reaches so far.
 pub(crate) fn out_of_reach(rt: &HostRuntime, path: &str, count: u32) -> Result<Stop, Stop>
@@ -52,11 +62,11 @@ pub(crate) fn out_of_reach(rt: &HostRuntime, path: &str, count: u32) -> Result<S
     let Some(reach) = reach_of(&mut store)? else {
         return Ok(only_so_many(rt, &mut store, "and no past is kept")?);
     };
-    let Some((_shown, before)) = start_at(rt, &mut store, reach.half.base)? else {
+    let Some(before) = first_kept(rt, &mut store)? else {
         return Ok(only_so_many(rt, &mut store, "and the start of the past is missing")?);
     };
     let kept = reach.now().saturating_sub(before);
-    let first = reach.half.base.saturating_add(STORE_SECTORS);
+    let first = reach.part.base.saturating_add(STORE_SECTORS);
     match counted_pages(rt.alloc(), &mut store, first, reach.next)? {
         Pages::Missing(at) if count as u64 <= kept => {
             Ok(Stop::Trouble(Trouble::Store(Error::Damaged(at))))
@@ -92,7 +102,7 @@ pub fn events_all(rt: &HostRuntime, path: &str) -> Result<(), Stop> {
     let Some(reach) = reach_of(&mut store)? else {
         return Err(no_past(rt, path));
     };
-    if start_at(rt, &mut store, reach.half.base)?.is_none() {
+    if start_at(rt, &mut store, reach.part.base)?.is_none() {
         return Err(no_past(rt, path));
     }
     let Some(lines) = told_past(rt.alloc(), &mut store)? else {
@@ -108,7 +118,7 @@ pub fn events_all(rt: &HostRuntime, path: &str) -> Result<(), Stop> {
 fn no_past(rt: &HostRuntime, path: &str) -> Stop
     ensures { result ≡ Refused }
 {
-    let _ = eprintln!(rt; "desk: {path:?} keeps no past; desk --past PATH begins one");
+    let _ = eprintln!(rt; "desk: {path:?} keeps no past; a sitting at it begins one");
     Stop::Refused
 }
 
@@ -135,7 +145,7 @@ pub fn forget_past(rt: &HostRuntime, path: &str) -> Result<(), Stop> {
 /// Whether a file has anything where a past may stand, as far as the host tells.
 fn has_more(rt: &HostRuntime, path: &str) -> bool {
     match length_of(rt, path) {
-        Ok(length) => length > HALVES as u64 * SECTOR_BYTES as u64,
+        Ok(length) => length > PARTS as u64 * SECTOR_BYTES as u64,
         Err(_) => true,
     }
 }
@@ -145,9 +155,11 @@ pub(crate) fn tell_past(rt: &HostRuntime, store: &mut LockedStore) -> Result<(),
     let Some(reach) = reach_of(store)? else {
         return Ok(());
     };
-    let told = match start_at(rt, store, reach.half.base)? {
-        Some((_shown, before)) => tell_reach(rt, reach, before),
-        None => println!(rt; "past: its start is missing; the next sitting begins one anew"),
+    let told = match first_kept(rt, store)? {
+        Some(before) => tell_reach(rt, reach, before),
+        None => println!(rt;
+            "past: none, since its start is missing; the next sitting begins one anew"
+        ),
     };
     match told {
         Ok(()) => Ok(()),
@@ -159,8 +171,8 @@ pub(crate) fn tell_past(rt: &HostRuntime, store: &mut LockedStore) -> Result<(),
 fn tell_reach(rt: &HostRuntime, reach: Reach, before: u64) -> io::Result<()> {
     let all = reach.now();
     let kept = all.saturating_sub(before);
-    let first = reach.half.base.saturating_add(STORE_SECTORS);
+    let first = reach.part.base.saturating_add(STORE_SECTORS);
     let used = reach.next.saturating_sub(first);
-    let room = reach.half.end.saturating_sub(first);
+    let room = reach.part.end.saturating_sub(first);
     println!(rt; "past: the last {kept} of {all} events; {used} of {room} sectors have pages")
 }

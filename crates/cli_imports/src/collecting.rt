@@ -1,6 +1,6 @@
 //! System.Collect, for a person who isn't at the desk.
 
-use cli_documents::Stop;
+use cli_copies::Stop;
 use desk_journal::{Error, Store};
 use desk_past::post;
 use desktop_definitions::Reply;

@@ -2,7 +2,8 @@
 
 use crate::sources::{Refused, Sources};
 use bstr::decode_utf8;
-use cli_documents::{Stop, word_of};
+use cli_copies::Stop;
+use cli_documents::word_of;
 use cli_stores::Trouble;
 use desk_journal::Document;
 use std::alloc::Global;

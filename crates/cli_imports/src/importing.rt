@@ -2,14 +2,15 @@
 ghost use Rattle.std.specs.Prelude.{◌≡◌, ◌⊎◌, true, Err, OnOk};
 ghost use Rattle.desktop_definitions.specs.declared.codes.TheConstants.{TOO_MANY_FILES};
 ghost use Rattle.desktop_definitions.specs.declared.reply.Reply.TheVariants.{Done, No};
-ghost use Rattle.cli_documents.specs.declared.sentences.Stop.TheVariants.{Refused};
+ghost use Rattle.cli_copies.specs.declared.sentences.Stop.TheVariants.{Refused};
 
 use crate::collecting::collect;
 use crate::fitting::documents_in;
 use crate::notes::tell_notes;
 use crate::skipping::without_unfits;
 use crate::sources::{Wishes, sources_of};
-use cli_documents::{Stop, store_in_memory, word_of};
+use cli_copies::{Stop, store_in_memory};
+use cli_documents::word_of;
 use cli_stores::{Trouble, in_memory, make, new_file};
 use desk_journal::{Document, Store};
 use desk_past::go_on;

@@ -1,6 +1,6 @@
 //! The names of documents that files are to be.
 
-use cli_documents::Stop;
+use cli_copies::Stop;
 use event_bytes::Name;
 use std::alloc::{AllocError, Global};
 use std::path::Path;

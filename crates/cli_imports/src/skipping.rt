@@ -2,7 +2,8 @@
 
 use crate::fitting::refuse_unfit;
 use crate::sources::{Refused, Sources};
-use cli_documents::{Stop, word_of};
+use cli_copies::Stop;
+use cli_documents::word_of;
 
 /// The files that can come: it is said of each other one why it can't, and how many there are. Where none can come,
 /// nothing is done.

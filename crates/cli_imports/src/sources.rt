@@ -5,7 +5,7 @@ ghost use Rattle.cli_documents.specs.Stops.{host_stop};
 use crate::folders::{EntryKind, FolderEntry, entries_of, reason_left_out};
 use crate::naming::{name_after, named};
 use crate::notes::{Note, returns_in};
-use cli_documents::{Progress, Stop};
+use cli_copies::{Progress, Stop};
 use cli_stores::Trouble;
 use event_bytes::Name;
 use host_files::{HostFault, is_folder, is_there, read_input, read_whole};

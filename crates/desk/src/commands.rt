@@ -80,6 +80,10 @@ const LIST: &[Argument<'static>] = &[
 
 /// Those of `backup`.
 const BACKUP: &[Argument<'static>] = &[
+    Argument {
+        name: "without-past",
+        kind: Kind::Choice,
+    },
     PATH,
     Argument {
         name: "copy",

@@ -22,10 +22,11 @@ pub enum Order<'a> {
         json: bool,
         at: Option<u32>,
     },
-    /// To copy a store into a file that there isn't yet.
+    /// To copy a store into a file that there isn't yet, with the past that it keeps or without.
     Backup {
         path: &'a str,
         copy: &'a str,
+        past: bool,
     },
     /// To say how a store is, and if so asked how it is beside its twin.
     Check {
@@ -56,7 +57,7 @@ pub struct Sit<'a> {
     pub unproved: bool,
     /// Whether it asks before a press loses something.
     pub questions: bool,
-    /// Whether a past is to begin where the store keeps none.
+    /// Whether a past is to begin where the store keeps none, if it can.
     pub past: bool,
     /// The store's file; without one the desktop is in memory.
     pub path: Option<&'a str>,
@@ -147,6 +148,7 @@ fn short_order<'a>(asked: &Asked<'a>) -> Option<Order<'a>> {
         "backup" => Some(Order::Backup {
             path: asked.word("path")?,
             copy: asked.word("copy")?,
+            past: !asked.chooses("without-past"),
         }),
         "check" => Some(Order::Check {
             path: asked.word("path")?,

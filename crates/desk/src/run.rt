@@ -1,12 +1,13 @@
 //! What a run of the program `desk` does: its arguments say what (`orders`), and it is done over a store (the crates
-//! `cli_stores` and `cli_documents`). A person who sits down is served by `serve` of `desk_sitting` (`sitting`).
+//! `cli_stores`, `cli_copies` and `cli_documents`). A person who sits down is served by `serve` of `desk_sitting` (`sitting`).
 
 use crate::orders::{Export, Import, Order, Sit, order_of};
 use crate::sitting::{Service, sit_at, sit_at_pair, sit_in_memory};
 use crate::usages::usage_of;
+use cli_copies::{Stop, backup};
 use cli_documents::{
-    Putting, Stop, backup, check, earlier, events_all, events_back, export_all, export_names,
-    forget_past, list, list_json,
+    Putting, check, earlier, events_all, events_back, export_all, export_names, forget_past, list,
+    list_json,
 };
 use cli_imports::{Manner, import, import_to_pair};
 use cli_stores::{Trouble, picture};
@@ -79,7 +80,7 @@ fn follow(rt: &HostRuntime, order: &Order<'_>) -> u8 {
             json: true,
             at,
         } => done(rt, path, list_json(rt, path, *at)),
-        Order::Backup { path, copy } => done(rt, path, backup(rt, path, copy)),
+        Order::Backup { path, copy, past } => done(rt, path, backup(rt, path, copy, *past)),
         Order::Check { path, twin: None } => done(rt, path, check(rt, path)),
         Order::Check {
             path,
@@ -103,6 +104,7 @@ fn sit(rt: &HostRuntime, order: &Sit<'_>) -> u8 {
         greeting,
         questions: order.questions,
         past: order.past,
+        made: false,
     };
     match (order.path, order.twin) {
         (None, _) => sit_in_memory(rt, service),

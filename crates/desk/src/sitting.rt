@@ -1,5 +1,5 @@
 //! A person at a terminal, over a store in a file or in memory.
-ghost use Rattle.std.specs.Prelude.{◌≡◌, false};
+ghost use Rattle.std.specs.Prelude.{◌≡◌, false, IfOk, OnOk};
 ghost use Rattle.desk_sitting.specs.Serving.{IsUsableAt};
 
 use crate::endings::{kept, lost};
@@ -7,11 +7,13 @@ use byte_streams::{AnswerWriter, CountedWriter};
 use cli_stores::{NewFile, Trouble, in_memory, make, new_file};
 use desk_journal::{Error, Store};
 use desk_past::{Outset, go_on};
-use desk_sitting::{Past, Saying, SittingEnd, serve};
+use desk_sitting::{MOST_TURNS, Past, Saying, SittingEnd, serve};
 use host_files::{HostFault, LockedFile, lock_alone};
 use host_stores::{FileDisk, with_past_room, without_twin};
+use past_viewer::{PastKeys, ViewEnd, Window as Size, view};
 use screen_drawing::{ring, send_bytes};
 use sector_disk::Disk;
+use std::fs::File;
 use std::io::BufWriter;
 use terminal_keyboard::{DeskKeyboard, Keyboard, StandardInput};
 use twin_disk::Leg;
@@ -39,7 +41,12 @@ pub(crate) struct Service {
     pub(crate) questions: bool,
     /// A past begins where the store keeps none.
     pub(crate) past: bool,
+    /// The store was made for this sitting.
+    pub(crate) made: bool,
 }
+
+/// The keys of a terminal, files of the host's, and what is seen of the store's files, as one keyboard.
+type DeskKeys<'a> = WatchedKeyboard<DeskKeyboard<'a, PastKeys<StandardInput>>, FileDisk<File>>;
 
 /// Serves a person at the desktop of a new store in memory, and returns the status.
 pub(crate) fn sit_in_memory(rt: &HostRuntime, service: Service) -> u8 {
@@ -72,8 +79,8 @@ fn sit_at_locked(rt: &HostRuntime, file: LockedFile, path: &str, service: Servic
     }
 }
 
-/// The same over a store on a disk with room for a past, which goes on or begins, if the store keeps one or is to. Where one
-/// that is asked for doesn't begin, the disk reads otherwise than it was written.
+/// The same over a store on a disk with room for a past, which goes on or begins, if the store keeps one or is to. Where the
+/// disk fails at that, as a file system that is full, the person sits down without one.
 fn sit_keeping(
     rt: &HostRuntime,
     store: Store<FileDisk<LockedFile>>,
@@ -83,10 +90,77 @@ fn sit_keeping(
     requires { store.must_reopen ≡ false }
 {
     let mut store = store;
-    match go_on(rt.alloc(), &mut store, service.past) {
-        Ok(Outset::Absent) if service.past => Trouble::Store(Error::Fault).say(rt, path),
-        Ok(_outset) => kept(rt, path, sit(rt, store, service)),
+    match kept_from_now(rt, &mut store, service) {
+        Ok(greeting) => {
+            let greeted = Service {
+                greeting,
+                ..service
+            };
+            kept(rt, path, sit(rt, store, greeted))
+        }
+        Err(Error::Fault) => {
+            drop(store);
+            sit_without_past(rt, path, service)
+        }
         Err(error) => Trouble::Store(error).say(rt, path),
+    }
+}
+
+/// A past goes on, if the store keeps one, and begins, if it is to. Returns what the line below says first.
+///
+/// Errors: those of `go_on`.
+fn kept_from_now<D: Disk>(
+    rt: &HostRuntime,
+    store: &mut Store<D>,
+    service: Service,
+) -> Result<Saying, Error>
+    requires { store.old.must_reopen ≡ false }
+    ensures usable { OnOk result (store.new.must_reopen ≡ false) }
+{
+    let went_on = go_on(rt.alloc(), store, false)?;
+    if !service.past || went_on != Outset::Absent {
+        return Ok(service.greeting);
+    }
+    let begun = go_on(rt.alloc(), store, true)?;
+    Ok(first_told(service, begun))
+}
+
+/// What the line below says first where a past was to begin: of a store that was there before, that it keeps one from now on;
+/// that none is kept, where none began. That a store has a twin, which gets nothing, goes before that.
+fn first_told(service: Service, begun: Outset) -> Saying {
+    match (service.greeting, begun) {
+        (Saying::WithoutTwin, _) => Saying::WithoutTwin,
+        (_, Outset::Absent) => Saying::NoPast,
+        (greeting, _) if service.made => greeting,
+        (_, _) => Saying::PastBegins,
+    }
+}
+
+/// Serves a person at the desktop of a store behind which nothing can be written: it is opened anew, and keeps no past. The
+/// line below says so.
+fn sit_without_past(rt: &HostRuntime, path: &str, service: Service) -> u8 {
+    let told = Service {
+        greeting: Saying::NoPast,
+        ..service
+    };
+    match opened_again(rt, path) {
+        Ok(store) => kept(rt, path, sit(rt, store, told)),
+        Err(trouble) => trouble.say(rt, path),
+    }
+}
+
+/// The store in the file of that path.
+///
+/// Errors: those of `lock_alone` and of `without_twin`.
+fn opened_again(rt: &HostRuntime, path: &str) -> Result<Store<FileDisk<LockedFile>>, Trouble>
+    ensures { IfOk result (λ store. store.must_reopen ≡ false) }
+{
+    match lock_alone(rt, path) {
+        Err(fault) => Err(Trouble::Host(fault)),
+        Ok(file) => match without_twin(rt, file) {
+            Err(error) => Err(Trouble::Store(error)),
+            Ok((store, _left_twin)) => Ok(store),
+        },
     }
 }
 
@@ -101,8 +175,12 @@ fn sit_at_new(rt: &HostRuntime, path: &str, service: Service) -> u8 {
 
 /// The same, in the file under the other name.
 fn sit_at_made(rt: &HostRuntime, made: NewFile, path: &str, service: Service) -> u8 {
+    let begun = Service {
+        made: true,
+        ..service
+    };
     match make(rt, made, path) {
-        Ok(store) => sit_again(rt, store.close().into_file(), path, service),
+        Ok(store) => sit_again(rt, store.close().into_file(), path, begun),
         Err(trouble) => trouble.say(rt, path),
     }
 }
@@ -175,9 +253,9 @@ fn sit_watched<D: Disk>(
         return SittingEnd::Memory;
     };
     let mut writer = CountedWriter::new(output);
-    let keyboard = DeskKeyboard::new(rt, StandardInput::new(rt.stdin()));
-    let mut keyboard = WatchedKeyboard::new(keyboard, watch);
-    let end = serve_by(rt, &mut keyboard, &mut writer, store, service);
+    let keys = PastKeys::new(StandardInput::new(rt.stdin()));
+    let mut keyboard = WatchedKeyboard::new(DeskKeyboard::new(rt, keys), watch);
+    let end = serve_through(rt, &mut keyboard, &mut writer, store, service);
     match keyboard.failed() {
         Some(leg) if matches!(end, SittingEnd::Closed) => {
             let told = Service {
@@ -199,9 +277,9 @@ fn failure_of(leg: Leg) -> Saying {
 }
 
 /// Rings, asks for the size of the terminal, and goes on serving.
-fn serve_told<K: Keyboard, W: AnswerWriter, D: Disk>(
+fn serve_told<W: AnswerWriter, D: Disk>(
     rt: &HostRuntime,
-    keyboard: &mut K,
+    keyboard: &mut DeskKeys<'_>,
     writer: &mut W,
     store: &mut Store<D>,
     service: Service,
@@ -211,7 +289,73 @@ fn serve_told<K: Keyboard, W: AnswerWriter, D: Disk>(
     if send_bytes(writer, ASK_SIZE).is_err() || ring(writer).is_err() {
         return SittingEnd::Output;
     }
-    serve_by(rt, keyboard, writer, store, service)
+    serve_through(rt, keyboard, writer, store, service)
+}
+
+/// Serves a person by these devices. Where Ctrl-P ends a sitting, and no file that fails, the past is shown, and then the
+/// person sits down again, unless a file failed meanwhile.
+fn serve_through<W: AnswerWriter, D: Disk>(
+    rt: &HostRuntime,
+    keyboard: &mut DeskKeys<'_>,
+    writer: &mut W,
+    store: &mut Store<D>,
+    service: Service,
+) -> SittingEnd
+    requires { store.old.must_reopen ≡ false }
+    ensures { IsUsableAt result store.new }
+{
+    let mut service = service;
+    let failed = keyboard.failed();
+    for _count in 0..MOST_TURNS {
+        let end = serve_by(rt, keyboard, writer, store, service);
+        if !matches!(end, SittingEnd::Closed) || keyboard.failed() != failed {
+            return end;
+        }
+        match view(rt.alloc(), keyboard, writer, store, size_of(service.window)) {
+            Ok(size) => service = seated_again(service, size),
+            Err(why) => return end_of(why),
+        }
+        if keyboard.failed() != failed {
+            return SittingEnd::Closed;
+        }
+    }
+    SittingEnd::TooLong
+}
+
+/// How many rows and columns a window has.
+fn size_of(window: Window) -> Size {
+    Size {
+        rows: window.rows,
+        columns: window.columns,
+    }
+}
+
+/// The same service in a window of this size, where the line below says the keys that are needed most.
+fn seated_again(service: Service, size: Size) -> Service {
+    Service {
+        window: Window {
+            rows: size.rows,
+            columns: size.columns,
+            fills: service.window.fills,
+        },
+        greeting: Saying::Keys,
+        ..service
+    }
+}
+
+/// How a sitting ends in which nobody looks on at the past.
+fn end_of(why: ViewEnd) -> SittingEnd
+    ensures fault { why ≡ ViewEnd.Fault → result ≡ SittingEnd.Fault }
+    ensures memory { why ≡ ViewEnd.Memory → result ≡ SittingEnd.Memory }
+{
+    match why {
+        ViewEnd::Closed => SittingEnd::Closed,
+        ViewEnd::Input => SittingEnd::Input,
+        ViewEnd::TooLong => SittingEnd::TooLong,
+        ViewEnd::Output => SittingEnd::Output,
+        ViewEnd::Fault => SittingEnd::Fault,
+        ViewEnd::Memory => SittingEnd::Memory,
+    }
 }
 
 /// Serves a person by these devices.

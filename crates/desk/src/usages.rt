@@ -9,7 +9,7 @@ pub(crate) fn usage_of(command: &str) -> Option<&'static str> {
         "picture" => Some("picture PATH"),
         "check" => Some("check PATH [--twin PATH2]"),
         "list" => Some("list PATH [--at K] [--json]"),
-        "backup" => Some("backup PATH COPY"),
+        "backup" => Some("backup [--without-past] PATH COPY"),
         "history" => Some("history PATH [--all]"),
         "forget" => Some("forget PATH"),
         "earlier" => Some("earlier PATH K COPY"),

@@ -27,7 +27,8 @@ use Rattle.desk_past.specs.Reading.{IsOnlyReadFrom, IsQuiet}
 use Rattle.desk_past.proofs.Carrying.{both_leave, written_stays}
 use Rattle.desk_past.proofs.Moments.{many_posted}
 use Rattle.desk_past.proofs.Remembering.{remembers_on}
-use Rattle.desk_past.proofs.StillReads.{nothing_written, resized}
+use Rattle.desk_past.proofs.Sparing.{but_none, but_read, but_then, but_touched}
+use Rattle.desk_past.proofs.StillReads.{resized}
 
 pub same_both : {D : Type 0} (d : Ghosts D) {old mid new : D} → IsSameDevice d old mid → IsSameDevice d mid new
     → IsSameDevice d old new
@@ -46,36 +47,22 @@ module _ {D : Type 0} (d : Ghosts D) (base limit : ℕ) where
 
   pub spared_none : {store : StoreView D} → (store.must_reopen ≡ false → d.honest store.disk → IsQuiet d store)
       → SparesAllBut d base limit store store
-  spared_none {store = store} quiet = record {
-    moments = λ usable honest. weakened (nothing_written (d.trail store.disk))
-        (λ c image n out. image n (quiet usable honest n));
-  }
+  spared_none quiet = but_none d (InRange base limit) quiet
 
   pub spared_read : {old new : StoreView D} → IsOnlyRead d old.disk new.disk
       → (old.must_reopen ≡ false → d.honest old.disk → IsQuiet d old) → SparesAllBut d base limit old new
-  spared_read run quiet = record {
-    moments = λ usable honest. weakened (run.unwritten honest) (λ c image n out. image n (quiet usable honest n));
-  }
+  spared_read run quiet = but_read d (InRange base limit) run quiet
 
   pub spared_write : {old new : StoreView D} (from count : ℕ) → base ≤ from → from + count ≤ base + limit
       → IsConfined d.size d.honest d.trail (InRange from count) old.disk new.disk
       → (old.must_reopen ≡ false → d.honest old.disk → IsQuiet d old) → SparesAllBut d base limit old new
-  spared_write {old = old} from count low high only quiet = record {
-    moments = λ usable honest.
-        spared (λ c. (n : ℕ) → ¬ InRange base limit n → c n ≡ (now (d.trail old.disk)).reads n)
-        (quiet usable honest) (only.moments honest) (λ c same n out.
-        same n (λ within. out (omega (arith, low, within.0), omega (arith, high, within.1))));
-  }
+  spared_write from count low high only quiet = but_touched d (InRange base limit)
+      (λ honest n within. (omega (arith, low, within.0), omega (arith, high, within.1))) only quiet
 
   pub spared_then : {old mid : StoreView D} (new : StoreView D) → IsSameDevice d old.disk mid.disk
       → mid.must_reopen ≡ false → SparesAllBut d base limit old mid → SparesAllBut d base limit mid new
       → SparesAllBut d base limit old new
-  spared_then {mid = mid} new device closed first second = record {
-    moments = λ usable honest.
-        let before = first.moments usable honest in
-        chained before (weakened (second.moments closed (device.still honest)) (λ c same n out. same n out
-        ∙ at_last before (now (d.trail mid.disk)).reads (read_is_an_image (now (d.trail mid.disk))) n out));
-  }
+  spared_then new device closed first second = but_then d (InRange base limit) new device closed first second
 
   -- what the store shows stays
   pub spared_keeps : {old new : StoreView D} → STORE_SECTORS ≤ base → SparesAllBut d base limit old new

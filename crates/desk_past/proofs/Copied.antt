@@ -10,11 +10,12 @@ use Rattle.sector_disk.specs.declared.disk.TheConstants.{SECTOR_BYTES}
 use Rattle.sector_disk.specs.Stored.{HoldsBytes, last_sector, stored}
 use Rattle.sector_disk.specs.Trail.{Content, now}
 use Rattle.sector_disk.proofs.StoredLaws.{length-stored, stored_at}
-use Rattle.sector_disk.proofs.Touching.{at_last, read_is_an_image, weakened}
+use Rattle.sector_disk.proofs.Touching.{at_last, read_is_an_image}
 use Rattle.store_layout.specs.declared.layout.TheConstants.{STORE_SECTORS}
 use Rattle.store_layout.specs.Filling.{InRange}
 use Rattle.desk_journal.specs.View.{StoreView}
-use Rattle.desk_past.specs.Beginning.{HasCopies, HoldsSame, SparesAllBut}
+use Rattle.desk_past.specs.Beginning.{HasCopies, HoldsSame, SparesAllBut, SparesBut}
+use Rattle.desk_past.proofs.Sparing.{but_wider}
 
 -- ---- sectors
 
@@ -66,14 +67,12 @@ module _ {D : Type 0} (d : Ghosts D) where
   -- a wider stretch is spared less
   pub spared_wider : (base limit : ℕ) {old new : StoreView D} (from count : ℕ) → base ≤ from → from + count ≤ base + limit
       → SparesAllBut d from count old new → SparesAllBut d base limit old new
-  spared_wider base limit from count low high spares = record {
-    moments = λ usable honest. weakened (spares.moments usable honest) (λ c same n out.
-        same n (λ within. out (omega (arith, low, within.0), omega (arith, high, within.1))));
-  }
+  spared_wider base limit from count low high spares = but_wider d (InRange base limit)
+      (λ honest n within. (omega (arith, low, within.0), omega (arith, high, within.1))) spares
 
   -- what is spared reads as before
-  pub spared_reads : {from count : ℕ} {old new : StoreView D} → SparesAllBut d from count old new
-      → old.must_reopen ≡ false → d.honest old.disk → (n : ℕ) → ¬ InRange from count n
+  pub spared_reads : {area : ℕ → Type 0} {old new : StoreView D} → SparesBut d area old new
+      → old.must_reopen ≡ false → d.honest old.disk → (n : ℕ) → ¬ area n
       → (now (d.trail new.disk)).reads n ≡ (now (d.trail old.disk)).reads n
   spared_reads {new = new} spares usable honest n out =
       at_last (spares.moments usable honest) (now (d.trail new.disk)).reads (read_is_an_image (now (d.trail new.disk))) n out

@@ -19,8 +19,8 @@ use Rattle.desk_journal.specs.Checkpointing.{LeavesDesktop}
 use Rattle.desk_journal.specs.View.{StoreView}
 use Rattle.desk_past.specs.Beginning.{HasBegun, HasCopies, SparesAllBut, begun_at}
 use Rattle.desk_past.specs.Forgetting.{AreBlank, AreBlankBeside, HasForgotten, IsBlank, SparesStart}
-use Rattle.desk_past.specs.Halves.{HasHalves, middle}
-use Rattle.desk_past.specs.declared.halves.TheConstants.{HALVES}
+use Rattle.desk_past.specs.Parts.{IsPastPart}
+use Rattle.desk_past.specs.declared.parts.TheConstants.{PART_SECTORS}
 use Rattle.desk_past.specs.Past.{HoldsPages, KeepsAll, Start}
 use Rattle.desk_past.proofs.Carrying.{written_stays}
 use Rattle.desk_past.proofs.Copied.{copies_as, spared_reads}
@@ -109,11 +109,7 @@ module _ {D : Type 0} (d : Ghosts D) where
           (λ n within. same_there (base + n) (inr (omega arith, omega (arith, within.1)))) (λ n within. refl) begun.copies;
     }
 
--- ---- both halves
-
-pub above_first : (size base : ℕ) → HasHalves size → (base ≡ HALVES) ⊎ (base ≡ middle size) → HALVES ≤ base
-above_first size base halves (inl is) = omega (arith, is)
-above_first size base halves (inr is) = omega (arith, is, halves.first)
+-- ---- all parts
 
 -- two stretches around a start have zeros
 pub blank_around : (first base end : ℕ) (c : Content) → first ≤ base → AreBlank first (base - first) c
@@ -147,18 +143,19 @@ module _ {D : Type 0} (d : Ghosts D) where
       )))
 
   pub has_forgotten : (old read mid new : StoreView D) → IsOnlyReadFrom d old read → IsQuiet d old → d.honest old.disk
-      → IsSameDevice d read.disk mid.disk → (base sectors : ℕ) → sectors ≡ d.size old.disk
-      → (base ≡ HALVES) ⊎ (base ≡ middle sectors) → HasBegun d base read mid → IsSameDevice d mid.disk new.disk
+      → IsSameDevice d read.disk mid.disk → (base : ℕ) → IsPastPart (d.size old.disk) base (base + PART_SECTORS)
+      → HasBegun d base read mid → IsSameDevice d mid.disk new.disk
       → new.must_reopen ≡ false → SparesStart d base mid new
       → AreBlankBeside (d.size mid.disk) base (now (d.trail new.disk)).reads → HasForgotten d old new
-  has_forgotten old read mid new still quiet honest device base sectors large half begun device' usable spares blank =
+  has_forgotten old read mid new still quiet honest device base part begun device' usable spares blank =
       let second = device.still (still.left.disk.device.still honest) in
       let now_begun = still_begun d new begun second device' usable spares in
       let kept = subst (λ desktop. (k : KeepsAll d (begun_at desktop begun.before base) [] desktop new)
       × (k.remembers.standing.past.next ≡ base + STORE_SECTORS)) (still.left.desktop honest) (now_begun.keeps, now_begun.next) in
       record {
         base = base;
-        half = subst (λ n. (base ≡ HALVES) ⊎ (base ≡ middle n)) large half;
+        end = base + PART_SECTORS;
+        part = part;
         begun = record {
           before = begun.before;
           keeps = kept.0;

@@ -10,13 +10,11 @@ use Rattle.store_layout.specs.Meaning.{Standing}
 use Rattle.desk_journal.specs.View.{StoreView}
 use Rattle.desk_past.specs.declared.going_on.Outset.{Outset}
 use Rattle.desk_past.specs.declared.going_on.Outset.TheVariants.{Absent, GoesOn, Begins}
-use Rattle.desk_past.specs.declared.going_on.TheConstants.{LEAST_ROOM}
-use Rattle.desk_past.specs.declared.halves.TheConstants.{HALVES}
+use Rattle.desk_past.specs.declared.parts.TheConstants.{LEAST_ROOM}
 use Rattle.desk_past.specs.Beginning.{AreUncounted}
-use Rattle.desk_past.specs.Going.{CanGoOn, IsDueOutset, IsInHalf, IsWanted, slot_epoch, start_epoch}
-use Rattle.desk_past.specs.Halves.{HasHalves, IsHalf, middle}
+use Rattle.desk_past.specs.Going.{BeginsIn, BeginsNow, CanGoOn, IsDueOutset, IsInPart, IsOutsetIn, IsOutsetOf, IsStartedSomewhere, IsWanted, slot_epoch, start_epoch}
 use Rattle.desk_past.specs.Reading.{IsOnlyReadFrom, IsQuiet}
-use Rattle.desk_past.proofs.StillReads.{still_shows}
+use Rattle.desk_past.proofs.StillReads.{still_reads, still_shows}
 
 -- ---- epochs
 
@@ -32,41 +30,26 @@ pub start_there : (c : Content) (base epoch first second : ℕ) (label : List �
 start_there c base epoch first second label has label_is first_is second_is told is =
     is ∙ (λ i. if (told ∙ ap is_label label_is) i then max (first_is i) (second_is i) else 0)
 
--- ---- halves
+-- ---- parts
 
--- the epoch of the start of a half is one of the two
-pub epoch_first : (c : Content) (base first : ℕ) → first ≡ start_epoch c HALVES → base ≡ HALVES → first ≡ start_epoch c base
-epoch_first c base first is at = is ∙ ap (start_epoch c) (sym at)
-
-pub epoch_second : (c : Content) (size base end second : ℕ) → second ≡ start_epoch c (middle size) → IsHalf size base end
-    → base ≢ HALVES → second ≡ start_epoch c base
-epoch_second c size base end second is (inl half) other = absurd (other half.0)
-epoch_second c size base end second is (inr half) other = is ∙ ap (start_epoch c) (sym half.0)
-
--- where the one half in which pages can go on is known, what can go on does so there
-pub at_half : (size next base end epoch : ℕ) (c : Content) (can : CanGoOn size next c) → base ≡ can.at.base → end ≡ can.at.end
+-- where the one part in which pages can go on is known, what can go on does so there
+pub at_part : (size next base end epoch : ℕ) (c : Content) (can : CanGoOn size next c) → base ≡ can.at.base → end ≡ can.at.end
     → epoch ≡ start_epoch c base → (0 < epoch) × (next + LEAST_ROOM ≤ end)
-at_half size next base end epoch c can same last is = (
+at_part size next base end epoch c can same last is = (
   subst (λ n. 0 < n) (sym (is ∙ ap (start_epoch c) same)) can.start,
   subst (λ n. next + LEAST_ROOM ≤ n) (sym last) can.room,
 )
 
 -- ---- wants
 
-module _ (asked : Bool) (size next first second : ℕ) (c : Content) (one : first ≡ start_epoch c HALVES)
-    (two : second ≡ start_epoch c (middle size)) where
-  pub wanted_first : 0 < first → IsWanted asked size next c
-  wanted_first some = inr (inl (subst (λ n. 0 < n) one some))
+module _ (asked : Bool) (size next : ℕ) (c : Content) where
+  pub wanted_there : IsInPart size next → IsWanted asked size next c
+  wanted_there there = inr (inr there)
 
-  pub wanted_second : 0 < second → IsWanted asked size next c
-  wanted_second some = inr (inr (inl (subst (λ n. 0 < n) two some)))
-
-  pub wanted_not : (asked ≡ true → ⊥) → (0 < first → ⊥) → (0 < second → ⊥) → (IsInHalf size next → ⊥)
-      → IsWanted asked size next c → ⊥
-  wanted_not unasked none neither nowhere (inl is) = unasked is
-  wanted_not unasked none neither nowhere (inr (inl some)) = none (subst (λ n. 0 < n) (sym one) some)
-  wanted_not unasked none neither nowhere (inr (inr (inl some))) = neither (subst (λ n. 0 < n) (sym two) some)
-  wanted_not unasked none neither nowhere (inr (inr (inr there))) = nowhere there
+  pub wanted_started : (asked ≡ true → ⊥) → (IsInPart size next → ⊥) → IsWanted asked size next c → IsStartedSomewhere size c
+  wanted_started unasked nowhere (inl is) = absurd (unasked is)
+  wanted_started unasked nowhere (inr (inl some)) = some
+  wanted_started unasked nowhere (inr (inr there)) = absurd (nowhere there)
 
 -- two facts of a value
 pub both_weaker : {T E : Type 0} (answer : Result T E) {P Q R : T → Type 0} → IfOk answer P → IfOk answer Q
@@ -77,6 +60,19 @@ both_weaker (Err e) p q f = tt
 -- ---- what is due
 
 module _ {D : Type 0} (d : Ghosts D) where
+  -- what holds of what stands behind a store holds where that was only read
+  pub as_read : {old mid : StoreView D} (P : ℕ → ℕ → Content → Type 0) → IsOnlyReadFrom d old mid → IsQuiet d old
+      → d.honest old.disk → (told next : ℕ) → told ≡ next → P (d.size mid.disk) told (now (d.trail mid.disk)).reads
+      → P (d.size old.disk) next (now (d.trail old.disk)).reads
+  as_read P still quiet honest told next is holds = subst (λ (x : ℕ × ℕ × Content). P x.0 x.1 x.2)
+      (λ i. (still.left.disk.device.as_large i, is i, still_reads d still quiet honest i)) holds
+
+  pub as_then : {old mid : StoreView D} (P : ℕ → ℕ → Content → Type 0) → IsOnlyReadFrom d old mid → IsQuiet d old
+      → d.honest old.disk → (told next : ℕ) → told ≡ next → P (d.size old.disk) next (now (d.trail old.disk)).reads
+      → P (d.size mid.disk) told (now (d.trail mid.disk)).reads
+  as_then P still quiet honest told next is holds = subst (λ (x : ℕ × ℕ × Content). P x.0 x.1 x.2)
+      (λ i. (sym still.left.disk.device.as_large i, sym is i, sym (still_reads d still quiet honest) i)) holds
+
   -- a store that was only read shows the same events
   pub uncounted_then : {old mid : StoreView D} → IsOnlyReadFrom d old mid → IsQuiet d old → d.honest old.disk
       → AreUncounted d mid → AreUncounted d old
@@ -84,6 +80,13 @@ module _ {D : Type 0} (d : Ghosts D) where
 
   pub due_begun : (asked : Bool) (old : StoreView D) (s : Standing) (outset : Outset) → (outset ≡ Absent → AreUncounted d old)
       → (outset ≡ GoesOn → ⊥) → IsDueOutset d asked old s Begins → IsDueOutset d asked old s outset
-  due_begun asked old s Absent absent never due = λ halves wanted. absent refl
+  due_begun asked old s Absent absent never due = λ parts wanted. absent refl
   due_begun asked old s GoesOn absent never due = absurd (never refl)
   due_begun asked old s Begins absent never due = due
+
+  -- a past that has begun, where the store was only read before
+  pub outset_then : {base : ℕ} (old mid new : StoreView D) (outset : Outset) → IsOutsetIn d base mid new outset
+      → (BeginsIn d base mid new → BeginsNow d old new) → IsOutsetOf d old new outset
+  outset_then old mid new Absent comes begins = tt
+  outset_then old mid new GoesOn comes begins = absurd comes
+  outset_then old mid new Begins comes begins = begins comes

@@ -22,7 +22,7 @@ use Rattle.desk_journal.specs.View.{StoreView}
 use Rattle.desk_past.specs.Keeping.{UsesDevice}
 use Rattle.desk_past.specs.Reading.{IsOnlyReadFrom}
 use Rattle.desk_past.proofs.StillReads.{nothing_written}
-use Rattle.desk_past.specs.Errors.{IsNoStart, OfDoing, OfFound, OfLaying, OfMoment, OfSteps, in_memory}
+use Rattle.desk_past.specs.Errors.{IsNoStart, OfDoing, OfFound, OfGoingBack, OfLaying, OfMoment, OfSteps, in_memory}
 
 -- a sector that was never written
 pub zeros_are : zeros ≡ replicate SECTOR_BYTES 0
@@ -85,6 +85,10 @@ pub laying_of_found : (e : Error) → OfFound e → OfLaying e
 laying_of_found e (inl is) = inl (inl is)
 laying_of_found e (inr none) = inr none
 
+pub laying_of_back : (e : Error) → OfGoingBack e → OfLaying e
+laying_of_back e (inl done) = laying_of_doing e done
+laying_of_back e (inr found) = laying_of_found e found
+
 pub moment_of_laying : (e : Error) → OfLaying e → OfMoment e
 moment_of_laying e is = inr is
 
@@ -106,6 +110,10 @@ pub found_no_fault : (e : Error) → OfFound e → e ≡ Fault → ⊥
 found_no_fault e (inl is) fault = let wrong : ⊥ = cc (is, fault) in wrong
 found_no_fault e (inr (inl is)) fault = let wrong : ⊥ = cc (is, fault) in wrong
 found_no_fault e (inr (inr (n, is))) fault = let wrong : ⊥ = cc (is, fault) in wrong
+
+pub back_no_fault : (e : Error) → OfGoingBack e → e ≡ Fault → ⊥
+back_no_fault e (inl done) = doing_no_fault e done
+back_no_fault e (inr found) = found_no_fault e found
 
 pub laying_no_reopen : (e : Error) → OfLaying e → e ≡ MustReopen → ⊥
 laying_no_reopen e (inl (inl is)) reopen = let wrong : ⊥ = cc (is, reopen) in wrong

@@ -6,6 +6,8 @@ pub mod Remembering
 pub mod Undoing
 pub mod OnePast
 pub mod StillReads
+pub mod Looks
+pub mod Before
 pub mod InMemory
 pub mod PageReads
 pub mod DocumentReads
@@ -17,11 +19,17 @@ pub mod TurnedBack
 pub mod Stepping
 pub mod Legs
 pub mod Opened
+pub mod Sparing
 pub mod Copied
 pub mod Begun
 pub mod Ways
 pub mod Rooms
+pub mod Apart
+pub mod Former
+pub mod Over
 pub mod GoingOn
 pub mod Gone
+pub mod Chaining
+pub mod Firsts
 pub mod Found
 pub mod Forgotten

@@ -35,6 +35,10 @@ pub if_some_then : {X : Type 0} {P Q : X → Type 0} (o : Option X) → IfSome o
 if_some_then (Some x) has then_is = then_is x has
 if_some_then None has then_is = tt
 
+pub if_some_always : {X : Type 0} {P : X → Type 0} (o : Option X) → ((x : X) → P x) → IfSome o P
+if_some_always (Some x) all = all x
+if_some_always None all = tt
+
 pub if_none_then : {X P Q : Type 0} (o : Option X) → IfNone o P → (P → Q) → IfNone o Q
 if_none_then (Some x) has then_is = tt
 if_none_then None has then_is = then_is has

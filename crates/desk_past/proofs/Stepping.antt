@@ -264,6 +264,20 @@ led_turn all (of_turn version k to) count events documents read some free = turn
 
 -- ---- moments
 
+-- as many deeds came before the journal in use as the head tells, and as many up to the present
+pub deeds_up_to : {size : ℕ} {start : Start} {deeds : List PastDeed} {desktop : Desktop} {c : Content}
+    (r : Remembers size start deeds desktop c)
+    → r.standing.past.before + length r.standing.events ≡ start.before + length deeds
+deeds_up_to r =
+    let long = ap length r.all in
+    omega (
+      arith,
+      long,
+      length-append (all_deeds r.pages) (all_posted r.standing.events),
+      many_posted r.standing.events,
+      r.past.counted,
+    )
+
 module _ {size : ℕ} {start : Start} {deeds : List PastDeed} {desktop : Desktop} {c : Content}
     (r : Remembers size start deeds desktop c) (k : ℕ) where
   -- a moment of the pages

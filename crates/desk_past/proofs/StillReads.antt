@@ -87,6 +87,12 @@ module _ {D : Type 0} (d : Ghosts D) where
       → new.must_reopen ≡ mid.must_reopen → IsOnlyReadFrom d old new
   still_left first left same = still_both first (record { left = left; usable = same ∙ first.usable })
 
+  -- a look at a store that is in use, and reads behind it
+  pub read_behind : {T : Type 0} {old mid new : StoreView D} (result : Result T Error) → OnlyLooks d result old mid
+      → IsOnlyReadFrom d mid new → old.must_reopen ≡ false → IsOnlyReadFrom d old new
+  read_behind {old = old} result look still usable =
+      still_both (still_looked result (still_none old usable) look) still
+
   -- what is read stays
   pub still_reads : {old new : StoreView D} → IsOnlyReadFrom d old new → IsQuiet d old → d.honest old.disk
       → (now (d.trail new.disk)).reads ≡ (now (d.trail old.disk)).reads

@@ -17,8 +17,8 @@ use Rattle.desk_journal.specs.View.{StoreView}
 use Rattle.desk_past.specs.Ahead.{CanAdd}
 use Rattle.desk_past.specs.Deeds.{PastDeed, turned}
 use Rattle.desk_past.specs.Errors.{OfMoment}
-use Rattle.desk_past.specs.Going.{LiesInHalf}
-use Rattle.desk_past.specs.Halves.{IsHalf}
+use Rattle.desk_past.specs.Going.{LiesInPart}
+use Rattle.desk_past.specs.Parts.{IsPastPart}
 use Rattle.desk_past.specs.Page.{Page}
 use Rattle.desk_past.specs.Past.{KeepsAll, Start}
 use Rattle.desk_past.specs.Reading.{IsOnlyReadFrom, IsQuiet}
@@ -53,25 +53,25 @@ left_twice d first second = record {
   disk = read_twice d first.disk second.disk;
 }
 
--- ---- a past that has room lies in a half
+-- ---- a past that has room lies in a part
 
 pub lies_there : {D : Type 0} (d : Ghosts D) {start : Start} {deeds : List PastDeed} {desktop : Desktop}
     {store : StoreView D} {keeps : KeepsAll d start deeds desktop store} (p : Page) → CanAdd d p keeps
-    → LiesInHalf d keeps
+    → LiesInPart d keeps
 lies_there d p can = record {
   end = can.end;
-  half = can.half;
+  part = can.part;
   within = omega (arith, can.room.pages);
 }
 
 -- in which its pages go on
-pub half_found : {D : Type 0} (d : Ghosts D) {store : StoreView D} (past : PastOf d store)
-    (lies : LiesInHalf d past.keeps) {sectors next : ℕ} {X : ℕ → ℕ → Type 0} → sectors ≡ d.size store.disk
+pub part_found : {D : Type 0} (d : Ghosts D) {store : StoreView D} (past : PastOf d store)
+    (lies : LiesInPart d past.keeps) {sectors next : ℕ} {X : ℕ → ℕ → Type 0} → sectors ≡ d.size store.disk
     → next ≡ past.keeps.remembers.standing.past.next
-    → ((base end : ℕ) → IsHalf sectors base end → base + STORE_SECTORS ≤ next → next ≤ end → X base end)
+    → ((base end : ℕ) → IsPastPart sectors base end → base + STORE_SECTORS ≤ next → next ≤ end → X base end)
     → X past.start.base lies.end
-half_found d past lies large told all = all past.start.base lies.end
-    (subst (λ n. IsHalf n past.start.base lies.end) (sym large) lies.half)
+part_found d past lies large told all = all past.start.base lies.end
+    (subst (λ n. IsPastPart n past.start.base lies.end) (sym large) lies.part)
     (omega (arith, behind_start d past.keeps, told)) (omega (arith, lies.within, told))
 
 -- and what a past can take it can take behind a call that only reads
@@ -82,7 +82,7 @@ add_still : {D : Type 0} (d : Ghosts D) {start : Start} {deeds : List PastDeed} 
 unfolding read_keeps
 add_still d {start = start} was honest quiet still p can = record {
   end = can.end;
-  half = subst (λ n. IsHalf n start.base can.end) (sym still.left.disk.device.as_large) can.half;
+  part = subst (λ n. IsPastPart n start.base can.end) (sym still.left.disk.device.as_large) can.part;
   room = record {
     pages = can.room.pages;
     inside = omega (arith, can.room.inside, still.left.disk.device.as_large);
@@ -126,7 +126,7 @@ module _ {D : Type 0} (d : Ghosts D) {old mid : StoreView D} (still : IsOnlyRead
 
   -- this is what the desktop was at that moment
   module _ (k : ℕ) (to : Desktop) (new : StoreView D)
-      (found : (past : PastOf d old) → LiesInHalf d past.keeps → WasAt d k to past) where
+      (found : (past : PastOf d old) → LiesInPart d past.keeps → WasAt d k to past) where
     pub turns_back : TurnsTo d k to mid new → TurnsBack d k old new
     turns_back turns past lies =
         let was = found past lies in

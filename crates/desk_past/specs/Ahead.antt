@@ -8,7 +8,7 @@ use Rattle.store_layout.specs.Meaning.{Standing}
 use Rattle.store_layout.specs.declared.head.PastEnd.{PastEnd}
 use Rattle.desk_journal.specs.View.{StoreView}
 use Rattle.desk_past.specs.Deeds.{PastDeed}
-use Rattle.desk_past.specs.Halves.{IsHalf}
+use Rattle.desk_past.specs.Parts.{IsPastPart}
 use Rattle.desk_past.specs.Page.{Page, end_of_pages, page_bytes, page_sectors}
 use Rattle.desk_past.specs.Past.{IsGoodPage, KeepsAll, Start, journal_of}
 
@@ -35,12 +35,12 @@ module _ {D : Type 0} (d : Ghosts D) where
     pub few : keeps.remembers.standing.past.before
         + length keeps.remembers.standing.events + 1 < 2 ^ 64
 
-  -- the past lies in a half that has such room, and an epoch comes behind the one in use
+  -- the past lies in a part that has such room, and an epoch comes behind the one in use
   pub record CanAdd (p : Page) {start : Start} {deeds : List PastDeed} {desktop : Desktop}
       {store : StoreView D} (keeps : KeepsAll d start deeds desktop store)
       : Type 0 where
     pub end : ℕ
-    pub half : IsHalf (d.size store.disk) start.base end
+    pub part : IsPastPart (d.size store.disk) start.base end
     pub room : HasRoomAhead p end keeps
     pub later : ¬ (store.epoch ≡ LAST_EPOCH)
 

@@ -1,21 +1,24 @@
 -- A past that begins, behind another one or none. `d` is what is known of a disk.
-use Rattle.std.specs.Prelude.{◌≡◌, ◌⊎◌, ◌+◌, ◌<◌, ◌≤◌, ◌^◌, ℕ, [], List, false, true, length, nat_lt, if◌then◌else◌}
+use Rattle.std.specs.Prelude.{◌≡◌, ◌⊎◌, ◌+◌, ◌<◌, ◌≤◌, ◌^◌, ◌∷◌, ℕ, [], List, Bool, false, true, length, nat_lt, if◌then◌else◌}
 use Rattle.std.specs.Prelude.{Result, IsErrOf, get_or}
 use Rattle.sector_disk.specs.declared.disk.Disk.{Ghosts}
 use Rattle.sector_disk.specs.declared.disk.TheConstants.{SECTOR_BYTES}
 use Rattle.sector_disk.specs.Faults.{FailsAs}
 use Rattle.sector_disk.specs.Trail.{Content, now, LeavesOnly}
+use Rattle.event_bytes.specs.declared.event.Event.{Event}
 use Rattle.desktop_definitions.specs.Desktop.{Desktop}
+use Rattle.desktop_definitions.specs.Step.{step}
 use Rattle.store_layout.specs.declared.layout.TheConstants.{LAST_EPOCH, STORE_SECTORS}
 use Rattle.store_layout.specs.Filling.{InRange}
 use Rattle.store_layout.specs.Meaning.{Standing}
 use Rattle.store_slots.specs.declared.error.Error.{Error}
 use Rattle.store_slots.specs.declared.error.Error.TheVariants.{Fault, MustReopen, Worn}
 use Rattle.store_slots.specs.Errors.{OfPost}
+use Rattle.desk_journal.specs.Checkpointing.{IsRenewed}
 use Rattle.desk_journal.specs.Device.{IsSameDevice}
 use Rattle.desk_journal.specs.Undoing.{ShowsStanding}
 use Rattle.desk_journal.specs.View.{StoreView}
-use Rattle.desk_past.specs.Deeds.{PastDeed}
+use Rattle.desk_past.specs.Deeds.{PastDeed, posted}
 use Rattle.desk_past.specs.Past.{KeepsAll, Remembers, Start}
 
 -- the start of a past that begins with this desktop, behind so many events
@@ -28,16 +31,25 @@ pub record HasStartRoom (size base : ℕ) : Type 0 where
   pub numbered : base + STORE_SECTORS < 2 ^ 32
   pub room : base + STORE_SECTORS ≤ size
 
--- At every moment of the call a crash leaves each sector as it was, but so many from this one on.
-pub record SparesAllBut {D : Type 0} (d : Ghosts D) (from limit : ℕ) (old new : StoreView D)
+-- At every moment of the call a crash leaves each sector as it was, but those of an area.
+pub record SparesBut {D : Type 0} (d : Ghosts D) (area : ℕ → Type 0) (old new : StoreView D)
     : Type 0 where
   pub moments : old.must_reopen ≡ false → d.honest old.disk
       → LeavesOnly (d.trail old.disk) (d.trail new.disk)
-      (λ c. (n : ℕ) → ¬ InRange from limit n → c n ≡ (now (d.trail old.disk)).reads n)
+      (λ c. (n : ℕ) → ¬ area n → c n ≡ (now (d.trail old.disk)).reads n)
+
+-- but so many from this one on
+abbrev pub SparesAllBut : {D : Type 0} → Ghosts D → ℕ → ℕ → StoreView D → StoreView D → Type 0
+SparesAllBut d from limit old new = SparesBut d (InRange from limit) old new
 
 -- but those of a start from this one on
 abbrev pub SparesOthers : {D : Type 0} → Ghosts D → ℕ → StoreView D → StoreView D → Type 0
 SparesOthers d base old new = SparesAllBut d base STORE_SECTORS old new
+
+-- but those of the store, and those of a start from this one on
+abbrev pub SparesAround : {D : Type 0} → Ghosts D → ℕ → StoreView D → StoreView D → Type 0
+SparesAround d base old new = SparesBut d
+    (λ n. (n < STORE_SECTORS) ⊎ InRange base STORE_SECTORS n) old new
 
 -- two sectors hold the same bytes
 abbrev pub HoldsSame : List ℕ → List ℕ → Type 0
@@ -55,6 +67,11 @@ pub record IsAside {D : Type 0} (d : Ghosts D) (old new : StoreView D) : Type 0 
   pub layout : new.layout ≡ old.layout
   pub epoch : new.epoch ≡ old.epoch
   pub events : new.events ≡ old.events
+
+-- A checkpoint was made, or something was written behind the store, or nothing.
+abbrev pub IsBegunOrAside : {D : Type 0} → Ghosts D → Bool → StoreView D → StoreView D → Type 0
+IsBegunOrAside d true old new = IsRenewed d old new
+IsBegunOrAside d false old new = IsAside d old new
 
 -- The start stands from this sector on: the sectors of the store were copied there. So many events came before it.
 pub record IsStarted {D : Type 0} (d : Ghosts D) (base before : ℕ) (old new : StoreView D)
@@ -99,6 +116,14 @@ pub record GoesOnFrom (size base : ℕ) (start : Start) (deeds : List PastDeed) 
   pub anew : Remembers size (begun_at desktop (start.before + length deeds) base) [] desktop c
   pub former : RemembersFormer size base start deeds desktop c
 
+-- The same with an event behind that.
+pub record GoesOnBy (size base : ℕ) (start : Start) (deeds : List PastDeed) (desktop : Desktop)
+    (event : Event) (c : Content)
+    : Type 0 where
+  pub anew : Remembers size (begun_at desktop (start.before + length deeds) base)
+      (posted event ∷ []) (step desktop event).desktop c
+  pub former : RemembersFormer size base start deeds desktop c
+
 module _ {D : Type 0} (d : Ghosts D) where
   -- A past begins with what the store shows, from this sector on, and its start has copies of all sectors of the store.
   pub record HasBegun (base : ℕ) (old new : StoreView D) : Type 0 where
@@ -128,3 +153,8 @@ module _ {D : Type 0} (d : Ghosts D) where
   BeginsBehind base old new = d.honest old.disk → (start : Start) (deeds : List PastDeed)
       (desktop : Desktop) → (keeps : KeepsAll d start deeds desktop old) → IsApart base keeps
       → GoesOnFrom (d.size old.disk) base start deeds desktop (now (d.trail new.disk)).reads
+
+  -- Both: a past begins with what the store shows, behind the one that there was, if there was one.
+  pub record IsBegunNow (base : ℕ) (old new : StoreView D) : Type 0 where
+    pub anew : d.honest old.disk → HasBegun base old new
+    pub behind : BeginsBehind base old new

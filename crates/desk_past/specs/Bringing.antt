@@ -32,7 +32,7 @@ module _ {D : Type 0} (d : Ghosts D) where
     pub add : CanAdd d (import_of documents) keeps
     pub fit : FitPage documents
 
-  -- Nothing is forgotten, unless the half has no room for the pages: at every moment of the call a crash leaves all
+  -- Nothing is forgotten, unless the part has no room for the pages: at every moment of the call a crash leaves all
   -- deeds from before it, and the desktop to which they led, or these and the import, and the desktop after that.
   abbrev pub BringsOn : Documents → StoreView D → StoreView D → Type 0
   BringsOn documents old new = d.honest old.disk → (start : Start) (deeds : List PastDeed)

@@ -32,6 +32,10 @@ IsNoStart e = (e ≡ NotAStore) ⊎ ((n : ℕ) × (e ≡ Damaged n))
 abbrev pub OfFound : Error → Type 0
 OfFound e = (e ≡ NoMemory) ⊎ IsNoStart e
 
+-- a store in memory is taken back to an earlier moment of its journal
+abbrev pub OfGoingBack : Error → Type 0
+OfGoingBack e = OfDoing e ⊎ OfFound e
+
 -- a start is laid in memory
 abbrev pub OfLaying : Error → Type 0
 OfLaying e = OfSteps e ⊎ IsNoStart e

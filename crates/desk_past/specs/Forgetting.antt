@@ -6,9 +6,9 @@ use Rattle.sector_disk.specs.Trail.{Content, now, LeavesOnly}
 use Rattle.store_layout.specs.declared.layout.TheConstants.{STORE_SECTORS}
 use Rattle.store_layout.specs.Filling.{InRange}
 use Rattle.desk_journal.specs.View.{StoreView}
-use Rattle.desk_past.specs.declared.halves.TheConstants.{HALVES}
+use Rattle.desk_past.specs.declared.parts.TheConstants.{PARTS}
 use Rattle.desk_past.specs.Beginning.{HasBegun}
-use Rattle.desk_past.specs.Halves.{half_sectors, middle}
+use Rattle.desk_past.specs.Parts.{IsPastPart, parts_end}
 
 -- the sector has zeros
 abbrev pub IsBlank : List ℕ → Type 0
@@ -18,9 +18,9 @@ IsBlank bytes = (j : ℕ) → j < SECTOR_BYTES → get_or bytes j 0 ≡ 0
 abbrev pub AreBlank : ℕ → ℕ → Content → Type 0
 AreBlank from count c = (n : ℕ) → InRange from count n → IsBlank (c n)
 
--- All sectors of both halves have zeros, but those of a start from this sector on.
+-- All sectors of all parts have zeros, but those of a start from this sector on.
 abbrev pub AreBlankBeside : ℕ → ℕ → Content → Type 0
-AreBlankBeside size base c = (n : ℕ) → HALVES ≤ n → n < middle size + half_sectors size
+AreBlankBeside size base c = (n : ℕ) → PARTS ≤ n → n < parts_end size
     → ¬ InRange base STORE_SECTORS n → IsBlank (c n)
 
 module _ {D : Type 0} (d : Ghosts D) where
@@ -31,9 +31,10 @@ module _ {D : Type 0} (d : Ghosts D) where
         (λ c. (n : ℕ) → (n < STORE_SECTORS) ⊎ InRange base STORE_SECTORS n
         → c n ≡ (now (d.trail old.disk)).reads n)
 
-  -- A past has begun with what the store shows, and nothing else is behind the store in either half.
+  -- A past has begun with what the store shows, and nothing else is in any part behind the store.
   pub record HasForgotten (old new : StoreView D) : Type 0 where
     pub base : ℕ
-    pub half : (base ≡ HALVES) ⊎ (base ≡ middle (d.size old.disk))
+    pub end : ℕ
+    pub part : IsPastPart (d.size old.disk) base end
     pub begun : HasBegun d base old new
     pub blank : AreBlankBeside (d.size old.disk) base (now (d.trail new.disk)).reads

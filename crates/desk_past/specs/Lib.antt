@@ -6,8 +6,10 @@ pub mod Errors
 pub mod Beginning
 pub mod Going
 pub mod Forgetting
-pub mod Halves
+pub mod Parts
 pub mod Keeping
+pub mod Writing
+pub mod Chain
 pub mod Ahead
 pub mod Bringing
 pub mod Routes

@@ -1,16 +1,19 @@
 -- What is read of a past.
-use Rattle.std.specs.Prelude.{◌≡◌, ◌+◌, ◌≤◌, ℕ, List, length, replicate, false}
+use Rattle.std.specs.Prelude.{◌≡◌, ◌+◌, ◌-◌, ◌≤◌, ℕ, List, [], length, replicate, take, false}
 use Rattle.sector_disk.specs.Stored.{HoldsBytes}
 use Rattle.sector_disk.specs.Trail.{Content, now}
 use Rattle.sector_disk.specs.declared.disk.Disk.{Ghosts}
 use Rattle.sector_disk.specs.declared.disk.TheConstants.{SECTOR_BYTES}
+use Rattle.desktop_definitions.specs.Desktop.{Desktop}
+use Rattle.desktop_definitions.specs.Step.{steps_in}
+use Rattle.store_layout.specs.declared.head.PastEnd.{PastEnd}
 use Rattle.store_layout.specs.declared.layout.TheConstants.{STORE_SECTORS}
 use Rattle.store_layout.specs.Meaning.{Standing, desktop_of}
 use Rattle.desk_journal.specs.Undoing.{IsLeft, ShowsStanding}
 use Rattle.desk_journal.specs.View.{StoreView}
 use Rattle.desk_past.specs.Deeds.{PastDeed, after_deeds}
-use Rattle.desk_past.specs.Page.{Page, of_events, of_import, of_turn, page_bytes, page_sectors}
-use Rattle.desk_past.specs.Past.{IsGoodPage}
+use Rattle.desk_past.specs.Page.{Page, of_events, of_import, of_turn, end_of_pages, page_bytes, page_sectors}
+use Rattle.desk_past.specs.Past.{AreGood, AreTurns, HoldsPages, IsGoodPage, Start, all_deeds, first_page}
 use Rattle.desk_past.specs.declared.pages.PageDeeds.{PageDeeds}
 use Rattle.desk_past.specs.declared.pages.PageDeeds.TheVariants.{Events, Import, Turn}
 
@@ -26,6 +29,21 @@ IsQuiet d store = (n : ℕ) → (now (d.trail store.disk)).pending n ≡ false
 pub record IsBlankRoom {E : Type 0} (e : Ghosts E) (disk : E) : Type 0 where
   pub room : STORE_SECTORS ≤ e.size disk
   pub zeros : ReadsZeros e disk
+
+-- The content has a start and the pages behind it, up to the sector of which this tells, and as many deeds as it says came
+-- before that.
+pub record HoldsTold (size : ℕ) (start : Start) (told : PastEnd) (pages : List Page) (c : Content)
+    : Type 0 where
+  pub written : HoldsPages c start pages
+  pub good : AreGood pages
+  pub turns : AreTurns start [] pages
+  pub up_to : end_of_pages (first_page start) pages ≡ told.next
+  pub room : told.next ≤ size
+  pub counted : start.before + length (all_deeds pages) ≡ told.before
+
+-- the desktop behind so many deeds, of which the head tells and the journal has the last ones
+abbrev pub start_at : Standing → ℕ → Desktop
+start_at t k = steps_in t.version t.start (take (k - t.past.before) t.events)
 
 -- the page stands there, and ends before that sector
 pub record HasPage (c : Content) (at end : ℕ) (p : Page) : Type 0 where

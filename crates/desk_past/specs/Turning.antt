@@ -9,7 +9,7 @@ use Rattle.desk_journal.specs.Turning.{IsTurnedTo}
 use Rattle.desk_journal.specs.View.{StoreView}
 use Rattle.desk_past.specs.Ahead.{CanAdd}
 use Rattle.desk_past.specs.Deeds.{PastDeed, turned}
-use Rattle.desk_past.specs.Going.{LiesInHalf}
+use Rattle.desk_past.specs.Going.{LiesInPart}
 use Rattle.desk_past.specs.Page.{Page, of_turn}
 use Rattle.desk_past.specs.Past.{HasMoment, KeepsAll, Remembers, Start, moment}
 use Rattle.desk_past.specs.Reading.{IsOnlyReadFrom}
@@ -69,14 +69,14 @@ module _ {D : Type 0} (d : Ghosts D) where
     pub still : IsOnlyReadFrom d old new
     pub none : Can → ⊥
 
-  -- ---- to one that is worked out, of a past in a half
+  -- ---- to one that is worked out, of a past in a part
 
   -- nothing is forgotten
   abbrev pub TurnsBack : ℕ → StoreView D → StoreView D → Type 0
-  TurnsBack k old new = (past : PastOf old) → LiesInHalf d past.keeps
+  TurnsBack k old new = (past : PastOf old) → LiesInPart d past.keeps
       → LeavesTurned (moment past.start past.deeds k) past new
 
   -- and there is such a moment
   abbrev pub HasTurnedBack : ℕ → StoreView D → StoreView D → Type 0
-  HasTurnedBack k old new = (past : PastOf old) → LiesInHalf d past.keeps
+  HasTurnedBack k old new = (past : PastOf old) → LiesInPart d past.keeps
       → HasMoment past.start past.deeds k × KeepsTurned (moment past.start past.deeds k) past new

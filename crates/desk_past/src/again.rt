@@ -1,7 +1,8 @@
 //! What is done once more to a store in memory, whose disk fails for want of memory alone.
-ghost use Rattle.std.specs.Prelude.{◌≡◌, ◌+◌, ◌≤◌, ◌^◌, length, IfErr, IfOk, MatchOption, OnOk};
+ghost use Rattle.std.specs.Prelude.{◌≡◌, ◌+◌, ◌≤◌, ◌^◌, length, take, IfErr, IfOk, IfSome, IsSomeAnd, MatchOption, OnOk};
 ghost use Rattle.sector_disk.specs.Confined.{IsConfined};
 ghost use Rattle.sector_disk.specs.Trail.{Nowhere, now};
+ghost use Rattle.desktop_definitions.specs.Step.{steps_in};
 ghost use Rattle.store_layout.specs.declared.layout.TheConstants.{STORE_SECTORS};
 ghost use Rattle.store_layout.specs.Meaning.{Standing, Stands};
 ghost use Rattle.store_slots.specs.Errors.{OfOpen};
@@ -11,7 +12,7 @@ ghost use Rattle.desk_journal.specs.Opening.{IsNoStore, IsOpened};
 ghost use Rattle.desk_journal.specs.Posting.{IsAcknowledged};
 ghost use Rattle.desk_journal.specs.Undoing.{IsTakenBack, ShowsStanding};
 ghost use Rattle.desk_past.specs.Errors.{OfDoing, OfFound, in_memory};
-ghost use Rattle.desk_past.specs.Reading.{IsOnlyReadFrom, ReadsZeros};
+ghost use Rattle.desk_past.specs.Reading.{IsOnlyReadFrom, ReadsZeros, ShowsNow};
 
 use crate::reading::events_before;
 use desk_journal::{Document, Error, STORE_SECTORS, Store};
@@ -19,7 +20,7 @@ use desktop_definitions::Reply;
 use event_bytes::Event;
 use sector_disk::{Disk, MemoryDisk, NoMemory};
 use std::alloc::Global;
-use store_layout::finding_law;
+use store_layout::{PastEnd, finding_law, standing_law};
 
 /// What an error of a store in memory is to those who have it made: its disk fails for want of memory alone, and only
 /// behind that it must be opened again.
@@ -149,10 +150,58 @@ pub(crate) fn many_before<E: Disk>(shown: &mut Store<E>) -> Result<Option<u64>, 
         → MatchOption found (2 ^ 64 ≤ s.past.before + length s.events)
         (λ n. n ≡ s.past.before + length s.events)) }
     ensures still { OnOk result (IsOnlyReadFrom E.Disk shown.old shown.new) }
+    ensures shows { OnOk result ((t : Standing) → ShowsNow E.Disk t shown.old
+        → ShowsNow E.Disk t shown.new) }
     ensures errors { IfErr result OfDoing }
 {
+    shown.shows_what_crashes_leave();
     match events_before(shown) {
         Ok(found) => Ok(found),
         Err(error) => Err(in_memory(error)),
     }
+}
+
+/// What the head of the slot in use tells of the past.
+///
+/// Error: `NoMemory`.
+pub(crate) fn told_in<E: Disk>(shown: &mut Store<E>) -> Result<PastEnd, Error>
+    ensures told { IfOk result (λ told. (t : Standing) → ShowsNow E.Disk t shown.old
+        → told ≡ t.past) }
+    ensures still { (t : Standing) → ShowsNow E.Disk t shown.old → ShowsNow E.Disk t shown.new }
+    ensures errors { IfErr result OfDoing }
+{
+    shown.shows_what_crashes_leave();
+    match shown.past() {
+        Ok(told) => Ok(told),
+        Err(error) => Err(in_memory(error)),
+    }
+}
+
+/// The store behind the first events of its journal, so many. None where it has fewer.
+///
+/// Errors: those of `taken_back`.
+pub(crate) fn back_to<E: Disk + Drop>(
+    alloc: Global,
+    shown: Store<E>,
+    count: u64,
+) -> Result<Option<Store<E>>, Error>
+    ensures is_one { IfOk result (λ found. (t : Standing) → ShowsNow E.Disk t shown
+        → count ≤ length t.events → IsSomeAnd found (λ back.
+        back.desktop ≡ steps_in t.version t.start (take count t.events))) }
+    ensures there { IfOk result (λ found. IfSome found (λ back. (t : Standing)
+        → ShowsNow E.Disk t shown → count ≤ length t.events)) }
+    ensures errors { IfErr result OfFound }
+    ensures stops { IfErr result (λ e. (t : Standing) → ShowsNow E.Disk t shown → OfDoing e) }
+{
+    standing_law();
+    shown.shows_what_crashes_leave();
+    let Ok(info) = shown.info() else {
+        return Err(Error::NoMemory);
+    };
+    if count > info.events as u64 {
+        return Ok(None);
+    }
+    let mut shown = shown;
+    let _ = taken_back(alloc, &mut shown, info.events - count as u32)?;
+    Ok(Some(shown))
 }

@@ -12,9 +12,10 @@ ghost use Rattle.desk_past.specs.Deeds.{PastDeed};
 ghost use Rattle.desk_past.specs.Page.{Page, page_bytes};
 ghost use Rattle.desk_past.specs.Past.{IsGoodPage, KeepsAll, Start};
 ghost use Rattle.desk_past.specs.Reading.{IsOnlyReadFrom};
+ghost use Rattle.desk_past.specs.Writing.{AreAhead};
 
-use crate::halves::half_at;
 use crate::page::{page_read, sectors_for};
+use crate::parts::part_at;
 use crate::sectors::zeros;
 use desk_journal::{Error, STORE_SECTORS, Store};
 use sector_disk::{Disk, NoMemory, SECTOR_BYTES};
@@ -119,6 +120,8 @@ pub(crate) fn page_ahead<D: Disk>(
     requires { store.old.must_reopen ≡ false }
     ensures fit { IfOk result (λ found. IfSome found (λ a.
         FitBehind (D.size store.new.disk) a.from a.limit (length a.bytes.items))) }
+    ensures inside { IfOk result (λ found. IfSome found (λ a.
+        AreAhead D.Disk a.from a.limit store.old)) }
     ensures ahead { IfOk result (λ found. IfSome found (λ a. D.honest store.old.disk
         → (start : Start) (deeds : List PastDeed) (desktop : Desktop) (p : Page)
         → (keeps : KeepsAll D.Disk start deeds desktop store.old)
@@ -136,14 +139,14 @@ pub(crate) fn page_ahead<D: Disk>(
     standing_law();
     store.shows_what_crashes_leave();
     let told = store.past()?;
-    let Some(half) = half_at(store.sectors(), told.next) else {
+    let Some(part) = part_at(store.sectors(), told.next) else {
         return Ok(None);
     };
     let info = store.info()?;
     let Some(journal) = page_read(alloc, store)? else {
         return Ok(None);
     };
-    let end = half.end.min(store.sectors());
+    let end = part.end.min(store.sectors());
     let Some(ahead) = ahead_of(alloc, told, info.events, journal, page, end)? else {
         return Ok(None);
     };

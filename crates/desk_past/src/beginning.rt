@@ -4,7 +4,7 @@ ghost use Rattle.sector_disk.specs.Trail.{now};
 ghost use Rattle.store_layout.specs.declared.layout.TheConstants.{STORE_SECTORS};
 ghost use Rattle.store_slots.specs.Errors.{OfDesktop, OfLook};
 ghost use Rattle.desk_journal.specs.Checkpointing.{LeavesDesktop};
-ghost use Rattle.desk_past.specs.Beginning.{AreUncounted, BeginsBehind, ForgetsNoneBefore, HasBegun, HasCopies, HasStartRoom, IsAside, IsStarted, IsStoppedBy, SparesAllBut, SparesOthers};
+ghost use Rattle.desk_past.specs.Beginning.{AreUncounted, ForgetsNoneBefore, HasCopies, HasStartRoom, IsAside, IsBegunNow, IsBegunOrAside, IsStarted, IsStoppedBy, SparesAllBut, SparesAround, SparesOthers};
 ghost use Rattle.desk_past.specs.Keeping.{UsesDevice};
 
 use crate::reading::events_before;
@@ -14,8 +14,9 @@ use sector_disk::Disk;
 use std::alloc::Global;
 use store_layout::{PastEnd, standing_law};
 
-/// How many sectors are copied in one call, which syncs.
-const AT_ONCE: u32 = 1024;
+/// How many sectors are copied in one call, which syncs. Where the copy has them already nothing is written: so the start of
+/// a store that is mostly zeros takes no more room in a sparse file than the store does.
+const AT_ONCE: u32 = 256;
 
 /// Copies so many sectors of the store, from `from` on, each `base` sectors further on.
 ///
@@ -44,9 +45,37 @@ fn copy_some<D: Disk>(
     Ok(())
 }
 
+/// The same, where the copy isn't there already.
+///
+/// Errors: those of `Store::read_behind` and `copy_some`.
+fn copy_changed<D: Disk>(
+    alloc: Global,
+    store: &mut Store<D>,
+    base: u32,
+    from: u32,
+    count: u32,
+) -> Result<(), Error>
+    requires usable { store.old.must_reopen ≡ false }
+    requires start { HasStartRoom (D.size store.old.disk) base }
+    requires some { 0 < count }
+    requires inside { from + count ≤ STORE_SECTORS }
+    ensures only { SparesAllBut D.Disk (base + from) count store.old store.new }
+    ensures device { UsesDevice D.Disk OfDesktop result store.old store.new }
+    ensures aside { OnOk result (IsAside D.Disk store.old store.new) }
+    ensures copied { OnOk result (D.honest store.old.disk → HasCopies base from count
+        (now (D.trail store.old.disk)).reads (now (D.trail store.new.disk)).reads) }
+{
+    store.shows_what_crashes_leave();
+    if is_copied(store, base, from, count)? {
+        return Ok(());
+    }
+    copy_some(alloc, store, base, from, count)?;
+    Ok(())
+}
+
 /// Copies the sectors of the store behind its label, each `base` sectors further on.
 ///
-/// Errors: those of `copy_some`.
+/// Errors: those of `copy_changed`.
 fn copy_rest<D: Disk>(alloc: Global, store: &mut Store<D>, base: u32) -> Result<(), Error>
     requires usable { store.old.must_reopen ≡ false }
     requires start { HasStartRoom (D.size store.old.disk) base }
@@ -60,7 +89,7 @@ fn copy_rest<D: Disk>(alloc: Global, store: &mut Store<D>, base: u32) -> Result<
     let mut done = 1;
     while done < STORE_SECTORS {
         let count = AT_ONCE.min(STORE_SECTORS - done);
-        copy_some(alloc, store, base, done, count)?;
+        copy_changed(alloc, store, base, done, count)?;
         done += count;
     }
     Ok(())
@@ -68,7 +97,7 @@ fn copy_rest<D: Disk>(alloc: Global, store: &mut Store<D>, base: u32) -> Result<
 
 /// Copies the sectors of the store to those from `base` on. The label there is taken away first, and comes last.
 ///
-/// Errors: those of `copy_some`.
+/// Errors: those of `copy_changed`.
 fn copy_behind<D: Disk>(alloc: Global, store: &mut Store<D>, base: u32) -> Result<(), Error>
     requires usable { store.old.must_reopen ≡ false }
     requires start { HasStartRoom (D.size store.old.disk) base }
@@ -97,7 +126,7 @@ fn make_start<D: Disk>(alloc: Global, store: &mut Store<D>, base: u32) -> Result
         store.old store.new)) }
     ensures none { IfOk result (λ found. IfNone found (D.honest store.old.disk
         → AreUncounted D.Disk store.old)) }
-    ensures usable { OnOk result (store.new.must_reopen ≡ false) }
+    ensures aside { OnOk result (IsAside D.Disk store.old store.new) }
 {
     store.shows_what_crashes_leave();
     let Some(before) = events_before(store)? else {
@@ -106,7 +135,7 @@ fn make_start<D: Disk>(alloc: Global, store: &mut Store<D>, base: u32) -> Result
     store.shows_what_crashes_leave();
     copy_behind(alloc, store, base)?;
     store.shows_what_crashes_leave();
-    if !is_copied(store, base)? {
+    if !is_copied(store, base, 0, STORE_SECTORS)? {
         return Ok(None);
     }
     Ok(Some(before))
@@ -122,14 +151,13 @@ pub fn begin<D: Disk>(alloc: Global, store: &mut Store<D>, base: u32) -> Result<
     requires { HasStartRoom (D.size store.old.disk) base }
     ensures any_moment { LeavesDesktop D.Disk store.old store.new }
     ensures none_forgotten { ForgetsNoneBefore D.Disk base store.old store.new }
-    ensures begun { IfOk result (λ done. done ≡ true → D.honest store.old.disk
-        → HasBegun D.Disk base store.old store.new) }
-    ensures goes_on { IfOk result (λ done. done ≡ true
-        → BeginsBehind D.Disk base store.old store.new) }
+    ensures begun { IfOk result (λ done. done ≡ true
+        → IsBegunNow D.Disk base store.old store.new) }
     ensures refused { IfOk result (λ done. done ≡ false → D.honest store.old.disk
         → AreUncounted D.Disk store.old) }
+    ensures turned { IfOk result (λ done. IsBegunOrAside D.Disk done store.old store.new) }
+    ensures others { SparesAround D.Disk base store.old store.new }
     ensures device { IsStoppedBy D.Disk result store.old store.new }
-    ensures usable { OnOk result (store.new.must_reopen ≡ false) }
 {
     standing_law();
     store.shows_what_crashes_leave();

@@ -11,9 +11,9 @@ ghost use Rattle.desk_journal.specs.Undoing.{IsLeft};
 ghost use Rattle.desk_past.specs.Ahead.{IsAhead};
 ghost use Rattle.desk_past.specs.Bringing.{BringsOn, CanBring, IsBroughtIn, import_of};
 ghost use Rattle.desk_past.specs.Deeds.{PastDeed};
-ghost use Rattle.desk_past.specs.Keeping.{UsesDevice};
 ghost use Rattle.desk_past.specs.Past.{KeepsAll, Start};
 ghost use Rattle.desk_past.specs.Reading.{IsOnlyReadFrom};
+ghost use Rattle.desk_past.specs.Writing.{AreAhead, UsesAhead};
 
 use crate::ahead::{Ahead, page_ahead};
 use crate::page::import_page;
@@ -35,6 +35,8 @@ fn pages_ahead<D: Disk>(
     requires { store.old.must_reopen ≡ false }
     ensures fit { IfOk result (λ found. IfSome found (λ a.
         FitBehind (D.size store.new.disk) a.from a.limit (length a.bytes.items))) }
+    ensures inside { IfOk result (λ found. IfSome found (λ a.
+        AreAhead D.Disk a.from a.limit store.old)) }
     ensures ahead { IfOk result (λ found. IfSome found (λ a. D.honest store.old.disk
         → (start : Start) (deeds : List PastDeed) (desktop : Desktop)
         → (keeps : KeepsAll D.Disk start deeds desktop store.old)
@@ -73,7 +75,7 @@ pub fn bring<D: Disk>(
         → IsLeft D.Disk store.old store.new) }
     ensures worn { TurnsAway (IsErrOf result Error.Worn) (IsLast store.old) store.old store.new }
     ensures reopen { AnswersMustReopen result store.old store.new }
-    ensures device { UsesDevice D.Disk OfPost result store.old store.new }
+    ensures device { UsesAhead D.Disk OfPost result store.old store.new }
     ensures nothing_forgotten { BringsOn D.Disk documents.now store.old store.new }
 {
     store.shows_what_crashes_leave();

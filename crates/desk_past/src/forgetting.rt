@@ -1,5 +1,5 @@
 //! A past that is forgotten.
-ghost use Rattle.std.specs.Prelude.{◌≡◌, ◌⊎◌, ◌+◌, ◌-◌, ◌*◌, ◌^◌, ◌≤◌, ◌<◌, true, false, IfOk, OnOk};
+ghost use Rattle.std.specs.Prelude.{◌≡◌, ◌+◌, ◌*◌, ◌^◌, ◌≤◌, ◌<◌, true, false, IfOk, OnOk};
 ghost use Rattle.sector_disk.specs.declared.disk.TheConstants.{SECTOR_BYTES};
 ghost use Rattle.sector_disk.specs.Trail.{now};
 ghost use Rattle.store_layout.specs.declared.layout.TheConstants.{STORE_SECTORS};
@@ -7,14 +7,14 @@ ghost use Rattle.store_slots.specs.Errors.{OfDesktop};
 ghost use Rattle.desk_journal.specs.Checkpointing.{LeavesDesktop};
 ghost use Rattle.desk_past.specs.Beginning.{AreUncounted, HasStartRoom, IsAside, IsStoppedBy, SparesAllBut};
 ghost use Rattle.desk_past.specs.Forgetting.{AreBlank, AreBlankBeside, HasForgotten, SparesStart};
-ghost use Rattle.desk_past.specs.Halves.{HasHalves, half_sectors, middle};
+ghost use Rattle.desk_past.specs.Parts.{HasParts, IsPastPart, parts_end};
 ghost use Rattle.desk_past.specs.Keeping.{UsesDevice};
-ghost use Rattle.desk_past.specs.declared.halves.TheConstants.{HALVES};
+ghost use Rattle.desk_past.specs.declared.parts.TheConstants.{PARTS, PART_SECTORS};
 
 use crate::beginning::begin;
-use crate::going_on::base_beside;
-use crate::halves::{HALVES, half_at, has_halves, middle_of};
-use crate::sectors::zeros;
+use crate::going_on::oldest_base;
+use crate::parts::{PART_SECTORS, PARTS, has_parts, part_count};
+use crate::sectors::{is_blank, zeros};
 use desk_journal::{Error, STORE_SECTORS, Store};
 use sector_disk::{Disk, SECTOR_BYTES};
 use std::alloc::Global;
@@ -22,9 +22,10 @@ use std::alloc::Global;
 /// How many sectors are overwritten in one call, which syncs.
 const AT_ONCE: u32 = 1024;
 
-/// Overwrites so many sectors behind the store with zeros, from `from` on, at most 1024, and settles them.
+/// Overwrites so many sectors behind the store with zeros, from `from` on, at most 1024, and settles them. Where they have
+/// zeros already nothing is written: so a sparse file stays as it is there.
 ///
-/// Errors: those of `Store::write_behind`; `NoMemory`.
+/// Errors: those of `Store::read_behind` and `Store::write_behind`; `NoMemory`.
 fn blank_some<D: Disk>(
     alloc: Global,
     store: &mut Store<D>,
@@ -41,6 +42,10 @@ fn blank_some<D: Disk>(
     ensures blank { OnOk result (D.honest store.old.disk
         → AreBlank from count (now (D.trail store.new.disk)).reads) }
 {
+    store.shows_what_crashes_leave();
+    if is_blank(store, from, count)? {
+        return Ok(());
+    }
     store.shows_what_crashes_leave();
     let zeros = zeros(alloc, (count * SECTOR_BYTES) as usize)?;
     store.write_behind(from, count, zeros.as_slice())?;
@@ -70,13 +75,12 @@ fn blank<D: Disk>(alloc: Global, store: &mut Store<D>, from: u32, count: u32) ->
     Ok(())
 }
 
-/// Overwrites both halves with zeros, but a start in sector `base`, which begins a half.
+/// Overwrites all parts with zeros, but a start in sector `base`, which begins a part.
 ///
 /// Errors: those of `blank_some`.
 fn blank_beside<D: Disk>(alloc: Global, store: &mut Store<D>, base: u32) -> Result<(), Error>
     requires usable { store.old.must_reopen ≡ false }
-    requires halves { HasHalves (D.size store.old.disk) }
-    requires base { (base ≡ HALVES) ⊎ (base ≡ middle (D.size store.old.disk)) }
+    requires part { IsPastPart (D.size store.old.disk) base (base + PART_SECTORS) }
     ensures only { SparesStart D.Disk base store.old store.new }
     ensures device { UsesDevice D.Disk OfDesktop result store.old store.new }
     ensures aside { OnOk result (IsAside D.Disk store.old store.new) }
@@ -84,28 +88,15 @@ fn blank_beside<D: Disk>(alloc: Global, store: &mut Store<D>, base: u32) -> Resu
         → AreBlankBeside (D.size store.old.disk) base (now (D.trail store.new.disk)).reads) }
 {
     store.shows_what_crashes_leave();
-    let middle = middle_of(store.sectors());
-    let end = middle + (middle - HALVES);
-    blank(alloc, store, HALVES, base - HALVES)?;
+    let end = PARTS + PART_SECTORS * part_count(store.sectors());
+    blank(alloc, store, PARTS, base - PARTS)?;
     let next = base + STORE_SECTORS;
     blank(alloc, store, next, end - next)
 }
 
-/// In which half a past is to begin that isn't to be written over the one in use.
-fn fresh_base(sectors: u32, next: u32) -> u32
-    requires { HasHalves sectors }
-    ensures room { HasStartRoom sectors result }
-    ensures half { (result ≡ HALVES) ⊎ (result ≡ middle sectors) }
-{
-    match half_at(sectors, next) {
-        Some(half) => base_beside(sectors, half),
-        None => HALVES,
-    }
-}
-
 /// Forgets the past behind the store: one begins anew with what the store shows now, and when that is on the medium all
-/// other sectors of both halves are overwritten with zeros and settled. So of what was done before nothing is left behind
-/// the store but its copy. False where the disk has no halves, where the events before it are too many to be counted, and,
+/// other sectors of all parts are overwritten with zeros and settled. So of what was done before nothing is left behind
+/// the store but its copy. False where the disk has no two parts, where the events before it are too many to be counted, and,
 /// over a disk that isn't honest, where the copy reads otherwise than it was written: then the past stays.
 ///
 /// Errors: those of `Store::past` and `begin`. After one of them `forget` may be called again, if the store is in use.
@@ -115,17 +106,16 @@ pub fn forget<D: Disk>(alloc: Global, store: &mut Store<D>) -> Result<bool, Erro
     ensures forgotten { IfOk result (λ done. done ≡ true → D.honest store.old.disk
         → HasForgotten D.Disk store.old store.new) }
     ensures refused { IfOk result (λ done. done ≡ false → D.honest store.old.disk
-        → HasHalves (D.size store.old.disk) → AreUncounted D.Disk store.old) }
+        → HasParts (D.size store.old.disk) → AreUncounted D.Disk store.old) }
     ensures device { IsStoppedBy D.Disk result store.old store.new }
     ensures usable { OnOk result (store.new.must_reopen ≡ false) }
 {
     store.shows_what_crashes_leave();
-    let sectors = store.sectors();
-    if !has_halves(sectors) {
+    if !has_parts(store.sectors()) {
         return Ok(false);
     }
     let told = store.past()?;
-    let base = fresh_base(sectors, told.next);
+    let base = oldest_base(store, told.next)?;
     if !begin(alloc, store, base)? {
         return Ok(false);
     }

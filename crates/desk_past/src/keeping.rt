@@ -2,6 +2,7 @@
 ghost use Rattle.std.specs.Prelude.{◌≡◌, ◌≢◌, ◌+◌, ◌*◌, ◌^◌, ◌≤◌, ◌<◌, List, true, false, IfErr, IfOk, IsErrOf, OnOk, IfSome, IfNone};
 ghost use Rattle.sector_disk.specs.declared.disk.TheConstants.{SECTOR_BYTES};
 ghost use Rattle.sector_disk.specs.Stored.{last_sector};
+ghost use Rattle.sector_disk.specs.Trail.{now};
 ghost use Rattle.desktop_definitions.specs.Desktop.{Desktop};
 ghost use Rattle.store_layout.specs.declared.layout.TheConstants.{STORE_SECTORS};
 ghost use Rattle.store_slots.specs.Errors.{OfDesktop, OfLook, OfPost};
@@ -10,11 +11,17 @@ ghost use Rattle.desk_journal.specs.Posting.{AnswersMustReopen, AnswersWorn, Has
 ghost use Rattle.desk_journal.specs.Undoing.{OfUndo};
 ghost use Rattle.desk_past.specs.Beginning.{IsAside};
 ghost use Rattle.desk_past.specs.Deeds.{PastDeed};
-ghost use Rattle.desk_past.specs.Keeping.{CanKeep, CanTurn, HasKept, HasPageRoom, IsWayMade, KeepsOn, UsesDevice};
+ghost use Rattle.desk_past.specs.Going.{ForgetsNone};
+ghost use Rattle.desk_past.specs.Keeping.{BeginsNext, CanTurn, ForgetsNoneDue, ForgetsNoneFrom, HasGoneBefore, HasGoneOver, HasKeptPost};
+ghost use Rattle.desk_past.specs.Keeping.{HasPageRoom, IsTurnDue, IsWayMade, KeepsAllBefore, KeepsAllWithin, KeepsPost, LeavesAllBefore, LeavesAllWithin};
 ghost use Rattle.desk_past.specs.Past.{HasNewPage, IsHeadTold, KeepsAll, KeepsOthers, LeavesAll, Start, UndoesSome};
+ghost use Rattle.desk_past.specs.Reading.{IsOnlyReadFrom};
+ghost use Rattle.desk_past.specs.Writing.{LiesInOldest, LiesUpTo, UsesAhead, UsesOnly, UsesParts};
 
-use crate::halves::half_at;
+use crate::beginning::begin;
+use crate::going_on::oldest_base;
 use crate::page::{page_read, sectors_for};
+use crate::parts::{LEAST_ROOM, has_parts, part_at};
 use desk_journal::{Error, STORE_SECTORS, Store};
 use desktop_definitions::Reply;
 use event_bytes::Event;
@@ -63,17 +70,15 @@ fn write_page_at<D: Disk>(
         → (start : Start) (deeds : List PastDeed) (desktop : Desktop)
         → (keeps : KeepsAll D.Disk start deeds desktop store.old) → IsHeadTold D.Disk told keeps
         → HasNewPage D.Disk start deeds desktop n store.new)) }
-    ensures none { IfOk result (λ end. IfNone end (D.honest store.old.disk
-        → (start : Start) (deeds : List PastDeed) (desktop : Desktop)
-        → KeepsAll D.Disk start deeds desktop store.old
-        → KeepsAll D.Disk start deeds desktop store.new)) }
+    ensures none { IfOk result (λ end. IfNone end (IsOnlyReadFrom D.Disk store.old store.new)) }
     ensures full { IfOk result (λ found. IfNone found (D.honest store.old.disk
         → (start : Start) (deeds : List PastDeed) (desktop : Desktop)
         → (keeps : KeepsAll D.Disk start deeds desktop store.old) → IsHeadTold D.Disk told keeps
         → HasPageRoom D.Disk end keeps → ⊥)) }
     ensures moments { LeavesDesktop D.Disk store.old store.new }
     ensures aside { OnOk result (IsAside D.Disk store.old store.new) }
-    ensures device { UsesDevice D.Disk OfLook result store.old store.new }
+    ensures device { UsesOnly D.Disk (λ _. LiesUpTo end told.next) OfLook result store.old
+        store.new }
     ensures open { IsErrOf result Error.MustReopen → store.old.must_reopen ≡ true }
 {
     standing_law();
@@ -108,17 +113,14 @@ fn write_page<D: Disk>(
         → (start : Start) (deeds : List PastDeed) (desktop : Desktop)
         → KeepsAll D.Disk start deeds desktop store.old
         → HasNewPage D.Disk start deeds desktop n store.new)) }
-    ensures none { IfOk result (λ end. IfNone end (D.honest store.old.disk
-        → (start : Start) (deeds : List PastDeed) (desktop : Desktop)
-        → KeepsAll D.Disk start deeds desktop store.old
-        → KeepsAll D.Disk start deeds desktop store.new)) }
+    ensures none { IfOk result (λ end. IfNone end (IsOnlyReadFrom D.Disk store.old store.new)) }
     ensures full { IfOk result (λ found. IfNone found (D.honest store.old.disk
         → (start : Start) (deeds : List PastDeed) (desktop : Desktop)
         → (keeps : KeepsAll D.Disk start deeds desktop store.old)
         → HasPageRoom D.Disk end keeps → ⊥)) }
     ensures moments { LeavesDesktop D.Disk store.old store.new }
     ensures aside { OnOk result (IsAside D.Disk store.old store.new) }
-    ensures device { UsesDevice D.Disk OfLook result store.old store.new }
+    ensures device { UsesOnly D.Disk (LiesUpTo end) OfLook result store.old store.new }
     ensures open { IsErrOf result Error.MustReopen → store.old.must_reopen ≡ true }
 {
     store.shows_what_crashes_leave();
@@ -146,10 +148,12 @@ pub fn end_epoch<D: Disk>(alloc: Global, store: &mut Store<D>, end: u32) -> Resu
         → HasPageRoom D.Disk end keeps → ⊥) }
     ensures moments { LeavesDesktop D.Disk store.old store.new }
     ensures renewed { IfOk result (λ done. done ≡ true → IsRenewed D.Disk store.old store.new) }
-    ensures aside { IfOk result (λ done. done ≡ false → IsAside D.Disk store.old store.new) }
-    ensures device { UsesDevice D.Disk OfPost result store.old store.new }
+    ensures still { IfOk result (λ done. done ≡ false
+        → IsOnlyReadFrom D.Disk store.old store.new) }
+    ensures device { UsesOnly D.Disk (LiesUpTo end) OfPost result store.old store.new }
     ensures errors { CanTurn store.old → IfErr result OfDesktop }
 {
+    store.shows_what_crashes_leave();
     let Some(past) = write_page(alloc, store, end)? else {
         return Ok(false);
     };
@@ -158,35 +162,51 @@ pub fn end_epoch<D: Disk>(alloc: Global, store: &mut Store<D>, end: u32) -> Resu
     Ok(true)
 }
 
-/// Ends the epoch in use where the half in which its page goes has room for that.
+/// Begins a past in the oldest part beside the one in which pages go on in sector `next`, as `begin` does. Where there is no
+/// other part nothing is written.
 ///
-/// Errors: those of `Store::past` and `end_epoch`.
-fn turn_over<D: Disk>(alloc: Global, store: &mut Store<D>) -> Result<(), Error>
+/// Errors: those of `begin`.
+fn begin_next<D: Disk>(alloc: Global, store: &mut Store<D>, next: u32) -> Result<(), Error>
     requires able { CanTurn store.old }
     requires due { IsDueBefore store.old }
-    ensures any_moment { D.honest store.old.disk
-        → (start : Start) (deeds : List PastDeed) (desktop : Desktop)
-        → KeepsAll D.Disk start deeds desktop store.old
-        → LeavesAll D.Disk start deeds desktop store.old store.new }
-    ensures ended { OnOk result (D.honest store.old.disk
-        → (start : Start) (deeds : List PastDeed) (desktop : Desktop)
-        → KeepsAll D.Disk start deeds desktop store.old
-        → KeepsAll D.Disk start deeds desktop store.new) }
-    ensures empty { OnOk result (D.honest store.old.disk
-        → (start : Start) (deeds : List PastDeed) (desktop : Desktop)
-        → (keeps : KeepsAll D.Disk start deeds desktop store.old) → CanKeep D.Disk keeps
-        → HasJournalRoom store.new) }
+    ensures none_forgotten { ForgetsNoneFrom D.Disk next store.old store.new }
+    ensures begun { OnOk result (BeginsNext D.Disk next store.old store.new) }
     ensures moments { LeavesDesktop D.Disk store.old store.new }
     ensures made { OnOk result (IsWayMade D.Disk store.old store.new) }
-    ensures device { UsesDevice D.Disk OfDesktop result store.old store.new }
+    ensures device { UsesOnly D.Disk (λ _. LiesInOldest (D.size store.old.disk)
+        (now (D.trail store.old.disk)).reads next) OfDesktop result store.old store.new }
+{
+    store.shows_what_crashes_leave();
+    if !has_parts(store.sectors()) {
+        return Ok(());
+    }
+    let base = oldest_base(store, next)?;
+    let _begun = begin(alloc, store, base)?;
+    Ok(())
+}
+
+/// Ends the epoch in use where the part in which its page goes isn't full; where it is, the next part begins.
+///
+/// Errors: those of `Store::past`, `end_epoch` and `begin_next`.
+fn turn_over<D: Disk>(alloc: Global, store: &mut Store<D>) -> Result<(), Error>
+    requires { IsTurnDue store.old }
+    ensures any_moment { LeavesAllWithin D.Disk store.old store.new }
+    ensures none_forgotten { ForgetsNone D.Disk store.old store.new }
+    ensures ended { OnOk result (KeepsAllWithin D.Disk store.old store.new) }
+    ensures gone_over { OnOk result (HasGoneOver D.Disk store.old store.new) }
+    ensures moments { LeavesDesktop D.Disk store.old store.new }
+    ensures made { OnOk result (IsWayMade D.Disk store.old store.new) }
+    ensures device { UsesParts D.Disk OfDesktop result store.old store.new }
 {
     store.shows_what_crashes_leave();
     let told = store.past()?;
-    let Some(half) = half_at(store.sectors(), told.next) else {
+    let Some(part) = part_at(store.sectors(), told.next) else {
         return Ok(());
     };
-    end_epoch(alloc, store, half.end)?;
-    Ok(())
+    if end_epoch(alloc, store, part.end - LEAST_ROOM)? {
+        return Ok(());
+    }
+    begin_next(alloc, store, told.next)
 }
 
 /// Whether a checkpoint is due before the next event, and can be made.
@@ -204,26 +224,18 @@ fn can_turn<D: Disk>(store: &Store<D>) -> bool
     info.events >= JOURNAL_EVENTS || info.layout != LAYOUT
 }
 
-/// Makes way for an event: where a checkpoint is due, the epoch ends with its page, if there is room for that.
+/// Makes way for an event: where a checkpoint is due, the epoch ends with its page, or the next part begins.
 ///
 /// Errors: `NoMemory` and `Fault`.
 fn make_way<D: Disk>(alloc: Global, store: &mut Store<D>) -> Result<(), Error>
-    ensures any_moment { D.honest store.old.disk
-        → (start : Start) (deeds : List PastDeed) (desktop : Desktop)
-        → KeepsAll D.Disk start deeds desktop store.old
-        → LeavesAll D.Disk start deeds desktop store.old store.new }
-    ensures ended { OnOk result (D.honest store.old.disk
-        → (start : Start) (deeds : List PastDeed) (desktop : Desktop)
-        → KeepsAll D.Disk start deeds desktop store.old
-        → KeepsAll D.Disk start deeds desktop store.new) }
-    ensures empty { OnOk result (D.honest store.old.disk
-        → (start : Start) (deeds : List PastDeed) (desktop : Desktop)
-        → (keeps : KeepsAll D.Disk start deeds desktop store.old)
-        → (IsDueBefore store.old → CanKeep D.Disk keeps) → HasJournalRoom store.new) }
+    ensures any_moment { LeavesAllBefore D.Disk store.old store.new }
+    ensures none_forgotten { ForgetsNoneDue D.Disk store.old store.new }
+    ensures ended { OnOk result (KeepsAllBefore D.Disk store.old store.new) }
+    ensures gone_over { OnOk result (HasGoneBefore D.Disk store.old store.new) }
     ensures moments { LeavesDesktop D.Disk store.old store.new }
     ensures made { OnOk result (IsWayMade D.Disk store.old store.new) }
     ensures able { IfErr result (λ e. CanTurn store.old) }
-    ensures device { UsesDevice D.Disk OfDesktop result store.old store.new }
+    ensures device { UsesParts D.Disk OfDesktop result store.old store.new }
 {
     store.shows_what_crashes_leave();
     if !can_turn(store) {
@@ -233,10 +245,11 @@ fn make_way<D: Disk>(alloc: Global, store: &mut Store<D>) -> Result<(), Error>
 }
 
 /// Takes one event as `Store::post` does. Where a checkpoint is due the page of the epoch that ends is written and settled
-/// before it, if the past lies in a half that has room for it: then nothing is forgotten.
+/// before it, if the past lies in a part that isn't full; where it is full a past begins behind it in the oldest part. So
+/// nothing is forgotten.
 ///
-/// Errors: those of `Store::post`; but after a `NoMemory` or `Fault` of a page, which come before the event, the store may
-/// be in use.
+/// Errors: those of `Store::post`; but after a `NoMemory` or `Fault` of a page or a start, which come before the event, the
+/// store may be in use.
 pub fn post<D: Disk>(alloc: Global, store: &mut Store<D>, event: &Event) -> Result<Reply, Error>
     ensures any_moment { LeavesEither D.Disk event.now store.old store.new }
     ensures ok { IfOk result (λ reply. IsAcknowledged D.Disk event.now reply store.old
@@ -244,9 +257,9 @@ pub fn post<D: Disk>(alloc: Global, store: &mut Store<D>, event: &Event) -> Resu
     ensures memory { IsErrOf result Error.NoMemory → LeavesDesktop D.Disk store.old store.new }
     ensures worn { AnswersWorn result store.old store.new }
     ensures reopen { AnswersMustReopen result store.old store.new }
-    ensures device { UsesDevice D.Disk OfPost result store.old store.new }
-    ensures nothing_forgotten { KeepsOn D.Disk event.now store.old store.new }
-    ensures kept { OnOk result (HasKept D.Disk event.now store.old store.new) }
+    ensures device { UsesParts D.Disk OfPost result store.old store.new }
+    ensures nothing_forgotten { KeepsPost D.Disk event.now store.old store.new }
+    ensures kept { OnOk result (HasKeptPost D.Disk event.now store.old store.new) }
 {
     make_way(alloc, store)?;
     store.shows_what_crashes_leave();
@@ -264,7 +277,7 @@ pub fn undo<D: Disk>(
     ensures any_moment { UndoesSome D.Disk count store.old store.new }
     ensures kept { IfOk result (λ back. IfSome back (λ events. KeepsOthers D.Disk events.items
         store.old store.new)) }
-    ensures device { UsesDevice D.Disk OfUndo result store.old store.new }
+    ensures device { UsesAhead D.Disk OfUndo result store.old store.new }
 {
     standing_law();
     store.shows_what_crashes_leave();

@@ -5,19 +5,20 @@ ghost use Rattle.sector_disk.specs.Trail.{now};
 ghost use Rattle.desktop_definitions.specs.Desktop.{Desktop};
 ghost use Rattle.desktop_definitions.specs.Step.{steps_in};
 ghost use Rattle.store_layout.specs.declared.layout.TheConstants.{LAYOUT, STORE_SECTORS};
-ghost use Rattle.store_layout.specs.declared.head.PastEnd.{PastEnd};
 ghost use Rattle.store_layout.specs.Meaning.{Standing};
 ghost use Rattle.store_slots.specs.Errors.{OfLook};
 ghost use Rattle.desk_journal.specs.Device.{IsOnlyRead};
 ghost use Rattle.desk_journal.specs.Undoing.{IsLedOn, IsLeft, ShowsStanding};
 ghost use Rattle.desk_past.specs.Deeds.{PastDeed};
-ghost use Rattle.desk_past.specs.Errors.{OfDoing, OfLaying, OfMoment, OfSteps};
+ghost use Rattle.desk_past.specs.Errors.{OfDoing, OfGoingBack, OfLaying, OfMoment, OfSteps};
 ghost use Rattle.desk_past.specs.Page.{Page, HasPages, deeds_in, end_of_pages};
-ghost use Rattle.desk_past.specs.Past.{AreGood, IsHeadTold, HasMoment, KeepsAll, StandsFrom, Start, all_deeds, first_page, moment as moment_of};
-ghost use Rattle.desk_past.specs.Reading.{IsBlankRoom, IsLed, IsOnlyReadFrom, IsRead, ShowsNow, many_deeds};
+ghost use Rattle.desk_past.specs.Past.{AreGood, HasMoment, HasStart, KeepsAll, StandsFrom, Start, all_deeds, moment as moment_of};
+ghost use Rattle.desk_past.specs.Reading.{HoldsTold, IsBlankRoom, IsLed, IsOnlyReadFrom, IsRead, ShowsNow, many_deeds, start_at};
 ghost use Rattle.desk_past.specs.Routes.{AreLegs, HasNoTurn};
 
-use crate::again::{brought, empty_disk, many_before, opened, posted, taken_back};
+use crate::again::{
+    back_to, brought, empty_disk, many_before, opened, posted, taken_back, told_in,
+};
 use crate::pages::{PageDeeds, page_at};
 use crate::routes::{Leg, legs_to};
 use crate::sectors::copy_to;
@@ -231,7 +232,7 @@ fn step_pages<D: Disk, E: Disk>(
 /// The desktop of a moment of the journal in use, behind so many of its events. None where it has fewer.
 ///
 /// Errors: those of `opened_at` and `taken_back`.
-fn in_journal<D: Disk, E: Disk + Drop>(
+pub(crate) fn in_journal<D: Disk, E: Disk + Drop>(
     alloc: Global,
     store: &mut Store<D>,
     count: u64,
@@ -293,35 +294,69 @@ fn go_legs<D: Disk, E: Disk>(
     Ok(true)
 }
 
-/// The desktop of moment `k` of the pages behind a start, which end where `told` says. None where they have no such
-/// moment.
+/// The desktop of moment `k` of a start in memory, behind the first events of its journal. None where it has no such moment,
+/// or where these aren't asked for.
 ///
-/// Errors: those of `opened_at`, `legs_to` and `go_legs`.
-fn in_pages<D: Disk, E: Disk + Drop>(
+/// Errors: those of `told_in` and `back_to`.
+fn in_start<E: Disk + Drop>(
+    alloc: Global,
+    shown: Store<E>,
+    asked: bool,
+    k: u64,
+) -> Result<Option<Store<E>>, Error>
+    ensures is_one { IfOk result (λ found. (t : Standing) → ShowsNow E.Disk t shown
+        → asked ≡ true → t.past.before ≤ k → k ≤ t.past.before + length t.events
+        → IsSomeAnd found (λ back. back.desktop ≡ start_at t k)) }
+    ensures there { IfOk result (λ found. IfSome found (λ back. asked ≡ true)) }
+    ensures errors { IfErr result OfGoingBack }
+    ensures stops { IfErr result (λ e. (t : Standing) → ShowsNow E.Disk t shown → OfDoing e) }
+{
+    if !asked {
+        return Ok(None);
+    }
+    let mut shown = shown;
+    let told = told_in(&mut shown)?;
+    if k < told.before {
+        return Ok(None);
+    }
+    back_to(alloc, shown, k - told.before)
+}
+
+/// The desktop of moment `k` of the pages behind a start, which end where `told` says. None where they have no such
+/// moment. Those from before the start, which its own journal has, are moments of the part before it, if that stands.
+///
+/// Errors: those of `opened_at`, `in_start`, `legs_to` and `go_legs`.
+pub(crate) fn in_pages<D: Disk, E: Disk + Drop>(
     alloc: Global,
     store: &mut Store<D>,
     base: u32,
     told: PastEnd,
+    follows: bool,
     k: u64,
     disk: E,
 ) -> Result<Option<Store<E>>, Error>
     requires usable { store.old.must_reopen ≡ false }
     requires blank { IsBlankRoom E.Disk disk }
     ensures is_one { IfOk result (λ found. D.honest store.old.disk → E.honest disk
-        → (start : Start) (deeds : List PastDeed) (desktop : Desktop)
-        → (keeps : KeepsAll D.Disk start deeds desktop store.old) → IsHeadTold D.Disk told keeps
-        → start.base ≡ base → start.before ≤ k → k < told.before
-        → IsSomeAnd found (λ shown. shown.desktop ≡ moment_of start deeds k)) }
+        → (start : Start) (pages : List Page) → HoldsTold (D.size store.old.disk) start told pages
+        (now (D.trail store.old.disk)).reads → start.base ≡ base → start.before ≤ k
+        → k < told.before
+        → IsSomeAnd found (λ shown. shown.desktop ≡ moment_of start (all_deeds pages) k)) }
+    ensures ahead { IfOk result (λ found. D.honest store.old.disk → E.honest disk
+        → (start : Start) (pages : List Page)
+        → (has : HoldsTold (D.size store.old.disk) start told pages
+        (now (D.trail store.old.disk)).reads) → start.base ≡ base → k < start.before
+        → follows ≡ true → has.written.0.standing.past.before ≤ k
+        → IsSomeAnd found (λ shown. shown.desktop ≡ start_at has.written.0.standing k)) }
     ensures there { IfOk result (λ found. IfSome found (λ shown. D.honest store.old.disk
-        → E.honest disk → (start : Start) (deeds : List PastDeed) (desktop : Desktop)
-        → (keeps : KeepsAll D.Disk start deeds desktop store.old) → IsHeadTold D.Disk told keeps
+        → E.honest disk → follows ≡ false → (start : Start) (pages : List Page)
+        → HoldsTold (D.size store.old.disk) start told pages (now (D.trail store.old.disk)).reads
         → start.base ≡ base → k < told.before → (start.before ≤ k) × E.honest shown.disk)) }
     ensures still { IsOnlyReadFrom D.Disk store.old store.new }
     ensures faults { FailsAs Error.Fault OfLaying result (D.failures store.old.disk)
         (D.failures store.new.disk) }
     ensures stops { IfErr result (λ e. D.honest store.old.disk → E.honest disk → (start : Start)
-        (deeds : List PastDeed) (desktop : Desktop) → KeepsAll D.Disk start deeds desktop store.old
-        → start.base ≡ base → OfSteps e) }
+        → HasStart (now (D.trail store.old.disk)).reads start → start.base ≡ base → OfSteps e) }
 {
     store.shows_what_crashes_leave();
     if told.next > store.sectors()
@@ -335,7 +370,7 @@ fn in_pages<D: Disk, E: Disk + Drop>(
         return Ok(None);
     };
     if k < first {
-        return Ok(None);
+        return in_start(alloc, shown, follows, k);
     }
     let Some(legs) = legs_to(alloc, store, base + STORE_SECTORS, first, told.next, k)? else {
         return Ok(None);
@@ -382,5 +417,5 @@ pub fn moment<D: Disk>(
     if k >= told.before {
         return in_journal(alloc, store, k - told.before, disk);
     }
-    in_pages(alloc, store, base, told, k, disk)
+    in_pages(alloc, store, base, told, false, k, disk)
 }

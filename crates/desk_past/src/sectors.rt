@@ -5,10 +5,12 @@ ghost use Rattle.sector_disk.specs.Faults.{FailsAs};
 ghost use Rattle.sector_disk.specs.Stored.{stored};
 ghost use Rattle.sector_disk.specs.Trail.{now};
 ghost use Rattle.store_layout.specs.declared.layout.TheConstants.{STORE_SECTORS};
+ghost use Rattle.store_layout.specs.Filling.{InRange};
 ghost use Rattle.store_slots.specs.Errors.{OfDesktop};
 ghost use Rattle.desk_journal.specs.Device.{IsSameDevice};
 ghost use Rattle.desk_journal.specs.Looking.{OnlyLooks};
 ghost use Rattle.desk_past.specs.Beginning.{HasCopies, HoldsSame};
+ghost use Rattle.desk_past.specs.Forgetting.{AreBlank};
 ghost use Rattle.desk_past.specs.Reading.{IsBlankRoom, IsOnlyReadFrom};
 
 use desk_journal::{Error, STORE_SECTORS, Store};
@@ -133,24 +135,29 @@ pub(crate) fn copy_to<D: Disk, E: Disk>(
     Ok(())
 }
 
-/// Whether the sectors from `base` on hold what those of the store hold.
+/// Whether so many sectors, from `from` on, are the same as those `base` sectors further on.
 ///
 /// Errors: those of `Store::read_behind`.
-pub(crate) fn is_copied<D: Disk>(store: &mut Store<D>, base: u32) -> Result<bool, Error>
+pub(crate) fn is_copied<D: Disk>(
+    store: &mut Store<D>,
+    base: u32,
+    from: u32,
+    count: u32,
+) -> Result<bool, Error>
     requires usable { store.old.must_reopen ≡ false }
-    requires numbered { base + STORE_SECTORS < 2 ^ 32 }
-    requires there { base + STORE_SECTORS ≤ D.size store.old.disk }
+    requires numbered { base + from + count < 2 ^ 32 }
+    requires there { base + from + count ≤ D.size store.old.disk }
     ensures same { IfOk result (λ is. is ≡ true → D.honest store.old.disk → (n : ℕ)
-        → n < STORE_SECTORS → (now (D.trail store.old.disk)).reads (base + n)
+        → InRange from count n → (now (D.trail store.old.disk)).reads (base + n)
         ≡ (now (D.trail store.old.disk)).reads n) }
-    ensures all { IfOk result (λ is. D.honest store.old.disk → HasCopies base 0 STORE_SECTORS
+    ensures all { IfOk result (λ is. D.honest store.old.disk → HasCopies base from count
         (now (D.trail store.old.disk)).reads (now (D.trail store.old.disk)).reads → is ≡ true) }
     ensures still { IsOnlyReadFrom D.Disk store.old store.new }
     ensures faults { FailsAs Error.Fault OfDesktop result (D.failures store.old.disk)
         (D.failures store.new.disk) }
 {
     store.shows_what_crashes_leave();
-    for k in 0..STORE_SECTORS {
+    for k in from..from + count {
         if !are_alike(store, k, base + k)? {
             return Ok(false);
         }
@@ -176,4 +183,27 @@ fn are_alike<D: Disk>(store: &mut Store<D>, n: u32, other: u32) -> Result<bool, 
     let sector = sector_at(store, n)?;
     let copy = sector_at(store, other)?;
     Ok(copy == sector)
+}
+
+/// Whether so many sectors have zeros, from `from` on.
+///
+/// Errors: those of `Store::read_behind`.
+pub(crate) fn is_blank<D: Disk>(store: &mut Store<D>, from: u32, count: u32) -> Result<bool, Error>
+    requires usable { store.old.must_reopen ≡ false }
+    requires numbered { from + count < 2 ^ 32 }
+    requires there { from + count ≤ D.size store.old.disk }
+    ensures blank { IfOk result (λ is. is ≡ true → D.honest store.old.disk
+        → AreBlank from count (now (D.trail store.old.disk)).reads) }
+    ensures still { IsOnlyReadFrom D.Disk store.old store.new }
+    ensures faults { FailsAs Error.Fault OfDesktop result (D.failures store.old.disk)
+        (D.failures store.new.disk) }
+{
+    store.shows_what_crashes_leave();
+    for n in from..from + count {
+        let sector = sector_at(store, n)?;
+        if !is_zeros(&sector) {
+            return Ok(false);
+        }
+    }
+    Ok(true)
 }

@@ -9,16 +9,16 @@ ghost use Rattle.desk_journal.specs.Turning.{LeavesThisOrThat};
 ghost use Rattle.desk_journal.specs.Undoing.{IsLeft};
 ghost use Rattle.desk_past.specs.Ahead.{IsAhead};
 ghost use Rattle.desk_past.specs.Errors.{OfMoment};
-ghost use Rattle.desk_past.specs.Going.{LiesInHalf};
-ghost use Rattle.desk_past.specs.Keeping.{UsesDevice};
+ghost use Rattle.desk_past.specs.Going.{LiesInPart};
 ghost use Rattle.desk_past.specs.Past.{HasMoment};
 ghost use Rattle.desk_past.specs.Reading.{IsOnlyReadFrom};
 ghost use Rattle.desk_past.specs.Turning.{CanTurnTo, ComesToMoment, HasTurnedBack, PastOf, StaysUnturned, TurnsBack, TurnsTo};
 ghost use Rattle.desk_past.specs.Turning.{WasAt, turn_of};
+ghost use Rattle.desk_past.specs.Writing.{AreAhead, UsesAhead};
 
 use crate::ahead::{Ahead, page_ahead};
-use crate::halves::half_at;
 use crate::page::turn_page;
+use crate::parts::part_at;
 use crate::reading::moment;
 use desk_journal::{Error, GatheredDesktop, Store};
 use sector_disk::{Disk, MemoryDisk};
@@ -33,6 +33,8 @@ fn turn_ahead<D: Disk>(alloc: Global, store: &mut Store<D>, k: u64) -> Result<Op
     requires { store.old.must_reopen ≡ false }
     ensures fit { IfOk result (λ found. IfSome found (λ a.
         FitBehind (D.size store.new.disk) a.from a.limit (length a.bytes.items))) }
+    ensures inside { IfOk result (λ found. IfSome found (λ a.
+        AreAhead D.Disk a.from a.limit store.old)) }
     ensures ahead { IfOk result (λ found. IfSome found (λ a. (to : Desktop)
         → (past : PastOf D.Disk store.old)
         → IsAhead D.Disk (turn_of k to) a.past a.from a.limit a.bytes.items past.keeps)) }
@@ -69,7 +71,7 @@ pub fn turn_to<D: Disk>(
     ensures left { IfErr result (λ _. store.new.must_reopen ≡ false
         → IsLeft D.Disk store.old store.new) }
     ensures reopen { AnswersMustReopen result store.old store.new }
-    ensures device { UsesDevice D.Disk OfLook result store.old store.new }
+    ensures device { UsesAhead D.Disk OfLook result store.old store.new }
 {
     store.shows_what_crashes_leave();
     let info = store.info()?;
@@ -103,7 +105,7 @@ fn gathered_from(alloc: Global, shown: Store<MemoryDisk>) -> Result<GatheredDesk
     }
 }
 
-/// What the desktop was at moment `k` of the past of a store. None where the half in use has no such moment.
+/// What the desktop was at moment `k` of the past of a store. None where the part in use has no such moment.
 ///
 /// Errors: those of `moment`.
 fn desktop_at<D: Disk>(
@@ -112,9 +114,9 @@ fn desktop_at<D: Disk>(
     k: u64,
 ) -> Result<Option<GatheredDesktop>, Error>
     ensures was { IfOk result (λ found. IfSome found (λ to. (past : PastOf D.Disk store.old)
-        → LiesInHalf D.Disk past.keeps → WasAt D.Disk k to.desktop past)) }
+        → LiesInPart D.Disk past.keeps → WasAt D.Disk k to.desktop past)) }
     ensures none { IfOk result (λ found. IfNone found ((past : PastOf D.Disk store.old)
-        → LiesInHalf D.Disk past.keeps → HasMoment past.start past.deeds k → ⊥)) }
+        → LiesInPart D.Disk past.keeps → HasMoment past.start past.deeds k → ⊥)) }
     ensures still { OnOk result (IsOnlyReadFrom D.Disk store.old store.new) }
     ensures left { IsLeft D.Disk store.old store.new }
     ensures faults { FailsAs Error.Fault OfMoment result (D.failures store.old.disk)
@@ -122,17 +124,17 @@ fn desktop_at<D: Disk>(
 {
     store.shows_what_crashes_leave();
     let told = store.past()?;
-    let Some(half) = half_at(store.sectors(), told.next) else {
+    let Some(part) = part_at(store.sectors(), told.next) else {
         return Ok(None);
     };
-    let Some(shown) = moment(alloc, store, half.base, k)? else {
+    let Some(shown) = moment(alloc, store, part.base, k)? else {
         return Ok(None);
     };
     let to = gathered_from(alloc, shown)?;
     Ok(Some(to))
 }
 
-/// Turns a store to moment `k` of its past: the desktop becomes what it was then, as by `turn_to`. False where the half
+/// Turns a store to moment `k` of its past: the desktop becomes what it was then, as by `turn_to`. False where the part
 /// in use has no such moment, too: then nothing is written.
 ///
 /// Errors: those of `moment`, by which nothing was written; those of `turn_to`.
@@ -146,7 +148,7 @@ pub fn turn<D: Disk>(alloc: Global, store: &mut Store<D>, k: u64) -> Result<bool
     ensures usable { OnOk result (store.new.must_reopen ≡ false) }
     ensures left { IfErr result (λ _. store.new.must_reopen ≡ false
         → IsLeft D.Disk store.old store.new) }
-    ensures device { UsesDevice D.Disk OfMoment result store.old store.new }
+    ensures device { UsesAhead D.Disk OfMoment result store.old store.new }
 {
     store.shows_what_crashes_leave();
     let Some(to) = desktop_at(alloc, store, k)? else {

@@ -10,6 +10,7 @@ use Rattle.desk_journal.specs.Errors.{Error}
 use Rattle.desk_journal.specs.Looking.{OnlyLooks}
 use Rattle.desk_journal.specs.Session.{Session, session_of}
 use Rattle.desk_journal.specs.View.{StoreView, IsDurable}
+use Rattle.desk_journal.specs.Views.{place_at}
 use Rattle.status_line.specs.declared.question.Question.{Question}
 use Rattle.desk_sitting.specs.declared.sitting.Sitting.{Sitting}
 use Rattle.desk_sitting.specs.Doing.{DoesAction, DoesPress, Finds, seat_of}
@@ -18,7 +19,9 @@ use Rattle.screen_pictures.specs.declared.cell.Cell.{Cell}
 use Rattle.desktop_definitions.specs.Shown.{shown_screen}
 use Rattle.status_line.specs.Named.{named_question}
 use Rattle.status_line.specs.Opened.{menu_reopened}
-use Rattle.desk_sitting.specs.Questions.{asked_at, click_made, is_leave, click_question, named_at, or_asked}
+use Rattle.desk_sitting.specs.Called.{called_cell}
+use Rattle.desk_sitting.specs.Questions.{asked_at, click_made, is_leave, click_question, named_at, named_by, named_there}
+use Rattle.desk_sitting.specs.Questions.{or_asked}
 use Rattle.desk_sitting.specs.Stored.{open_question, reopening}
 use Rattle.status_line.specs.Question.{comes_first}
 use Rattle.done_presses.specs.declared.again.StorePlace.{StorePlace}
@@ -128,14 +131,21 @@ module _ {D : Type 0} (d : Ghosts D) where
 
 -- ---- what is asked
 
--- what is found is also what is said otherwise
+-- what is found is also what is said otherwise of that desktop
+pub found_here : {D T : Type 0} (d : Ghosts D) (said other : Desktop → T) (result : Result T Error) (s : Sitting)
+    (old new : StoreView D) → said old.desktop ≡ other old.desktop → Finds d result said s old new
+    → Finds d result other s old new
+found_here d said other result s old new same finds = record {
+  told = IfOk-weaker result _ _ (λ found is honest durable. is honest durable ∙ same) finds.told;
+  looks = finds.looks;
+}
+
+-- and of any
 pub found_as : {D T : Type 0} (d : Ghosts D) (said other : Desktop → T) (result : Result T Error) (s : Sitting)
     (old new : StoreView D) → ((desktop : Desktop) → said desktop ≡ other desktop) → Finds d result said s old new
     → Finds d result other s old new
-found_as d said other result s old new same finds = record {
-  told = IfOk-weaker result _ _ (λ found is honest durable. is honest durable ∙ same old.desktop) finds.told;
-  looks = finds.looks;
-}
+found_as d said other result s old new same finds =
+    found_here d said other result s old new (same old.desktop) finds
 
 module _ (a : Action) (s : Sitting) (place : StorePlace) (desktop : Desktop) where
   pub asks_nothing : s.questions ≡ false → None ≡ question_of a s place desktop
@@ -176,6 +186,17 @@ module _ (to : ℕ × ℕ) (d : Desktop) (screen : List (List Cell)) (is : scree
   unfolding named_at
   named_so question some =
       sym (ap (λ (o : Option Question). or_asked o (reopening (shown_screen d) to d)) (seen_named ∙ some))
+
+-- by the cell whose word a click calls, if it calls one
+module _ (click : MiddleClick) (d : Desktop) (found : Option (ℕ × ℕ))
+    (is : found ≡ called_cell (place_at d click.from) click.from click.to) where
+  pub calls_none : found ≡ None → None ≡ named_by click d
+  unfolding named_by
+  calls_none none = sym (ap (λ (o : Option (ℕ × ℕ)). named_there o d) (sym is ∙ none))
+
+  pub calls_so : (cell : ℕ × ℕ) → found ≡ Some cell → named_at cell d ≡ named_by click d
+  unfolding named_by
+  calls_so cell some = sym (ap (λ (o : Option (ℕ × ℕ)). named_there o d) (sym is ∙ some))
 
 -- and by the menu of a viewer that is open
 module _ (to : ℕ × ℕ) (screen : List (List Cell)) (d : Desktop) (found : Option (ℕ × ℕ))

@@ -9,7 +9,7 @@ use Rattle.desk_past.specs.Keeping.{KeepsOn}
 use Rattle.desk_past.specs.Reading.{IsOnlyReadFrom}
 use Rattle.desk_past.proofs.StillReads.{nothing_written}
 use Rattle.past_runs.specs.Calls.{DoesCall, FindsRoom, KeepsDeeds, LeavesPast, Past, PastCall, begins, brings, ends, looks, posts}
-use Rattle.past_runs.specs.Calls.{takes_back, turns, turns_to, with_deeds}
+use Rattle.past_runs.specs.Calls.{posts_over, takes_back, turns, turns_to, with_deeds}
 use Rattle.past_runs.specs.Calls.{TriesCall}
 use Rattle.past_runs.specs.Runs.{FindRoom, ForgetsNothing, IsPastRun, LeadsAll}
 use Rattle.past_runs.proofs.Running.{nothing_forgotten, one_more as run_on}
@@ -22,6 +22,7 @@ are_both [] more [] rest one two = two
 are_both [] more (event ∷ events) rest one two = absurd one
 are_both (posts event ∷ calls) more [] rest one two = absurd one
 are_both (posts event ∷ calls) more (next ∷ events) rest one two = (one.0, are_both calls more events rest one.1 two)
+are_both (posts_over event ∷ calls) more events rest one two = absurd one
 are_both (looks ∷ calls) more events rest one two = are_both calls more events rest one two
 are_both (brings documents ∷ calls) more events rest one two = absurd one
 are_both (turns_to k to ∷ calls) more events rest one two = absurd one
@@ -41,6 +42,7 @@ led_posts (posts event ∷ calls) (next ∷ events) past all are led =
     led_posts calls events led.0 all are.1 led.2 ∙ ap (λ (p : Past). with_deeds p (all_posted events)) led.1
     ∙ (λ i. record { start = past.start; deeds = append_assoc past.deeds (posted event ∷ []) (all_posted events) i })
     ∙ ap (λ e. with_deeds past (posted e ∷ all_posted events)) (sym are.0)
+led_posts (posts_over event ∷ calls) events past all are led = absurd are
 led_posts (looks ∷ calls) events past all are led =
     led_posts calls events led.0 all are led.2 ∙ ap (λ (p : Past). with_deeds p (all_posted events)) led.1
 led_posts (brings documents ∷ calls) events past all are led = absurd are

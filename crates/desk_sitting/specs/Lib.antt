@@ -1,3 +1,4 @@
+pub mod Called
 pub mod Clips
 pub mod Desk
 pub mod Doing

@@ -6,6 +6,7 @@ use Rattle.desktop_definitions.specs.Shown.{shown_screen}
 use Rattle.desk_journal.specs.Leading.{KeyWish, WhyNot, led}
 use Rattle.desk_journal.specs.Losses.{Loss, Closed, Rivalled, Taken, loss_at}
 use Rattle.desk_journal.specs.Session.{Session}
+use Rattle.desk_journal.specs.Views.{place_at}
 use Rattle.done_presses.specs.Again.{has_again}
 use Rattle.done_presses.specs.declared.again.StorePlace.{StorePlace}
 use Rattle.terminal_presses.specs.declared.action.Action.{Action}
@@ -22,6 +23,7 @@ use Rattle.earlier_presses.specs.Twice.{is_nothing, is_of_terminal}
 use Rattle.press_plans.specs.Tasks.{calling_wish}
 use Rattle.status_line.specs.Named.{named_question}
 use Rattle.desk_sitting.specs.declared.sitting.Sitting.{Sitting}
+use Rattle.desk_sitting.specs.Called.{called_cell}
 use Rattle.desk_sitting.specs.Stored.{reopening}
 
 -- what is asked about what a command would lose
@@ -42,10 +44,18 @@ unfoldable pub named_at : ℕ × ℕ → Desktop → Option Question
 named_at to d = or_asked (named_question (shown_screen d) to.0 to.1)
     (reopening (shown_screen d) to d)
 
+-- and about the word that a click calls, if it calls one
+abbrev pub named_there : Option (ℕ × ℕ) → Desktop → Option Question
+named_there None d = None
+named_there (Some cell) d = named_at cell d
+
+unfoldable pub named_by : MiddleClick → Desktop → Option Question
+named_by click d = named_there (called_cell (place_at d click.from) click.from click.to) d
+
 -- about a click: what the command would lose that it calls, and where it loses nothing, its word
 abbrev pub asked_at : MiddleClick → Desktop → Option Question
 asked_at click d = or_asked (loss_question (loss_at d click.marker click.from click.to))
-    (named_at click.to d)
+    (named_by click d)
 
 -- the click among the events for what is wished of the caret
 abbrev pub click_led : Result (List Event) WhyNot → Option MiddleClick

@@ -7,9 +7,10 @@ ghost use Rattle.desk_journal.specs.Leading.{led};
 ghost use Rattle.desk_journal.specs.Session.{session_of};
 ghost use Rattle.status_line.specs.declared.question.Question.TheVariants.{Reopening};
 ghost use Rattle.desk_sitting.specs.Questions.{asked_at, click_led, click_made, click_question, is_leave, loss_question};
-ghost use Rattle.desk_sitting.specs.Questions.{leaving_loses, named_at, session_place, question_of};
+ghost use Rattle.desk_sitting.specs.Questions.{leaving_loses, named_at, named_by, session_place, question_of};
 ghost use Rattle.desk_sitting.specs.Stored.{open_question, reopening};
 
+use crate::called::called_cell;
 use crate::sitting::Sitting;
 use crate::travels::place;
 use crate::unstored::names_unstored;
@@ -87,8 +88,21 @@ impl Sitting {
     {
         let lost = self.lost_at(click, store)?;
         match lost {
-            None => self.named_at(alloc, click.to, store),
+            None => self.named_by(alloc, click, store),
             Some(question) => Ok(Some(question)),
+        }
+    }
+
+    /// What is asked about the word that a click calls, where it calls one. It only looks at the store.
+    ///
+    /// Errors: `NoMemory`; `Fault`.
+    fn named_by<D: Disk>(&self, alloc: Global, click: MiddleClick, store: &mut Store<D>) -> Asking
+        requires { store.old.must_reopen ≡ false }
+        ensures { Finds D.Disk result (named_by click) self.now store.old store.new }
+    {
+        match called_cell(click.from, click.to, store) {
+            None => Ok(None),
+            Some(cell) => self.named_at(alloc, cell, store),
         }
     }
 

@@ -14,6 +14,7 @@
 #![tactic(auto)]
 
 mod asking;
+mod called;
 mod clips;
 mod doing;
 mod ending;

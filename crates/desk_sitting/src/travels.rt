@@ -95,7 +95,7 @@ fn do_again<D: Disk>(alloc: Global, sitting: &mut Sitting, store: &mut Store<D>)
 }
 
 impl Sitting {
-    /// Where no press is known that was done, those are of which the past tells.
+    /// Where no press is known that was done, nor one that was refused, those are of which the past tells.
     ///
     /// Errors: those of `events_behind`.
     fn look_behind<D: Disk>(&mut self, alloc: Global, store: &mut Store<D>) -> Result<(), Error>

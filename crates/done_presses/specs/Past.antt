@@ -1,5 +1,5 @@
 -- What the presses of a sitting did, as far as they can be taken back, in the steps in which they are.
-use Rattle.std.specs.Prelude.{ℕ, ◌+◌, ◌-◌, ◌^◌, Bool, true, false, ◌==◌, ◌||◌, nat_le, if◌then◌else◌}
+use Rattle.std.specs.Prelude.{ℕ, ◌+◌, ◌-◌, ◌^◌, Bool, true, false, ◌==◌, ◌&&◌, ◌||◌, nat_le, if◌then◌else◌}
 use Rattle.std.specs.Prelude.{List, [], ◌∷◌, ◌++◌, length, min}
 use Rattle.std.specs.Prelude.{take, remove}
 use Rattle.std.specs.Prelude.{Option, Some, None, slice_get}
@@ -23,9 +23,9 @@ pub record PastView : Type 0 where
 abbrev pub no_past : PastView
 no_past = record { presses = []; refused = 0; goes_on = false }
 
--- no press is known
+-- no press is known, and no event that was refused
 abbrev pub knows_none : PastView → Bool
-knows_none past = length past.presses == 0
+knows_none past = (length past.presses == 0) && (past.refused == 0)
 
 abbrev pub last_press : PastView → Option DonePress
 last_press past = slice_get past.presses (length past.presses - 1)

@@ -93,11 +93,11 @@ impl Past {
         }
     }
 
-    /// Whether no press is known.
+    /// Whether no press is known, and no event that was refused.
     pub fn is_empty(&self) -> bool
         ensures { result ≡ knows_none self.now }
     {
-        self.presses.as_slice().is_empty()
+        self.presses.as_slice().is_empty() && self.refused == 0
     }
 
     /// The press that was done last.

@@ -24,8 +24,8 @@ pub use sector_disk::{Disk, FileDisk, MemoryDisk};
 use store_layout::showing_law;
 use twin_disk::{flag_at, has_name, leave_twin};
 
-/// How many sectors a disk has that has room for a past: those of a store, two that are for pairs of disks, and two halves.
-pub const PAST_SECTORS: u32 = FILE_SECTORS + 2 + 65_536;
+/// How many sectors a disk has that has room for a past: those of a store, two that are for pairs of disks, and 40 parts.
+pub const PAST_SECTORS: u32 = FILE_SECTORS + 2 + 1_310_720;
 
 /// The store on a disk. A disk that is refused is left as it is: it isn't formatted.
 ///
@@ -89,8 +89,8 @@ pub fn in_locked_file<F: HostFile + Drop>(
     opened(rt, FileDisk::new(file))
 }
 
-/// The same on a disk that has room for a past behind the store: two halves of 32,768 sectors. What the file hasn't reads
-/// as zeros.
+/// The same on a disk that has room for a past behind the store: 40 parts of 32,768 sectors. What the file hasn't reads as
+/// zeros.
 ///
 /// Errors: those of `Store::open`.
 pub fn with_past_room<F: HostFile + Drop>(

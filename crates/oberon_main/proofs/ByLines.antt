@@ -1,5 +1,5 @@
 -- What a crash leaves of a script that is played by lines, in events.
-use Rattle.std.proofs.Common.{◌≡◌, inl, ℕ, List, [], ◌∷◌, ◌++◌, Option, None, Some, IfSome}
+use Rattle.std.proofs.Common.{◌≡◌, ℕ, List, [], ◌∷◌, ◌++◌, Option, None, Some, IfSome}
 use Rattle.std.proofs.Common.{refl, sym, ◌∙◌, ap, subst, append_assoc, append-nil}
 use Rattle.std.specs.List.{AllByRecursion}
 use Rattle.std.specs.Io.KnownBytes.{Appends, Keeps}
@@ -9,7 +9,7 @@ use Rattle.sector_disk.proofs.Touching.{weakened}
 use Rattle.screen_cells.specs.Sent.{AppendsFront}
 use Rattle.desk_journal.specs.Session.{Session, session_of}
 use Rattle.desk_journal.specs.View.{StoreView}
-use Rattle.script_lines.specs.Script.{BeginsWith, IsLine}
+use Rattle.script_lines.specs.Script.{AreLines, BeginsWith, IsLine}
 use Rattle.script_lines.specs.Request.{request_of}
 use Rattle.oberon_main.specs.declared.playing.PlayEnd.{PlayEnd}
 use Rattle.oberon_main.specs.declared.playing.PlayEnd.TheVariants.{Output}
@@ -21,8 +21,9 @@ use Rattle.oberon_main.specs.ByLines.{faulty, starved, cut_short, at_end, cut_of
 use Rattle.oberon_main.specs.Laws.{ScriptsSurvive}
 use Rattle.oberon_main.proofs.Lines.{all_both, begins_all, begins_came}
 use Rattle.oberon_main.proofs.Runs.{run_session, run_size, answers_more}
-use Rattle.oberon_main.proofs.Told.{front_after, whole_front, front_kept}
-use Rattle.oberon_main.proofs.Surviving.{no_line, failed_line, served_line, lines_after, more_lines}
+use Rattle.oberon_main.proofs.InParts.{front_kept, in_parts}
+use Rattle.oberon_main.proofs.Told.{front_after, whole_front}
+use Rattle.oberon_main.proofs.Surviving.{no_line, failed_line, served_line, lines_after, more_lines, only_first}
 
 module _ {D : Type 0} (d : Ghosts D) where
   run_keeps : (lines : List (List ℕ)) (old new : StoreView D) → Lasts d old → IsLineRun d lines old new
@@ -138,26 +139,22 @@ module _ {D : Type 0} (d : Ghosts D) where
     kept_ends (at_line line follows (faulty none leaves)) word =
         kept_before line follows leaves (word_taken none.kept word)
     kept_ends (at_line line follows (starved none leaves)) word =
-        kept_before line follows (weakened leaves (λ c means. inl means)) (word_taken none.kept word)
+        kept_before line follows (weakened leaves (only_first d line mid.store)) (word_taken none.kept word)
     kept_ends (at_line line follows (cut_short serves front)) word = cut_kept line follows serves front word
 
   script_kept : (script : List ℕ) (old new : PlayState D) → IsKept (Some script) old new
       → ScriptSurvives d script old new
   script_kept script old new kept =
       let begins : BeginsWith script kept.lines = kept.begins in
+      let more : List (List ℕ) = begins.0 in
+      let all : kept.lines ++ more ≡ kept.answered ++ (kept.others ++ more) = ap (λ ls. ls ++ more) kept.parts
+      ∙ append_assoc kept.answered kept.others more in
       record {
         answered = kept.answered;
-        begins = record {
-          ends = begins.ends;
-          rest = begins.rest;
-          split = begins.split;
-          more = kept.others ++ begins.more;
-          first = begins.first ∙ ap (λ ls. ls ++ begins.more) kept.parts
-              ∙ append_assoc kept.answered kept.others begins.more;
-        };
+        begins = (kept.others ++ more, subst (AreLines script) all begins.1);
         written = kept.written;
-        kept = subst (λ ls. KeepsAnswered d kept.answered ls old.store new.store) (sym begins.first)
-            (more_lines d old.store new.store kept.answered kept.lines begins.more kept.kept);
+        kept = subst (λ ls. KeepsAnswered d kept.answered ls old.store new.store) all
+            (more_lines d old.store new.store kept.answered kept.lines more kept.kept);
       }
 
   survives_from : (from : Option (List ℕ)) (old new : PlayState D) → IsKept from old new
@@ -167,6 +164,8 @@ module _ {D : Type 0} (d : Ghosts D) where
 
   -- a script whose bytes are known
   pub scripts_kept : ScriptsSurvive d
-  scripts_kept why end old new played = survives_from old.left old new
-      (kept_ends old.left old played.lines.mid new played.held_mid played.lines.answered played.lines.lasts
-      played.lines.plain played.lines.run played.lines.written played.lines.stops played.word)
+  scripts_kept why end old new played =
+      let parts = in_parts d why end old new played in
+      survives_from old.left old new
+      (kept_ends old.left old parts.lines.mid new parts.held_mid parts.lines.answered parts.lines.lasts parts.lines.plain
+      parts.lines.run parts.lines.written parts.lines.stops parts.word)

@@ -1,6 +1,7 @@
 pub mod ByLines
 pub mod Causes
 pub mod Ends
+pub mod InParts
 pub mod Lines
 pub mod Moments
 pub mod Played

@@ -1,15 +1,16 @@
 -- The lines of a script and their answers, as lists.
 use Rattle.std.proofs.Common.{◌≡◌, ◌≢◌, ℕ, List, [], ◌∷◌, ◌++◌, Option, None, Some, IfSome}
-use Rattle.std.proofs.Common.{refl, sym, ap, ◌∙◌, append_assoc, append-nil}
+use Rattle.std.proofs.Common.{refl, sym, ap, ◌∙◌, subst, append_assoc, append-nil}
 use Rattle.std.specs.List.{AllByRecursion, flat_map}
 use Rattle.std.specs.Io.KnownBytes.{Consumes, IsAtEnd}
 use Rattle.std.proofs.lemmas.List.Concat.{flat_map-append}
-use Rattle.script_lines.specs.Script.{script_line, IsLine, IsSplit, lines_at_end, BeginsWith}
+use Rattle.screen_pictures.specs.Printed.{ended_line}
+use Rattle.script_lines.specs.Script.{IsLine, IsSplit, lines_at_end, AreLines, BeginsWith}
 use Rattle.script_lines.specs.Request.{request_of}
 use Rattle.script_lines.proofs.Splitting.{some_split}
 use Rattle.desk_journal.specs.Session.{Session}
 use Rattle.oberon_main.specs.Answers.{answer, session_after, answers_to, after_all}
-use Rattle.oberon_main.specs.ByLines.{AreLines, CameWhole}
+use Rattle.oberon_main.specs.ByLines.{CameWhole}
 
 -- ---- lists of lines
 
@@ -50,69 +51,69 @@ last_line (b ∷ bs) there = refl
 -- ---- what was read is a prefix of the script
 
 begins_split : (script pending : List ℕ) (lines : List (List ℕ)) → AllByRecursion IsLine lines
-    → script ≡ flat_map script_line lines ++ pending
+    → script ≡ flat_map ended_line lines ++ pending
     → ((more : List (List ℕ)) × (rest : List ℕ) × IsSplit pending more rest) → BeginsWith script lines
-begins_split script pending lines each whole (more, rest, split) = record {
-  ends = lines ++ more;
-  rest = rest;
-  split = record {
-    whole = whole ∙ ap (λ l. flat_map script_line lines ++ l) split.whole
-        ∙ sym (append_assoc (flat_map script_line lines) (flat_map script_line more) rest)
-        ∙ ap (λ l. l ++ rest) (sym (flat_map-append script_line lines more));
-    each = all_both lines more each split.each;
-    last = split.last;
-  };
-  more = lines_at_end more rest;
-  first = lines_both lines more rest;
-}
+begins_split script pending lines each whole (more, rest, split) = (
+  lines_at_end more rest,
+  record {
+    ends = lines ++ more;
+    rest = rest;
+    split = record {
+      whole = whole ∙ ap (λ l. flat_map ended_line lines ++ l) split.whole
+          ∙ sym (append_assoc (flat_map ended_line lines) (flat_map ended_line more) rest)
+          ∙ ap (λ l. l ++ rest) (sym (flat_map-append ended_line lines more));
+      each = all_both lines more each split.each;
+      last = split.last;
+    };
+    are = sym (lines_both lines more rest);
+  },
+)
 
 pub begins_read : (script : List ℕ) (left : Option (List ℕ)) (read pending : List ℕ) (lines : List (List ℕ))
     → Consumes (Some script) left read
-    → AllByRecursion IsLine lines → read ≡ flat_map script_line lines ++ pending → BeginsWith script lines
+    → AllByRecursion IsLine lines → read ≡ flat_map ended_line lines ++ pending → BeginsWith script lines
 begins_read script None read pending lines came each parts = absurd came
 begins_read script (Some left) read pending lines came each parts =
     begins_split script (pending ++ left) lines each (came ∙ ap (λ l. l ++ left) parts
-    ∙ append_assoc (flat_map script_line lines) pending left) (some_split (pending ++ left))
+    ∙ append_assoc (flat_map ended_line lines) pending left) (some_split (pending ++ left))
 
 pub all_read : (script : List ℕ) (left : Option (List ℕ)) (read : List ℕ) → Consumes (Some script) left read
     → IsAtEnd left → script ≡ read
 all_read script None read came end = absurd came
 all_read script (Some left) read came end = came ∙ ap (λ l. read ++ l) end ∙ append-nil read
 
--- the answers to the first lines are a prefix of those to all lines
-pub answers_begin : (script : List ℕ) (before : Session) (lines : List (List ℕ)) (begins : BeginsWith script lines)
-    → answers_to before (lines_at_end begins.ends begins.rest) ≡ answers_to before lines ++ answers_to (after_all before lines) begins.more
-answers_begin script before lines begins = ap (λ ls. answers_to before ls) begins.first ∙ out_both before lines begins.more
-
 -- ---- what was read, line by line
 
 -- what came with one line more
-pub parts_more : (read read' pending pending' line : List ℕ) (lines : List (List ℕ)) → read ≡ flat_map script_line lines
-    ++ pending → pending ++ read' ≡ script_line line ++ pending'
-    → read ++ read' ≡ flat_map script_line (lines ++ line ∷ []) ++ pending'
+pub parts_more : (read read' pending pending' line : List ℕ) (lines : List (List ℕ)) → read ≡ flat_map ended_line lines
+    ++ pending → pending ++ read' ≡ ended_line line ++ pending'
+    → read ++ read' ≡ flat_map ended_line (lines ++ line ∷ []) ++ pending'
 parts_more read read' pending pending' line lines before now =
-    ap (λ l. l ++ read') before ∙ append_assoc (flat_map script_line lines) pending read'
-    ∙ ap (λ l. flat_map script_line lines ++ l) now
-    ∙ sym (append_assoc (flat_map script_line lines) (script_line line) pending')
-    ∙ ap (λ l. l ++ pending') (ap (λ l. flat_map script_line lines ++ l) (sym (append-nil (script_line line)))
-    ∙ sym (flat_map-append script_line lines (line ∷ [])))
+    ap (λ l. l ++ read') before ∙ append_assoc (flat_map ended_line lines) pending read'
+    ∙ ap (λ l. flat_map ended_line lines ++ l) now
+    ∙ sym (append_assoc (flat_map ended_line lines) (ended_line line) pending')
+    ∙ ap (λ l. l ++ pending') (ap (λ l. flat_map ended_line lines ++ l) (sym (append-nil (ended_line line)))
+    ∙ sym (flat_map-append ended_line lines (line ∷ [])))
 
 -- all that came, with a rest after the last line feed
-pub split_rest : (read read' pending rest : List ℕ) (lines : List (List ℕ)) → read ≡ flat_map script_line lines ++ pending
+pub split_rest : (read read' pending rest : List ℕ) (lines : List (List ℕ)) → read ≡ flat_map ended_line lines ++ pending
     → pending ++ read' ≡ rest
-    → read ++ read' ≡ flat_map script_line lines ++ rest
+    → read ++ read' ≡ flat_map ended_line lines ++ rest
 split_rest read read' pending rest lines before now = ap (λ l. l ++ read') before
-    ∙ append_assoc (flat_map script_line lines) pending read' ∙ ap (λ l. flat_map script_line lines ++ l) now
+    ∙ append_assoc (flat_map ended_line lines) pending read' ∙ ap (λ l. flat_map ended_line lines ++ l) now
 
 pub begins_rest : (script : List ℕ) (lines : List (List ℕ)) (rest : List ℕ) → IsSplit script lines rest → rest ≢ []
     → BeginsWith script (lines ++ rest ∷ [])
-begins_rest script lines rest split there = record {
-  ends = lines;
-  rest = rest;
-  split = split;
-  more = [];
-  first = lines_then lines rest ∙ ap (λ ls. lines ++ ls) (last_line rest there) ∙ sym (append-nil (lines ++ rest ∷ []));
-}
+begins_rest script lines rest split there = (
+  [],
+  record {
+    ends = lines;
+    rest = rest;
+    split = split;
+    are = append-nil (lines ++ rest ∷ [])
+        ∙ sym (lines_then lines rest ∙ ap (λ ls. lines ++ ls) (last_line rest there));
+  },
+)
 
 pub plain_rest : (rest : List ℕ) → IsLine rest → AllByRecursion IsLine (lines_at_end [] rest)
 plain_rest [] plain = tt
@@ -121,16 +122,10 @@ plain_rest (b ∷ bs) plain = (plain, tt)
 pub begins_all : (from : Option (List ℕ)) (lines : List (List ℕ)) → IfSome from (λ script. AreLines script lines)
     → IfSome from (λ script. BeginsWith script lines)
 begins_all None lines are = tt
-begins_all (Some script) lines are = record {
-  ends = are.ends;
-  rest = are.rest;
-  split = are.split;
-  more = [];
-  first = sym are.are ∙ sym (append-nil lines);
-}
+begins_all (Some script) lines are = ([], subst (AreLines script) (sym (append-nil lines)) are)
 
 pub begins_came : (from left : Option (List ℕ)) (lines : List (List ℕ))
     → IfSome from (λ script. CameWhole script left lines) → IfSome from (λ script. BeginsWith script lines)
 begins_came None left lines came = tt
 begins_came (Some script) left lines came =
-    begins_read script left came.read came.rest lines came.came came.split.each came.split.whole
+    begins_read script left came.0 came.1 lines came.2 came.3.each came.3.whole

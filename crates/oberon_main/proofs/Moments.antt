@@ -22,7 +22,9 @@ use Rattle.oberon_main.specs.ByLines.{faulty, starved, cut_short, at_end, cut_of
 use Rattle.oberon_main.specs.Laws.{ScriptsAreCutOff}
 use Rattle.oberon_main.specs.Moments.{AreAnswered}
 use Rattle.oberon_main.specs.Moments.AreAnswered.{none, one_more}
+use Rattle.oberon_main.proofs.InParts.{in_parts}
 use Rattle.oberon_main.proofs.Lines.{all_both, after_both, begins_all, begins_came}
+use Rattle.oberon_main.proofs.Surviving.{only_first}
 use Rattle.oberon_main.proofs.Runs.{run_session, run_size}
 use Rattle.oberon_main.proofs.Surviving.{lines_steps, lasting_means}
 
@@ -89,7 +91,7 @@ module _ {D : Type 0} (d : Ghosts D) where
   tail_of from answered mid new lasts (at_line line follows (faulty silent leaves)) =
       line_begun from answered mid.store new.store line follows leaves
   tail_of from answered mid new lasts (at_line line follows (starved silent leaves)) =
-      line_begun from answered mid.store new.store line follows (weakened leaves (λ c means. inl means))
+      line_begun from answered mid.store new.store line follows (weakened leaves (only_first d line mid.store))
   tail_of from answered mid new lasts (at_line line follows (cut_short serves front)) =
       line_begun from answered mid.store new.store line follows serves.any_moment
 
@@ -151,7 +153,8 @@ module _ {D : Type 0} (d : Ghosts D) where
   -- ---- a script
 
   pub scripts_cut : ScriptsAreCutOff d
-  scripts_cut why end before new played =
+  scripts_cut why end before new by_lines =
+      let played = in_parts d why end before new by_lines in
       let old : StoreView D = before.store in
       let mid : StoreView D = played.lines.mid.store in
       let answered : List (List ℕ) = played.lines.answered in

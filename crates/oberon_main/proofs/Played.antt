@@ -6,6 +6,7 @@ use Rattle.std.specs.Io.KnownBytes.{Appends, Consumes, Keeps, IsAtEnd}
 use Rattle.std.proofs.KnownBytes.{Consumes-nil, Consumes-trans, Appends-nil, Appends-trans, Appends-kept}
 use Rattle.sector_disk.specs.declared.disk.Disk.{Ghosts}
 use Rattle.sector_disk.specs.Trail.{LeavesOnly}
+use Rattle.sector_disk.proofs.Touching.{weakened}
 use Rattle.store_layout.specs.Meaning.{MeansEither}
 use Rattle.screen_cells.specs.Sent.{AppendsFront}
 use Rattle.desk_journal.specs.Session.{Session, session_of}
@@ -13,7 +14,8 @@ use Rattle.desk_journal.specs.View.{StoreView, IsDurable}
 use Rattle.script_lines.specs.declared.line.Line.{Line}
 use Rattle.script_lines.specs.declared.request.Request.{Request}
 use Rattle.script_lines.specs.declared.request.Request.TheVariants.{Malformed}
-use Rattle.script_lines.specs.Script.{script_line, IsLine, IsSplit, lines_at_end, BeginsWith}
+use Rattle.screen_pictures.specs.Printed.{ended_line}
+use Rattle.script_lines.specs.Script.{IsLine, IsSplit, lines_at_end, AreLines, BeginsWith}
 use Rattle.script_lines.specs.Reading.{HoldsLine, Unplayed, TakesLine, TakesRest, ComesInPieces, most_bytes}
 use Rattle.script_lines.specs.Request.{request_of}
 use Rattle.oberon_main.specs.declared.playing.PlayEnd.{PlayEnd}
@@ -22,9 +24,10 @@ use Rattle.oberon_main.specs.Answers.{answer, session_after, answers_to}
 use Rattle.oberon_main.specs.Play.{PlayState, play_state, last_word}
 use Rattle.oberon_main.specs.Surviving.{LeavesFirst, Withstands, SparesRequest}
 use Rattle.oberon_main.specs.Worked.{IsWorkEnd}
-use Rattle.oberon_main.specs.ByLines.{AreLines, CameWhole, IsUnanswered, LeavesLine, ServesLine, AnswersLine}
+use Rattle.oberon_main.specs.ByLines.{CameWhole, IsUnanswered, LeavesLine, ServesLine, AnswersLine}
 use Rattle.oberon_main.specs.ByLines.{EndsAt, EndsInRest, IsLineRun, ScriptStops, PlaysLines, PlaysByLines}
 use Rattle.oberon_main.specs.ByLines.{faulty, starved, no_line, answered, ended, at_end, cut_off, at_line, said, unsaid}
+use Rattle.oberon_main.proofs.InParts.{whole}
 use Rattle.oberon_main.proofs.Lines.{all_both, out_both, out_one, last_line, lines_then, plain_rest, begins_read}
 use Rattle.oberon_main.proofs.Lines.{begins_rest, split_rest, parts_more, all_read}
 use Rattle.oberon_main.proofs.Runs.{run_session, run_more, run_both, answers_more}
@@ -42,7 +45,7 @@ module _ {D : Type 0} (d : Ghosts D) where
   left_in end line held held' old new (inl is) none either spared =
       subst (λ e. EndsAt d line held held' old new e) (sym is) (faulty none either)
   left_in end line held held' old new (inr is) none either spared =
-      subst (λ e. EndsAt d line held held' old new e) (sym is) (starved none (spared is))
+      subst (λ e. EndsAt d line held held' old new e) (sym is) (starved none (weakened (spared is) (λ c means. inl means)))
 
   -- what a request leaves, for the line that asks it
   pub moments_of : (held : Line) (request : Request) (old new : StoreView D)
@@ -86,7 +89,7 @@ module _ {D : Type 0} (d : Ghosts D) where
     pub came : Consumes left left' read
     pub few : length read + most_bytes unplayed.reads ≤ most_bytes most
     pub each : AllByRecursion IsLine lines
-    pub parts : read ≡ flat_map script_line lines ++ unplayed.pending
+    pub parts : read ≡ flat_map ended_line lines ++ unplayed.pending
     pub run : d.honest old.disk → IsLineRun d lines old now
     pub written : d.honest old.disk → Appends held held' (answers_to (session_of old) lines)
 
@@ -193,16 +196,16 @@ module _ {D : Type 0} (d : Ghosts D) where
     came_whole : (from : Option (List ℕ)) → (so_far : HasPlayed old mid from left' held held' most u)
         → (taken : TakesRest u u' left' left'' line) → IfSome from (λ script. CameWhole script left'' so_far.lines)
     came_whole None so_far taken = tt
-    came_whole (Some script) so_far taken = record {
-      read = so_far.read ++ taken.read;
-      came = Consumes-trans (Some script) left' left'' so_far.read taken.read so_far.came taken.came;
-      rest = taken.rest;
-      split = record {
+    came_whole (Some script) so_far taken = (
+      so_far.read ++ taken.read,
+      taken.rest,
+      Consumes-trans (Some script) left' left'' so_far.read taken.read so_far.came taken.came,
+      record {
         whole = split_rest so_far.read taken.read u.pending taken.rest so_far.lines so_far.parts taken.parts;
         each = so_far.each;
         last = taken.plain;
-      };
-    }
+      },
+    )
 
   -- ---- how the script ends after the lines so far
 
@@ -288,11 +291,11 @@ module _ {D : Type 0} (d : Ghosts D) where
   pub said_by_lines : (end : PlayEnd) (old : PlayState D) (left held held' : Option (List ℕ)) (new : StoreView D)
       → PlaysLines d end old (play_state left held new) → Appends held held' (last_word end)
       → PlaysByLines d end end old (play_state left held' new)
-  said_by_lines end old left held held' new lines word =
-      record { held_mid = held; lines = lines; word = said word }
+  said_by_lines end old left held held' new lines word = whole d end end old (play_state left held' new)
+      (record { held_mid = held; lines = lines; word = said word })
 
   pub unsaid_by_lines : (why : PlayEnd) (old : PlayState D) (left held held' : Option (List ℕ)) (new : StoreView D)
       → why ≢ Done → why ≢ Output → PlaysLines d why old (play_state left held new)
       → AppendsFront held held' (last_word why) → PlaysByLines d why Output old (play_state left held' new)
-  unsaid_by_lines why old left held held' new early output lines front =
-      record { held_mid = held; lines = lines; word = unsaid early output front }
+  unsaid_by_lines why old left held held' new early output lines front = whole d why Output old (play_state left held' new)
+      (record { held_mid = held; lines = lines; word = unsaid early output front })

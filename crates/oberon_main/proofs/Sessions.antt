@@ -1,5 +1,5 @@
 -- What an event and a checkpoint are answered.
-use Rattle.std.proofs.Common.{◌≡◌, ◌≢◌, inl, inr, ◌+◌, ◌<◌, ◌≤◌, true, false, sym, ap, ◌∙◌}
+use Rattle.std.proofs.Common.{◌≡◌, ◌≢◌, inl, inr, ◌+◌, true, false, sym, ap, ◌∙◌}
 use Rattle.std.specs.Prelude.{codes}
 use Rattle.std.proofs.lemmas.Bool.{cond-true, cond-false, eqb-true, eq-eqb, ne_eqb}
 use Rattle.std.proofs.lemmas.Bool.{and_from, false_from_ne_true, and_parts}
@@ -9,11 +9,11 @@ use Rattle.desktop_definitions.specs.Desktop.{Desktop}
 use Rattle.desktop_definitions.specs.Step.{step, Outcome, outcome_of}
 use Rattle.store_layout.specs.declared.layout.TheConstants.{LAST_EPOCH, LAYOUT}
 use Rattle.script_lines.specs.declared.request.Request.TheVariants.{Post, Checkpoint}
-use Rattle.script_lines.specs.Script.{script_line}
+use Rattle.screen_pictures.specs.Printed.{ended_line}
 use Rattle.script_lines.specs.Answer.{reply_line}
 use Rattle.desk_journal.specs.Session.{Session, HasRoomIn, IsDue, is_due, is_last, is_worn, renewed, stepped}
 use Rattle.desk_journal.proofs.Due.{due_or_room, due_is_due, due_parts, room_not_due}
-use Rattle.oberon_main.specs.Answers.{worn_line, answer, session_after}
+use Rattle.oberon_main.specs.Answers.{answer, session_after}
 
 -- a session by its four parts
 session_parts : (s t : Session) → s.desktop ≡ t.desktop → s.layout ≡ t.layout → s.epoch ≡ t.epoch → s.events ≡ t.events
@@ -38,9 +38,9 @@ not_worn : (s : Session) → ((s.epoch ≡ LAST_EPOCH) × IsDue s → ⊥) → i
 not_worn s none = false_from_ne_true (is_worn s) (λ worn. none (worn_parts s worn))
 
 pub worn_answer : (s : Session) (event : Event) → s.epoch ≡ LAST_EPOCH → IsDue s
-    → answer s (Post event) ≡ worn_line
+    → answer s (Post event) ≡ ended_line (codes "worn")
 unfolding answer
-worn_answer s event last full = cond-true (is_worn s) worn_line (reply_line (step s.desktop event).reply)
+worn_answer s event last full = cond-true (is_worn s) (ended_line (codes "worn")) (reply_line (step s.desktop event).reply)
     (is_it_worn s last full)
 
 pub worn_after : (s : Session) (event : Event) → s.epoch ≡ LAST_EPOCH → IsDue s
@@ -53,7 +53,7 @@ pub reply_answer : (s : Session) (event : Event) (d : Desktop) (reply : Reply)
     → answer s (Post event) ≡ reply_line reply
 unfolding answer
 reply_answer s event d reply room is =
-    cond-false (is_worn s) worn_line (reply_line (step s.desktop event).reply) (not_worn s room)
+    cond-false (is_worn s) (ended_line (codes "worn")) (reply_line (step s.desktop event).reply) (not_worn s room)
     ∙ sym (ap (λ (p : Outcome). reply_line p.reply) is)
 
 pub reply_after : (s now : Session) (event : Event) (reply : Reply)
@@ -76,17 +76,17 @@ reply_after s now event reply room is more anew layout =
 
 -- ---- a checkpoint
 
-pub last_answer : (s : Session) → s.epoch ≡ LAST_EPOCH → answer s Checkpoint ≡ worn_line
+pub last_answer : (s : Session) → s.epoch ≡ LAST_EPOCH → answer s Checkpoint ≡ ended_line (codes "worn")
 unfolding answer
-last_answer s last = cond-true (is_last s) worn_line (script_line (codes "ok")) (eq-eqb s.epoch LAST_EPOCH last)
+last_answer s last = cond-true (is_last s) (ended_line (codes "worn")) (ended_line (codes "ok")) (eq-eqb s.epoch LAST_EPOCH last)
 
 pub last_after : (s : Session) → s.epoch ≡ LAST_EPOCH → session_after s Checkpoint ≡ s
 unfolding session_after
 last_after s last = cond-true (is_last s) s (renewed s) (eq-eqb s.epoch LAST_EPOCH last)
 
-pub renewed_answer : (s : Session) → s.epoch ≢ LAST_EPOCH → answer s Checkpoint ≡ script_line (codes "ok")
+pub renewed_answer : (s : Session) → s.epoch ≢ LAST_EPOCH → answer s Checkpoint ≡ ended_line (codes "ok")
 unfolding answer
-renewed_answer s other = cond-false (is_last s) worn_line (script_line (codes "ok")) (ne_eqb s.epoch LAST_EPOCH other)
+renewed_answer s other = cond-false (is_last s) (ended_line (codes "worn")) (ended_line (codes "ok")) (ne_eqb s.epoch LAST_EPOCH other)
 
 pub renewed_after : (s now : Session) → s.epoch ≢ LAST_EPOCH → now.desktop ≡ s.desktop → now.layout ≡ LAYOUT
     → now.epoch ≡ s.epoch + 1 → now.events ≡ 0 → now ≡ session_after s Checkpoint

@@ -1,5 +1,5 @@
 -- What a crash leaves of lines that are served, one after another, in events.
-use Rattle.std.proofs.Common.{◌≡◌, inl, inr, ℕ, ◌+◌, Bool, true, false, List, [], ◌∷◌, ◌++◌}
+use Rattle.std.proofs.Common.{◌≡◌, inl, inr, ℕ, Bool, true, false, List, [], ◌∷◌, ◌++◌}
 use Rattle.std.proofs.Common.{refl, sym, ◌∙◌, ap, subst, append_assoc, append-nil}
 use Rattle.std.specs.Prelude.{if◌then◌else◌}
 use Rattle.std.proofs.lemmas.Bool.{cond-true, cond-false}
@@ -27,6 +27,13 @@ use Rattle.desk_journal.specs.Session.{session_of}
 use Rattle.oberon_main.specs.Surviving.{events_posted, accepted_of_lines, LinesAreSteps, MeansLines, KeepsAnswered, Withstands, SparesRequest}
 use Rattle.oberon_main.specs.ByLines.{Lasts, LeavesLine, ServesLine}
 use Rattle.oberon_main.proofs.Sessions.{worn_parts}
+
+-- the only desktop is one of two
+pub only_first : {D : Type 0} (d : Ghosts D) (line : List ℕ) (store : StoreView D) (c : Content)
+    → MeansEither (d.size store.disk) store.desktop store.desktop c
+    → MeansEither (d.size store.disk) store.desktop (session_after (session_of store) (request_of line)).desktop c
+only_first d line store c (inl means) = inl means
+only_first d line store c (inr means) = inl means
 
 -- ---- the events of lines
 

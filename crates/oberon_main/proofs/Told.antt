@@ -1,22 +1,23 @@
 -- What a script that is played by lines is answered.
-use Rattle.std.proofs.Common.{◌≢◌, ℕ, List, [], ◌∷◌, ◌++◌, Option, None, Some, IfSome}
+use Rattle.std.proofs.Common.{◌≡◌, ◌≢◌, ◌⊎◌, inl, inr, ℕ, List, [], ◌∷◌, ◌++◌, Option, None, Some, IfSome}
 use Rattle.std.proofs.Common.{refl, sym, ap, ◌∙◌, subst, append_assoc, append-nil}
 use Rattle.std.specs.Io.KnownBytes.{Appends, Keeps}
 use Rattle.std.proofs.KnownBytes.{Appends-trans, Appends-kept}
 use Rattle.sector_disk.specs.declared.disk.Disk.{Ghosts}
 use Rattle.screen_cells.specs.Sent.{AppendsFront}
 use Rattle.desk_journal.specs.Session.{Session, session_of}
-use Rattle.script_lines.specs.Script.{BeginsWith, lines_at_end}
+use Rattle.script_lines.specs.Script.{BeginsWith}
 use Rattle.script_lines.specs.Request.{request_of}
 use Rattle.oberon_main.specs.declared.playing.PlayEnd.{PlayEnd}
-use Rattle.oberon_main.specs.declared.playing.PlayEnd.TheVariants.{Output}
+use Rattle.oberon_main.specs.declared.playing.PlayEnd.TheVariants.{Done, Fault, Memory, Input, Output}
 use Rattle.oberon_main.specs.Answers.{answer, answers_to, after_all}
 use Rattle.oberon_main.specs.Play.{PlayState, play_state, last_word}
 use Rattle.oberon_main.specs.ByLines.{IsNextLine, IsLineRun, ScriptStops}
 use Rattle.oberon_main.specs.ByLines.{SaysWhy, faulty, starved, cut_short, at_end, cut_off, at_line, said, unsaid}
-use Rattle.oberon_main.specs.Told.{TextOf, IsTold, whole, word_cut, answer_cut}
+use Rattle.oberon_main.specs.Told.{HaveAnswers, IsTold}
 use Rattle.oberon_main.specs.Laws.{ScriptsAreAnswered}
-use Rattle.oberon_main.proofs.Lines.{answers_begin}
+use Rattle.oberon_main.proofs.InParts.{front_kept, in_parts}
+use Rattle.oberon_main.proofs.Lines.{out_both}
 use Rattle.oberon_main.proofs.Runs.{run_session, answers_more}
 
 -- ---- what a writer holds
@@ -39,18 +40,19 @@ whole_front held held' held'' x y before following = record {
   taken = Appends-trans held held' held'' x y before following;
 }
 
--- nothing is written afterwards
-pub front_kept : (held held' held'' : Option (List ℕ)) (text : List ℕ) → AppendsFront held held' text
-    → Appends held' held'' [] → AppendsFront held held'' text
-front_kept held held' held'' text front nothing = record {
-  front = front.front;
-  back = front.back;
-  parts = front.parts;
-  taken = subst (Appends held held'') (append-nil front.front)
-      (Appends-trans held held' held'' front.front [] front.taken nothing);
-}
-
 -- ---- the text
+
+not_cut : (Output ≡ Done) ⊎ (Output ≡ Input) → ⊥
+not_cut (inl is) = cc
+not_cut (inr is) = cc
+
+not_faulty : (Fault ≡ Done) ⊎ (Fault ≡ Input) → ⊥
+not_faulty (inl is) = cc
+not_faulty (inr is) = cc
+
+not_starved : (Memory ≡ Done) ⊎ (Memory ≡ Input) → ⊥
+not_starved (inl is) = cc
+not_starved (inr is) = cc
 
 module _ {D : Type 0} (d : Ghosts D) where
   module _ (script : List ℕ) (old mid new : PlayState D) (held : Option (List ℕ)) (answered : List (List ℕ))
@@ -60,41 +62,24 @@ module _ {D : Type 0} (d : Ghosts D) where
     abbrev text : PlayEnd → List ℕ
     text why = answers_to (session_of old.store) answered ++ last_word why
 
-    text_comes : {why : PlayEnd} → ScriptStops d (Some script) answered mid (play_state new.left held new.store) why
-        → why ≢ Output → TextOf why script new.left (session_of old.store) (session_of new.store) (text why)
-    text_comes (at_end silent are) other = record {
-      lines = are.ends;
-      rest = are.rest;
-      split = are.split;
-      answers = append-nil (answers_to (session_of old.store) answered)
-          ∙ ap (λ ls. answers_to (session_of old.store) ls) are.are;
-      session = ap session_of silent.store ∙ run_session d answered old.store mid.store run
-          ∙ ap (λ ls. after_all (session_of old.store) ls) are.are;
-    }
-    text_comes (cut_off silent came) other = record {
-      read = came.read;
-      came = came.came;
-      lines = answered;
-      rest = came.rest;
-      split = came.split;
-      answers = refl;
-      session = ap session_of silent.store ∙ run_session d answered old.store mid.store run;
-    }
-    text_comes (at_line line follows (faulty none leaves)) other = record {
-      lines = answered;
-      failed = line;
-      asked = none.asked;
-      begins = follows.begins;
-      answers = refl;
-    }
-    text_comes (at_line line follows (starved none leaves)) other = record {
-      lines = answered;
-      failed = line;
-      asked = none.asked;
-      begins = follows.begins;
-      answers = refl;
-    }
-    text_comes (at_line line follows (cut_short serves front)) other = absurd (other refl)
+    have_answers : {why : PlayEnd} → ScriptStops d (Some script) answered mid (play_state new.left held new.store) why
+        → why ≢ Output → HaveAnswers why script new.left answered
+    have_answers (at_end silent are) other = are
+    have_answers (cut_off silent came) other = came
+    have_answers (at_line line follows (faulty none leaves)) other = (line, none.asked, follows.begins)
+    have_answers (at_line line follows (starved none leaves)) other = (line, none.asked, follows.begins)
+    have_answers (at_line line follows (cut_short serves front)) other = absurd (other refl)
+
+    same_session : new.store ≡ mid.store → session_of new.store ≡ after_all (session_of old.store) answered
+    same_session same = ap session_of same ∙ run_session d answered old.store mid.store run
+
+    session_at : {why : PlayEnd} → ScriptStops d (Some script) answered mid (play_state new.left held new.store) why
+        → (why ≡ Done) ⊎ (why ≡ Input) → session_of new.store ≡ after_all (session_of old.store) answered
+    session_at (at_end silent are) whole = same_session silent.store
+    session_at (cut_off silent came) whole = same_session silent.store
+    session_at (at_line line follows (faulty none leaves)) whole = absurd (not_faulty whole)
+    session_at (at_line line follows (starved none leaves)) whole = absurd (not_starved whole)
+    session_at (at_line line follows (cut_short serves front)) whole = absurd (not_cut whole)
 
     -- nothing was written after the answers
     kept_at : {why : PlayEnd} → ScriptStops d (Some script) answered mid (play_state new.left held new.store) why
@@ -111,47 +96,69 @@ module _ {D : Type 0} (d : Ghosts D) where
         Appends-kept old.held mid.held held (answers_to (session_of old.store) answered) written (kept_at stops other)
 
     told_whole : {why : PlayEnd} → ScriptStops d (Some script) answered mid (play_state new.left held new.store) why
-        → why ≢ Output → Appends held new.held (last_word why) → IsTold script why old new why
-    told_whole {why = why} stops other word = whole (text why) (text_comes stops other)
-        (Appends-trans old.held held new.held (answers_to (session_of old.store) answered) (last_word why)
-        (answers_held stops other) word)
+        → why ≢ Output → Appends held new.held (last_word why) → IsTold script why why old new
+    told_whole {why = why} stops other word = record {
+      lines = answered;
+      have = have_answers stops other;
+      session = session_at stops;
+      text = text why;
+      is = refl;
+      written = inl (
+        refl,
+        Appends-trans old.held held new.held (answers_to (session_of old.store) answered) (last_word why)
+            (answers_held stops other) word,
+      );
+    }
 
     told_unsaid : {why : PlayEnd} → ScriptStops d (Some script) answered mid (play_state new.left held new.store) why
-        → why ≢ Output → AppendsFront held new.held (last_word why) → IsTold script why old new Output
-    told_unsaid {why = why} stops other word = word_cut (text why) (text_comes stops other)
-        (front_after old.held held new.held (answers_to (session_of old.store) answered) (last_word why)
-        (answers_held stops other) word)
+        → why ≢ Output → AppendsFront held new.held (last_word why) → IsTold script why Output old new
+    told_unsaid {why = why} stops other word = record {
+      lines = answered;
+      have = have_answers stops other;
+      session = session_at stops;
+      text = text why;
+      is = refl;
+      written = inr (
+        refl,
+        front_after old.held held new.held (answers_to (session_of old.store) answered) (last_word why)
+            (answers_held stops other) word,
+      );
+    }
 
     -- the output failed in the answer to the line after them
     told_cut : (line : List ℕ) → IsNextLine (Some script) answered line
         → AppendsFront mid.held held (answer (session_of mid.store) (request_of line)) → Appends held new.held []
-        → IsTold script Output old new Output
+        → IsTold script Output Output old new
     told_cut line follows front nothing =
         let s : Session = session_of old.store in
         let begins : BeginsWith script (answered ++ line ∷ []) = follows.begins in
-        let later : List ℕ = answers_to (after_all s (answered ++ line ∷ [])) begins.more in
+        let these_lines : List (List ℕ) = answered ++ line ∷ [] in
+        let later : List ℕ = answers_to (after_all s these_lines) begins.0 in
         let these : AppendsFront old.held new.held (answers_to s (answered ++ line ∷ []))
         = subst (AppendsFront old.held new.held) (answers_more d answered line old.store mid.store run)
         (front_kept old.held held new.held (answers_to s answered ++ answer (session_of mid.store) (request_of line))
         (front_after old.held mid.held held (answers_to s answered) (answer (session_of mid.store) (request_of line))
         written front) nothing) in
-        answer_cut (answers_to s (lines_at_end begins.ends begins.rest))
-        (after_all s (lines_at_end begins.ends begins.rest)) refl (record {
-          lines = begins.ends;
-          rest = begins.rest;
-          split = begins.split;
-          answers = refl;
-          session = refl;
-        }) (record {
-          front = these.front;
-          back = these.back ++ later;
-          parts = answers_begin script s (answered ++ line ∷ []) begins ∙ ap (λ l. l ++ later) these.parts
-              ∙ append_assoc these.front these.back later;
-          taken = these.taken;
-        })
+        record {
+          lines = these_lines ++ begins.0;
+          have = begins.1;
+          session = λ whole. absurd (not_cut whole);
+          text = answers_to s (these_lines ++ begins.0) ++ [];
+          is = refl;
+          written = inr (
+            refl,
+            record {
+              front = these.front;
+              back = these.back ++ later;
+              parts = append-nil (answers_to s (these_lines ++ begins.0)) ∙ out_both s these_lines begins.0
+                  ∙ ap (λ l. l ++ later) these.parts ∙ append_assoc these.front these.back later;
+              taken = these.taken;
+            },
+          );
+        }
 
     told_said : {why : PlayEnd} → ScriptStops d (Some script) answered mid (play_state new.left held new.store) why
-        → Appends held new.held (last_word why) → IsTold script why old new why
+        → Appends held new.held (last_word why) → IsTold script why why old new
     told_said (at_end silent are) word = told_whole (at_end silent are) (λ wrong. cc) word
     told_said (cut_off silent came) word = told_whole (cut_off silent came) (λ wrong. cc) word
     told_said (at_line line follows (faulty none leaves)) word =
@@ -161,7 +168,7 @@ module _ {D : Type 0} (d : Ghosts D) where
     told_said (at_line line follows (cut_short serves front)) word = told_cut line follows front word
 
     told_some : {why end : PlayEnd} → ScriptStops d (Some script) answered mid (play_state new.left held new.store) why
-        → SaysWhy why held new.held end → IsTold script why old new end
+        → SaysWhy why held new.held end → IsTold script why end old new
     told_some stops (said word) = told_said stops word
     told_some stops (unsaid early other word) = told_unsaid stops other word
 
@@ -169,11 +176,13 @@ module _ {D : Type 0} (d : Ghosts D) where
       (answered : List (List ℕ)) → IsLineRun d answered old.store mid.store
       → Appends old.held mid.held (answers_to (session_of old.store) answered)
       → ScriptStops d from answered mid (play_state new.left held new.store) why → SaysWhy why held new.held end
-      → IfSome from (λ script. IsTold script why old new end)
+      → IfSome from (λ script. IsTold script why end old new)
   told_from None why end old mid new held answered run written stops word = tt
   told_from (Some script) why end old mid new held answered run written stops word =
       told_some script old mid new held answered run written stops word
 
   pub scripts_told : ScriptsAreAnswered d
-  scripts_told why end old new played = told_from old.left why end old played.lines.mid new played.held_mid
-      played.lines.answered played.lines.run played.lines.written played.lines.stops played.word
+  scripts_told why end old new played =
+      let parts = in_parts d why end old new played in
+      told_from old.left why end old parts.lines.mid new parts.held_mid parts.lines.answered parts.lines.run
+      parts.lines.written parts.lines.stops parts.word

@@ -1,7 +1,9 @@
 -- What is promised of a request, from what the calls of the store promise.
 use Rattle.std.proofs.Common.{◌≡◌, ◌≢◌, ◌↔◌, Result, IfOk, ap, ◌∙◌, sym, false}
+use Rattle.std.specs.Prelude.{codes}
 use Rattle.std.proofs.lemmas.Result.{IfOk-weaker}
 use Rattle.sector_disk.specs.declared.disk.Disk.{Ghosts}
+use Rattle.screen_pictures.specs.Printed.{ended_line}
 use Rattle.desk_journal.specs.Errors.{Error}
 use Rattle.desk_journal.specs.Errors.{Worn}
 use Rattle.desk_journal.specs.Posting.{TurnsAway}
@@ -11,7 +13,7 @@ use Rattle.script_lines.specs.declared.request.Request.{Request}
 use Rattle.script_lines.specs.declared.request.Request.TheVariants.{Malformed}
 use Rattle.oberon_main.specs.declared.answering.Answer.{Answer}
 use Rattle.oberon_main.specs.declared.playing.PlayEnd.{PlayEnd}
-use Rattle.oberon_main.specs.Answers.{answer, session_after, worn_line}
+use Rattle.oberon_main.specs.Answers.{answer, session_after}
 use Rattle.oberon_main.specs.Worked.{bytes_of_answer, IsWorkedOut, WorksOut, LooksOut}
 use Rattle.oberon_main.proofs.Surviving.{look_withstands, look_spares}
 
@@ -28,9 +30,10 @@ module _ {D : Type 0} (d : Ghosts D) {request : Request} {result : Result Answer
 
   -- A worn store changes nothing, and says so; any other refusal ends the script.
   pub refusal_works_out : {error : Error} {refused when : Type 0} (old new : StoreView D)
-      → IfOk result (λ a. (error ≡ Worn) × (bytes_of_answer a ≡ worn_line)) → TurnsAway refused when old new
+      → IfOk result (λ a. (error ≡ Worn) × (bytes_of_answer a ≡ ended_line (codes "worn"))) → TurnsAway refused when old new
       → (error ≡ Worn → refused)
-      → (when → (answer (session_of old) request ≡ worn_line) × (session_after (session_of old) request ≡ session_of old))
+      → (when → (answer (session_of old) request ≡ ended_line (codes "worn"))
+      × (session_after (session_of old) request ≡ session_of old))
       → old.must_reopen ≡ false → (d.honest new.disk ↔ d.honest old.disk) → IsWorkedOut d request result old new
   refusal_works_out old new says turned worn same usable premise = record {
     bytes = IfOk-weaker result _ _ (λ a is honest. is.1 ∙ sym (same (turned.only (worn is.0))).0) says;

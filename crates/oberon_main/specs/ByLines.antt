@@ -1,41 +1,100 @@
 -- A script that is played line by line: what each line leaves of the store, one after another, and how the script ends.
--- `held` is what the writer holds before, and `held'` what it holds afterwards, where it tells that.
-use Rattle.std.specs.Prelude.{◌≡◌, ◌≢◌, ℕ, List, [], ◌∷◌, ◌++◌, Option, Some, IfSome, Result, MatchResult}
+use Rattle.std.specs.Prelude.{◌≡◌, ◌≢◌, ◌⊎◌, ℕ, List, [], ◌∷◌, ◌++◌, Option, Some, IfSome, Result, MatchResult}
 use Rattle.std.specs.List.{AllByRecursion}
 use Rattle.std.specs.Io.KnownBytes.{Appends, Consumes, Keeps}
 use Rattle.sector_disk.specs.declared.disk.Disk.{Ghosts}
 use Rattle.sector_disk.specs.Trail.{now, Leaves, LeavesOnly}
 use Rattle.screen_cells.specs.Sent.{AppendsFront}
+use Rattle.desktop_definitions.specs.Desktop.{Desktop}
 use Rattle.store_layout.specs.Meaning.{MeansEither, Shows}
-use Rattle.desk_journal.specs.Session.{session_of}
+use Rattle.desk_journal.specs.Session.{Session, session_of}
 use Rattle.desk_journal.specs.View.{StoreView, IsDurable}
 use Rattle.script_lines.specs.declared.line.Line.{Line}
 use Rattle.script_lines.specs.declared.request.Request.TheVariants.{Malformed}
-use Rattle.script_lines.specs.Script.{IsLine, IsSplit, BeginsWith, lines_at_end}
+use Rattle.script_lines.specs.Script.{IsLine, IsSplit, AreLines, BeginsWith}
 use Rattle.script_lines.specs.Request.{request_of}
 use Rattle.script_lines.specs.Reading.{HoldsLine}
 use Rattle.oberon_main.specs.declared.playing.PlayEnd.{PlayEnd}
 use Rattle.oberon_main.specs.declared.playing.PlayEnd.TheVariants.{Done, Fault, Memory, Input, Output}
 use Rattle.oberon_main.specs.Answers.{answer, session_after, answers_to}
-use Rattle.oberon_main.specs.Play.{PlayState, play_state, last_word}
-use Rattle.oberon_main.specs.Surviving.{LeavesFirst}
+use Rattle.oberon_main.specs.Play.{PlayState, last_word}
 
 -- ---- the lines of a script
 
--- These are all lines of the script, a last one without a line feed too.
-pub record AreLines (script : List ℕ) (lines : List (List ℕ)) : Type 0 where
-  pub ends : List (List ℕ)
-  pub rest : List ℕ
-  pub split : IsSplit script ends rest
-  pub are : lines ≡ lines_at_end ends rest
-
 -- These lines came whole of a script of which this was left when its reading failed.
-pub record CameWhole (script : List ℕ) (left : Option (List ℕ))
-    (lines : List (List ℕ)) : Type 0 where
-  pub read : List ℕ
-  pub came : Consumes (Some script) left read
-  pub rest : List ℕ
-  pub split : IsSplit read lines rest
+abbrev pub CameWhole : List ℕ → Option (List ℕ) → List (List ℕ) → Type 0
+CameWhole script left lines = (read : List ℕ) × (rest : List ℕ)
+    × Consumes (Some script) left read × IsSplit read lines rest
+
+-- Where a script ends for this reason, and these lines were answered, they are all of its lines, or those that came whole
+-- before a read failed; or else this line comes next.
+abbrev pub HaveCome : PlayEnd → List ℕ → Option (List ℕ) → List (List ℕ) → List ℕ → Type 0
+HaveCome Done script left lines next = AreLines script lines
+HaveCome Input script left lines next = CameWhole script left lines
+HaveCome why script left lines next = BeginsWith script (lines ++ next ∷ [])
+
+-- what is written behind their answers: the answer in which the output failed, or the word that says why the script ended
+abbrev pub last_part : PlayEnd → Session → List ℕ → List ℕ
+last_part Output s next = answer s (request_of next)
+last_part why s next = last_word why
+
+module _ {D : Type 0} (d : Ghosts D) where
+  -- ---- one line
+
+  -- a crash now leaves what the store shows
+  abbrev pub Lasts : StoreView D → Type 0
+  Lasts store = Leaves (now (d.trail store.disk))
+      (Shows (d.size store.disk) store.layout store.epoch store.events store.desktop)
+
+  -- at every moment from the one state of a store to the other a crash leaves the desktop of the first, or this one
+  abbrev pub LeavesOr : Desktop → StoreView D → StoreView D → Type 0
+  LeavesOr desktop old new = LeavesOnly (d.trail old.disk) (d.trail new.disk)
+      (MeansEither (d.size old.disk) old.desktop desktop)
+
+  -- The line was served: its answer was worked out. The store then shows the session after it, and a crash leaves that.
+  pub record ServesLine (line : List ℕ) (old new : StoreView D) : Type 0 where
+    pub any_moment : LeavesOr (session_after (session_of old) (request_of line)).desktop old
+        new
+    pub session : session_of new ≡ session_after (session_of old) (request_of line)
+    pub lasts : Lasts new
+    pub as_large : d.size new.disk ≡ d.size old.disk
+
+  -- How a script ends at a line. After a fault its event may be in an image or not, and for want of memory it is in none; a
+  -- malformed line is always answered. Where the output fails the line was served before.
+  abbrev pub EndsFor : PlayEnd → List ℕ → StoreView D → StoreView D → Type 0
+  EndsFor Fault line old new = (request_of line ≢ Malformed)
+      × LeavesOr (session_after (session_of old) (request_of line)).desktop old new
+  EndsFor Memory line old new = (request_of line ≢ Malformed) × LeavesOr old.desktop old new
+  EndsFor Output line old new = ServesLine line old new
+  EndsFor why line old new = new ≡ old
+
+  -- ---- a script
+
+  -- These lines led from the one state of the store to the other: each was served, from where those before it led.
+  abbrev pub IsLineRun : List (List ℕ) → StoreView D → StoreView D → Type 0
+  IsLineRun [] old new = new ≡ old
+  IsLineRun (line ∷ lines) old new = (mid : StoreView D) × ServesLine line old mid
+      × IsLineRun lines mid new
+
+  -- A script was played. Its first lines were served, one after another, from a store of which a crash leaves what it
+  -- shows. The writer took their answers as a whole; and then the script ended for a reason, at the next line if it came to
+  -- one. The writer took the last part as a whole too, or a front of it, by which the script then ended.
+  pub record PlaysByLines (why end : PlayEnd) (old new : PlayState D) : Type 0 where
+    pub lasts : Lasts old.store
+    pub answered : List (List ℕ)
+    pub next : List ℕ
+    pub plain : AllByRecursion IsLine (next ∷ answered)
+    pub come : IfSome old.left (λ script. HaveCome why script new.left answered next)
+    pub mid : PlayState D
+    pub run : IsLineRun answered old.store mid.store
+    pub written : Appends old.held mid.held (answers_to (session_of old.store) answered)
+    pub ends : EndsFor why next mid.store new.store
+    pub told : (end ≡ why)
+        × Appends mid.held new.held (last_part why (session_of mid.store) next)
+        ⊎ (end ≡ Output) × (why ≢ Done)
+        × AppendsFront mid.held new.held (last_part why (session_of mid.store) next)
+
+-- ---- words of the code: `held` is what the writer holds before, and `held'` what it holds afterwards, where it tells that
 
 -- After these lines comes this one, in the script where its bytes are known.
 pub record IsNextLine (from : Option (List ℕ)) (lines : List (List ℕ))
@@ -43,7 +102,7 @@ pub record IsNextLine (from : Option (List ℕ)) (lines : List (List ℕ))
   pub plain : IsLine line
   pub begins : IfSome from (λ script. BeginsWith script (lines ++ line ∷ []))
 
--- The line isn't malformed, and nothing of an answer to it was written. (A malformed line is always answered.)
+-- The line isn't malformed, and nothing of an answer to it was written.
 pub record IsUnanswered (line : List ℕ) (held held' : Option (List ℕ)) : Type 0 where
   pub asked : request_of line ≢ Malformed
   pub kept : Keeps held held'
@@ -55,42 +114,25 @@ pub data SaysWhy (why : PlayEnd) (held held' : Option (List ℕ)) : PlayEnd → 
       → SaysWhy why held held' Output
 
 module _ {D : Type 0} (d : Ghosts D) where
-  -- ---- one line
-
-  -- a crash now leaves what the store shows
-  abbrev pub Lasts : StoreView D → Type 0
-  Lasts store = Leaves (now (d.trail store.disk))
-      (Shows (d.size store.disk) store.layout store.epoch store.events
-      store.desktop)
-
-  -- at every moment a crash leaves the desktop before the line or the one after it
-  abbrev pub LeavesLine : List ℕ → StoreView D → StoreView D → Type 0
-  LeavesLine line old new = LeavesOnly (d.trail old.disk) (d.trail new.disk)
-      (MeansEither (d.size old.disk) old.desktop
-      (session_after (session_of old) (request_of line)).desktop)
-
-  -- The line was served: its answer was worked out. The store then shows the session after it, and a crash leaves that.
-  pub record ServesLine (line : List ℕ) (old new : StoreView D) : Type 0 where
-    pub any_moment : LeavesLine line old new
-    pub session : session_of new ≡ session_after (session_of old) (request_of line)
-    pub lasts : Lasts new
-    pub as_large : d.size new.disk ≡ d.size old.disk
-
   -- The line was served, and the writer took its whole answer.
   pub record AnswersLine (line : List ℕ) (held held' : Option (List ℕ))
       (old new : StoreView D) : Type 0 where
-    pub serves : ServesLine line old new
+    pub serves : ServesLine d line old new
     pub written : Appends held held' (answer (session_of old) (request_of line))
 
-  -- A script ends at a line. After a fault its event may be in an image or not, and for want of memory it is in none.
-  -- Where the output failed the line was served before.
+  -- a line before which and after which one stands so
+  abbrev pub LeavesLine : List ℕ → StoreView D → StoreView D → Type 0
+  LeavesLine line old new = LeavesOr d (session_after (session_of old) (request_of line)).desktop
+      old new
+
+  -- A script ends at a line, and nothing of an answer to it was written but a front of it where the output failed.
   pub data EndsAt (line : List ℕ) (held held' : Option (List ℕ))
       (old new : StoreView D) : PlayEnd → Type 0 where
     faulty : IsUnanswered line held held' → LeavesLine line old new
         → EndsAt line held held' old new Fault
-    starved : IsUnanswered line held held' → LeavesFirst d old new
+    starved : IsUnanswered line held held' → LeavesOr d old.desktop old new
         → EndsAt line held held' old new Memory
-    cut_short : ServesLine line old new
+    cut_short : ServesLine d line old new
         → AppendsFront held held' (answer (session_of old) (request_of line))
         → EndsAt line held held' old new Output
 
@@ -111,14 +153,6 @@ module _ {D : Type 0} (d : Ghosts D) where
     ended : {end : PlayEnd} → rest ≢ [] → EndsAt rest held held' old new end
         → EndsInRest rest held held' old new end
 
-  -- ---- lines, one after another
-
-  -- These lines led from the one state of the store to the other: each was served, from where those before it led.
-  abbrev pub IsLineRun : List (List ℕ) → StoreView D → StoreView D → Type 0
-  IsLineRun [] old new = new ≡ old
-  IsLineRun (line ∷ lines) old new = (mid : StoreView D) × ServesLine line old mid
-      × IsLineRun lines mid new
-
   -- nothing is done, and nothing is written
   pub record IsSilent (old new : PlayState D) : Type 0 where
     pub store : new.store ≡ old.store
@@ -136,21 +170,12 @@ module _ {D : Type 0} (d : Ghosts D) where
           → EndsAt line old.held new.held old.store new.store end
           → ScriptStops from answered old new end
 
-  -- ---- a script
-
-  -- The first lines of a script were served, one after another, from a store of which a crash leaves what it shows. The
-  -- writer took their answers as a whole, and nothing else; and then the script stopped.
+  -- The first lines of a script were served, and then it stopped: no word was written yet that says why.
   pub record PlaysLines (end : PlayEnd) (old new : PlayState D) : Type 0 where
-    pub lasts : Lasts old.store
+    pub lasts : Lasts d old.store
     pub answered : List (List ℕ)
     pub plain : AllByRecursion IsLine answered
     pub mid : PlayState D
-    pub run : IsLineRun answered old.store mid.store
+    pub run : IsLineRun d answered old.store mid.store
     pub written : Appends old.held mid.held (answers_to (session_of old.store) answered)
     pub stops : ScriptStops old.left answered mid new end
-
-  -- A script was played: its lines were, and stopped for this reason; and then a word was written that says why.
-  pub record PlaysByLines (why end : PlayEnd) (old new : PlayState D) : Type 0 where
-    pub held_mid : Option (List ℕ)
-    pub lines : PlaysLines why old (play_state new.left held_mid new.store)
-    pub word : SaysWhy why held_mid new.held end

@@ -12,7 +12,7 @@ use Rattle.oberon_main.specs.Surviving.{ScriptSurvives}
 abbrev pub ScriptsAreAnswered : {D : Type 0} → Ghosts D → Type 0
 ScriptsAreAnswered {D = D} d = (why end : PlayEnd) (old new : PlayState D)
     → PlaysByLines d why end old new
-    → IfSome old.left (λ script. IsTold script why old new end)
+    → IfSome old.left (λ script. IsTold script why end old new)
 
 -- what a crash leaves at every moment of it
 abbrev pub ScriptsAreCutOff : {D : Type 0} → Ghosts D → Type 0

@@ -11,10 +11,6 @@ use Rattle.oberon_main.specs.declared.playing.PlayEnd.TheVariants.{Done, Fault, 
 use Rattle.oberon_main.specs.Play.{play_state}
 use Rattle.oberon_main.specs.ByLines.{PlaysByLines}
 
--- The script ended for this reason, or by an output that failed in the word of it.
-abbrev pub IsEndOf : PlayEnd → PlayEnd → Type 0
-IsEndOf why end = (end ≡ why) ⊎ (end ≡ Output)
-
 -- How a script was read to an end, where so many reads may give bytes.
 pub record ReadsScript {R : Type 0} (r : ReaderGhosts R) (most : ℕ) (why : PlayEnd)
     (reader reader' : R) : Type 0 where
@@ -40,9 +36,9 @@ pub record WritesAnswers {W : Type 0} (w : WriterGhosts W) (end : PlayEnd)
 pub record PlaysScript {R W D : Type 0} (r : ReaderGhosts R) (w : WriterGhosts W) (d : DiskGhosts D)
     (most : ℕ)
     (end : PlayEnd) (reader reader' : R) (writer writer' : W) (old new : StoreView D) : Type 0 where
-  -- why it stopped, before a word of that was written
+  -- why it stopped, before a word of that was written, in which the output may have failed
   pub why : PlayEnd
-  pub named : IsEndOf why end
+  pub named : (end ≡ why) ⊎ (end ≡ Output)
   -- over an honest disk: what each line left, what was written, and how it ended
   pub by_lines : d.honest old.disk → PlaysByLines d why end
       (play_state (r.remaining reader) (w.contents writer) old)

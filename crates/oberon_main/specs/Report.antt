@@ -5,19 +5,19 @@ use Rattle.desk_journal.specs.Errors.{Error}
 use Rattle.desk_journal.specs.Errors.{NoMemory, NotAStore, Damaged}
 use Rattle.oberon_main.specs.declared.playing.PlayEnd.{PlayEnd}
 use Rattle.oberon_main.specs.declared.playing.PlayEnd.TheVariants.{Done, Memory}
-use Rattle.script_lines.specs.Script.{script_line}
+use Rattle.screen_pictures.specs.Printed.{ended_line}
 
 -- a store that can be used: its layout, its epoch, and how many events its journal has
 abbrev pub check_line : ℕ → ℕ → ℕ → List ℕ
 check_line layout epoch events =
-    script_line (codes "ok layout " ++ decimal layout ++ codes " epoch " ++ decimal epoch
+    ended_line (codes "ok layout " ++ decimal layout ++ codes " epoch " ++ decimal epoch
     ++ codes " events " ++ decimal events)
 
 abbrev pub error_line : Error → List ℕ
-error_line NotAStore = script_line (codes "not a store")
-error_line (Damaged sector) = script_line (codes "damaged " ++ decimal sector)
-error_line NoMemory = script_line (codes "memory")
-error_line _ = script_line (codes "fault")
+error_line NotAStore = ended_line (codes "not a store")
+error_line (Damaged sector) = ended_line (codes "damaged " ++ decimal sector)
+error_line NoMemory = ended_line (codes "memory")
+error_line _ = ended_line (codes "fault")
 
 abbrev pub refusal_status : Error → ℕ
 refusal_status NotAStore = 3

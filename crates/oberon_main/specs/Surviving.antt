@@ -11,8 +11,8 @@ use Rattle.desk_journal.specs.Prefixes.{MeansPrefix}
 use Rattle.desk_journal.specs.View.{StoreView, IsDurable}
 use Rattle.oberon_main.specs.declared.playing.PlayEnd.{PlayEnd}
 use Rattle.script_lines.specs.declared.request.Request.{Request}
-use Rattle.script_lines.specs.declared.request.Request.TheVariants.{Post, Checkpoint, Show, Listing, Display, Malformed}
-use Rattle.script_lines.specs.Script.{BeginsWith, lines_at_end}
+use Rattle.script_lines.specs.declared.request.Request.TheVariants.{Post}
+use Rattle.script_lines.specs.Script.{BeginsWith}
 use Rattle.script_lines.specs.Request.{request_of}
 use Rattle.desk_journal.specs.Session.{Session, is_worn}
 use Rattle.oberon_main.specs.Answers.{session_after, answers_to, after_all}
@@ -24,11 +24,7 @@ use Rattle.oberon_main.specs.Play.{PlayState, last_word}
 -- the event that a request posts, where it is accepted: a worn store accepts none
 unfoldable pub events_posted : Session → Request → List Event
 events_posted s (Post event) = if is_worn s then [] else event ∷ []
-events_posted s Checkpoint = []
-events_posted s (Show name) = []
-events_posted s Listing = []
-events_posted s Display = []
-events_posted s Malformed = []
+events_posted s request = []
 
 -- the events that lines post, one after another, and that are accepted
 abbrev pub accepted_of_lines : Session → List (List ℕ) → List Event
@@ -100,4 +96,4 @@ pub record ScriptSurvives {D : Type 0} (d : Ghosts D) (script : List ℕ)
   -- what was written of their answers
   pub written : HasTakenAnswers old.held new.held (answers_to (session_of old.store) answered)
   -- the desktop after a prefix of the events of all its lines, which at last holds those of the lines answered
-  pub kept : KeepsAnswered d answered (lines_at_end begins.ends begins.rest) old.store new.store
+  pub kept : KeepsAnswered d answered (answered ++ begins.0) old.store new.store

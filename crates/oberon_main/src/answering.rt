@@ -1,8 +1,8 @@
 //! The answer to a request, worked out over a store.
-ghost use Rattle.std.specs.Prelude.{◌≡◌, ◌≢◌, false, IfOk, IfErr};
+ghost use Rattle.std.specs.Prelude.{◌≡◌, ◌≢◌, false, IfOk, IfErr, codes};
+ghost use Rattle.screen_pictures.specs.Printed.{ended_line};
 ghost use Rattle.script_lines.specs.declared.request.Request.TheVariants.{Post, Checkpoint, Show};
 ghost use Rattle.script_lines.specs.declared.request.Request.TheVariants.{Listing, Display};
-ghost use Rattle.oberon_main.specs.Answers.{worn_line};
 ghost use Rattle.oberon_main.specs.Worked.{bytes_of_answer, play_end_of, WorksOut, LooksOut};
 
 use crate::playing::PlayEnd;
@@ -80,7 +80,8 @@ fn checkpoint<D: Disk>(store: &mut Store<D>) -> Result<Answer, PlayEnd>
 
 /// What a post or a checkpoint comes to that was refused: `worn` in the last epoch, else the script ends.
 fn refused(error: Error) -> Result<Answer, PlayEnd>
-    ensures worn { IfOk result (λ a. (error ≡ Error.Worn) × (bytes_of_answer a ≡ worn_line)) }
+    ensures worn { IfOk result (λ a. (error ≡ Error.Worn)
+        × (bytes_of_answer a ≡ ended_line (codes "worn"))) }
     ensures other { IfErr result (λ end. (error ≢ Error.Worn) × (end ≡ play_end_of error)) }
 {
     match error {

@@ -14,7 +14,7 @@ use Rattle.desk_past.specs.Turning.{PastOf}
 use Rattle.desk_past.proofs.Moments.{the_present}
 use Rattle.desk_past.specs.Reading.{IsQuiet}
 use Rattle.past_runs.specs.Calls.{Asks, HasDone, RemembersPast, KeepsAmid, KeepsDeeds, LeadsPast, LeavesPast, Past, PastCall, begins}
-use Rattle.past_runs.specs.Calls.{begun_behind, brings, ends, looks, posts, present, takes_back, turns, turns_to, was_then, with_deeds}
+use Rattle.past_runs.specs.Calls.{begun_behind, brings, ends, looks, posts, posts_over, present, takes_back, turns, turns_to, was_then, with_deeds}
 
 -- what a past shows is what its deeds led to
 is_present : {size : ℕ} {start : Start} {deeds : List PastDeed} {desktop : Desktop} {c : Content}
@@ -69,6 +69,22 @@ module _ {D : Type 0} (d : Ghosts D) (past : Past) (old new : StoreView D) (hone
     refl,
     or_that (with_deeds past (posted event ∷ [])) _ (amid honest past.start past.deeds (present past) keeps room),
   )
+  left_amid (posts_over event) room amid =
+      weakened (amid honest past.start past.deeds (present past) keeps room) (λ c either. elim either [
+        | inl this ↦ inl this
+        | inr rest ↦ elim rest [
+          | inl more ↦ inr (with_deeds past (posted event ∷ []), inl (inl refl), has_past more, inl refl)
+          | inr over ↦ let base = over.0 in elim over.1 [
+            | inl from ↦ inr (begun_behind past base, inr (base, refl), from.anew, inr from.former)
+            | inr by ↦ inr (
+              with_deeds (begun_behind past base) (posted event ∷ []),
+              inl (inr (base, refl)),
+              has_past by.anew,
+              inr by.former,
+            )
+          ]
+        ]
+      ])
   left_amid (brings documents) room amid = (
     with_deeds past (brought documents ∷ []),
     refl,
@@ -113,6 +129,15 @@ module _ {D : Type 0} (d : Ghosts D) (past : Past) (old new : StoreView D) (hone
     refl,
     keeps_past d (done honest past.start past.deeds (present past) keeps room),
   )
+  led_by (posts_over event) room device done =
+      elim (done honest past.start past.deeds (present past) keeps room) [
+        | inl here ↦ (with_deeds past (posted event ∷ []), inl refl, keeps_past d here)
+        | inr over ↦ (
+          with_deeds (begun_behind past over.base) (posted event ∷ []),
+          inr (over.base, refl),
+          keeps_past d over.keeps,
+        )
+      ]
   led_by (brings documents) room device done = (
     with_deeds past (brought documents ∷ []),
     refl,

@@ -1,3 +1,4 @@
 pub mod Calling
+pub mod Former
 pub mod Running
 pub mod Staying

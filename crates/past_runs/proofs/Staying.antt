@@ -1,10 +1,10 @@
 -- Moments that stay what they were.
-use Rattle.std.proofs.Common.{◌≡◌, ◌-◌, ℕ, List, [], ◌∷◌, length-append, sym, ◌∙◌, ap}
+use Rattle.std.proofs.Common.{◌≡◌, inl, inr, ◌-◌, ℕ, List, [], ◌∷◌, length-append, sym, ◌∙◌, ap}
 use Rattle.std.proofs.Common.{subst, arith}
 use Rattle.std.proofs.lemmas.List.{take-append-le, take_all}
 use Rattle.desk_past.specs.Deeds.{PastDeed, after_deeds, all_posted, brought, posted, turned}
 use Rattle.past_runs.specs.Calls.{HasThen, LeadsPast, Past, PastCall, begins, begun_behind, brings, ends, looks}
-use Rattle.past_runs.specs.Calls.{many_before, posts, takes_back, turns, turns_to, was_then, with_deeds}
+use Rattle.past_runs.specs.Calls.{many_before, posts, posts_over, takes_back, turns, turns_to, was_then, with_deeds}
 use Rattle.past_runs.specs.Runs.{AddsOnly, MomentStaysLaw, MomentsStayLaw}
 
 -- deeds behind a past change none of its moments
@@ -36,6 +36,13 @@ first_then past base k has has' =
 
 pub moment_stays : MomentStaysLaw
 moment_stays (posts event) past after k led has has' = then_too past after (posted event ∷ []) k led has
+moment_stays (posts_over event) past after k (inl led) has has' = then_too past after (posted event ∷ []) k led has
+moment_stays (posts_over event) past after k (inr over) has has' =
+    let base = over.0 in
+    let led : after ≡ with_deeds (begun_behind past base) (posted event ∷ []) = over.1 in
+    let there : HasThen (with_deeds (begun_behind past base) (posted event ∷ [])) k = subst (λ p. HasThen p k) led has' in
+    let first : HasThen (begun_behind past base) k = record { low = there.low; high = omega (arith, has.high) } in
+    then_too (begun_behind past base) after (posted event ∷ []) k led first ∙ first_then past base k has first
 moment_stays (brings documents) past after k led has has' = then_too past after (brought documents ∷ []) k led has
 moment_stays (turns_to moment to) past after k led has has' = then_too past after (turned to ∷ []) k led has
 moment_stays (turns moment) past after k led has has' =
@@ -50,6 +57,7 @@ moment_stays (begins base) past after k led has has' =
 still_there : (call : PastCall) (past after : Past) (k : ℕ) → AddsOnly call → LeadsPast call past after → HasThen past k
     → HasThen after k
 still_there (posts event) past after k adds led has = there_too past after (posted event ∷ []) k led has
+still_there (posts_over event) past after k adds led has = absurd adds
 still_there (brings documents) past after k adds led has = there_too past after (brought documents ∷ []) k led has
 still_there (turns_to moment to) past after k adds led has = there_too past after (turned to ∷ []) k led has
 still_there (turns moment) past after k adds led has =

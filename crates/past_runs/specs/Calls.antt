@@ -13,11 +13,12 @@ use Rattle.desk_journal.specs.View.{StoreView}
 use Rattle.desk_past.specs.Beginning.{BeginsBehind, ForgetsNoneBefore, HasBegun, IsApart, RemembersFormer, begun_at}
 use Rattle.desk_past.specs.Bringing.{BringsOn, CanBring, IsBroughtIn}
 use Rattle.desk_past.specs.Deeds.{PastDeed, after_deeds, all_posted, brought, posted, turned}
-use Rattle.desk_past.specs.Going.{LiesInHalf}
-use Rattle.desk_past.specs.Keeping.{CanKeep, HasKept, KeepsOn}
+use Rattle.desk_past.specs.Going.{LiesInPart}
+use Rattle.desk_past.specs.Keeping.{CanGoOver, CanKeep, HasKept, HasKeptOver, KeepsOn, KeepsOver}
 use Rattle.desk_past.specs.Past.{HasMoment, KeepsAll, KeepsOthers, LeavesAll, Remembers, Start, UndoesSome, moment}
 use Rattle.desk_past.specs.Reading.{IsOnlyReadFrom, IsQuiet}
 use Rattle.desk_past.specs.Turning.{HasTurnedBack, HasTurnedTo, TurnsBack, TurnsTo}
+use Rattle.desk_past.specs.Writing.{HasFormerPast}
 
 -- ---- pasts
 
@@ -51,17 +52,28 @@ begun_behind past base = record {
   deeds = [];
 }
 
+-- it goes on with these deeds, or one begins behind it with them
+abbrev pub GoesOver : Past → List PastDeed → Past → Type 0
+GoesOver past deeds after = (after ≡ with_deeds past deeds)
+    ⊎ ((base : ℕ) × (after ≡ with_deeds (begun_behind past base) deeds))
+
+-- the content has this past, before the one that begins in this sector of another part
+abbrev pub HasPastBefore : ℕ → ℕ → Past → Content → Type 0
+HasPastBefore size base past c = HasFormerPast size base past.start past.deeds (present past) c
+
 -- the content has this past, and shows what it led to
 abbrev pub RemembersPast : ℕ → Past → Content → Type 0
 RemembersPast size past c = Remembers size past.start past.deeds (present past) c
 
 -- ---- calls
 
--- A call that was done: an event was posted, whatever the reply; documents came; the store was turned to a moment, whose
--- desktop was known, or was worked out; at most so many events were to be taken back, and these were; an epoch ended; a
--- past began in this sector; or nothing was written.
+-- A call that was done: an event was posted, whatever the reply, in a part that isn't full, or in one from which the past
+-- may go over to the next; documents came; the store was turned to a moment, whose desktop was known, or was worked out; at
+-- most so many events were to be taken back, and these were; an epoch ended; a past began in this sector; or nothing was
+-- written.
 pub data PastCall : Type 0 where
   posts : Event → PastCall
+  posts_over : Event → PastCall
   brings : Documents → PastCall
   turns_to : ℕ → Desktop → PastCall
   turns : ℕ → PastCall
@@ -73,6 +85,7 @@ pub data PastCall : Type 0 where
 -- Where a call leads a past: it has a deed more. Events that were taken back are those by which it was longer.
 abbrev pub LeadsPast : PastCall → Past → Past → Type 0
 LeadsPast (posts event) past after = after ≡ with_deeds past (posted event ∷ [])
+LeadsPast (posts_over event) past after = GoesOver past (posted event ∷ []) after
 LeadsPast (brings documents) past after = after ≡ with_deeds past (brought documents ∷ [])
 LeadsPast (turns_to k to) past after = after ≡ with_deeds past (turned to ∷ [])
 LeadsPast (turns k) past after = after ≡ with_deeds past (turned (was_then past k) ∷ [])
@@ -81,17 +94,22 @@ LeadsPast ends past after = after ≡ past
 LeadsPast (begins base) past after = after ≡ begun_behind past base
 LeadsPast looks past after = after ≡ past
 
--- Where it may lead, whatever it answers: an undo takes some of the last events back, at most so many.
+-- Where it may lead, whatever it answers: an undo takes some of the last events back, at most so many; and a past may go
+-- over without the event.
 abbrev pub MayLeadPast : PastCall → Past → Past → Type 0
 MayLeadPast (takes_back count back) past after = (some : List Event) × (length some ≤ count)
     × (past ≡ with_deeds after (all_posted some))
+MayLeadPast (posts_over event) past after = GoesOver past (posted event ∷ []) after
+    ⊎ ((base : ℕ) × (after ≡ begun_behind past base))
 MayLeadPast call past after = LeadsPast call past after
 
 -- what else stands where a past has begun: the former one
-abbrev pub HoldsFormer : PastCall → ℕ → Past → Content → Type 0
-HoldsFormer (begins base) size past c =
+abbrev pub HoldsFormer : PastCall → ℕ → (past after : Past) → Content → Type 0
+HoldsFormer (begins base) size past after c =
     RemembersFormer size base past.start past.deeds (present past) c
-HoldsFormer call size past c = Unit {0}
+HoldsFormer (posts_over event) size past after c = (after.start ≡ past.start)
+    ⊎ RemembersFormer size after.start.base past.start past.deeds (present past) c
+HoldsFormer call size past after c = Unit {0}
 
 module _ {D : Type 0} (d : Ghosts D) where
   -- a store in use shows what this past led to, and has all of its deeds
@@ -115,6 +133,7 @@ module _ {D : Type 0} (d : Ghosts D) where
   -- at every moment, whatever the call answers
   abbrev pub KeepsAmid : PastCall → StoreView D → StoreView D → Type 0
   KeepsAmid (posts event) old new = KeepsOn d event old new
+  KeepsAmid (posts_over event) old new = KeepsOver d event old new
   KeepsAmid (brings documents) old new = BringsOn d documents old new
   KeepsAmid (turns_to k to) old new = TurnsTo d k to old new
   KeepsAmid (turns k) old new = TurnsBack d k old new
@@ -126,6 +145,7 @@ module _ {D : Type 0} (d : Ghosts D) where
   -- where it was done
   abbrev pub HasDone : PastCall → StoreView D → StoreView D → Type 0
   HasDone (posts event) old new = HasKept d event old new
+  HasDone (posts_over event) old new = HasKeptOver d event old new
   HasDone (brings documents) old new = IsBroughtIn d documents Done old new
   HasDone (turns_to k to) old new = HasTurnedTo d k to old new
   HasDone (turns k) old new = HasTurnedBack d k old new
@@ -138,9 +158,10 @@ module _ {D : Type 0} (d : Ghosts D) where
   -- what these promises ask of the past that the store keeps: room, or that there is such a moment
   abbrev pub Asks : PastCall → (past : Past) (store : StoreView D) → KeepsDeeds past store → Type 0
   Asks (posts event) past store keeps = IsDueBefore store → CanKeep d keeps
+  Asks (posts_over event) past store keeps = IsDueBefore store → CanGoOver d keeps
   Asks (brings documents) past store keeps = CanBring d documents keeps
   Asks (turns_to k to) past store keeps = HasThen past k × (to ≡ was_then past k)
-  Asks (turns k) past store keeps = LiesInHalf d keeps
+  Asks (turns k) past store keeps = LiesInPart d keeps
   Asks (takes_back count back) past store keeps = Unit {0}
   Asks ends past store keeps = Unit {0}
   Asks (begins base) past store keeps = IsApart d base keeps
@@ -159,9 +180,14 @@ module _ {D : Type 0} (d : Ghosts D) where
     pub tries : TriesCall call old new
     pub done : HasDone call old new
 
-  -- At every moment from the one state to the other a crash leaves this past, or one to which the call may lead.
+  -- At every moment from the one state to the other a crash leaves this past, or one to which the call may lead: the same one
+  -- at all of them, but where the past may go over.
   abbrev pub LeavesPast : PastCall → Past → StoreView D → StoreView D → Type 0
+  LeavesPast (posts_over event) past old new = LeavesOnly (d.trail old.disk) (d.trail new.disk)
+      (λ c. RemembersPast (d.size old.disk) past c ⊎ ((after : Past)
+      × MayLeadPast (posts_over event) past after × RemembersPast (d.size old.disk) after c
+      × HoldsFormer (posts_over event) (d.size old.disk) past after c))
   LeavesPast call past old new = (after : Past) × MayLeadPast call past after
       × LeavesOnly (d.trail old.disk) (d.trail new.disk)
       (λ c. RemembersPast (d.size old.disk) past c
-      ⊎ RemembersPast (d.size old.disk) after c × HoldsFormer call (d.size old.disk) past c)
+      ⊎ RemembersPast (d.size old.disk) after c × HoldsFormer call (d.size old.disk) past after c)

@@ -1,11 +1,13 @@
 -- Runs of calls on a store with a past, in which nothing is forgotten. `d` is what is known of a disk.
 use Rattle.std.specs.Prelude.{◌≡◌, ◌∷◌, ◌++◌, [], ℕ, List}
 use Rattle.sector_disk.specs.declared.disk.Disk.{Ghosts}
-use Rattle.sector_disk.specs.Trail.{Leaves, now}
+use Rattle.sector_disk.specs.Trail.{Leaves, LeavesOnly, now}
 use Rattle.desk_journal.specs.View.{StoreView}
+use Rattle.desk_past.specs.Going.{LiesInPart}
 use Rattle.desk_past.specs.Reading.{IsQuiet}
-use Rattle.past_runs.specs.Calls.{DoesCall, FindsRoom, RemembersPast, HasThen, KeepsDeeds, LeadsPast, LeavesPast, Past, PastCall}
-use Rattle.past_runs.specs.Calls.{TriesCall, begins, takes_back, was_then}
+use Rattle.desk_past.specs.Writing.{LiesAhead, WritesOnly}
+use Rattle.past_runs.specs.Calls.{DoesCall, FindsRoom, HasPastBefore, RemembersPast, HasThen, KeepsDeeds, LeadsPast, LeavesPast, Past, PastCall}
+use Rattle.past_runs.specs.Calls.{TriesCall, begins, posts_over, takes_back, was_then}
 
 -- where calls lead a past, one after another
 abbrev pub LeadsAll : List PastCall → Past → Past → Type 0
@@ -80,6 +82,7 @@ MomentStaysLaw = (call : PastCall) (past after : Past) (k : ℕ) → LeadsPast c
 abbrev pub AddsOnly : PastCall → Type 0
 AddsOnly (takes_back count back) = ⊥
 AddsOnly (begins base) = ⊥
+AddsOnly (posts_over event) = ⊥
 AddsOnly call = Unit {0}
 
 abbrev pub AddOnly : List PastCall → Type 0
@@ -90,3 +93,37 @@ AddOnly (call ∷ calls) = AddsOnly call × AddOnly calls
 abbrev pub MomentsStayLaw : Type 0
 MomentsStayLaw = (calls : List PastCall) (past after : Past) (k : ℕ) → LeadsAll calls past after
     → AddOnly calls → HasThen past k → HasThen after k × (was_then after k ≡ was_then past k)
+
+-- ---- the former past
+
+-- a call by which no past begins
+abbrev pub BeginsNone : PastCall → Type 0
+BeginsNone (begins base) = ⊥
+BeginsNone (posts_over event) = ⊥
+BeginsNone call = Unit {0}
+
+abbrev pub BeginNone : List PastCall → Type 0
+BeginNone [] = Unit {0}
+BeginNone (call ∷ calls) = BeginsNone call × BeginNone calls
+
+module _ {D : Type 0} (d : Ghosts D) where
+  -- A call on a store whose past lies in its part, and which writes ahead alone behind the store.
+  pub record StaysInPart (past : Past) (old new : StoreView D) : Type 0 where
+    pub lies : (keeps : KeepsDeeds d past old) → LiesInPart d keeps
+    pub writes : WritesOnly d (LiesAhead (d.size old.disk)) old new
+
+  -- each call of a run is one, from the past to which those before it led
+  abbrev pub StayInPart : (calls : List PastCall) → Past → (old new : StoreView D)
+      → IsPastRun d calls old new → Type 0
+  StayInPart [] past old new run = Unit {0}
+  StayInPart (call ∷ calls) past old new run = StaysInPart past old run.0
+      × ((after : Past) → LeadsPast call past after → StayInPart calls after run.0 new run.2)
+
+  -- At every moment of a run by which no past begins a crash leaves the former past, which was in another part before it.
+  abbrev pub FormerStaysOverRuns : Type 0
+  FormerStaysOverRuns = (calls : List PastCall) (past former : Past) (old new : StoreView D)
+      → d.honest old.disk → KeepsDeeds d past old → (run : IsPastRun d calls old new)
+      → FindRoom d calls past old new run → BeginNone calls → StayInPart calls past old new run
+      → Leaves (now (d.trail old.disk)) (HasPastBefore (d.size old.disk) past.start.base former)
+      → LeavesOnly (d.trail old.disk) (d.trail new.disk)
+      (HasPastBefore (d.size old.disk) past.start.base former)

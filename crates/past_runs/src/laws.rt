@@ -1,5 +1,5 @@
 //! What holds of runs of calls on a store with a past.
-ghost use Rattle.past_runs.specs.Runs.{MomentStaysLaw, MomentsStayLaw, PastRunsCompose, PastRunsCut, PastRunsLaw};
+ghost use Rattle.past_runs.specs.Runs.{FormerStaysOverRuns, MomentStaysLaw, MomentsStayLaw, PastRunsCompose, PastRunsCut, PastRunsLaw};
 
 use sector_disk::Disk;
 
@@ -21,4 +21,10 @@ pub fn past_runs_compose<D: Disk>()
 pub fn moments_stay()
     ensures one { MomentStaysLaw }
     ensures all { MomentsStayLaw }
+{}
+
+/// Where a past has begun behind a former one, in the other part, that one stays at every moment of a run whose calls write
+/// ahead alone: a crash leaves it until a past begins there anew.
+pub fn former_stays<D: Disk>()
+    ensures { FormerStaysOverRuns D.Disk }
 {}

@@ -4,7 +4,7 @@ use Rattle.std.specs.Prelude.{Option, Some, None, IfSome, IsSomeAnd, Result, Ok,
 use Rattle.std.proofs.lemmas.Bool.{false≢true}
 use Rattle.sector_disk.specs.declared.disk.Disk.{Ghosts}
 use Rattle.sector_disk.specs.Faults.{FailsAs}
-use Rattle.sector_disk.specs.Trail.{Content, LeavesOnly, now}
+use Rattle.sector_disk.specs.Trail.{LeavesOnly, now}
 use Rattle.event_bytes.specs.declared.event.Event.{Event}
 use Rattle.desktop_definitions.specs.Desktop.{Desktop}
 use Rattle.desktop_definitions.specs.Step.{steps}
@@ -17,69 +17,33 @@ use Rattle.desk_journal.specs.Turning.{LeavesThisOrThat}
 use Rattle.desk_journal.specs.Undoing.{IsLeft, IsTakenBack, LeavesUndone, OfUndo}
 use Rattle.desk_journal.specs.View.{StoreView}
 use Rattle.desk_past.specs.Deeds.{PastDeed}
-use Rattle.desk_past.specs.Going.{LiesInHalf}
-use Rattle.desk_past.specs.Halves.{IsHalf}
+use Rattle.desk_past.specs.Going.{LiesInPart}
 use Rattle.desk_past.specs.Keeping.{UsesDevice}
-use Rattle.desk_past.specs.Past.{HasMoment, HoldsPast, KeepsAll, Start, moment}
+use Rattle.desk_past.specs.Past.{HasMoment, KeepsAll, Start, moment}
 use Rattle.desk_past.specs.Reading.{IsOnlyReadFrom, IsQuiet}
 use Rattle.desk_past.specs.Turning.{ComesToMoment, KeepsTurned, LeavesTurned, PastOf, TurnsTo, WasAt}
+use Rattle.desk_past.proofs.Before.{part_before, past_before}
 use Rattle.desk_past.proofs.Begun.{same_both}
 use Rattle.desk_past.proofs.InMemory.{error_from, failing_on, fails_none, looks_closed, none_failed}
-use Rattle.desk_past.proofs.StillReads.{still_both, still_reads}
-use Rattle.past_steps.specs.Steps.{BreaksOff, IsHalfInUse, IsMomentOf, IsSteppedBack, IsTurnedBack, LeavesSteppedBack}
+use Rattle.desk_past.proofs.Looks.{left_twice, only_read}
+use Rattle.desk_past.proofs.StillReads.{still_both}
+use Rattle.past_steps.specs.Steps.{BreaksOff, IsPartInUse, IsMomentOf, IsSteppedBack, IsTurnedBack, LeavesSteppedBack}
 use Rattle.past_steps.specs.Steps.{LeavesBack, LeavesTurnedBack, TakesBack, goes_back, turned, turns, undoes, undone}
 use Rattle.past_steps.specs.Steps.{only_read as nothing_done}
-use Rattle.past_steps.proofs.Looking.{left_twice, only_read}
-
-module _ {D : Type 0} (d : Ghosts D) {old mid : StoreView D} (still : IsOnlyReadFrom d old mid)
-    (usable : old.must_reopen ≡ false) (quiet : d.honest old.disk → IsQuiet d old) where
-  -- what a store keeps after it was read it kept before
-  abbrev keeps_before : {start : Start} {deeds : List PastDeed} {desktop : Desktop} → d.honest mid.disk
-      → KeepsAll d start deeds desktop mid → KeepsAll d start deeds desktop old
-  keeps_before {start = start} honest keeps =
-      let before = still.left.disk.device.already honest in
-      record {
-        usable = usable;
-        behind = keeps.behind;
-        remembers = record {
-          standing = keeps.remembers.standing;
-          pages = keeps.remembers.pages;
-          past = subst (λ (x : ℕ × Content). HoldsPast x.0 start keeps.remembers.standing keeps.remembers.pages x.1)
-              (λ i. (still.left.disk.device.as_large i, still_reads d still (quiet before) before i)) keeps.remembers.past;
-          all = keeps.remembers.all;
-          is = keeps.remembers.is;
-        };
-      }
-
-  abbrev pub past_before : PastOf d mid → PastOf d old
-  past_before past = record {
-    start = past.start;
-    deeds = past.deeds;
-    desktop = past.desktop;
-    keeps = keeps_before past.honest past.keeps;
-    honest = still.left.disk.device.already past.honest;
-  }
-
-  pub half_before : (past : PastOf d mid) → LiesInHalf d past.keeps → LiesInHalf d (past_before past).keeps
-  half_before past lies = record {
-    end = lies.end;
-    half = subst (λ n. IsHalf n past.start.base lies.end) still.left.disk.device.as_large lies.half;
-    within = lies.within;
-  }
 
 -- A turn to a desktop that was tried: what it leaves. The events were read first, then the desktop was tried.
 module _ {D : Type 0} (d : Ghosts D) {old mid late : StoreView D} (usable : old.must_reopen ≡ false)
     (first : IsOnlyReadFrom d old mid) (second : IsOnlyReadFrom d mid late)
     (quiet : old.must_reopen ≡ false → d.honest old.disk → IsQuiet d old)
     (still : mid.must_reopen ≡ false → d.honest mid.disk → IsQuiet d mid) (base k : ℕ) (events : List Event)
-    (to : GatheredView) (half : IsHalfInUse d base old) (was : IsMomentOf d base k to.desktop mid)
+    (to : GatheredView) (part : IsPartInUse d base old) (was : IsMomentOf d base k to.desktop mid)
     (leads : d.honest mid.disk → steps to.desktop events ≡ mid.desktop) where
-  was_at : (past : PastOf d late) → LiesInHalf d past.keeps → WasAt d k to.desktop past
+  was_at : (past : PastOf d late) → LiesInPart d past.keeps → WasAt d k to.desktop past
   was_at past lies =
       let at_mid : PastOf d mid = past_before d second first.usable (still first.usable) past in
       let at_old : PastOf d old = past_before d first usable (quiet usable) at_mid in
-      let w = was at_mid (half at_old (half_before d first usable (quiet usable) at_mid
-      (half_before d second first.usable (still first.usable) past lies))) in
+      let w = was at_mid (part at_old (part_before d first usable (quiet usable) at_mid
+      (part_before d second first.usable (still first.usable) past lies))) in
       record { there = w.there; is = w.is }
 
   led : d.honest late.disk → steps to.desktop events ≡ late.desktop

@@ -12,13 +12,13 @@ use Rattle.desk_journal.specs.Errors.{Error, Fault, MustReopen, OfLook}
 use Rattle.desk_journal.specs.Undoing.{IsLeft, IsTakenBack, LeavesUndone}
 use Rattle.desk_journal.specs.View.{StoreView, IsDurable}
 use Rattle.desk_past.specs.Reading.{IsOnlyReadFrom}
-use Rattle.desk_past.specs.Going.{LiesInHalf}
+use Rattle.desk_past.specs.Going.{LiesInPart}
 use Rattle.desk_past.specs.Turning.{HasTurnedBack, PastOf, TurnsBack, WasAt}
 
 module _ {D : Type 0} (d : Ghosts D) where
-  -- a past of the store that lies in a half begins in this sector
-  abbrev pub IsHalfInUse : ℕ → StoreView D → Type 0
-  IsHalfInUse base store = (past : PastOf d store) → LiesInHalf d past.keeps
+  -- a past of the store that lies in a part begins in this sector
+  abbrev pub IsPartInUse : ℕ → StoreView D → Type 0
+  IsPartInUse base store = (past : PastOf d store) → LiesInPart d past.keeps
       → past.start.base ≡ base
 
   -- such a past has moment k, and the desktop was this one then

@@ -98,7 +98,7 @@ fn desktop_before<D: Disk>(
 }
 
 /// Takes the last events back by a turn, so many, or as many as the past tells of. None where it tells of none that lead to
-/// what the store shows, where too much was done since its half began, or where it has no room for a turn: then nothing is
+/// what the store shows, where too much was done since its part began, or where it has no room for a turn: then nothing is
 /// written.
 ///
 /// Errors: those of `last_events`, `desktop_before` and `turn_to`.
@@ -133,7 +133,7 @@ fn turned_back<D: Disk>(
 }
 
 /// Takes the last events back, so many, or fewer, and hands them out in their order. Where the store keeps a past that
-/// tells of them, and not too much was done since its half began, it is turned to the moment before them, so that nothing
+/// tells of them, and not too much was done since its part began, it is turned to the moment before them, so that nothing
 /// is forgotten; else it takes them back itself, as `Store::undo` does.
 ///
 /// Errors: those of `Store::undo`; a disk in memory that fails is want of memory.

@@ -2,16 +2,16 @@
 //! known of them, and who uses them tries them first.
 ghost use Rattle.std.specs.Prelude.{◌≡◌, ◌<◌, ◌≤◌, false, IfOk, IfSome};
 ghost use Rattle.desk_journal.specs.Looking.{OnlyLooks};
-ghost use Rattle.past_steps.specs.Steps.{IsHalfInUse};
+ghost use Rattle.past_steps.specs.Steps.{IsPartInUse};
 
 use desk_journal::{Error, STORE_SECTORS, Store};
-use desk_past::{Half, PageDeeds, half_at, page_in};
+use desk_past::{PageDeeds, Part, page_in, part_at};
 use event_bytes::Event;
 use sector_disk::Disk;
 use std::alloc::{AllocError, Global};
 use store_layout::PastEnd;
 
-/// How many sectors behind the start of a half are read at most: a step is to take no longer than a key may.
+/// How many sectors behind the start of a part are read at most: a step is to take no longer than a key may.
 const MOST_SECTORS: u32 = 4096;
 
 /// How many deeds are done once more in memory before a step, at most, for the same reason.
@@ -42,7 +42,7 @@ pub(crate) struct Found {
     pub count: u64,
 }
 
-/// The pages of a past that have deeds, oldest first, the sector from which the half begins in which they stand, and the
+/// The pages of a past that have deeds, oldest first, the sector from which the part begins in which they stand, and the
 /// one behind them; how many deeds came before them, and before the journal in use; and the events of that.
 #[derive(Drop)]
 pub(crate) struct Index {
@@ -169,9 +169,9 @@ fn count_in(entries: &[Entry]) -> u64 {
     }
 }
 
-/// Whether the pages of a half are few enough to be read before a step.
-fn are_few(half: Half, told: PastEnd) -> bool {
-    let first = half.base.saturating_add(STORE_SECTORS);
+/// Whether the pages of a part are few enough to be read before a step.
+fn are_few(part: Part, told: PastEnd) -> bool {
+    let first = part.base.saturating_add(STORE_SECTORS);
     told.next.saturating_sub(first) <= MOST_SECTORS
 }
 
@@ -181,13 +181,13 @@ impl Index {
     ///
     /// Errors: those of `Store::past`, `page_in` and `Store::history`.
     pub fn of<D: Disk>(alloc: Global, store: &mut Store<D>) -> Result<Option<Index>, Error>
-        ensures half { IfOk result (λ found. IfSome found (λ index.
-            IsHalfInUse D.Disk index.base store.old)) }
+        ensures part { IfOk result (λ found. IfSome found (λ index.
+            IsPartInUse D.Disk index.base store.old)) }
         ensures looks { OnlyLooks D.Disk result store.old store.new }
     {
         let told = store.past()?;
-        match half_at(store.sectors(), told.next) {
-            Some(half) if are_few(half, told) => Index::behind(alloc, store, half.base, told),
+        match part_at(store.sectors(), told.next) {
+            Some(part) if are_few(part, told) => Index::behind(alloc, store, part.base, told),
             _ => Ok(None),
         }
     }
@@ -230,7 +230,7 @@ impl Index {
         })
     }
 
-    /// Whether so few deeds came before moment `k` since the half began that they can be done again before a step.
+    /// Whether so few deeds came before moment `k` since the part began that they can be done again before a step.
     pub fn is_near(&self, k: u64) -> bool {
         k.saturating_sub(self.start) <= MOST_DONE_AGAIN
     }

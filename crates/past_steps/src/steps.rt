@@ -2,7 +2,7 @@
 //! known of it.
 ghost use Rattle.std.specs.Prelude.{◌≡◌, ◌≤◌, false, length, IfOk, IfSome, OnOk};
 ghost use Rattle.desk_journal.specs.Looking.{OnlyLooks};
-ghost use Rattle.past_steps.specs.Steps.{IsHalfInUse};
+ghost use Rattle.past_steps.specs.Steps.{IsPartInUse};
 
 use crate::index::{Found, Index, last_of};
 use desk_journal::{Error, Store};
@@ -195,7 +195,7 @@ fn rest_behind(events: Vec<Event>, done: &[Event]) -> Result<Vec<Event>, AllocEr
 
 /// The last events that led to what a store shows, at most so many, in their order, and the moment before them, or the one
 /// to which a turn right before them led. None where it keeps no past, where its pages
-/// can't be read, or where too much was done since its half began.
+/// can't be read, or where too much was done since its part began.
 ///
 /// Errors: those of `Store::past`, `page_in` and `Store::history`.
 pub(crate) fn last_events<D: Disk>(
@@ -204,8 +204,8 @@ pub(crate) fn last_events<D: Disk>(
     most: usize,
 ) -> Result<Option<Candidate>, Error>
     ensures few { IfOk result (λ found. IfSome found (λ last. length last.events.items ≤ most)) }
-    ensures half { IfOk result (λ found. IfSome found (λ last.
-        IsHalfInUse D.Disk last.base store.old)) }
+    ensures part { IfOk result (λ found. IfSome found (λ last.
+        IsPartInUse D.Disk last.base store.old)) }
     ensures looks { OnlyLooks D.Disk result store.old store.new }
 {
     let Some(mut index) = Index::of(alloc, store)? else {
@@ -224,7 +224,7 @@ pub(crate) fn last_events<D: Disk>(
 }
 
 /// The last events that led to what a store shows, as its past tells: at most so many, in their order. None where it keeps
-/// no past, where its pages can't be read or are too many, or where too much was done since its half began.
+/// no past, where its pages can't be read or are too many, or where too much was done since its part began.
 ///
 /// Errors: `MustReopen`; `NoMemory`; `Fault`.
 pub fn events_behind<D: Disk>(

@@ -8,10 +8,11 @@ use Rattle.std.specs.List.{list_all}
 use Rattle.std.proofs.lemmas.Bool.{lt-leb, le-leb, and_left, and_right, and_parts, not-true, leb-false, cond-true, cond-false}
 use Rattle.event_bytes.specs.Bytes.{is_text_byte, is_file_bytes, is_typed_bytes}
 use Rattle.event_bytes.specs.declared.event.Event.TheVariants.{Typed}
+use Rattle.script_lines.specs.declared.request.Request.{Request}
 use Rattle.script_lines.specs.declared.request.Request.TheVariants.{Post, Malformed}
 use Rattle.script_lines.specs.Words.{◌>>=◌, first_word, argument}
 use Rattle.script_lines.specs.Percent.{in_front, is_itself, meant, escaped, few_meant}
-use Rattle.script_lines.specs.Request.{file_bytes_of, typed_bytes_of, typed_of, words_of, command_of, is_readable}
+use Rattle.script_lines.specs.Request.{file_bytes_of, typed_bytes_of, typed_of, command_of, is_readable}
 use Rattle.script_lines.specs.Request.{request_of, typed_plain}
 
 -- the bytes so far, and what the rest stands for
@@ -129,12 +130,12 @@ none_malformed text false = refl
 
 pub plain_line : (line name text : List ℕ) → is_readable line ≡ true → name ≡ first_word line → Some text ≡ argument line
     → bytes_eq name (codes "type") ≡ true → list_all is_itself text ≡ true → request_of line ≡ typed_plain text
-unfolding request_of command_of words_of
+unfolding request_of command_of typed_bytes_of
 plain_line line name text readable first rest types is =
     cond-true (is_readable line) _ Malformed readable
     ∙ ap (λ (argument : Option (List ℕ)). unwrap_or (command_of (first_word line) argument) Malformed) (sym rest)
-    ∙ ap (λ known. unwrap_or known Malformed)
-    (cond-true (bytes_eq (first_word line) (codes "type")) (typed_of text) _
+    ∙ ap (λ (asked : Option (Option Request)). unwrap_or (asked >>= λ known. known) Malformed)
+    (cond-true (bytes_eq (first_word line) (codes "type")) (Some (typed_of text)) _
     (ap (λ l. bytes_eq l (codes "type")) (sym first) ∙ types))
     ∙ ap (λ (known : Option (List ℕ)). unwrap_or (known >>= λ bytes. Some (Post (Typed bytes))) Malformed)
     (plain_typed text is)

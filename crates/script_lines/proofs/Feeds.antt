@@ -7,7 +7,8 @@ use Rattle.std.specs.List.{between, position_or_len}
 use Rattle.std.proofs.lemmas.Bool.{cases_Bool, eqb-true, eqb-false, ltb-true, ltb-false, cond-true, cond-false}
 use Rattle.std.proofs.lemmas.List.{drop-drop}
 use Rattle.std.proofs.lemmas.Slice.{between_is}
-use Rattle.script_lines.specs.Script.{script_line, IsLine}
+use Rattle.screen_pictures.specs.Printed.{ended_line}
+use Rattle.script_lines.specs.Script.{IsLine}
 
 abbrev pub is_feed : ℕ → Bool
 is_feed b = b == 10
@@ -65,7 +66,7 @@ before_feed bytes i found =
     (at_place (feed_at bytes) (length bytes) _ refl).1 i found in
     subst (λ (n : ℕ). IsLine (take n bytes)) place.0 (stands bytes).plain
 
-pub behind_feed : (bytes : List ℕ) (i : ℕ) → position is_feed bytes ≡ Some i → bytes ≡ script_line (take i bytes)
+pub behind_feed : (bytes : List ℕ) (i : ℕ) → position is_feed bytes ≡ Some i → bytes ≡ ended_line (take i bytes)
     ++ drop (i + 1) bytes
 behind_feed bytes i found =
     let place : (feed_at bytes ≡ i) × (feed_at bytes < length bytes) =

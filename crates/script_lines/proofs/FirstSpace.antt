@@ -1,12 +1,16 @@
 -- The words of a line.
-use Rattle.std.proofs.Common.{◌≡◌, ℕ, ◌+◌, ◌≤◌, cond, ltb, List, Option, None, Some}
+use Rattle.std.proofs.Common.{◌≡◌, ℕ, ◌+◌, ◌≤◌, Bool, cond, ltb, List, Option, None, Some}
 use Rattle.std.proofs.Common.{take, drop, refl, ap, ◌∙◌, inl, inr}
-use Rattle.std.specs.Prelude.{position}
+use Rattle.std.specs.Prelude.{position, ◌==◌}
 use Rattle.std.specs.Option.{option_map}
 use Rattle.std.specs.List.{position_or_len}
 use Rattle.std.proofs.lemmas.Bool.{cases_Bool, ltb-false, cond-true, cond-false}
 use Rattle.std.proofs.lemmas.List.{take_all}
-use Rattle.script_lines.specs.Words.{is_space, first_word, argument}
+use Rattle.screen_pictures.specs.Bytes.{space}
+use Rattle.script_lines.specs.Words.{first_word, argument}
+
+abbrev is_space : ℕ → Bool
+is_space b = b == space
 
 -- where the first place is past the end, or stands
 at_place : (i n : ℕ) (o : Option ℕ) → o ≡ cond (ltb i n) (Some i) None → (o ≡ None → n ≤ i) × ((k : ℕ) → o ≡ Some k

@@ -3,7 +3,8 @@ use Rattle.std.proofs.Common.{◌≡◌, ℕ, ◌+◌, ◌<◌, ◌≤◌, List,
 use Rattle.std.proofs.Common.{subst, arith, append_assoc, append-nil, length-append}
 use Rattle.std.specs.Io.KnownBytes.{Consumes}
 use Rattle.std.proofs.KnownBytes.{Consumes-nil, Consumes-trans}
-use Rattle.script_lines.specs.Script.{script_line, IsLine}
+use Rattle.screen_pictures.specs.Printed.{ended_line}
+use Rattle.script_lines.specs.Script.{IsLine}
 use Rattle.script_lines.specs.Reading.{HoldsLine, Unplayed, TakesLine, TakesRest, most_lines, most_bytes}
 use Rattle.script_lines.specs.declared.line.Line.{Line}
 
@@ -61,7 +62,7 @@ gathered_more old mid now left left' left'' held held' before plain longer came 
 
 pub line_taken : (old mid new : Unplayed) (left left' : Option (List ℕ)) (held held' : Line)
     → HasGathered old mid left left' held
-    → ((front : List ℕ) × IsLine front × (mid.pending ≡ script_line front ++ new.pending) × ((before : List ℕ)
+    → ((front : List ℕ) × IsLine front × (mid.pending ≡ ended_line front ++ new.pending) × ((before : List ℕ)
     → HoldsLine held before → HoldsLine held' (before ++ front)))
     → new.reads ≡ mid.reads → TakesLine old new left left' held'
 line_taken old mid new left left' held held' before (front, plain, parts, longer) reads = record {
@@ -69,7 +70,7 @@ line_taken old mid new left left' held held' before (front, plain, parts, longer
   read = before.read;
   came = before.came;
   plain = plain_both before.front front before.plain plain;
-  parts = before.parts ∙ ap (λ l. before.front ++ l) parts ∙ sym (append_assoc before.front (script_line front) new.pending)
+  parts = before.parts ∙ ap (λ l. before.front ++ l) parts ∙ sym (append_assoc before.front (ended_line front) new.pending)
       ∙ ap (λ l. l ++ new.pending) (sym (append_assoc before.front front (10 ∷ [])));
   few = omega (arith, before.few, reads);
   holds = longer before.front before.holds;
@@ -78,12 +79,12 @@ line_taken old mid new left left' held held' before (front, plain, parts, longer
 -- a line that is taken leaves fewer to come
 pub fewer_lines : (old mid new : Unplayed) (left left' : Option (List ℕ)) (held held' : Line)
     → HasGathered old mid left left' held
-    → ((front : List ℕ) × IsLine front × (mid.pending ≡ script_line front ++ new.pending) × ((before : List ℕ)
+    → ((front : List ℕ) × IsLine front × (mid.pending ≡ ended_line front ++ new.pending) × ((before : List ℕ)
     → HoldsLine held before → HoldsLine held' (before ++ front)))
     → new.reads ≡ mid.reads → most_lines new < most_lines old
 fewer_lines old mid new left left' held held' before (front, plain, parts, longer) reads =
     let size : length mid.pending ≡ length front + 1 + length new.pending
-    = ap length parts ∙ length-append (script_line front) new.pending
+    = ap length parts ∙ length-append (ended_line front) new.pending
     ∙ ap (λ n. n + length new.pending) (length-append front (10 ∷ [])) in
     omega (arith, before.fewer, reads, size)
 

@@ -1,14 +1,18 @@
 -- Which texts spell a number: its decimal digits alone.
-use Rattle.std.proofs.Common.{◌≡◌, ℕ, ◌+◌, ◌-◌, ◌*◌, ◌/◌, ◌%◌, ◌<◌, ◌≤◌, Bool, true, false, cond, List, [], ◌∷◌, ◌++◌}
+use Rattle.std.proofs.Common.{◌≡◌, ℕ, zero, suc, ◌+◌, ◌-◌, ◌*◌, ◌/◌, ◌%◌, ◌<◌, ◌≤◌, Bool, true, false, cond, List, [], ◌∷◌, ◌++◌}
 use Rattle.std.proofs.Common.{Option, None, Some, refl, sym, ap, ◌∙◌, subst, arith, append_assoc, append-nil}
 use Rattle.std.proofs.Common.{inl, inr}
 use Rattle.std.specs.Prelude.{◌==◌, ◌&&◌, not, nat_le, ◌↔◌}
 use Rattle.std.specs.Fmt.{decimal}
-use Rattle.std.proofs.lemmas.Bool.{cases_lt, cond-true}
+use Rattle.std.specs.List.{find, range_with_len}
+use Rattle.std.specs.Str.{bytes_eq}
+use Rattle.std.proofs.lemmas.Bool.{cases_lt, cond-true, cond-false}
 use Rattle.std.proofs.lemmas.Bool.Decides.{nat_tests}
+use Rattle.std.proofs.lemmas.Slice.Eq.{bytes_eq-Decides}
 use Rattle.std.proofs.lemmas.Fmt.{decimal_digit, decimal_step}
 use Rattle.event_bytes.specs.Bytes.{is_digit}
-use Rattle.script_lines.specs.Words.{◌>>=◌, one_more, number_from, to_number}
+use Rattle.script_lines.specs.Words.{◌>>=◌, to_number}
+use Rattle.script_lines.specs.Digits.{one_more, number_from, read_number}
 
 -- ---- one digit
 
@@ -117,8 +121,8 @@ first_high : (b : ℕ) → is_digit b ≡ true → b ≤ 57
 unfolding is_digit
 first_high b h = grind (arith, nat_tests)
 
-spelled_is : (text : List ℕ) (n : ℕ) → to_number text ≡ Some n → (n ≤ 255) × (text ≡ decimal n)
-unfolding to_number
+spelled_is : (text : List ℕ) (n : ℕ) → read_number text ≡ Some n → (n ≤ 255) × (text ≡ decimal n)
+unfolding read_number
 spelled_is [] n is = absurd cc
 spelled_is (b ∷ bs) n is =
     let first : (is_digit b ≡ true) × (number_from (b - 48) bs ≡ Some n) = is_first b (number_from (b - 48) bs) n is in
@@ -147,9 +151,9 @@ last_from m [] b = some_again (one_more m b)
 last_from m (x ∷ xs) b = step_through (one_more m x) (λ k. number_from k (xs ++ b ∷ [])) (λ k. number_from k xs)
     (λ k. one_more k b) (λ k. last_from k xs b)
 
-last_of : (xs : List ℕ) (b : ℕ) (m k : ℕ) → to_number xs ≡ Some m → one_more m b ≡ Some k
-    → to_number (xs ++ b ∷ []) ≡ Some k
-unfolding to_number
+last_of : (xs : List ℕ) (b : ℕ) (m k : ℕ) → read_number xs ≡ Some m → one_more m b ≡ Some k
+    → read_number (xs ++ b ∷ []) ≡ Some k
+unfolding read_number
 last_of [] b m k is more = absurd cc
 last_of (x ∷ xs) b m k is more =
     let first : (is_digit x ≡ true) × (number_from (x - 48) xs ≡ Some m) = is_first x (number_from (x - 48) xs) m is in
@@ -160,14 +164,14 @@ is_digit_of : (n : ℕ) → n < 10 → is_digit (48 + n) ≡ true
 unfolding is_digit
 is_digit_of n small = grind (arith, nat_tests)
 
-one_digit : (n : ℕ) → n < 10 → to_number (decimal n) ≡ Some n
-unfolding to_number number_from
+one_digit : (n : ℕ) → n < 10 → read_number (decimal n) ≡ Some n
+unfolding read_number number_from
 one_digit n small =
     let same : 48 + n - 48 ≡ n = omega arith in
-    ap to_number (decimal_digit n small)
+    ap read_number (decimal_digit n small)
     ∙ cond-true (is_digit (48 + n)) (Some (48 + n - 48)) None (is_digit_of n small) ∙ ap (λ (k : ℕ). Some k) same
 
-digit_more : (n : ℕ) → 10 ≤ n → n ≤ 255 → to_number (decimal (n / 10)) ≡ Some (n / 10) → to_number (decimal n) ≡ Some n
+digit_more : (n : ℕ) → 10 ≤ n → n ≤ 255 → read_number (decimal (n / 10)) ≡ Some (n / 10) → read_number (decimal n) ≡ Some n
 digit_more n large small front =
     let more : IsMore (n / 10) (48 + n % 10) n = record {
       low = omega arith;
@@ -176,20 +180,80 @@ digit_more n large small front =
       value = omega arith;
       small = small;
     } in
-    ap to_number (decimal_step n large (omega (arith, small)))
+    ap read_number (decimal_step n large (omega (arith, small)))
     ∙ last_of (decimal (n / 10)) (48 + n % 10) (n / 10) n front (more_is (n / 10) (48 + n % 10) n more)
 
-two_digits : (n : ℕ) → n < 100 → to_number (decimal n) ≡ Some n
+two_digits : (n : ℕ) → n < 100 → read_number (decimal n) ≡ Some n
 two_digits n small = elim (cases_lt n 10) [
   | inl one ↦ one_digit n one
   | inr large ↦ digit_more n large (omega (arith, small)) (one_digit (n / 10) (omega (arith, small)))
 ]
 
-is_spelled : (n : ℕ) → n ≤ 255 → to_number (decimal n) ≡ Some n
+is_spelled : (n : ℕ) → n ≤ 255 → read_number (decimal n) ≡ Some n
 is_spelled n small = elim (cases_lt n 10) [
   | inl one ↦ one_digit n one
   | inr large ↦ digit_more n large small (two_digits (n / 10) (omega (arith, small)))
 ]
 
+read_decimals : (text : List ℕ) (n : ℕ) → (read_number text ≡ Some n) ↔ ((n ≤ 255) × (text ≡ decimal n))
+read_decimals text n = (spelled_is text n, λ is. ap read_number is.1 ∙ is_spelled n is.0)
+
+-- ---- the same by its definition
+
+-- the only number that passes is found: it is the first one, or among the others
+finds_on : (test : ℕ → Bool) (n a len : ℕ) → test n ≡ true → ((m : ℕ) → m < a + suc len → test m ≡ true → m ≡ n)
+    → a ≤ n → (a + 1 ≤ n → find test (range_with_len (a + 1) len) ≡ Some n) → (b : Bool) → test a ≡ b
+    → find test (range_with_len a (suc len)) ≡ Some n
+finds_on test n a len is only above others true here =
+    let same : a ≡ n = only a (omega arith) here in
+    cond-true (test a) (Some a) (find test (range_with_len (a + 1) len)) here ∙ ap (λ (k : ℕ). Some k) same
+finds_on test n a len is only above others false here =
+    cond-false (test a) (Some a) (find test (range_with_len (a + 1) len)) here ∙ others (elim (cases_lt a n) [
+      | inl less ↦ omega (arith, less)
+      | inr other ↦
+          let same : n ≡ a = omega (arith, above, other) in
+          let never : true ≡ false = sym is ∙ ap test same ∙ here in
+          absurd cc
+    ])
+
+finds : (test : ℕ → Bool) (n a len : ℕ) → test n ≡ true → ((m : ℕ) → m < a + len → test m ≡ true → m ≡ n) → a ≤ n
+    → n < a + len → find test (range_with_len a len) ≡ Some n
+finds test n a zero is only above below = absurd (omega (arith, above, below))
+finds test n a (suc len) is only above below = finds_on test n a len is only above
+    (λ later. finds test n (a + 1) len is (λ m small. only m (omega (arith, small))) later (omega (arith, below)))
+    (test a) refl
+
+-- where none passes none is found
+finds_none : (test : ℕ → Bool) (a len : ℕ) → ((m : ℕ) → m < a + len → test m ≡ false)
+    → find test (range_with_len a len) ≡ None
+finds_none test a zero none = refl
+finds_none test a (suc len) none =
+    cond-false (test a) (Some a) (find test (range_with_len (a + 1) len)) (none a (omega arith))
+    ∙ finds_none test (a + 1) len (λ m small. none m (omega (arith, small)))
+
+abbrev is_decimal : List ℕ → ℕ → Bool
+is_decimal text n = bytes_eq (decimal n) text
+
+-- a number whose digits these are is the one that they spell
+decimal_read : (text : List ℕ) (m : ℕ) → m < 256 → is_decimal text m ≡ true → read_number text ≡ Some m
+decimal_read text m small is = (read_decimals text m).1 (omega (arith, small), sym ((bytes_eq-Decides (decimal m) text).0 is))
+
+pub number_is : (text : List ℕ) → to_number text ≡ read_number text
+unfolding to_number
+number_is text = by_reading (read_number text) refl
+  where
+    by_reading : (o : Option ℕ) → read_number text ≡ o → find (is_decimal text) (range_with_len 0 256) ≡ o
+    by_reading (Some n) read =
+        let spelled = (read_decimals text n).0 read in
+        finds (is_decimal text) n 0 256 ((bytes_eq-Decides (decimal n) text).1 (sym spelled.1))
+        (λ m small is. let same : Some m ≡ Some n = sym (decimal_read text m small is) ∙ read in cc) (omega arith)
+        (omega (arith, spelled.0))
+    by_reading None read = finds_none (is_decimal text) 0 256 (λ m small. not_there m small (is_decimal text m) refl)
+      where
+        not_there : (m : ℕ) → m < 256 → (b : Bool) → is_decimal text m ≡ b → is_decimal text m ≡ false
+        not_there m small true is = absurd (let never : None ≡ Some m = sym read ∙ decimal_read text m small is in cc)
+        not_there m small false is = is
+
 pub only_decimals : (text : List ℕ) (n : ℕ) → (to_number text ≡ Some n) ↔ ((n ≤ 255) × (text ≡ decimal n))
-only_decimals text n = (spelled_is text n, λ is. ap to_number is.1 ∙ is_spelled n is.0)
+only_decimals text n = subst (λ (o : Option ℕ). (o ≡ Some n) ↔ ((n ≤ 255) × (text ≡ decimal n))) (sym (number_is text))
+    (read_decimals text n)

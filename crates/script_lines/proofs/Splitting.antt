@@ -3,7 +3,8 @@ use Rattle.std.proofs.Common.{◌≡◌, ◌≢◌, ℕ, List, [], ◌∷◌, �
 use Rattle.std.proofs.Common.{inl, inr}
 use Rattle.std.specs.List.{AllByRecursion, flat_map}
 use Rattle.std.proofs.lemmas.Bool.{cases_eq}
-use Rattle.script_lines.specs.Script.{script_line, IsLine, IsSplit, OneSplit, SomeSplit}
+use Rattle.screen_pictures.specs.Printed.{ended_line}
+use Rattle.script_lines.specs.Script.{IsLine, IsSplit, OneSplit, SomeSplit}
 
 -- ---- there is a split
 
@@ -68,21 +69,21 @@ same_line (b ∷ line) (c ∷ other) x y p q e =
     (cc, rest.1)
 
 -- the first line comes first
-first_in_front : (line : List ℕ) (lines : List (List ℕ)) (rest : List ℕ) → flat_map script_line (line ∷ lines)
-    ++ rest ≡ line ++ 10 ∷ (flat_map script_line lines ++ rest)
-first_in_front line lines rest = append_assoc (line ++ 10 ∷ []) (flat_map script_line lines) rest
-    ∙ append_assoc line (10 ∷ []) (flat_map script_line lines ++ rest)
+first_in_front : (line : List ℕ) (lines : List (List ℕ)) (rest : List ℕ) → flat_map ended_line (line ∷ lines)
+    ++ rest ≡ line ++ 10 ∷ (flat_map ended_line lines ++ rest)
+first_in_front line lines rest = append_assoc (line ++ 10 ∷ []) (flat_map ended_line lines) rest
+    ∙ append_assoc line (10 ∷ []) (flat_map ended_line lines ++ rest)
 
 same_split : (lines others : List (List ℕ)) (rest end : List ℕ) → AllByRecursion IsLine lines
     → AllByRecursion IsLine others → IsLine rest → IsLine end
-    → flat_map script_line lines ++ rest ≡ flat_map script_line others ++ end → (lines ≡ others) × (rest ≡ end)
+    → flat_map ended_line lines ++ rest ≡ flat_map ended_line others ++ end → (lines ≡ others) × (rest ≡ end)
 same_split [] [] rest end p q r s e = (refl, e)
-same_split [] (other ∷ others) rest end p q r s e = absurd (no_feed other (flat_map script_line others ++ end)
+same_split [] (other ∷ others) rest end p q r s e = absurd (no_feed other (flat_map ended_line others ++ end)
     (subst IsLine (e ∙ first_in_front other others end) r))
-same_split (line ∷ lines) [] rest end p q r s e = absurd (no_feed line (flat_map script_line lines ++ rest)
+same_split (line ∷ lines) [] rest end p q r s e = absurd (no_feed line (flat_map ended_line lines ++ rest)
     (subst IsLine (sym e ∙ first_in_front line lines rest) s))
 same_split (line ∷ lines) (other ∷ others) rest end p q r s e =
-    let heads : (line ≡ other) × (flat_map script_line lines ++ rest ≡ flat_map script_line others ++ end)
+    let heads : (line ≡ other) × (flat_map ended_line lines ++ rest ≡ flat_map ended_line others ++ end)
     = same_line line other _ _ p.0 q.0 (sym (first_in_front line lines rest) ∙ e ∙ first_in_front other others end) in
     let tails : (lines ≡ others) × (rest ≡ end) = same_split lines others rest end p.1 q.1 r s heads.1 in
     let first : line ≡ other = heads.0 in

@@ -3,13 +3,14 @@ use Rattle.std.proofs.Common.{◌≡◌, ℕ, suc, ◌+◌, ◌<◌, Bool, true,
 use Rattle.std.proofs.Common.{drop, length, Option, Some, None, position, nat_lt, ◌≤◌, slice_get, refl, sym, ap, subst}
 use Rattle.std.proofs.Common.{◌∙◌, append_assoc, arith}
 use Rattle.std.specs.Prelude.{not, ◌&&◌}
-use Rattle.std.specs.List.{flat_map}
 use Rattle.std.specs.Cmp.{unsigned_Decides, signed_Decides}
 use Rattle.std.proofs.lemmas.Bool.{ltb-false}
 use Rattle.std.proofs.lemmas.List.Sums.{prefix_len-le-length}
 use Rattle.piece_ring.specs.declared.piece.Look.{Look}
 use Rattle.piece_ring.specs.Text.{Text}
-use Rattle.script_lines.specs.Answer.{LookStretch, is_same_look, joined_stretches, stretches, stretch_line}
+use Rattle.screen_pictures.specs.Bytes.{line_feed}
+use Rattle.screen_pictures.specs.Printed.{ended_line}
+use Rattle.script_lines.specs.Answer.{answer_byte, behind_look, escaped_answer, is_same_look, look_words, show_lines}
 use Rattle.script_lines.specs.Stretch.{stretch_bytes, is_in_another_look, count_in}
 
 both : (a b : Bool) → a && b ≡ true → (a ≡ true) × (b ≡ true)
@@ -46,33 +47,34 @@ none_other look text none =
         not_found true n is = absurd cc
         not_found false n is = refl
 
--- a stretch by its look and its bytes
-abbrev stretch : Look → List ℕ → LookStretch
-stretch look bytes = record { look = look; bytes = bytes }
-
 counted : (look : Look) (d : ℕ × Look) (text : Text ℕ)
     → count_in look (d ∷ text) ≡ (let n : ℕ = cond (is_same_look look d.1) (suc (count_in look text)) 0 in n)
 counted look d text = elim (is_same_look look d.1) as
     (λ b. (let n : ℕ = cond (not (not b)) (1 + count_in look text) 0 in n)
     ≡ (let n : ℕ = cond b (suc (count_in look text)) 0 in n)) [ true ↦ omega arith | false ↦ refl ]
 
--- the first stretch, when the beginning of the text in its look is so long
-abbrev cut_at : ℕ × Look → Text ℕ → ℕ → List LookStretch
-cut_at c text n = stretch c.1 (c.0 ∷ stretch_bytes (take n text)) ∷ stretches (drop n text)
+-- the lines of a text
+abbrev pub lines_of : Text ℕ → List ℕ
+lines_of text = show_lines (Some text)
 
-pub first_stretch : (c : ℕ × Look) (text : Text ℕ) → stretches (c ∷ text) ≡ cut_at c text (count_in c.1 text)
-first_stretch c [] = refl
-first_stretch c (d ∷ text) =
-    let rest = first_stretch d text in
-    ap (joined_stretches c) rest ∙ (elim (is_same_look c.1 d.1) as (λ b. is_same_look c.1 d.1 ≡ b →
-    (let l : List LookStretch = cond b (stretch d.1 (c.0 ∷ d.0 ∷ stretch_bytes (take (count_in d.1 text) text)) ∷ stretches
-    (drop (count_in d.1 text) text)) (stretch c.1 (c.0 ∷ []) ∷ cut_at d text (count_in d.1 text)) in l)
-    ≡ cut_at c (d ∷ text) (cond b (suc (count_in c.1 text)) 0)) [
-      | true ↦ λ same. (λ k. stretch (sym (same_is c.1 d.1 same) k)
-          (c.0 ∷ d.0 ∷ stretch_bytes (take (count_in (sym (same_is c.1 d.1 same) k) text) text))
-          ∷ stretches (drop (count_in (sym (same_is c.1 d.1 same) k) text) text))
-      | false ↦ λ other. ap (λ (l : List LookStretch). stretch c.1 (c.0 ∷ []) ∷ l) (sym rest)
-    ]) refl ∙ ap (cut_at c (d ∷ text)) (sym (counted c.1 d text))
+-- What follows a character in a look, when the beginning of the text in that look is so long: its bytes, and the lines of
+-- what is left.
+abbrev cut_at : Text ℕ → ℕ → List ℕ
+cut_at text n = escaped_answer (stretch_bytes (take n text)) ++ line_feed ∷ lines_of (drop n text)
+
+follows : (look : Look) (text : Text ℕ) → behind_look look text ≡ cut_at text (count_in look text)
+follows look [] = refl
+follows look (d ∷ text) =
+    let more = follows look text in
+    (elim (is_same_look look d.1) as (λ b. is_same_look look d.1 ≡ b
+    → (let l : List ℕ = cond b [] (line_feed ∷ look_words d.1) ++ answer_byte d.0 ++ behind_look d.1 text in l)
+    ≡ cut_at (d ∷ text) (cond b (suc (count_in look text)) 0)) [
+      | true ↦ λ same. ap (λ l. answer_byte d.0 ++ l) (ap (λ x. behind_look x text) (sym (same_is look d.1 same))
+          ∙ more)
+          ∙ sym (append_assoc (answer_byte d.0) (escaped_answer (stretch_bytes (take (count_in look text) text)))
+          (line_feed ∷ lines_of (drop (count_in look text) text)))
+      | false ↦ λ other. refl
+    ]) refl ∙ ap (cut_at (d ∷ text)) (sym (counted look d text))
 
 itself_counted : (c : ℕ × Look) (text : Text ℕ) → count_in c.1 (c ∷ text) ≡ suc (count_in c.1 text)
 itself_counted c text = counted c.1 c text ∙ ap (λ b. (let n : ℕ = cond b (suc (count_in c.1 text)) 0 in n))
@@ -86,29 +88,39 @@ some_counted (d ∷ text) c is =
     let some : count_in d.1 (d ∷ text) ≡ suc (count_in d.1 text) = itself_counted d text in
     subst (λ (x : ℕ × Look). 0 < count_in x.1 (d ∷ text)) same (omega (arith, some))
 
-pub stretches_of : (text : Text ℕ) (c : ℕ × Look) → slice_get text 0 ≡ Some c
-    → stretches text
-    ≡ stretch c.1 (stretch_bytes (take (count_in c.1 text) text)) ∷ stretches (drop (count_in c.1 text) text)
-stretches_of [] c is = absurd cc
-stretches_of (d ∷ text) c is =
+-- the line of the first stretch, and those of what is left
+abbrev first_line : Look → Text ℕ → ℕ → List ℕ
+first_line look text n = ended_line (look_words look ++ escaped_answer (stretch_bytes (take n text)))
+
+-- a text and a line feed behind it, before more
+ends : (front bytes more : List ℕ) → front ++ (bytes ++ line_feed ∷ more) ≡ ended_line (front ++ bytes) ++ more
+ends front bytes more = sym (append_assoc (front ++ bytes) (line_feed ∷ []) more
+    ∙ append_assoc front bytes (line_feed ∷ more))
+
+begins : (text : Text ℕ) (c : ℕ × Look) → slice_get text 0 ≡ Some c
+    → lines_of text ≡ first_line c.1 text (count_in c.1 text) ++ lines_of (drop (count_in c.1 text) text)
+begins [] c is = absurd cc
+begins (d ∷ text) c is =
     let same : d ≡ c = cc is in
-    subst (λ (x : ℕ × Look). stretches (d ∷ text)
-    ≡ stretch x.1 (stretch_bytes (take (count_in x.1 (d ∷ text)) (d ∷ text))) ∷ stretches (drop (count_in x.1 (d ∷ text))
-    (d ∷ text))) same
-    (first_stretch d text ∙ (λ k. stretch d.1 (stretch_bytes (take (sym (itself_counted d text) k) (d ∷ text))) ∷ stretches
-    (drop (sym (itself_counted d text) k) (d ∷ text))))
+    let n = count_in d.1 text in
+    let bytes = escaped_answer (stretch_bytes (take n text)) in
+    let rest = lines_of (drop n text) in
+    let front = look_words d.1 ++ answer_byte d.0 in
+    let cut : lines_of (d ∷ text) ≡ first_line d.1 (d ∷ text) (suc n) ++ rest
+    = ap (λ l. front ++ l) (follows d.1 text) ∙ ends front bytes rest
+    ∙ ap (λ l. ended_line l ++ rest) (append_assoc (look_words d.1) (answer_byte d.0) bytes) in
+    subst (λ (x : ℕ × Look). lines_of (d ∷ text)
+    ≡ first_line x.1 (d ∷ text) (count_in x.1 (d ∷ text)) ++ lines_of (drop (count_in x.1 (d ∷ text)) (d ∷ text))) same
+    (cut ∙ (λ k. first_line d.1 (d ∷ text) (sym (itself_counted d text) k)
+    ++ lines_of (drop (sym (itself_counted d text) k) (d ∷ text))))
 
 -- one more line
 pub line_more : (before after : List ℕ) (text : Text ℕ) (c : ℕ × Look) (n : ℕ) (all : List ℕ)
-    → slice_get text 0 ≡ Some c → n ≡ count_in c.1 text
-    → after ≡ before ++ stretch_line (stretch c.1 (stretch_bytes (take n text)))
-    → before ++ flat_map stretch_line (stretches text) ≡ all
-    → after ++ flat_map stretch_line (stretches (drop n text)) ≡ all
+    → slice_get text 0 ≡ Some c → n ≡ count_in c.1 text → after ≡ before ++ first_line c.1 text n
+    → before ++ lines_of text ≡ all → after ++ lines_of (drop n text) ≡ all
 line_more before after text c n all first count grown was =
-    let line = stretch_line (stretch c.1 (stretch_bytes (take n text))) in
-    let rest = flat_map stretch_line (stretches (drop n text)) in
-    let parts : stretches text ≡ stretch c.1 (stretch_bytes (take n text)) ∷ stretches (drop n text) =
-    stretches_of text c first
-    ∙ (λ k. stretch c.1 (stretch_bytes (take (sym count k) text)) ∷ stretches (drop (sym count k) text)) in
-    ap (λ l. l ++ rest) grown ∙ append_assoc before line rest
-    ∙ ap (λ (ss : List LookStretch). before ++ flat_map stretch_line ss) (sym parts) ∙ was
+    let rest = lines_of (drop n text) in
+    let parts : lines_of text ≡ first_line c.1 text n ++ rest = begins text c first
+    ∙ (λ k. first_line c.1 text (sym count k) ++ lines_of (drop (sym count k) text)) in
+    ap (λ l. l ++ rest) grown ∙ append_assoc before (first_line c.1 text n) rest
+    ∙ ap (λ l. before ++ l) (sym parts) ∙ was

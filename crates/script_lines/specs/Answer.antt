@@ -1,5 +1,5 @@
 -- The lines of an answer.
-use Rattle.std.specs.Prelude.{ℕ, ◌+◌, ◌/◌, ◌%◌, Bool, ◌==◌, ◌&&◌, not, if◌then◌else◌, List, [], ◌∷◌, ◌++◌}
+use Rattle.std.specs.Prelude.{ℕ, ◌/◌, ◌%◌, Bool, ◌==◌, ◌&&◌, not, if◌then◌else◌, List, [], ◌∷◌, ◌++◌}
 use Rattle.std.specs.Prelude.{Option, Some, None, codes}
 use Rattle.std.specs.List.{flat_map}
 use Rattle.std.specs.Fmt.{decimal, signed_decimal}
@@ -11,23 +11,20 @@ use Rattle.desktop_definitions.specs.declared.reply.Reply.{Reply}
 use Rattle.desktop_definitions.specs.declared.reply.Reply.TheVariants.{Done, No}
 use Rattle.desktop_definitions.specs.declared.entry.Entry.{Entry}
 use Rattle.desktop_definitions.specs.declared.entry.Entry.TheVariants.{File, Viewer, Over, Written}
-use Rattle.script_lines.specs.Script.{script_line}
-use Rattle.script_lines.specs.Request.{is_script_byte}
-
-abbrev pub refusal_line : ℕ → List ℕ
-refusal_line code = script_line (codes "no " ++ decimal code)
+use Rattle.screen_pictures.specs.Bytes.{line_feed, is_printable}
+use Rattle.screen_pictures.specs.Printed.{ended_line}
 
 abbrev pub reply_line : Reply → List ℕ
-reply_line Done = script_line (codes "ok")
-reply_line (No code) = refusal_line code
+reply_line Done = ended_line (codes "ok")
+reply_line (No code) = ended_line (codes "no " ++ decimal code)
 
 abbrev pub end_line : List ℕ
-end_line = script_line (codes "end")
+end_line = ended_line (codes "end")
 
 -- a byte from the space to the tilde but the percent sign as itself, any other as a percent sign and two digits
 abbrev pub answer_byte : ℕ → List ℕ
 answer_byte b =
-    if is_script_byte b && not (b == 37) then b ∷ []
+    if is_printable b && not (b == 37) then b ∷ []
     else 37 ∷ hex_digit (b / 16) ∷ hex_digit (b % 16) ∷ []
 
 abbrev pub escaped_answer : List ℕ → List ℕ
@@ -37,48 +34,31 @@ escaped_answer bytes = flat_map answer_byte bytes
 abbrev pub is_same_look : Look → Look → Bool
 is_same_look a b = (a.font == b.font) && ((a.colour == b.colour) && int_eq a.voff b.voff)
 
--- a stretch of a text that is in one look
-pub record LookStretch : Type 0 where
-  pub look : Look
-  pub bytes : List ℕ
-
--- a character before stretches of one look each: it joins the first of them, where that has its look
-abbrev pub joined_stretches : ℕ × Look → List LookStretch → List LookStretch
-joined_stretches c [] = record { look = c.1; bytes = c.0 ∷ [] } ∷ []
-joined_stretches c (s ∷ ss) =
-    if is_same_look c.1 s.look
-    then record { look = s.look; bytes = c.0 ∷ s.bytes } ∷ ss
-    else record { look = c.1; bytes = c.0 ∷ [] } ∷ s ∷ ss
-
--- a text as its longest stretches of one look
-abbrev pub stretches : Text ℕ → List LookStretch
-stretches [] = []
-stretches (c ∷ text) = joined_stretches c (stretches text)
-
--- font, colour and offset, each with a space after it, and the bytes
+-- font, colour and offset, each with a space after it
 abbrev pub look_words : Look → List ℕ
 look_words look = decimal look.font ++ 32 ∷ decimal look.colour ++ 32 ∷ signed_decimal look.voff
     ++ 32 ∷ []
 
-abbrev pub stretch_line : LookStretch → List ℕ
-stretch_line s = script_line (look_words s.look ++ escaped_answer s.bytes)
+-- What follows a character in this look, where these come behind it: the next one in the same line, if it is in the same
+-- look, or else in a line of its own, behind the words of its look.
+abbrev pub behind_look : Look → Text ℕ → List ℕ
+behind_look look [] = line_feed ∷ end_line
+behind_look look (c ∷ text) = (if is_same_look look c.1 then [] else line_feed ∷ look_words c.1)
+    ++ answer_byte c.0 ++ behind_look c.1 text
 
--- A text: a line for each stretch. An empty text has no such line.
-abbrev pub text_lines : Text ℕ → List ℕ
-text_lines text = flat_map stretch_line (stretches text) ++ end_line
-
--- a file's text, or that there is no such file
+-- A file's text: a line for each longest stretch of one look, and `end`. Or that there is no such file.
 abbrev pub show_lines : Option (Text ℕ) → List ℕ
-show_lines None = refusal_line 5
-show_lines (Some text) = text_lines text
+show_lines None = reply_line (No 5)
+show_lines (Some []) = end_line
+show_lines (Some (c ∷ text)) = look_words c.1 ++ answer_byte c.0 ++ behind_look c.1 text
 
 abbrev pub entry_line : Entry → List ℕ
-entry_line (File name len) = script_line (codes "file " ++ name ++ 32 ∷ decimal len)
+entry_line (File name len) = ended_line (codes "file " ++ name ++ 32 ∷ decimal len)
 entry_line (Viewer x bottom top name len) =
-    script_line (codes "viewer " ++ decimal x ++ 32 ∷ decimal bottom
+    ended_line (codes "viewer " ++ decimal x ++ 32 ∷ decimal bottom
     ++ 32 ∷ decimal top ++ 32 ∷ escaped_answer name ++ 32 ∷ decimal len)
-entry_line (Over x depth) = script_line (codes "over " ++ decimal x ++ 32 ∷ decimal depth)
-entry_line (Written n) = script_line (codes "written " ++ decimal n)
+entry_line (Over x depth) = ended_line (codes "over " ++ decimal x ++ 32 ∷ decimal depth)
+entry_line (Written n) = ended_line (codes "written " ++ decimal n)
 
 abbrev pub list_lines : List Entry → List ℕ
 list_lines entries = flat_map entry_line entries ++ end_line

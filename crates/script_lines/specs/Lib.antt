@@ -1,4 +1,5 @@
 pub mod Answer
+pub mod Digits
 pub mod Percent
 pub mod Reading
 pub mod Request

@@ -4,13 +4,6 @@ use Rattle.std.specs.Option.{option_map}
 use Rattle.event_bytes.specs.Bytes.{lies_within, is_digit}
 use Rattle.script_lines.specs.Words.{◌>>=◌}
 
-abbrev pub in_front : ℕ → Option (List ℕ) → Option (List ℕ)
-in_front b known = option_map (λ bs. b ∷ bs) known
-
--- a byte that isn't a percent sign
-abbrev pub is_itself : ℕ → Bool
-is_itself b = not (b == 37)
-
 -- the value of a hexadecimal digit of either case
 abbrev pub digit_value : ℕ → Option ℕ
 digit_value b = if is_digit b then Some (b - 48)
@@ -19,22 +12,29 @@ digit_value b = if is_digit b then Some (b - 48)
 
 -- the byte that two hexadecimal digits spell
 unfoldable pub byte_of_digits : ℕ → ℕ → Option ℕ
-byte_of_digits high low = do
-  h ← digit_value high
-  l ← digit_value low
-  Some (16 * h + l)
+byte_of_digits high low = digit_value high >>= λ h. digit_value low >>= λ l. Some (16 * h + l)
 
 -- The bytes that a text stands for: each byte for itself, but a percent sign and the two hexadecimal digits after it
 -- for the byte that they spell. None where a percent sign has no such digits after it.
 unfoldable mutual
   pub meant : List ℕ → Option (List ℕ)
   meant [] = Some []
-  meant (b ∷ bs) = if b == 37 then escaped bs else in_front b (meant bs)
+  meant (b ∷ bs) = if b == 37 then escaped bs else option_map (λ more. b ∷ more) (meant bs)
 
   pub escaped : List ℕ → Option (List ℕ)
-  escaped [] = None
-  escaped (high ∷ []) = None
-  escaped (high ∷ low ∷ bs) = byte_of_digits high low >>= λ b. in_front b (meant bs)
+  escaped (high ∷ low ∷ bs) =
+      byte_of_digits high low >>= λ b. option_map (λ more. b ∷ more) (meant bs)
+  escaped bs = None
+
+-- ---- words of the code
+
+-- a byte that isn't a percent sign
+abbrev pub is_itself : ℕ → Bool
+is_itself b = not (b == 37)
+
+-- a byte before bytes that are known
+abbrev pub in_front : ℕ → Option (List ℕ) → Option (List ℕ)
+in_front b known = option_map (λ bs. b ∷ bs) known
 
 -- those bytes, where they are no more than one event has
 unfoldable pub few_meant : List ℕ → Option (List ℕ)

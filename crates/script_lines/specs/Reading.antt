@@ -2,7 +2,8 @@
 use Rattle.std.specs.Prelude.{◌≡◌, ℕ, ◌+◌, ◌*◌, ◌<◌, ◌≤◌, List, [], ◌++◌, length, true, false, Option, Some, MatchOption}
 use Rattle.std.specs.Io.KnownBytes.{Consumes, IsAtEnd}
 use Rattle.script_lines.specs.Request.{longest_line}
-use Rattle.script_lines.specs.Script.{script_line, IsLine}
+use Rattle.screen_pictures.specs.Printed.{ended_line}
+use Rattle.script_lines.specs.Script.{IsLine}
 use Rattle.script_lines.specs.declared.line.Line.{Line}
 use Rattle.script_lines.specs.declared.line.TheConstants.{LONGEST_PIECE}
 
@@ -28,7 +29,7 @@ most_bytes reads = reads * longest_piece
 pub record ComesInPieces (reads : ℕ) (left left' : Option (List ℕ)) : Type 0 where
   pub read : List ℕ
   pub came : Consumes left left' read
-  pub few : length read ≤ most_bytes reads
+  pub few : length read ≤ reads * LONGEST_PIECE
 
 -- A piece was read, of so many bytes: none at the end of the script. No number: the read failed, or would be one too many.
 pub record ReadsPiece (result : Option ℕ) (left left' : Option (List ℕ))
@@ -49,7 +50,7 @@ pub record TakesLine (old new : Unplayed) (left left' : Option (List ℕ))
   pub read : List ℕ
   pub came : Consumes left left' read
   pub plain : IsLine line
-  pub parts : old.pending ++ read ≡ script_line line ++ new.pending
+  pub parts : old.pending ++ read ≡ ended_line line ++ new.pending
   pub few : length read + most_bytes new.reads ≤ most_bytes old.reads
   pub holds : HoldsLine held line
 

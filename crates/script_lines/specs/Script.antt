@@ -1,10 +1,7 @@
 -- A script as lines.
 use Rattle.std.specs.Prelude.{◌≡◌, ◌≢◌, ℕ, List, [], ◌∷◌, ◌++◌}
 use Rattle.std.specs.List.{AllByRecursion, flat_map}
-
--- a line as it stands in a script, with the line feed that ends it
-abbrev pub script_line : List ℕ → List ℕ
-script_line line = line ++ 10 ∷ []
+use Rattle.screen_pictures.specs.Printed.{ended_line}
 
 -- no line feed stands in it
 abbrev pub IsLine : List ℕ → Type 0
@@ -12,7 +9,7 @@ IsLine bytes = AllByRecursion (λ b. b ≢ 10) bytes
 
 -- The bytes are these lines, each with its line feed, and after the last one a rest without a line feed.
 pub record IsSplit (bytes : List ℕ) (lines : List (List ℕ)) (rest : List ℕ) : Type 0 where
-  pub whole : bytes ≡ flat_map script_line lines ++ rest
+  pub whole : bytes ≡ flat_map ended_line lines ++ rest
   pub each : AllByRecursion IsLine lines
   pub last : IsLine rest
 
@@ -21,13 +18,16 @@ abbrev pub lines_at_end : List (List ℕ) → List ℕ → List (List ℕ)
 lines_at_end lines [] = lines
 lines_at_end lines (b ∷ bs) = lines ++ (b ∷ bs) ∷ []
 
--- The script begins with these lines: they are the first of its lines.
-pub record BeginsWith (script : List ℕ) (lines : List (List ℕ)) : Type 0 where
+-- These are the lines of the script, a last one without a line feed too.
+pub record AreLines (script : List ℕ) (lines : List (List ℕ)) : Type 0 where
   pub ends : List (List ℕ)
   pub rest : List ℕ
   pub split : IsSplit script ends rest
-  pub more : List (List ℕ)
-  pub first : lines_at_end ends rest ≡ lines ++ more
+  pub are : lines ≡ lines_at_end ends rest
+
+-- The script begins with these lines: more may follow.
+abbrev pub BeginsWith : List ℕ → List (List ℕ) → Type 0
+BeginsWith script lines = (more : List (List ℕ)) × AreLines script (lines ++ more)
 
 -- bytes are split into lines in one way
 abbrev pub OneSplit : Type 0

@@ -1,12 +1,11 @@
 //! The bytes of an answer.
-ghost use Rattle.std.specs.Prelude.{◌≡◌, ◌+◌, ◌<◌, ◌≤◌, [], ◌∷◌, ◌++◌, length, position, IfOk, IfSome, OnOk, codes};
+ghost use Rattle.std.specs.Prelude.{◌≡◌, ◌+◌, ◌<◌, ◌≤◌, [], ◌∷◌, ◌++◌, length, position, Some, IfOk, IfSome, OnOk, codes};
 ghost use Rattle.std.specs.Fmt.{decimal, signed_decimal};
 ghost use Rattle.arrayvec.specs.ArrayVec.{array_vec_len};
-ghost use Rattle.script_lines.specs.Script.{script_line};
-ghost use Rattle.script_lines.specs.Answer.{reply_line, refusal_line, answer_byte, escaped_answer};
-ghost use Rattle.script_lines.specs.Answer.{is_same_look, look_words, stretch_line, text_lines};
-ghost use Rattle.script_lines.specs.Answer.{entry_line, list_lines};
-ghost use Rattle.screen_pictures.specs.Printed.{printed};
+ghost use Rattle.desktop_definitions.specs.declared.reply.Reply.TheVariants.{No};
+ghost use Rattle.script_lines.specs.Answer.{reply_line, answer_byte, escaped_answer, is_same_look, look_words};
+ghost use Rattle.script_lines.specs.Answer.{show_lines, entry_line, list_lines};
+ghost use Rattle.screen_pictures.specs.Printed.{ended_line, printed};
 ghost use Rattle.script_lines.specs.Stretch.{stretch_bytes, is_in_another_look, count_in};
 
 use arrayvec::ArrayVec;
@@ -22,7 +21,7 @@ pub type ShortLine = ArrayVec<u8, 64>;
 /// A text and a line feed after it.
 pub fn short_line(text: &[u8]) -> ShortLine
     requires { length text.now < 64 }
-    ensures { result.items ≡ script_line text.now }
+    ensures { result.items ≡ ended_line text.now }
 {
     let mut line = ShortLine::new();
     line.try_extend_from_slice(text).unwrap();
@@ -42,7 +41,7 @@ pub fn reply_bytes(reply: Reply) -> ShortLine
 
 /// `no` and the code.
 pub fn refusal_bytes(code: u8) -> ShortLine
-    ensures { result.items ≡ refusal_line code }
+    ensures { result.items ≡ reply_line (No code) }
 {
     numbered_line(b"no ", code as u32)
 }
@@ -50,7 +49,7 @@ pub fn refusal_bytes(code: u8) -> ShortLine
 /// A word with its space, a number, and a line feed.
 pub fn numbered_line(word: &[u8], number: u32) -> ShortLine
     requires { length word.now < 50 }
-    ensures { result.items ≡ script_line (word.now ++ decimal number) }
+    ensures { result.items ≡ ended_line (word.now ++ decimal number) }
 {
     short_line(numbered(word, number).as_slice())
 }
@@ -70,7 +69,7 @@ fn numbered(word: &[u8], number: u32) -> ArrayVec<u8, 60>
 
 /// The lines of a file's text: one for each longest stretch of one look, and `end`.
 pub fn text_bytes(alloc: Global, text: &[(u8, Look)]) -> Result<Vec<u8>, AllocError>
-    ensures { IfOk result (λ bytes. bytes.items ≡ text_lines text.now) }
+    ensures { IfOk result (λ bytes. bytes.items ≡ show_lines (Some text.now)) }
 {
     let mut bytes = Vec::new(alloc);
     let mut rest = text;
@@ -87,7 +86,7 @@ pub fn text_bytes(alloc: Global, text: &[(u8, Look)]) -> Result<Vec<u8>, AllocEr
 fn push_stretch(text: &mut Vec<u8>, look: Look, stretch: &[(u8, Look)]) -> Result<(), AllocError>
     ensures { OnOk result (text.new.items
         ≡ text.old.items
-        ++ stretch_line (record { look = look; bytes = stretch_bytes stretch.now })) }
+        ++ ended_line (look_words look ++ escaped_answer (stretch_bytes stretch.now))) }
 {
     push_look(text, look)?;
     push_shown(text, stretch)?;

@@ -2,7 +2,8 @@
 ghost use Rattle.std.specs.Prelude.{◌≡◌, ◌≢◌, ◌==◌, ℕ, List, [], ◌+◌, ◌<◌, ◌≤◌, ◌++◌, ◌↔◌, length, position, IsTrue};
 ghost use Rattle.std.specs.Prelude.{true, false, Some, None, IfSome};
 ghost use Rattle.std.specs.Io.KnownBytes.{IsAtEnd};
-ghost use Rattle.script_lines.specs.Script.{script_line, IsLine};
+ghost use Rattle.screen_pictures.specs.Printed.{ended_line};
+ghost use Rattle.script_lines.specs.Script.{IsLine};
 ghost use Rattle.script_lines.specs.Request.{request_of};
 
 use crate::request::{LONGEST_LINE, Request, ask};
@@ -155,7 +156,7 @@ impl Script {
     /// Adds what is pending up to the next line feed to the line. Whether there was one: then it is taken too.
     fn take_pending(&mut self, line: &mut Line) -> bool
         ensures feed { IsTrue result → (front : List ℕ) × IsLine front
-            × (self.old.pending ≡ script_line front ++ self.new.pending)
+            × (self.old.pending ≡ ended_line front ++ self.new.pending)
             × ((before : List ℕ) → HoldsLine line.old before
             → HoldsLine line.new (before ++ front)) }
         ensures none { result ≡ false → (self.new.pending ≡ []) × IsLine self.old.pending

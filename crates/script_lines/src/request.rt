@@ -4,12 +4,13 @@
 //! space after it, ask for an event, and `checkpoint` for a checkpoint. `show NAME`, `list` and `screen` ask for a
 //! look. Words are parted by exactly one space. In BYTES a percent sign and two hexadecimal digits stand for a byte.
 //! What else a line says is malformed.
-ghost use Rattle.std.specs.Prelude.{◌≡◌, IfSome, IsTrue};
+ghost use Rattle.std.specs.Prelude.{◌≡◌, None, Some, IfSome, IsTrue};
 ghost use Rattle.std.specs.Option.{option_map};
 ghost use Rattle.std.specs.List.{list_all};
-ghost use Rattle.script_lines.specs.Request.{is_script_byte, is_readable, file_bytes_of, typed_bytes_of, typed_of};
-ghost use Rattle.script_lines.specs.Request.{key_request, mark_request, point_of, file_request, show_of, word_request, words_of};
-ghost use Rattle.script_lines.specs.Request.{command_of, request_of, typed_plain};
+ghost use Rattle.screen_pictures.specs.Bytes.{is_printable};
+ghost use Rattle.script_lines.specs.Request.{is_readable, file_bytes_of, typed_bytes_of, typed_of, key_request};
+ghost use Rattle.script_lines.specs.Request.{mark_request, point_of, file_request, show_of, command_of, request_of};
+ghost use Rattle.script_lines.specs.Request.{typed_plain};
 
 use crate::percent::{is_plain, spelled};
 use crate::words::{key, leading_keys, leading_number, number, split_word};
@@ -113,7 +114,7 @@ fn is_text(line: &[u8]) -> bool
 
 /// Whether each byte is one from the space to the tilde.
 fn are_printable(bytes: &[u8]) -> bool
-    ensures { result ≡ list_all is_script_byte bytes.now }
+    ensures { result ≡ list_all is_printable bytes.now }
 {
     bytes.iter().all(|byte| matches!(*byte, 32..=126))
 }
@@ -130,9 +131,9 @@ fn command(name: &[u8], rest: Option<&[u8]>) -> Option<Request>
 }
 
 /// What a line of one word asks for.
-#[tactic(auto, unfolding(crate::specs::Request::word_request))]
+#[tactic(auto, unfolding(crate::specs::Request::command_of))]
 fn one_word(name: &[u8]) -> Option<Request>
-    ensures { result ≡ word_request name.now }
+    ensures { result ≡ command_of name.now None }
 {
     match name {
         _ if name == b"list".as_slice() => Some(Request::Listing),
@@ -143,9 +144,9 @@ fn one_word(name: &[u8]) -> Option<Request>
 }
 
 /// What a line asks for that has this first word, and this after one space.
-#[tactic(auto, unfolding(crate::specs::Request::words_of))]
+#[tactic(auto, unfolding(crate::specs::Request::command_of))]
 fn many_words(name: &[u8], rest: &[u8]) -> Option<Request>
-    ensures { result ≡ words_of name.now rest.now }
+    ensures { result ≡ command_of name.now (Some rest.now) }
 {
     match name {
         _ if name == b"type".as_slice() => typed(rest),
@@ -162,6 +163,7 @@ fn many_words(name: &[u8], rest: &[u8]) -> Option<Request>
 }
 
 /// The request that `type` makes of its text.
+#[tactic(auto, unfolding(crate::specs::Request::typed_bytes_of))]
 fn typed(text: &[u8]) -> Option<Request>
     ensures { result ≡ typed_of text.now }
 {
@@ -204,6 +206,7 @@ fn point(text: &[u8]) -> Option<Request>
 }
 
 /// The request that `file` makes of its two arguments.
+#[tactic(auto, unfolding(crate::specs::Request::file_bytes_of))]
 fn file(name: &[u8], text: &[u8]) -> Option<Request>
     ensures { result ≡ file_request name.now text.now }
 {

@@ -1,19 +1,12 @@
 //! The words of a line, and the numbers and keys that they name.
-ghost use Rattle.std.specs.Prelude.{◌≡◌, ◌<◌, length, position, IfSome};
+ghost use Rattle.std.specs.Prelude.{◌≡◌, ◌<◌, ◌==◌, length, position, IfSome};
 ghost use Rattle.std.specs.Option.{option_map};
-ghost use Rattle.std.specs.Str.{bytes_eq};
 ghost use Rattle.event_bytes.specs.Parts.{value_and_rest};
-ghost use Rattle.script_lines.specs.Words.{is_space, first_word, argument, leading, one_more, number_from, to_number};
-ghost use Rattle.script_lines.specs.Words.{key_named, keys_named, value_named};
+ghost use Rattle.screen_pictures.specs.Bytes.{space};
+ghost use Rattle.script_lines.specs.Words.{first_word, argument, leading, to_number, key_named, keys_named};
+ghost use Rattle.script_lines.specs.Digits.{one_more, number_from, read_number};
 
 use event_bytes::{Key, Keys, is_digit};
-
-/// The words of the keys of the keyboard, by their numbers.
-const KEY_WORDS: [&[u8]; 5] = [b"back", b"copy", b"paste", b"cut", b"escape"];
-
-/// The words of the keys of the mouse, by their numbers: the first letters of each, in the order in which they are
-/// pressed.
-const KEYS_WORDS: [&[u8]; 9] = [b"l", b"lm", b"lr", b"m", b"ml", b"mr", b"r", b"rl", b"rm"];
 
 /// What stands before the first space, and what stands after it.
 #[tactic(auto, using(crate::proofs::FirstSpace::word_parts))]
@@ -29,7 +22,7 @@ pub fn split_word(line: &[u8]) -> (&[u8], Option<&[u8]>)
 
 /// Where the first space stands.
 fn first_space(line: &[u8]) -> Option<usize>
-    ensures first { result ≡ position is_space line.now }
+    ensures first { result ≡ position (λ b. b == space) line.now }
     ensures within { IfSome result (λ i. i < length line.now) }
 {
     line.iter().position(|byte| *byte == b' ')
@@ -53,10 +46,17 @@ pub fn leading_keys(text: &[u8]) -> Option<(Keys, &[u8])>
     Some((keys(word)?, rest))
 }
 
-/// The number from 0 to 255 that decimal digits without leading zeros spell.
-#[tactic(auto, unfolding(crate::specs::Words::to_number, event_bytes::specs::Bytes::is_digit))]
+/// The number from 0 to 255 whose decimal digits the text is.
 pub fn number(text: &[u8]) -> Option<u8>
     ensures { result ≡ to_number text.now }
+{
+    read(text)
+}
+
+/// The same, digit by digit.
+#[tactic(auto, unfolding(crate::specs::Digits::read_number, event_bytes::specs::Bytes::is_digit))]
+fn read(text: &[u8]) -> Option<u8>
+    ensures { result ≡ read_number text.now }
 {
     let (first, rest) = text.split_first()?;
     if !is_digit(*first) {
@@ -66,7 +66,7 @@ pub fn number(text: &[u8]) -> Option<u8>
 }
 
 /// The number with these digits more. None where it passes 255, and where digits follow a zero at the beginning.
-#[tactic(auto, unfolding(crate::specs::Words::number_from))]
+#[tactic(auto, unfolding(crate::specs::Digits::number_from))]
 fn number_from(number: u8, digits: &[u8]) -> Option<u8>
     ensures { result ≡ number_from number digits.now }
 {
@@ -77,7 +77,7 @@ fn number_from(number: u8, digits: &[u8]) -> Option<u8>
 }
 
 /// The number with a digit more.
-#[tactic(auto, unfolding(crate::specs::Words::one_more, event_bytes::specs::Bytes::is_digit))]
+#[tactic(auto, unfolding(crate::specs::Digits::one_more, event_bytes::specs::Bytes::is_digit))]
 fn one_more(number: u8, digit: u8) -> Option<u8>
     ensures { result ≡ one_more number digit }
 {
@@ -93,27 +93,31 @@ fn one_more(number: u8, digit: u8) -> Option<u8>
 pub fn key(name: &[u8]) -> Option<Key>
     ensures { result ≡ key_named name.now }
 {
-    named(&KEY_WORDS, &Key::ALL, name)
+    match name {
+        _ if name == b"back".as_slice() => Some(Key::Back),
+        _ if name == b"copy".as_slice() => Some(Key::Copy),
+        _ if name == b"paste".as_slice() => Some(Key::Paste),
+        _ if name == b"cut".as_slice() => Some(Key::Cut),
+        _ if name == b"escape".as_slice() => Some(Key::Escape),
+        _ => None,
+    }
 }
 
-/// The keys of the mouse that a word names.
+/// The keys of the mouse that a word names: the first letters of each, in the order in which they are pressed.
 #[tactic(auto, unfolding(crate::specs::Words::keys_named))]
 fn keys(name: &[u8]) -> Option<Keys>
     ensures { result ≡ keys_named name.now }
 {
-    named(&KEYS_WORDS, &Keys::ALL, name)
-}
-
-/// The value in the place in which the name stands among the words.
-fn named<T: Copy>(words: &[&[u8]], values: &[T], name: &[u8]) -> Option<T>
-    ensures { result ≡ value_named (λ word. bytes_eq name.now word.now) words.now values.now }
-{
-    values.get(place_of(words, name)?).copied()
-}
-
-/// Where the name stands among the words.
-fn place_of(words: &[&[u8]], name: &[u8]) -> Option<usize>
-    ensures { result ≡ position (λ word. bytes_eq name.now word.now) words.now }
-{
-    words.iter().position(|word| name == *word)
+    match name {
+        _ if name == b"l".as_slice() => Some(Keys::Left),
+        _ if name == b"lm".as_slice() => Some(Keys::LeftMiddle),
+        _ if name == b"lr".as_slice() => Some(Keys::LeftRight),
+        _ if name == b"m".as_slice() => Some(Keys::Middle),
+        _ if name == b"ml".as_slice() => Some(Keys::MiddleLeft),
+        _ if name == b"mr".as_slice() => Some(Keys::MiddleRight),
+        _ if name == b"r".as_slice() => Some(Keys::Right),
+        _ if name == b"rl".as_slice() => Some(Keys::RightLeft),
+        _ if name == b"rm".as_slice() => Some(Keys::RightMiddle),
+        _ => None,
+    }
 }

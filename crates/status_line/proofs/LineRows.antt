@@ -15,7 +15,7 @@ use Rattle.status_line.specs.declared.saying.Saying.TheVariants.{Refused, CutSho
 use Rattle.status_line.specs.declared.question.Question.TheVariants.{Forgetting}
 use Rattle.status_line.specs.declared.saying.Saying.TheVariants.{Asks, TooNarrow, TooLow, NothingBack, NoFurtherBack, NothingAgain}
 use Rattle.status_line.specs.declared.saying.Saying.TheVariants.{NotBack}
-use Rattle.status_line.specs.declared.saying.Saying.TheVariants.{FirstFailed, TwinFailed, WithoutTwin, NotClipped}
+use Rattle.status_line.specs.declared.saying.Saying.TheVariants.{FirstFailed, TwinFailed, WithoutTwin, PastBegins, NoPast, NotClipped}
 use Rattle.status_line.specs.declared.saying.Saying.TheVariants.{WentRound, NotThere, NoWords, BeyondEdge}
 use Rattle.status_line.specs.Fitting.{part_ends, word_ends, last_cut, kept_by_parts, kept_by_words, parts_within}
 use Rattle.status_line.specs.Sayings.{line_of, words}
@@ -208,6 +208,8 @@ abbrev fifth : List Saying
 fifth =
     NoWords ∷
     BeyondEdge ∷
+    PastBegins ∷
+    NoPast ∷
     Refused 0 ∷
     Refused 1 ∷
     Refused 2 ∷
@@ -224,6 +226,14 @@ fifth_lines = (
   codes "Found right of the edge, out of sight",
   codes "Found right of the edge, out of sight",
   codes "Found right of the edge, out of sight: the caret is in that line's last column.",
+) ∷ (
+  codes "All you do is kept from now on",
+  codes "All you do is kept from now on: Ctrl-P shows it",
+  codes "All you do is kept from now on: Ctrl-P shows it, desk forget deletes it.",
+) ∷ (
+  codes "No past is kept in this sitting",
+  codes "No past is kept in this sitting",
+  codes "No past is kept in this sitting: it can't be written (is the disk full?).",
 ) ∷ (
   codes "refused",
   codes "refused",

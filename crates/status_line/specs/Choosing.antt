@@ -9,20 +9,23 @@ use Rattle.status_line.specs.declared.saying.Saying.{Saying}
 use Rattle.status_line.specs.declared.saying.Saying.TheVariants.{CutShort, Fills, FillsNot, NoDocument, OneSide}
 use Rattle.status_line.specs.declared.saying.Saying.TheVariants.{Refused}
 use Rattle.status_line.specs.declared.saying.Saying.TheVariants.{ToolFiled, TooLow, TooNarrow, Keys, Unstored}
-use Rattle.status_line.specs.declared.saying.Saying.TheVariants.{FirstFailed, TwinFailed, WithoutTwin}
+use Rattle.status_line.specs.declared.saying.Saying.TheVariants.{FirstFailed, TwinFailed, WithoutTwin, PastBegins, NoPast}
 
--- of a store's two files one isn't written
-abbrev pub is_of_twins : Saying → Bool
-is_of_twins FirstFailed = true
-is_of_twins TwinFailed = true
-is_of_twins WithoutTwin = true
-is_of_twins _ = false
+-- of the store's two files one isn't written, or it keeps a past from now on, or none
+abbrev pub tells_of_store : Saying → Bool
+tells_of_store FirstFailed = true
+tells_of_store TwinFailed = true
+tells_of_store WithoutTwin = true
+tells_of_store PastBegins = true
+tells_of_store NoPast = true
+tells_of_store _ = false
 
--- in the beginning: where a terminal has fewer columns than the display, how the other side comes into sight, unless a
--- file isn't written
+-- in the beginning: where a terminal has fewer columns than the display, how the other side comes into sight, unless
+-- the store is told of
 abbrev pub first_saying : ℕ → Saying → Saying
 first_saying width greeting =
-    if is_of_twins greeting then greeting else (if nat_lt width COLUMNS then OneSide else greeting)
+    if tells_of_store greeting then greeting
+    else (if nat_lt width COLUMNS then OneSide else greeting)
 
 -- once an event is done: of the text of all commands, that it is there again
 abbrev pub done_saying : Event → Saying → Saying

@@ -22,7 +22,7 @@ use Rattle.status_line.specs.declared.saying.Saying.TheVariants.{CutShort, OneSi
 use Rattle.status_line.specs.declared.saying.Saying.TheVariants.{Worn, Unread, Marked, Unfinished, TooNarrow, TooLow}
 use Rattle.status_line.specs.declared.saying.Saying.TheVariants.{TookBack, DidAgain}
 use Rattle.status_line.specs.declared.saying.Saying.TheVariants.{NothingBack, NoFurtherBack, NothingAgain, NotBack, Logged}
-use Rattle.status_line.specs.declared.saying.Saying.TheVariants.{FirstFailed, TwinFailed, WithoutTwin, NotClipped}
+use Rattle.status_line.specs.declared.saying.Saying.TheVariants.{FirstFailed, TwinFailed, WithoutTwin, PastBegins, NoPast, NotClipped}
 use Rattle.status_line.specs.declared.saying.Saying.TheVariants.{WentRound, NotThere, NoWords, BeyondEdge, IsFilled}
 use Rattle.status_line.specs.declared.question.Question.{Question}
 use Rattle.status_line.specs.declared.question.Question.TheVariants.{Leaving, Forgetting, Closing, Taking, Rivalled}
@@ -259,6 +259,10 @@ words screen log TwinFailed =
     codes "The twin failed, the first file has all: mend it, then start again with both."
 words screen log WithoutTwin =
     codes "This store has a twin, which gets nothing now: start with --twin to pair them."
+words screen log PastBegins =
+    codes "All you do is kept from now on: Ctrl-P shows it, desk forget deletes it."
+words screen log NoPast =
+    codes "No past is kept in this sitting: it can't be written (is the disk full?)."
 words screen log NotClipped =
     codes "Too long for the terminal's clipboard: copied here, and it takes 74,994 bytes."
 words screen log WentRound =

@@ -1,7 +1,7 @@
 //! Which saying is due, by what came about.
 ghost use Rattle.std.specs.Prelude.{◌≡◌};
 ghost use Rattle.status_line.specs.Choosing.{came_to, done_saying, fill_saying, first_saying, fitted_saying};
-ghost use Rattle.status_line.specs.Choosing.{is_of_twins, refused_saying, rest_saying, rests};
+ghost use Rattle.status_line.specs.Choosing.{tells_of_store, refused_saying, rest_saying, rests};
 
 use crate::Saying;
 use desktop_definitions::codes::NO_FILE;
@@ -9,11 +9,11 @@ use event_bytes::{Event, Keys};
 use viewer_tracks::COLUMNS;
 
 /// What the line below says first: where one side of the display is in sight, how the other one comes into sight, unless
-/// one of a store's two files isn't written.
+/// it tells of the store.
 pub fn first_saying(width: u16, greeting: Saying) -> Saying
     ensures { result ≡ first_saying width greeting }
 {
-    if is_of_twins(greeting) {
+    if tells_of_store(greeting) {
         greeting
     } else if width < u16::from(COLUMNS) {
         Saying::OneSide
@@ -22,13 +22,17 @@ pub fn first_saying(width: u16, greeting: Saying) -> Saying
     }
 }
 
-/// Whether it says that of a store's two files one isn't written.
-fn is_of_twins(saying: Saying) -> bool
-    ensures { result ≡ is_of_twins saying }
+/// Whether it tells of the store: that of its two files one isn't written, or that it keeps a past from now on, or none.
+fn tells_of_store(saying: Saying) -> bool
+    ensures { result ≡ tells_of_store saying }
 {
     matches!(
         saying,
-        Saying::FirstFailed | Saying::TwinFailed | Saying::WithoutTwin
+        Saying::FirstFailed
+            | Saying::TwinFailed
+            | Saying::WithoutTwin
+            | Saying::PastBegins
+            | Saying::NoPast
     )
 }
 

@@ -120,6 +120,10 @@ pub enum Saying {
     TwinFailed,
     /// The store has a twin, which isn't written.
     WithoutTwin,
+    /// The store, which kept no past up to now, keeps one.
+    PastBegins,
+    /// The store keeps no past, since none can be written behind it.
+    NoPast,
     /// What was copied is too long for the clipboard of the terminal.
     NotClipped,
     /// Words were found round the end of the text.
@@ -279,6 +283,12 @@ impl Saying {
             ),
             Saying::WithoutTwin => line(
                 b"This store has a twin, which gets nothing now: start with --twin to pair them.",
+            ),
+            Saying::PastBegins => line(
+                b"All you do is kept from now on: Ctrl-P shows it, desk forget deletes it.",
+            ),
+            Saying::NoPast => line(
+                b"No past is kept in this sitting: it can't be written (is the disk full?).",
             ),
             Saying::NotClipped => line(
                 b"Too long for the terminal's clipboard: copied here, and it takes 74,994 bytes.",

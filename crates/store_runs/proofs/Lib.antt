@@ -1,4 +1,4 @@
+pub mod Acknowledged
 pub mod Chaining
 pub mod Reopening
-pub mod Running
 pub mod Surviving

@@ -27,7 +27,7 @@ use Rattle.desk_journal.proofs.Due.{due_or_room, has_it, has_none}
 use Rattle.desk_journal.proofs.Passing.{shows_means}
 use Rattle.desk_journal.proofs.Prefixes.{steps_both}
 use Rattle.desk_journal.specs.Prefixes.{MeansPrefix}
-use Rattle.store_runs.specs.Deeds.{DoesDeed, StoreAnswer, answered_deed}
+use Rattle.store_runs.specs.Deeds.{DoesDeed, StoreAnswer, called}
 use Rattle.store_runs.specs.Reopening.{StoreCounts, StopsAReopening, all_counted, counts_after, counts_of, events_in}
 use Rattle.desk_journal.specs.View.{StoreView, IsDurable}
 
@@ -70,7 +70,7 @@ counts_posted d event reply old new told = elim (due_or_room (session_of old)) [
         else record { layout = LAYOUT; epoch = old.epoch + 1; events = 1 }
 
 pub went_on : {D : Type 0} (d : Ghosts D) (call : StoreCall) (reply : Reply) (old new : StoreView D)
-    → DoesDeed d (answered_deed call (Ok reply)) old new → GoesOn d call old new
+    → DoesDeed d (called call (Ok reply)) old new → GoesOn d call old new
 went_on d (Posting event) reply old new p = record {
   device = p.behaves.device;
   calm = p.behaves.faults.calm (λ wrong. absurd cc);
@@ -143,7 +143,7 @@ module _ (size : ℕ) (first : Desktop) (calls : List StoreCall) where
   pub call_more : {D : Type 0} (d : Ghosts D) (k : ℕ) (call : StoreCall) (answer : StoreAnswer) (start : Trail)
       (old new : StoreView D) → k < length calls → call ≡ get_or calls k call → old.must_reopen ≡ false
       → d.honest old.disk → d.size old.disk ≡ size → old.desktop ≡ steps first (events_in (take k calls))
-      → LeavesOnly start (d.trail old.disk) Some → DoesDeed d (answered_deed call answer) old new
+      → LeavesOnly start (d.trail old.disk) Some → DoesDeed d (called call answer) old new
       → LeavesOnly start (d.trail new.disk) Some
   call_more d k (Posting event) answer start old new room here usable honest as_large is before p =
       chained before (weakened (p.any_moment usable honest) (λ c either. elim either [
@@ -165,7 +165,7 @@ module _ (size : ℕ) (first : Desktop) (calls : List StoreCall) where
 
 -- a call of a store in use stops for want of memory, by a fault, or since it is worn
 pub call_stops : {D : Type 0} (d : Ghosts D) (call : StoreCall) (e : Error) (old new : StoreView D)
-    → old.must_reopen ≡ false → DoesDeed d (answered_deed call (Err e)) old new → StopsAReopening e
+    → old.must_reopen ≡ false → DoesDeed d (called call (Err e)) old new → StopsAReopening e
 call_stops d (Posting event) e old new usable p = elim p.behaves.faults.errors [
   | inl none ↦ inl none
   | inr (inl failed) ↦ inr (inl failed)
@@ -180,7 +180,7 @@ call_stops d Checkpoint e old new usable p = elim p.0.behaves.faults.errors [
 
 -- and it is worn only in the last epoch
 pub call_worn : {D : Type 0} (d : Ghosts D) (call : StoreCall) (e : Error) (old new : StoreView D)
-    → DoesDeed d (answered_deed call (Err e)) old new → e ≡ Worn → old.epoch ≡ LAST_EPOCH
+    → DoesDeed d (called call (Err e)) old new → e ≡ Worn → old.epoch ≡ LAST_EPOCH
 call_worn d (Posting event) e old new p is = (p.worn.only (ap Err is)).0.1
 call_worn d Checkpoint e old new p is = (p.0.worn.only (ap Err is)).1
 

@@ -1,41 +1,40 @@
 -- What a crash leaves of a run, deed by deed.
-use Rattle.std.proofs.Common.{◌≡◌, ◌⊎◌, inl, inr, ℕ, ◌≤◌, List, [], ◌∷◌, ◌++◌, Result, Ok, Err, refl, sym}
-use Rattle.std.proofs.Common.{◌∙◌, ap, subst, arith, true, false}
+use Rattle.std.proofs.Common.{◌≡◌, ◌⊎◌, inl, inr, ℕ, List, [], ◌∷◌, Result, Ok, Err, refl, sym}
+use Rattle.std.proofs.Common.{◌∙◌, ap, subst, true, false}
 use Rattle.std.specs.Prelude.{IfOk, IsErr, IsErrOf}
-use Rattle.std.proofs.lemmas.Result.{IfErr-at_err}
+use Rattle.std.specs.List.{AllByRecursion}
+use Rattle.std.specs.Result.{result_map_both}
 use Rattle.sector_disk.specs.declared.disk.Disk.{Ghosts}
-use Rattle.sector_disk.specs.Trail.{Content, Trail, now, IsCrashImage, Leaves, LeavesOnly}
-use Rattle.sector_disk.proofs.Confinement as confined
+use Rattle.sector_disk.specs.Trail.{Content, now, Leaves, LeavesOnly}
 use Rattle.sector_disk.proofs.Touching.{at_last, read_is_an_image, weakened}
 use Rattle.event_bytes.specs.declared.event.Event.{Event}
+use Rattle.desktop_definitions.specs.declared.reply.Reply.{Reply}
 use Rattle.desktop_definitions.specs.Desktop.{Desktop}
-use Rattle.desktop_definitions.specs.Step.{Outcome, steps_in}
+use Rattle.desktop_definitions.specs.Step.{Outcome, outcome_of, step, steps_in}
 use Rattle.document_filing.specs.Bringing.{Documents, brought_in}
-use Rattle.store_layout.proofs.Bits.{true_or_false, clash}
+use Rattle.store_layout.proofs.Bits.{clash, true_or_false}
 use Rattle.store_layout.specs.declared.layout.TheConstants.{LAYOUT}
 use Rattle.store_layout.specs.Meaning.{Standing, Stands, Means, MeansEither, desktop_of}
-use Rattle.desk_journal.specs.Bringing.{AreBrought, IsUnwritten, LeavesAllOrNone}
 use Rattle.desk_journal.specs.Checkpointing.{IsCheckpointed}
 use Rattle.desk_journal.specs.Device.{StaysWithin}
-use Rattle.desk_journal.specs.Errors.{Error, Fault, MustReopen, NoMemory, OfPost, Worn}
-use Rattle.desk_journal.specs.Posting.{AnswersMustReopen, Behaves, IsBroken, IsLast, IsPosted, TurnsAway}
+use Rattle.desk_journal.specs.Errors.{Error, Fault, MustReopen, NoMemory, Worn}
+use Rattle.desk_journal.specs.Posting.{AnswersMustReopen, IsPosted}
 use Rattle.desk_journal.specs.Undoing.{IsLeft, IsTakenBack, LeavesUndone, ShowsStanding}
-use Rattle.desk_journal.specs.View.{StoreView}
+use Rattle.desk_journal.specs.View.{StoreView, IsDurable}
 use Rattle.desk_journal.proofs.Behind.{led_back}
-use Rattle.desk_journal.proofs.Passing.{shows_means}
-use Rattle.store_runs.specs.Deeds.{Deed, DoesDeed, IsRun, Post, PromisesBringing, PromisesUndo, StoreAnswer, told_of}
-use Rattle.store_runs.specs.Deeds.{posted, renewed, undone, brought}
-use Rattle.store_runs.specs.Run.{HasFailed, LeadsTo, MeansPostsPrefix, SurvivalLaw, RunSurvives, accepted_posts, led_by}
-use Rattle.store_runs.specs.Run.{over, one_more, anew, moved, stopped}
-use Rattle.store_runs.proofs.Chaining.{checkpointed_by_trails, posted_by_trails}
-use Rattle.store_runs.proofs.Running.{Checkpointed, IsRunning, Posted, begins_running, checkpoint_on, runs_on, whole}
+use Rattle.desk_journal.proofs.Passing.{at_start, shows_means}
+use Rattle.desk_journal.proofs.Stepped.{stepped_newest}
+use Rattle.store_runs.specs.declared.call.StoreCall.TheVariants.{Post as Posting, Checkpoint}
+use Rattle.store_runs.specs.Deeds.{Deed, DoesDeed, IsRun, PromisesBringing, PromisesUndo, StoreAnswer}
+use Rattle.store_runs.specs.Deeds.{called, undone, brought}
+use Rattle.store_runs.specs.Run.{LeadsAs, HasFailed, LeadsTo, SurvivalLaw, RunSurvives}
 
 -- what was returned, by the events that it hands back
 pub told_undone : {D V : Type 0} (d : Ghosts D) (items : V → List Event) (count : ℕ) (result : Result V Error)
     (old new : StoreView D) → LeavesUndone d count old new → IfOk result (λ v. IsTakenBack d count (items v) old new)
     → (IsErr result → old.must_reopen ≡ false → new.must_reopen ≡ false → IsLeft d old new)
     → AnswersMustReopen result old new → StaysWithin d old.disk new.disk
-    → PromisesUndo d count (told_of items result) old new
+    → PromisesUndo d count (result_map_both items (λ e. e) result) old new
 told_undone d items count (Ok v) old new moments ok left reopen within = record {
   any_moment = moments;
   ok = ok;
@@ -68,361 +67,324 @@ none_told : (answer : Result (List Event) Error) (events : List Event) → IsErr
 none_told (Ok back) events wrong = absurd cc
 none_told (Err e) events wrong = tt
 
--- what a bringing returned
-pub told_brought : {D : Type 0} (d : Ghosts D) (documents : Documents) (result : StoreAnswer) (old new : StoreView D)
-    → LeavesAllOrNone d documents old new → IfOk result (λ reply. AreBrought d documents reply old new)
-    → (IsErrOf result NoMemory → IsUnwritten d old new) → (IsErrOf result Fault → IsBroken new)
-    → TurnsAway (IsErrOf result Worn) (IsLast old) old new → Behaves d OfPost result old new
-    → PromisesBringing d documents result old new
-told_brought d documents result old new moments ok memory fault worn behaves = record {
-  any_moment = moments;
-  ok = ok;
-  left = λ wrong usable still. same result refl wrong usable still;
-  reopen = behaves.reopen;
-  within = behaves.within;
-}
-  where
-    same : (answer : StoreAnswer) → answer ≡ result → IsErr answer → old.must_reopen ≡ false → new.must_reopen ≡ false
-        → new ≡ old
-    same (Ok reply) is wrong usable still = absurd cc
-    same (Err e) is wrong usable still = elim (IfErr-at_err OfPost (sym is) behaves.faults.errors) [
-      | inl starved ↦ absurd (clash (memory (sym is ∙ ap (λ x. Err x) starved)).closed still)
-      | inr other ↦ elim other [
-        | inl broken ↦ absurd (clash (fault (sym is ∙ ap (λ x. Err x) broken)) still)
-        | inr later ↦ elim later [
-          | inl must ↦ absurd (clash (behaves.reopen.only (sym is ∙ ap (λ x. Err x) must)) usable)
-          | inr last ↦ worn.unchanged (sym is ∙ ap (λ x. Err x) last)
-        ]
-      ]
-    ]
-
 -- ---- what every deed leaves of the disk
 
-deed_within : {D : Type 0} (d : Ghosts D) (deed : Deed) (old new : StoreView D) → DoesDeed d deed old new
+pub deed_within : {D : Type 0} (d : Ghosts D) (deed : Deed) (old new : StoreView D) → DoesDeed d deed old new
     → StaysWithin d old.disk new.disk
-deed_within d (posted p) old new does = does.behaves.within
-deed_within d (renewed answer) old new does = does.0.behaves.within
+deed_within d (called (Posting event) answer) old new does = does.behaves.within
+deed_within d (called Checkpoint answer) old new does = does.0.behaves.within
 deed_within d (undone count answer) old new does = does.within
-deed_within d (brought documents answer) old new does = does.within
-
-deeds_within : {D : Type 0} (d : Ghosts D) (deeds : List Deed) (old new : StoreView D) → IsRun d deeds old new
-    → StaysWithin d old.disk new.disk
-deeds_within d [] old new run = subst (λ v. StaysWithin d old.disk v.disk) (sym run)
-    (confined.stays_put d.size d.honest d.trail _ old.disk)
-deeds_within d (deed ∷ more) old new run = confined.joined d.size d.honest d.trail
-    (deed_within d deed old run.0 run.1) (deeds_within d more run.0 new run.2)
+deed_within d (brought documents answer) old new does = does.behaves.within
 
 -- ---- where the store must be opened again nothing changes
 
 deed_stays : {D : Type 0} (d : Ghosts D) (deed : Deed) (old new : StoreView D) → DoesDeed d deed old new
     → old.must_reopen ≡ true → new ≡ old
-deed_stays d (posted p) old new does must = does.behaves.reopen.unchanged (does.behaves.reopen.always must)
-deed_stays d (renewed answer) old new does must = does.0.behaves.reopen.unchanged (does.0.behaves.reopen.always must)
+deed_stays d (called (Posting event) answer) old new does must =
+    does.behaves.reopen.unchanged (does.behaves.reopen.always must)
+deed_stays d (called Checkpoint answer) old new does must =
+    does.0.behaves.reopen.unchanged (does.0.behaves.reopen.always must)
 deed_stays d (undone count answer) old new does must = does.reopen.unchanged (does.reopen.always must)
-deed_stays d (brought documents answer) old new does must = does.reopen.unchanged (does.reopen.always must)
+deed_stays d (brought documents answer) old new does must =
+    does.behaves.reopen.unchanged (does.behaves.reopen.always must)
 
-all_stay : {D : Type 0} (d : Ghosts D) (deeds : List Deed) (old new : StoreView D) → IsRun d deeds old new
+pub all_stay : {D : Type 0} (d : Ghosts D) (deeds : List Deed) (old new : StoreView D) → IsRun d deeds old new
     → old.must_reopen ≡ true → new ≡ old
 all_stay d [] old new run must = run
 all_stay d (deed ∷ more) old new run must =
     let same = deed_stays d deed old run.0 run.1 must in
     all_stay d more run.0 new run.2 (ap (λ v. v.must_reopen) same ∙ must) ∙ same
 
--- ---- one deed more
+-- where it leads by the error
+leads_by : (outcome : Outcome) (from to : Desktop) (e other : Error) → e ≡ other → LeadsAs outcome from (Err other) to
+    → LeadsAs outcome from (Err e) to
+leads_by outcome from to e other is leads = subst (λ x. LeadsAs outcome from (Err x) to) (sym is) leads
+
+-- what fails so fails
+fails : {T : Type 0} (answer : Result T Error) (e : Error) → IsErrOf answer e → IsErr answer
+fails (Ok value) e is = absurd cc
+fails (Err other) e is = refl
+
+deed_fails : {D : Type 0} (d : Ghosts D) (deed : Deed) (old new : StoreView D) → DoesDeed d deed old new
+    → old.must_reopen ≡ true → HasFailed deed
+deed_fails d (called (Posting event) answer) old new does must = fails answer MustReopen (does.behaves.reopen.always must)
+deed_fails d (called Checkpoint answer) old new does must = fails answer MustReopen (does.0.behaves.reopen.always must)
+deed_fails d (undone count answer) old new does must = fails answer MustReopen (does.reopen.always must)
+deed_fails d (brought documents answer) old new does must = fails answer MustReopen (does.behaves.reopen.always must)
+
+pub all_fail : {D : Type 0} (d : Ghosts D) (deeds : List Deed) (old new : StoreView D) → IsRun d deeds old new
+    → old.must_reopen ≡ true → AllByRecursion HasFailed deeds
+all_fail d [] old new run must = tt
+all_fail d (deed ∷ more) old new run must = (
+  deed_fails d deed old run.0 run.1 must,
+  all_fail d more run.0 new run.2 (ap (λ v. v.must_reopen) (deed_stays d deed old run.0 run.1 must) ∙ must),
+)
+
+-- ---- one deed of a store in use
 
 module _ {D : Type 0} (d : Ghosts D) (size : ℕ) where
-  -- what is known between two deeds, since these posts began
-  abbrev Running : Desktop → StoreView D → List Post → Type 0
-  Running first store posts = IsRunning size first (d.trail store.disk) store.desktop store.must_reopen posts
+  -- a crash now leaves what the store shows
+  abbrev pub Lasts : StoreView D → Type 0
+  Lasts store = Leaves (now (d.trail store.disk)) (Means size store.desktop)
 
-  abbrev Lasts : Desktop → List Post → StoreView D → StoreView D → List Deed → Type 0
-  Lasts first posts store last deeds =
-      RunSurvives size (d.trail last.disk) first posts (d.trail store.disk).clock (d.trail last.disk).clock deeds
+  pub lasts : (store : StoreView D) → d.size store.disk ≡ size → d.honest store.disk → IsDurable d store → Lasts store
+  lasts store as_large honest durable = λ c image. subst (λ n. Means n store.desktop c) as_large
+      (shows_means (d.size store.disk) store.epoch store.events store.desktop c (durable honest c image))
 
-  -- the moments of a call stay
-  kept : (more : List Deed) (mid last : StoreView D) → d.honest mid.disk → IsRun d more mid last
-      → (t : ℕ) → t ≤ (d.trail mid.disk).clock → (d.trail last.disk).at t ≡ (d.trail mid.disk).at t
-  kept more mid last honest run = ((deeds_within d more mid last run).moments honest).kept
-
-  post_on : (first : Desktop) (posts : List Post) (p : Post) (more : List Deed) (store mid last : StoreView D)
-      → d.honest store.disk → d.size store.disk ≡ size → Running first store posts
-      → IsPosted d p.event p.answer store mid → IsRun d more mid last
-      → (Running first mid (posts ++ p ∷ []) → Lasts first (posts ++ p ∷ []) mid last more)
-      → Lasts first posts store last (posted p ∷ more)
-  post_on first posts p more store mid last honest as_large was does run goes =
-      let on = runs_on size first (d.trail store.disk) (d.trail mid.disk) store.desktop mid.desktop
-      store.must_reopen mid.must_reopen posts p.event was p.answer
-      (subst (λ n. Posted n p.event p.answer (d.trail store.disk) (d.trail mid.disk) store.desktop mid.desktop
-      store.must_reopen mid.must_reopen) as_large (posted_by_trails d store mid honest p.event p.answer does)) in
-      let stays = kept more mid last (does.behaves.within.still honest) run in
-      one_more p on.later
-      (λ t above below. subst (λ m. Leaves m (MeansPostsPrefix size first posts (posts ++ p ∷ []))) (sym (stays t below))
-      (on.each t above below))
-      (subst (λ m. Leaves m (MeansPostsPrefix size first (posts ++ p ∷ []) (posts ++ p ∷ [])))
-      (sym (stays (d.trail mid.disk).clock (omega arith))) on.running.prefix)
-      (goes on.running)
-
-  renewal_on : (first : Desktop) (posts : List Post) (answer : StoreAnswer) (more : List Deed) (store mid last : StoreView D)
-      → d.honest store.disk → d.size store.disk ≡ size → Running first store posts
-      → IsCheckpointed d answer store mid → IsRun d more mid last
-      → (Running first mid posts → Lasts first posts mid last more)
-      → Lasts first posts store last (renewed answer ∷ more)
-  renewal_on first posts answer more store mid last honest as_large was does run goes =
-      let on = checkpoint_on size first (d.trail store.disk) (d.trail mid.disk) store.desktop mid.desktop
-      store.must_reopen mid.must_reopen posts was answer
-      (subst (λ n. Checkpointed n answer (d.trail store.disk) (d.trail mid.disk) store.desktop mid.desktop
-      store.must_reopen mid.must_reopen) as_large (checkpointed_by_trails d store mid honest answer does)) in
-      anew answer on.later
-      (λ t above below. subst (λ m. Leaves m (MeansPostsPrefix size first posts posts))
-      (sym (kept more mid last (does.behaves.within.still honest) run t below)) (on.each t above below))
-      (goes on.running)
-
-  -- an undo or a bringing
-  module _ (first : Desktop) (posts : List Post) (deed : Deed) (more : List Deed) (store mid last : StoreView D)
-      (honest : d.honest store.disk) (was : Running first store posts) (within : StaysWithin d store.disk mid.disk)
-      (run : IsRun d more mid last) (goes : Running mid.desktop mid [] → Lasts mid.desktop [] mid last more) where
+  module _ (deed : Deed) (more : List Deed) (store mid last : StoreView D) (honest : d.honest store.disk)
+      (as_large : d.size store.disk ≡ size) (shown : Lasts store) (within : StaysWithin d store.disk mid.disk)
+      (run : IsRun d more mid last)
+      (goes : mid.must_reopen ≡ false → Lasts mid
+      → RunSurvives size mid.desktop (d.trail mid.disk) (d.trail last.disk) more) where
     abbrev Goal : Type 0
-    Goal = Lasts first posts store last (deed ∷ more)
+    Goal = RunSurvives size store.desktop (d.trail store.disk) (d.trail last.disk) (deed ∷ more)
 
-    abbrev led : Desktop
-    led = led_by first (accepted_posts posts)
+    abbrev LeavesEither : Desktop → Type 0
+    LeavesEither next = LeavesOnly (d.trail store.disk) (d.trail mid.disk) (MeansEither size store.desktop next)
 
-    later : (d.trail store.disk).clock ≤ (d.trail mid.disk).clock
-    later = (within.moments honest).later
+    -- by the size of the disk
+    sized : (next : Desktop)
+        → LeavesOnly (d.trail store.disk) (d.trail mid.disk) (MeansEither (d.size store.disk) store.desktop next)
+        → LeavesEither next
+    sized next moments = subst (λ n. LeavesOnly (d.trail store.disk) (d.trail mid.disk) (MeansEither n store.desktop next))
+        as_large moments
 
-    stays : (t : ℕ) → t ≤ (d.trail mid.disk).clock → (d.trail last.disk).at t ≡ (d.trail mid.disk).at t
-    stays = kept more mid last (within.still honest) run
+    only_sized : (next : Desktop)
+        → LeavesOnly (d.trail store.disk) (d.trail mid.disk) (Means (d.size store.disk) store.desktop) → LeavesEither next
+    only_sized next moments = sized next (weakened moments (λ c means. inl means))
 
-    -- the call is over, and one goes on from what is left
-    goes_on : LeadsTo led deed mid.desktop
-        → LeavesOnly (d.trail store.disk) (d.trail mid.disk) (MeansEither size led mid.desktop)
-        → Leaves (now (d.trail mid.disk)) (Means size mid.desktop) → mid.must_reopen ≡ false → Goal
-    goes_on leads moments means usable =
-        moved deed later leads
-        (λ t above below. subst (λ m. Leaves m (MeansEither size led mid.desktop)) (sym (stays t below))
-        (moments.each t above below))
-        (subst (λ m. Leaves m (Means size mid.desktop)) (sym (stays (d.trail mid.disk).clock (omega arith))) means)
-        (goes (subst (λ b. IsRunning size mid.desktop (d.trail mid.disk) mid.desktop b [])
-        (sym usable) (begins_running size (d.trail mid.disk) mid.desktop means)))
+    still_lasts : IsDurable d mid → Lasts mid
+    still_lasts = lasts mid (within.as_large ∙ as_large) (within.still honest)
+
+    -- the deed was done, and one goes on from where it led
+    goes_on : LeadsTo store.desktop deed mid.desktop → LeavesEither mid.desktop → Lasts mid → mid.must_reopen ≡ false
+        → Goal
+    goes_on leads moments means usable = (mid.desktop, d.trail mid.disk, leads, moments, inl (means, goes usable means))
 
     -- the store must be opened again
-    stops : (next : Desktop) → LeadsTo led deed next → HasFailed deed
-        → ((t : ℕ) → (d.trail store.disk).clock ≤ t → t ≤ (d.trail mid.disk).clock → Leaves ((d.trail mid.disk).at t)
-        (λ c. MeansPostsPrefix size first posts posts c ⊎ Means size next c))
+    stops : (next : Desktop) → LeadsTo store.desktop deed next → HasFailed deed → LeavesEither next
         → mid.must_reopen ≡ true → Goal
     stops next leads wrong moments must =
         let same : d.trail last.disk ≡ d.trail mid.disk = ap (λ v. d.trail v.disk) (all_stay d more mid last run must) in
-        let clocks : (d.trail last.disk).clock ≡ (d.trail mid.disk).clock = ap (λ (x : Trail). x.clock) same in
-        stopped {next = next} deed (omega (arith, clocks, later)) leads wrong
-        (λ t above below. let low : t ≤ (d.trail mid.disk).clock = omega (arith, below, clocks) in
-        subst (λ m. Leaves m (λ c. MeansPostsPrefix size first posts posts c ⊎ Means size next c))
-        (sym (stays t low)) (moments t above low))
-
-    -- before it the store must be opened again already
-    is_stopped : mid ≡ store → store.must_reopen ≡ true → LeadsTo led deed led → HasFailed deed → Goal
-    is_stopped same must leads wrong =
-        let clocks : (d.trail mid.disk).clock ≡ (d.trail store.disk).clock =
-        ap (λ (v : StoreView D). (d.trail v.disk).clock) same in
-        stops led leads wrong
-        (λ t above below c image.
-        let here : t ≡ (d.trail mid.disk).clock = omega (arith, above, below, clocks) in
-        inl (was.prefix c (subst (λ (v : StoreView D). IsCrashImage (now (d.trail v.disk)) c) same
-        (subst (λ i. IsCrashImage ((d.trail mid.disk).at i) c) here image))))
-        (ap (λ (v : StoreView D). v.must_reopen) same ∙ must)
+        (next, d.trail mid.disk, leads, moments, inr (same, (wrong, all_fail d more mid last run must)))
 
     -- it changed nothing
-    unmoved : mid ≡ store → store.must_reopen ≡ false → LeadsTo led deed led → Goal
+    unmoved : mid ≡ store → store.must_reopen ≡ false → LeadsTo store.desktop deed store.desktop → Goal
     unmoved same usable leads =
-        let is : mid.desktop ≡ led = ap (λ (v : StoreView D). v.desktop) same ∙ was.is usable in
-        let clocks : (d.trail mid.disk).clock ≡ (d.trail store.disk).clock =
-        ap (λ (v : StoreView D). (d.trail v.disk).clock) same in
-        let means : Leaves (now (d.trail mid.disk)) (Means size mid.desktop) =
-        subst (λ (v : StoreView D). Leaves (now (d.trail v.disk)) (Means size v.desktop)) (sym same) (was.shown usable) in
-        goes_on (subst (LeadsTo led deed) (sym is) leads)
-        (record {
-          later = later;
-          kept = (within.moments honest).kept;
-          each = λ t above below c image.
-              let here : t ≡ (d.trail mid.disk).clock = omega (arith, above, below, clocks) in
-              inr (means c (subst (λ i. IsCrashImage ((d.trail mid.disk).at i) c) here image));
-        })
-        means (ap (λ (v : StoreView D). v.must_reopen) same ∙ usable)
+        goes_on (subst (λ (v : StoreView D). LeadsTo store.desktop deed v.desktop) (sym same) leads)
+        (subst (λ (v : StoreView D). LeavesOnly (d.trail store.disk) (d.trail v.disk)
+        (MeansEither size store.desktop v.desktop)) (sym same)
+        (at_start (d.trail store.disk) _ (λ c image. inl (shown c image))))
+        (subst Lasts (sym same) shown) (ap (λ (v : StoreView D). v.must_reopen) same ∙ usable)
 
-    module _ (usable : store.must_reopen ≡ false) where
-      -- the one desktop or the other, over what the store showed
-      either : (desktop : Desktop) (c : Content) → MeansEither size store.desktop desktop c → MeansEither size led desktop c
-      either desktop c means = elim means [
-        | inl old ↦ inl (subst (λ x. Means size x c) (was.is usable) old)
-        | inr new ↦ inr new
+    -- it led to this outcome
+    arrives : (outcome : Outcome) (reply : Reply) → outcome_of mid.desktop reply ≡ outcome
+        → LeadsTo store.desktop deed mid.desktop
+        → LeavesOnly (d.trail store.disk) (d.trail mid.disk)
+        (MeansEither (d.size store.disk) store.desktop outcome.desktop)
+        → IsDurable d mid → mid.must_reopen ≡ false → Goal
+    arrives outcome reply is leads moments durable usable =
+        let there : mid.desktop ≡ outcome.desktop = ap (λ (o : Outcome). o.desktop) is in
+        goes_on leads (subst LeavesEither (sym there) (sized outcome.desktop moments)) (still_lasts durable) usable
+
+  -- an event is posted, or not
+  post_on : (event : Event) (answer : StoreAnswer) (more : List Deed) (store mid last : StoreView D)
+      → d.honest store.disk → d.size store.disk ≡ size → Lasts store → store.must_reopen ≡ false
+      → IsPosted d event answer store mid → IsRun d more mid last
+      → (mid.must_reopen ≡ false → Lasts mid
+      → RunSurvives size mid.desktop (d.trail mid.disk) (d.trail last.disk) more)
+      → RunSurvives size store.desktop (d.trail store.disk) (d.trail last.disk) (called (Posting event) answer ∷ more)
+  post_on event (Ok reply) more store mid last honest as_large shown usable does run goes =
+      let is = stepped_newest d does.ok honest in
+      arrives (called (Posting event) (Ok reply)) more store mid last honest as_large shown does.behaves.within run goes
+      (step store.desktop event) reply is is (does.any_moment usable honest) does.ok.durable does.ok.usable
+  post_on event (Err e) more store mid last honest as_large shown usable does run goes =
+      let deed : Deed = called (Posting event) (Err e) in
+      let within = does.behaves.within in
+      let sized_only = only_sized deed more store mid last honest as_large shown within run goes in
+      elim does.behaves.faults.errors [
+        | inl none ↦
+            let starved = does.memory (ap (λ x. Err x) none) in
+            stops deed more store mid last honest as_large shown within run goes store.desktop
+            (leads_by (step store.desktop event) store.desktop store.desktop e NoMemory none refl) refl
+            (sized_only store.desktop (starved.unrecorded usable honest)) starved.closed
+        | inr later ↦ elim later [
+          | inl failed ↦ stops deed more store mid last honest as_large shown within run goes
+              (step store.desktop event).desktop
+              (leads_by (step store.desktop event) store.desktop (step store.desktop event).desktop e Fault failed refl) refl
+              (sized deed more store mid last honest as_large shown within run goes (step store.desktop event).desktop
+              (does.any_moment usable honest)) (does.fault (ap (λ x. Err x) failed))
+          | inr other ↦ elim other [
+            | inl must ↦ absurd (clash (does.behaves.reopen.only (ap (λ x. Err x) must)) usable)
+            | inr worn ↦ unmoved deed more store mid last honest as_large shown within run goes
+                (does.worn.unchanged (ap (λ x. Err x) worn)) usable
+                (leads_by (step store.desktop event) store.desktop store.desktop e Worn worn refl)
+          ]
+        ]
       ]
 
-      -- it stopped amid the write
-      is_cut : (next : Desktop) → LeadsTo led deed next → HasFailed deed
-          → LeavesOnly (d.trail store.disk) (d.trail mid.disk) (MeansEither size store.desktop next)
-          → mid.must_reopen ≡ true → Goal
-      is_cut next leads wrong moments must = stops next leads wrong
-          (λ t above below c image. elim (either next c (moments.each t above below c image)) [
-            | inl all ↦ inl (whole size first posts posts c (omega arith) all)
-            | inr new ↦ inr new
-          ]) must
+  -- a checkpoint is made, or not
+  renewal_on : (answer : StoreAnswer) (more : List Deed) (store mid last : StoreView D)
+      → d.honest store.disk → d.size store.disk ≡ size → Lasts store → store.must_reopen ≡ false
+      → IsCheckpointed d answer store mid → IsRun d more mid last
+      → (mid.must_reopen ≡ false → Lasts mid
+      → RunSurvives size mid.desktop (d.trail mid.disk) (d.trail last.disk) more)
+      → RunSurvives size store.desktop (d.trail store.disk) (d.trail last.disk) (called Checkpoint answer ∷ more)
+  renewal_on (Ok reply) more store mid last honest as_large shown usable does run goes =
+      let deed : Deed = called Checkpoint (Ok reply) in
+      let within = does.behaves.within in
+      goes_on deed more store mid last honest as_large shown within run goes (does.ok.desktop honest)
+      (only_sized deed more store mid last honest as_large shown within run goes mid.desktop
+      (does.any_moment usable honest))
+      (still_lasts deed more store mid last honest as_large shown within run goes does.ok.durable) does.ok.usable
+  renewal_on (Err e) more store mid last honest as_large shown usable does run goes =
+      let deed : Deed = called Checkpoint (Err e) in
+      let within = does.behaves.within in
+      elim does.behaves.faults.errors [
+        | inl failed ↦ stops deed more store mid last honest as_large shown within run goes store.desktop refl refl
+            (only_sized deed more store mid last honest as_large shown within run goes store.desktop
+            (does.any_moment usable honest)) (does.fault (ap (λ x. Err x) failed))
+        | inr other ↦ elim other [
+          | inl must ↦ absurd (clash (does.behaves.reopen.only (ap (λ x. Err x) must)) usable)
+          | inr worn ↦ unmoved deed more store mid last honest as_large shown within run goes
+              (does.worn.unchanged (ap (λ x. Err x) worn)) usable refl
+        ]
+      ]
+
+  -- documents are brought, or not
+  bring_on : (documents : Documents) (answer : StoreAnswer) (more : List Deed) (store mid last : StoreView D)
+      → d.honest store.disk → d.size store.disk ≡ size → Lasts store → store.must_reopen ≡ false
+      → PromisesBringing d documents answer store mid → IsRun d more mid last
+      → (mid.must_reopen ≡ false → Lasts mid
+      → RunSurvives size mid.desktop (d.trail mid.disk) (d.trail last.disk) more)
+      → RunSurvives size store.desktop (d.trail store.disk) (d.trail last.disk) (brought documents answer ∷ more)
+  bring_on documents (Ok reply) more store mid last honest as_large shown usable does run goes =
+      let is = does.ok.brought.done honest in
+      arrives (brought documents (Ok reply)) more store mid last honest as_large shown does.behaves.within run goes
+      (brought_in store.desktop documents) reply is is (does.any_moment usable honest) does.ok.durable does.ok.usable
+  bring_on documents (Err e) more store mid last honest as_large shown usable does run goes =
+      let deed : Deed = brought documents (Err e) in
+      let within = does.behaves.within in
+      elim does.behaves.faults.errors [
+        | inl none ↦
+            let unwritten = does.memory (ap (λ x. Err x) none) in
+            stops deed more store mid last honest as_large shown within run goes store.desktop
+            (leads_by (brought_in store.desktop documents) store.desktop store.desktop e NoMemory none refl) refl
+            (weakened (unwritten.unwritten.unwritten honest) (λ c old. inl (shown c old))) unwritten.closed
+        | inr later ↦ elim later [
+          | inl failed ↦ stops deed more store mid last honest as_large shown within run goes
+              (brought_in store.desktop documents).desktop
+              (leads_by (brought_in store.desktop documents) store.desktop (brought_in store.desktop documents).desktop e Fault
+              failed refl) refl
+              (sized deed more store mid last honest as_large shown within run goes
+              (brought_in store.desktop documents).desktop (does.any_moment usable honest))
+              (does.fault (ap (λ x. Err x) failed))
+          | inr other ↦ elim other [
+            | inl must ↦ absurd (clash (does.behaves.reopen.only (ap (λ x. Err x) must)) usable)
+            | inr worn ↦ unmoved deed more store mid last honest as_large shown within run goes
+                (does.worn.unchanged (ap (λ x. Err x) worn)) usable
+                (leads_by (brought_in store.desktop documents) store.desktop store.desktop e Worn worn refl)
+          ]
+        ]
+      ]
 
   -- events are taken back, or not
-  module _ (first : Desktop) (count : ℕ) (posts : List Post) (more : List Deed) (store mid last : StoreView D)
-      (answer : Result (List Event) Error) (honest : d.honest store.disk) (as_large : d.size store.disk ≡ size)
-      (was : Running first store posts) (does : PromisesUndo d count answer store mid) (run : IsRun d more mid last)
-      (goes : Running mid.desktop mid []
-      → Lasts mid.desktop [] mid last more) (usable : store.must_reopen ≡ false) where
+  module _ (count : ℕ) (answer : Result (List Event) Error) (more : List Deed) (store mid last : StoreView D)
+      (honest : d.honest store.disk) (as_large : d.size store.disk ≡ size) (shown : Lasts store)
+      (usable : store.must_reopen ≡ false) (does : PromisesUndo d count answer store mid) (run : IsRun d more mid last)
+      (goes : mid.must_reopen ≡ false → Lasts mid
+      → RunSurvives size mid.desktop (d.trail mid.disk) (d.trail last.disk) more) where
     abbrev made : Deed
     made = undone count answer
 
-    abbrev shown : Means size store.desktop (now (d.trail store.disk)).reads
-    shown = was.shown usable (now (d.trail store.disk)).reads (read_is_an_image (now (d.trail store.disk)))
+    abbrev Undone : Type 0
+    Undone = RunSurvives size store.desktop (d.trail store.disk) (d.trail last.disk) (made ∷ more)
+
+    abbrev means : Means size store.desktop (now (d.trail store.disk)).reads
+    means = shown (now (d.trail store.disk)).reads (read_is_an_image (now (d.trail store.disk)))
 
     abbrev s : Standing
-    s = shown.0
+    s = means.0
 
     here : ShowsStanding d store s
-    here = subst (λ n. Stands n (now (d.trail store.disk)).reads s) (sym as_large) shown.1
+    here = subst (λ n. Stands n (now (d.trail store.disk)).reads s) (sym as_large) means.1
 
     either_stands : (rest : Standing) (desktop : Desktop) → desktop_of rest ≡ desktop → (c : Content)
         → Stands (d.size store.disk) c rest ⊎ Stands (d.size store.disk) c s → MeansEither size store.desktop desktop c
     either_stands rest desktop is c stands = elim stands [
       | inl left ↦ inr (rest, subst (λ n. Stands n c rest) as_large left, is)
-      | inr all ↦ inl (s, subst (λ n. Stands n c s) as_large all, shown.2)
+      | inr all ↦ inl (s, subst (λ n. Stands n c s) as_large all, means.2)
     ]
 
     -- they were taken back
-    is_back : (back : List Event) → IsTakenBack d count back store mid → IfOk answer (λ told. told ≡ back)
-        → Goal first posts made more store mid last honest was does.within run goes
+    is_back : (back : List Event) → IsTakenBack d count back store mid → IfOk answer (λ told. told ≡ back) → Undone
     is_back back taken told =
         let b = taken.back honest s here in
-        goes_on first posts made more store mid last honest was does.within run goes (
+        goes_on made more store mid last honest as_large shown does.within run goes (
           s.version,
           back,
-          ap (λ x. steps_in s.version x back) b.1.desktop ∙ sym (led_back back s b.0 b.1.leaves.is_rest)
-              ∙ shown.2 ∙ was.is usable,
+          ap (λ x. steps_in s.version x back) b.1.desktop ∙ sym (led_back back s b.0 b.1.leaves.is_rest) ∙ means.2,
           told,
         )
-        (weakened b.1.leaves.any_moment (λ c stands. either first posts made more store mid last honest was does.within
-        run goes usable mid.desktop c (either_stands b.0 mid.desktop (sym b.1.desktop) c stands)))
-        (λ c image. subst (λ n. Means n mid.desktop c) (does.within.as_large ∙ as_large)
-        (shows_means (d.size mid.disk) mid.epoch mid.events mid.desktop c
-        (taken.durable (does.within.still honest) c image)))
-        taken.usable
+        (weakened b.1.leaves.any_moment (either_stands b.0 mid.desktop (sym b.1.desktop)))
+        (still_lasts made more store mid last honest as_large shown does.within run goes taken.durable) taken.usable
 
     -- nothing was written
-    is_left : IsLeft d store mid → mid.must_reopen ≡ false → IfOk answer (λ told. told ≡ [])
-        → Goal first posts made more store mid last honest was does.within run goes
+    is_left : IsLeft d store mid → mid.must_reopen ≡ false → IfOk answer (λ told. told ≡ []) → Undone
     is_left left still told =
         let same = left.desktop honest in
         let unwritten = left.disk.unwritten honest in
-        goes_on first posts made more store mid last honest was does.within run goes
-        (LAYOUT, [], same ∙ was.is usable, told)
-        (weakened unwritten (λ c old. inl (subst (λ x. Means size x c) (was.is usable) (was.shown usable c old))))
-        (λ c image. subst (λ x. Means size x c) (sym same) (was.shown usable c (at_last unwritten c image))) still
+        goes_on made more store mid last honest as_large shown does.within run goes (LAYOUT, [], same, told)
+        (weakened unwritten (λ c old. inl (shown c old)))
+        (λ c image. subst (λ x. Means size x c) (sym same) (shown c (at_last unwritten c image))) still
 
     -- it stopped amid the write
-    is_undo_cut : IsErr answer → mid.must_reopen ≡ true
-        → Goal first posts made more store mid last honest was does.within run goes
-    is_undo_cut wrong must =
+    is_cut : IsErr answer → HasFailed made → mid.must_reopen ≡ true → Undone
+    is_cut wrong failed must =
         let m = does.any_moment usable honest s here in
-        is_cut first posts made more store mid last honest was does.within run goes usable (desktop_of m.1)
-        (s.version, m.0, sym (led_back m.0 s m.1 m.3.is_rest) ∙ shown.2 ∙ was.is usable, none_told answer m.0 wrong) wrong
+        stops made more store mid last honest as_large shown does.within run goes (desktop_of m.1)
+        (s.version, m.0, sym (led_back m.0 s m.1 m.3.is_rest) ∙ means.2, none_told answer m.0 wrong) failed
         (weakened m.3.any_moment (either_stands m.1 (desktop_of m.1) refl)) must
 
-  undo_on : (first : Desktop) (count : ℕ) (posts : List Post) (more : List Deed) (store mid last : StoreView D)
-      (answer : Result (List Event) Error) → d.honest store.disk → d.size store.disk ≡ size
-      → Running first store posts → PromisesUndo d count answer store mid → IsRun d more mid last
-      → (Running mid.desktop mid [] → Lasts mid.desktop [] mid last more)
-      → Lasts first posts store last (undone count answer ∷ more)
-  undo_on first count posts more store mid last (Ok back) honest as_large was does run goes =
-      elim (true_or_false store.must_reopen) [
-        | inl must ↦ absurd (let never : IsErrOf (Ok back) MustReopen = does.reopen.always must in cc)
-        | inr usable ↦ is_back first count posts more store mid last (Ok back) honest as_large was does run goes usable
-            back does.ok refl
-      ]
-  undo_on first count posts more store mid last (Err e) honest as_large was does run goes =
-      elim (true_or_false store.must_reopen) [
-        | inl must ↦ is_stopped first posts (undone count (Err e)) more store mid last honest was does.within run
-            goes (does.reopen.unchanged (does.reopen.always must)) must (LAYOUT, [], refl, tt) refl
-        | inr usable ↦ elim (true_or_false mid.must_reopen) [
-          | inl must ↦ is_undo_cut first count posts more store mid last (Err e) honest as_large was does run goes usable
-              refl must
-          | inr still ↦ is_left first count posts more store mid last (Err e) honest as_large was does run goes usable
-              (does.left refl usable still) still tt
-        ]
-      ]
-
-  -- documents are brought, or not
-  bring_on : (first : Desktop) (documents : Documents) (posts : List Post) (more : List Deed)
-      (store mid last : StoreView D) (answer : StoreAnswer) → d.honest store.disk → d.size store.disk ≡ size
-      → Running first store posts → PromisesBringing d documents answer store mid → IsRun d more mid last
-      → (Running mid.desktop mid [] → Lasts mid.desktop [] mid last more)
-      → Lasts first posts store last (brought documents answer ∷ more)
-  bring_on first documents posts more store mid last (Ok reply) honest as_large was does run goes =
-      elim (true_or_false store.must_reopen) [
-        | inl must ↦ absurd (let never : IsErrOf (Ok reply) MustReopen = does.reopen.always must in cc)
-        | inr usable ↦
-            let done = does.ok.brought.done honest in
-            let is : mid.desktop ≡ (brought_in store.desktop documents).desktop = ap (λ (o : Outcome). o.desktop) done in
-            let led_is = was.is usable in
-            goes_on first posts (brought documents (Ok reply)) more store mid last honest was does.within run goes
-            (inl (
-              is ∙ ap (λ x. (brought_in x documents).desktop) led_is,
-              ap (λ (o : Outcome). o.reply) done ∙ ap (λ x. (brought_in x documents).reply) led_is,
-            ))
-            (weakened (does.any_moment usable honest) (λ c means.
-            either first posts (brought documents (Ok reply)) more store mid last honest was does.within run goes
-            usable mid.desktop c (subst (λ n. MeansEither n store.desktop mid.desktop c) as_large
-            (subst (λ x. MeansEither (d.size store.disk) store.desktop x c) (sym is) means))))
-            (λ c image. subst (λ n. Means n mid.desktop c) (does.within.as_large ∙ as_large)
-            (shows_means (d.size mid.disk) mid.epoch mid.events mid.desktop c
-            (does.ok.durable (does.within.still honest) c image)))
-            does.ok.usable
-      ]
-  bring_on first documents posts more store mid last (Err e) honest as_large was does run goes =
-      elim (true_or_false store.must_reopen) [
-        | inl must ↦ is_stopped first posts (brought documents (Err e)) more store mid last honest was does.within
-            run goes (does.reopen.unchanged (does.reopen.always must)) must (inr (refl, refl)) refl
-        | inr usable ↦ elim (true_or_false mid.must_reopen) [
-          | inl must ↦ is_cut first posts (brought documents (Err e)) more store mid last honest was does.within run
-              goes usable (brought_in store.desktop documents).desktop
-              (inl (ap (λ x. (brought_in x documents).desktop) (was.is usable), tt)) refl
-              (weakened (does.any_moment usable honest) (λ c means.
-              subst (λ n. MeansEither n store.desktop (brought_in store.desktop documents).desktop c) as_large means)) must
-          | inr still ↦ unmoved first posts (brought documents (Err e)) more store mid last honest was does.within run
-              goes (does.left refl usable still) usable (inr (refl, refl))
-        ]
+  undo_on : (count : ℕ) (answer : Result (List Event) Error) (more : List Deed) (store mid last : StoreView D)
+      → d.honest store.disk → d.size store.disk ≡ size → Lasts store → store.must_reopen ≡ false
+      → PromisesUndo d count answer store mid → IsRun d more mid last
+      → (mid.must_reopen ≡ false → Lasts mid
+      → RunSurvives size mid.desktop (d.trail mid.disk) (d.trail last.disk) more)
+      → RunSurvives size store.desktop (d.trail store.disk) (d.trail last.disk) (undone count answer ∷ more)
+  undo_on count (Ok back) more store mid last honest as_large shown usable does run goes =
+      is_back count (Ok back) more store mid last honest as_large shown usable does run goes back does.ok refl
+  undo_on count (Err e) more store mid last honest as_large shown usable does run goes =
+      elim (true_or_false mid.must_reopen) [
+        | inl must ↦ is_cut count (Err e) more store mid last honest as_large shown usable does run goes refl refl must
+        | inr still ↦ is_left count (Err e) more store mid last honest as_large shown usable does run goes
+            (does.left refl usable still) still tt
       ]
 
   -- all that comes
-  deeds_on : (first : Desktop) (posts : List Post) (more : List Deed) (store last : StoreView D)
-      → d.honest store.disk → d.size store.disk ≡ size → Running first store posts → IsRun d more store last
-      → Lasts first posts store last more
-  deeds_on first posts [] store last honest as_large was run = subst (λ v. Lasts first posts store v []) (sym run) over
-  deeds_on first posts (deed ∷ more) store last honest as_large was run =
+  deeds_on : (deeds : List Deed) (store last : StoreView D) → d.honest store.disk → d.size store.disk ≡ size
+      → Lasts store → store.must_reopen ≡ false → IsRun d deeds store last
+      → RunSurvives size store.desktop (d.trail store.disk) (d.trail last.disk) deeds
+  deeds_on [] store last honest as_large shown usable run =
+      ap (λ (v : StoreView D). d.trail v.disk) run
+  deeds_on (deed ∷ more) store last honest as_large shown usable run =
       let within = deed_within d deed store run.0 run.1 in
-      let still = within.still honest in
-      let large = within.as_large ∙ as_large in
-      does deed run.1 (λ next all again. deeds_on next all more run.0 last still large again run.2)
+      does deed run.1 (λ still means.
+      deeds_on more run.0 last (within.still honest) (within.as_large ∙ as_large) means still run.2)
     where
       does : (deed : Deed) → DoesDeed d deed store run.0
-          → ((next : Desktop) (all : List Post) → Running next run.0 all → Lasts next all run.0 last more)
-          → Lasts first posts store last (deed ∷ more)
-      does (posted p) made goes =
-          post_on first posts p more store run.0 last honest as_large was made run.2 (goes first (posts ++ p ∷ []))
-      does (renewed answer) made goes =
-          renewal_on first posts answer more store run.0 last honest as_large was made.0 run.2 (goes first posts)
+          → (run.0.must_reopen ≡ false → Lasts run.0
+          → RunSurvives size run.0.desktop (d.trail run.0.disk) (d.trail last.disk) more)
+          → RunSurvives size store.desktop (d.trail store.disk) (d.trail last.disk) (deed ∷ more)
+      does (called (Posting event) answer) made goes =
+          post_on event answer more store run.0 last honest as_large shown usable made run.2 goes
+      does (called Checkpoint answer) made goes =
+          renewal_on answer more store run.0 last honest as_large shown usable made.0 run.2 goes
       does (undone count answer) made goes =
-          undo_on first count posts more store run.0 last answer honest as_large was made run.2 (goes run.0.desktop [])
+          undo_on count answer more store run.0 last honest as_large shown usable made run.2 goes
       does (brought documents answer) made goes =
-          bring_on first documents posts more store run.0 last answer honest as_large was made run.2 (goes run.0.desktop [])
+          bring_on documents answer more store run.0 last honest as_large shown usable made run.2 goes
 
 pub survives : {D : Type 0} (d : Ghosts D) → SurvivalLaw d
 survives d deeds old new run usable durable honest =
-    let size = d.size old.disk in
-    let trail = d.trail old.disk in
-    let begun = begins_running size trail old.desktop (λ content image. shows_means size old.epoch old.events
-    old.desktop content (durable honest content image)) in
-    deeds_on d size old.desktop [] deeds old new honest refl
-    (subst (λ b. IsRunning size old.desktop trail old.desktop b []) (sym usable) begun) run
+    deeds_on d (d.size old.disk) deeds old new honest refl (lasts d (d.size old.disk) old refl honest durable) usable run

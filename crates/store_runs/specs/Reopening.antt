@@ -1,5 +1,5 @@
 -- A store that is closed and opened again, also behind calls that were all answered Ok. `d` is what is known of a disk.
-use Rattle.std.specs.Prelude.{◌≡◌, ◌≤◌, ◌+◌, ℕ, false, List, [], ◌∷◌, length, take, nat_lt, ◌&&◌, ◌==◌, if◌then◌else◌}
+use Rattle.std.specs.Prelude.{◌≡◌, ◌+◌, ℕ, false, List, [], ◌∷◌, fold, take, nat_lt, ◌&&◌, ◌==◌, if◌then◌else◌}
 use Rattle.sector_disk.specs.declared.disk.Disk.{Ghosts}
 use Rattle.sector_disk.specs.Faults.{OneOf}
 use Rattle.sector_disk.specs.Trail.{now}
@@ -39,33 +39,28 @@ events_in (Checkpoint ∷ calls) = events_in calls
 -- these numbers after a call
 abbrev pub counts_after : StoreCall → StoreCounts → StoreCounts
 counts_after (Posting event) n =
-    if nat_lt n.events JOURNAL_EVENTS && n.layout == LAYOUT
-    then record { layout = n.layout; epoch = n.epoch; events = n.events + 1 }
+    if nat_lt n.events JOURNAL_EVENTS && n.layout == LAYOUT then record n { events = n.events + 1 }
     else record { layout = LAYOUT; epoch = n.epoch + 1; events = 1 }
 counts_after Checkpoint n = record { layout = LAYOUT; epoch = n.epoch + 1; events = 0 }
 
 abbrev pub all_counted : List StoreCall → StoreCounts → StoreCounts
-all_counted [] n = n
-all_counted (call ∷ calls) n = all_counted calls (counts_after call n)
+all_counted calls n = fold (λ (now : StoreCounts) call. counts_after call now) n calls
 
 -- why calls and an opening stop over an honest disk: what they leave is a store, and opening finds it
 abbrev pub StopsAReopening : Error → Type 0
 StopsAReopening = OneOf (NoMemory ∷ Fault ∷ Worn ∷ [])
 
 -- some of the calls, the first of them, lead to the last epoch
-pub record LeadsToLastEpoch {D : Type 0} (calls : List StoreCall) (closed : StoreView D)
-    : Type 0 where
-  pub count : ℕ
-  pub within : count ≤ length calls
-  pub last : (all_counted (take count calls) (counts_of closed)).epoch ≡ LAST_EPOCH
+abbrev pub LeadsToLastEpoch : {D : Type 0} → List StoreCall → StoreView D → Type 0
+LeadsToLastEpoch calls closed = (count : ℕ)
+    × ((all_counted (take count calls) (counts_of closed)).epoch ≡ LAST_EPOCH)
 
 -- the store that was opened after all the calls: nothing is lost
 pub record IsReopened {D : Type 0} (d : Ghosts D) (calls : List StoreCall)
-    (closed reopened : StoreView D) : Type 0
-  where
-    pub desktop : d.honest closed.disk → reopened.desktop ≡ steps closed.desktop (events_in calls)
-    pub counts : d.honest closed.disk → counts_of reopened ≡ all_counted calls (counts_of closed)
-    pub durable : IsDurable d reopened
-    -- nothing is pending: what it shows is on the medium
-    pub settled : d.honest closed.disk → (n : ℕ) → (now (d.trail reopened.disk)).pending n ≡ false
-    pub usable : reopened.must_reopen ≡ false
+    (closed reopened : StoreView D) : Type 0 where
+  pub desktop : d.honest closed.disk → reopened.desktop ≡ steps closed.desktop (events_in calls)
+  pub counts : d.honest closed.disk → counts_of reopened ≡ all_counted calls (counts_of closed)
+  pub durable : IsDurable d reopened
+  -- nothing is pending: what it shows is on the medium
+  pub settled : d.honest closed.disk → (n : ℕ) → (now (d.trail reopened.disk)).pending n ≡ false
+  pub usable : reopened.must_reopen ≡ false

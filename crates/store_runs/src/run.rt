@@ -1,11 +1,12 @@
 //! Runs of calls.
-ghost use Rattle.std.specs.Prelude.{◌≡◌, [], false, length, IfOk, IfErr, IsErr};
+ghost use Rattle.std.specs.Prelude.{◌≡◌, [], false, length, zip, IfOk, IfErr, IsErr};
+ghost use Rattle.std.specs.Result.{result_map_both};
 ghost use Rattle.sector_disk.specs.Trail.{LeavesOnly};
 ghost use Rattle.sector_disk.specs.Faults.{FailsAs};
 ghost use Rattle.desk_journal.specs.Device.{IsSameDevice, disk_after, result_of};
 ghost use Rattle.desk_journal.specs.Errors.{OfReopen};
 ghost use Rattle.desk_journal.specs.Prefixes.{MeansPrefix};
-ghost use Rattle.store_runs.specs.Deeds.{DoesDeed, IsRun, PromisesBringing, PromisesUndo, answered_deed, deeds_of, told_of};
+ghost use Rattle.store_runs.specs.Deeds.{DoesDeed, IsRun, PromisesBringing, PromisesUndo, called, deeds_of};
 ghost use Rattle.store_runs.specs.Reopening.{IsReopened, LeadsToLastEpoch, StopsAReopening, events_in};
 ghost use Rattle.store_runs.specs.Run.{SurvivesRun};
 
@@ -21,7 +22,7 @@ use std::alloc::Global;
 ///
 /// Errors: those of `Store::post` and `Store::checkpoint`.
 pub fn serve<D: Disk>(alloc: Global, store: &mut Store<D>, call: &StoreCall) -> StoreAnswer
-    ensures { DoesDeed D.Disk (answered_deed call.now result) store.old store.new }
+    ensures { DoesDeed D.Disk (called call.now result) store.old store.new }
 {
     match call {
         StoreCall::Post(event) => store.post(alloc, event),
@@ -40,8 +41,8 @@ pub fn take_back<D: Disk>(
     store: &mut Store<D>,
     count: u32,
 ) -> Result<Vec<Event>, Error>
-    ensures { PromisesUndo D.Disk count (told_of (λ events. events.items) result) store.old
-        store.new }
+    ensures { PromisesUndo D.Disk count (result_map_both (λ events. events.items) (λ e. e) result)
+        store.old store.new }
 {
     store.undo(alloc, count)
 }
@@ -67,10 +68,10 @@ pub fn serve_all<D: Disk>(
     requires { store.old.must_reopen ≡ false }
     ensures each { IfOk result (λ answers. length answers.items ≡ length calls.now) }
     ensures run { IfOk result (λ answers.
-        IsRun D.Disk (deeds_of calls.now answers.items) store.old store.new) }
+        IsRun D.Disk (deeds_of (zip calls.now answers.items)) store.old store.new) }
     // However the calls ended, and wherever a crash cuts them off.
     ensures any_moment { IfOk result (λ answers. SurvivesRun D.Disk
-        (deeds_of calls.now answers.items) store.old store.new) }
+        (deeds_of (zip calls.now answers.items)) store.old store.new) }
     ensures refused { IsErr result → store.new ≡ store.old }
 {
     let mut answers = Vec::with_capacity(alloc, calls.len())?;

@@ -1,21 +1,19 @@
 -- How far a past reaches. `d` is what is known of a disk.
 use Rattle.std.proofs.Common.{◌≡◌, ◌+◌, ◌-◌, ◌<◌, ◌≤◌, ◌^◌, ℕ, List, false, length, refl, sym, ◌∙◌, ap, subst, arith}
-use Rattle.std.proofs.Common.{length-append}
 use Rattle.std.specs.Prelude.{IsSomeAnd}
 use Rattle.std.specs.declared.option.Option.{Option}
 use Rattle.sector_disk.specs.declared.disk.Disk.{Ghosts}
-use Rattle.sector_disk.specs.Trail.{Content, now}
+use Rattle.sector_disk.specs.Trail.{now}
 use Rattle.desktop_definitions.specs.Desktop.{Desktop}
 use Rattle.store_layout.specs.Finding.{StandingLaw}
 use Rattle.store_layout.specs.declared.layout.TheConstants.{STORE_SECTORS}
 use Rattle.desk_journal.specs.View.{StoreView}
-use Rattle.desk_past.specs.declared.halves.Half.{Half}
-use Rattle.desk_past.specs.Deeds.{PastDeed, all_posted}
-use Rattle.desk_past.specs.Going.{LiesInHalf}
-use Rattle.desk_past.specs.Halves.{IsHalf}
+use Rattle.desk_past.specs.declared.parts.Part.{Part}
+use Rattle.desk_past.specs.Deeds.{PastDeed}
+use Rattle.desk_past.specs.Going.{LiesInPart}
+use Rattle.desk_past.specs.Parts.{IsPastPart}
 use Rattle.desk_past.specs.Page.{HasPages, end_of_pages}
-use Rattle.desk_past.specs.Past.{HasMoment, KeepsAll, Remembers, Start, all_deeds}
-use Rattle.desk_past.proofs.Moments.{many_posted}
+use Rattle.desk_past.specs.Past.{HasMoment, KeepsAll, Start}
 use Rattle.desk_past.proofs.Opened.{pages_end, pages_there, start_room}
 use Rattle.desk_past.specs.Reading.{IsOnlyReadFrom, IsQuiet}
 use Rattle.desk_past.specs.Turning.{PastOf}
@@ -25,20 +23,6 @@ use Rattle.desk_past.proofs.TurnedBack.{past_behind}
 use Rattle.told_pasts.specs.Reaching.{HasCountable, HasReach, IsReach}
 use Rattle.told_pasts.specs.declared.reach.Reach.{Reach}
 
--- as many deeds came before the journal in use as the head tells, and as many up to the present
-pub deeds_up_to : {size : ℕ} {start : Start} {deeds : List PastDeed} {desktop : Desktop} {c : Content}
-    (r : Remembers size start deeds desktop c)
-    → r.standing.past.before + length r.standing.events ≡ start.before + length deeds
-deeds_up_to r =
-    let long = ap length r.all in
-    omega (
-      arith,
-      long,
-      length-append (all_deeds r.pages) (all_posted r.standing.events),
-      many_posted r.standing.events,
-      r.past.counted,
-    )
-
 -- the moment before the last deeds
 pub has_before : (start : Start) (deeds : List PastDeed) (count k : ℕ) → k ≡ start.before + length deeds - count
     → count ≤ length deeds → HasMoment start deeds k
@@ -46,15 +30,15 @@ has_before start deeds count k is low = record { low = omega (arith, is, low); h
 
 module _ {D : Type 0} (d : Ghosts D) {start : Start} {deeds : List PastDeed} {desktop : Desktop} {store : StoreView D}
     (keeps : KeepsAll d start deeds desktop store) where
-  -- the half of the past is found
-  pub half_found : (lies : LiesInHalf d keeps) (found : Option Half) (sectors next : ℕ)
-      → ((base end : ℕ) → IsHalf sectors base end → base + STORE_SECTORS ≤ next → next ≤ end
-      → IsSomeAnd found (λ half. (half.base ≡ base) × (half.end ≡ end)))
+  -- the part of the past is found
+  pub part_found : (lies : LiesInPart d keeps) (found : Option Part) (sectors next : ℕ)
+      → ((base end : ℕ) → IsPastPart sectors base end → base + STORE_SECTORS ≤ next → next ≤ end
+      → IsSomeAnd found (λ part. (part.base ≡ base) × (part.end ≡ end)))
       → sectors ≡ d.size store.disk → next ≡ keeps.remembers.standing.past.next
-      → IsSomeAnd found (λ half. (half.base ≡ start.base) × (half.end ≡ lies.end))
-  half_found lies found sectors next all large is =
+      → IsSomeAnd found (λ part. (part.base ≡ start.base) × (part.end ≡ lies.end))
+  part_found lies found sectors next all large is =
       let room = start_room d keeps start.base refl in
-      all start.base lies.end (subst (λ n. IsHalf n start.base lies.end) (sym large) lies.half)
+      all start.base lies.end (subst (λ n. IsPastPart n start.base lies.end) (sym large) lies.part)
       (omega (arith, room, is)) (omega (arith, lies.within, is))
 
   -- its numbers stay where it is only read
@@ -75,7 +59,7 @@ module _ {D : Type 0} (d : Ghosts D) {start : Start} {deeds : List PastDeed} {de
 
 -- the numbers of a past, and where its first page stands
 abbrev pub has_reach : {D : Type 0} (d : Ghosts D) {store : StoreView D} {reach : Reach} {first : ℕ}
-    (past : PastOf d store) → IsReach d past.keeps reach → first ≡ reach.half.base + STORE_SECTORS
+    (past : PastOf d store) → IsReach d past.keeps reach → first ≡ reach.part.base + STORE_SECTORS
     → HasReach d store reach first
 has_reach d past told at = record { past = past; numbers = told; at = at ∙ ap (λ n. n + STORE_SECTORS) told.base }
 

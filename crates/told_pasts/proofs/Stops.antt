@@ -1,5 +1,5 @@
 -- Which errors come of calls, one after another. `d` is what is known of a disk.
-use Rattle.std.proofs.Common.{◌≡◌, inl, inr, ◌∙◌, ℕ, List, Result, Ok, Err, ap, refl, subst, sym, true, false}
+use Rattle.std.proofs.Common.{◌≡◌, inl, inr, ◌≤◌, ◌∙◌, ℕ, List, Result, Ok, Err, ap, refl, subst, sym, true, false}
 use Rattle.std.specs.Prelude.{Bool, IfErr, IsErrOf, OnOk, is_err}
 use Rattle.std.proofs.lemmas.Bool.{false≢true}
 use Rattle.std.proofs.lemmas.Result.{IfErr-at_err, IfErr-weaker, on_ok_weaker}
@@ -15,6 +15,7 @@ use Rattle.desk_journal.specs.Undoing.{OfUndo}
 use Rattle.desk_journal.specs.View.{StoreView}
 use Rattle.desk_past.specs.Deeds.{PastDeed}
 use Rattle.desk_past.specs.Errors.{OfDoing, OfMoment, OfSteps}
+use Rattle.desk_past.specs.Going.{LiesInPart}
 use Rattle.desk_past.specs.Past.{KeepsAll, Start}
 use Rattle.desk_past.specs.Turning.{PastOf}
 use Rattle.desk_past.proofs.InMemory.{calm_answer, doing_no_fault, error_from, fails_none, moment_of_doing, moment_of_look}
@@ -188,6 +189,19 @@ module _ {D : Type 0} (d : Ghosts D) {old : StoreView D} where
     reopen = reopen;
     stops = IfErr-weaker answer _ _
         (λ e named known. named known.0.honest known.0.start known.0.deeds known.0.desktop known.0.keeps known.1) stops;
+  }
+
+  pub any_stops : {T : Type 0} (answer : Result T Error) {new : StoreView D} {k : ℕ}
+      → FailsAs Fault OfMoment answer (d.failures old.disk) (d.failures new.disk)
+      → (IsErrOf answer MustReopen → old.must_reopen ≡ true)
+      → IfErr answer (λ e. d.honest old.disk → (start : Start) (deeds : List PastDeed) (desktop : Desktop)
+      → (keeps : KeepsAll d start deeds desktop old) → LiesInPart d keeps → start.before ≤ k → OfSteps e)
+      → StopsAs d ((past : PastOf d old) × LiesInPart d past.keeps × (past.start.before ≤ k)) answer old new
+  any_stops answer faults reopen stops = record {
+    faults = faults;
+    reopen = reopen;
+    stops = IfErr-weaker answer _ _
+        (λ e named known. named known.0.honest known.0.start known.0.deeds known.0.desktop known.0.keeps known.1 known.2) stops;
   }
 
   pub history_stops : {T : Type 0} (answer : Result T Error) {new : StoreView D}

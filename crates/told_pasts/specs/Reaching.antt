@@ -9,7 +9,7 @@ use Rattle.store_slots.specs.declared.error.Error.{Error}
 use Rattle.store_slots.specs.declared.error.Error.TheVariants.{Damaged, NotAStore}
 use Rattle.desk_journal.specs.Undoing.{IsTakenBack}
 use Rattle.desk_journal.specs.View.{StoreView}
-use Rattle.desk_past.specs.Going.{LiesInHalf}
+use Rattle.desk_past.specs.Going.{LiesInPart}
 use Rattle.desk_past.specs.Page.{Page, HasPages, end_of_pages}
 use Rattle.desk_past.specs.Past.{AreGood, KeepsAll, Start, all_deeds, first_page, moment}
 use Rattle.desk_past.specs.Turning.{PastOf}
@@ -20,14 +20,19 @@ pub record IsReach {D : Type 0} (d : Ghosts D) {start : Start} {deeds : List Pas
     {desktop : Desktop} {store : StoreView D} (keeps : KeepsAll d start deeds desktop store)
     (reach : Reach)
     : Type 0 where
-  pub base : reach.half.base ≡ start.base
+  pub base : reach.part.base ≡ start.base
   pub next : reach.next ≡ keeps.remembers.standing.past.next
   pub before : reach.before ≡ keeps.remembers.standing.past.before
   pub journal : reach.journal ≡ length keeps.remembers.standing.events
 
--- a store keeps a past in a half
-abbrev pub KeepsInHalf : {D : Type 0} → Ghosts D → StoreView D → Type 0
-KeepsInHalf d store = (past : PastOf d store) × LiesInHalf d past.keeps
+-- a store keeps a past in a part
+abbrev pub KeepsInPart : {D : Type 0} → Ghosts D → StoreView D → Type 0
+KeepsInPart d store = (past : PastOf d store) × LiesInPart d past.keeps
+
+-- and so many of its last deeds lie there
+abbrev pub KeepsBack : {D : Type 0} → Ghosts D → ℕ → StoreView D → Type 0
+KeepsBack d count store = (past : PastOf d store) × LiesInPart d past.keeps
+    × (count ≤ length past.deeds) × (past.start.before + length past.deeds < 2 ^ 64)
 
 -- a past that a store keeps has these numbers, and its first page stands in this sector
 pub record HasReach {D : Type 0} (d : Ghosts D) (store : StoreView D) (reach : Reach) (first : ℕ)

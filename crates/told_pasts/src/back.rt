@@ -1,19 +1,20 @@
 //! The store as it was before so many of its last deeds.
-ghost use Rattle.std.specs.Prelude.{◌≡◌, ◌+◌, ◌≤◌, ◌<◌, ◌^◌, ℕ, List, length, IfOk, IfSome, IsSomeAnd, OnOk, false};
+ghost use Rattle.std.specs.Prelude.{◌≡◌, ◌+◌, ◌-◌, ◌≤◌, ◌<◌, ◌^◌, ℕ, List, length, IfOk, IfSome, IsSomeAnd, OnOk, false};
 ghost use Rattle.sector_disk.specs.Trail.{now};
 ghost use Rattle.desktop_definitions.specs.Desktop.{Desktop};
+ghost use Rattle.desk_past.specs.Chain.{SpansOf, WasInSpans};
 ghost use Rattle.desk_past.specs.Deeds.{PastDeed};
-ghost use Rattle.desk_past.specs.Going.{LiesInHalf};
+ghost use Rattle.desk_past.specs.Going.{LiesInPart};
 ghost use Rattle.desk_past.specs.Page.{Page, HasPages, end_of_pages};
 ghost use Rattle.desk_past.specs.Past.{AreGood, KeepsAll, Start, all_deeds};
 ghost use Rattle.desk_past.specs.Reading.{IsOnlyReadFrom, many_deeds};
 ghost use Rattle.desk_past.specs.Turning.{PastOf};
-ghost use Rattle.told_pasts.specs.Reaching.{GoesBackBy, HasCountable, KeepsInHalf, moment_before, none_if_missing};
+ghost use Rattle.told_pasts.specs.Reaching.{GoesBackBy, HasCountable, KeepsBack, moment_before, none_if_missing};
 ghost use Rattle.told_pasts.specs.Stopping.{StopsAs};
 
 use crate::reach::{reach_of, sum_of};
 use desk_journal::{Error, Store};
-use desk_past::{PageDeeds, PageRead, moment, page_in};
+use desk_past::{PageDeeds, PageRead, any_moment, page_in};
 use sector_disk::{Disk, MemoryDisk};
 use std::alloc::Global;
 
@@ -24,10 +25,11 @@ pub enum Pages {
     Missing(u32),
 }
 
-/// The store as it was before so many of its last deeds, in memory, by the past behind it. None where it keeps
-/// none, or one that doesn't reach so far.
+/// The store as it was before so many of its last deeds, in memory, by the past behind it, in whichever part that moment lies. None
+/// where it keeps none, or one that doesn't reach so far.
 ///
-/// Errors: those of `reach_of` and of `moment`. Of a past that is kept whole `NoMemory`, `Fault` and `Worn` alone.
+/// Errors: those of `reach_of` and of `any_moment`. Of a moment of the part in use that is kept whole `NoMemory`, `Fault` and `Worn`
+/// alone.
 pub fn shown_before<D: Disk>(
     alloc: Global,
     store: &mut Store<D>,
@@ -35,14 +37,21 @@ pub fn shown_before<D: Disk>(
 ) -> Result<Option<Store<MemoryDisk>>, Error>
     ensures comes_back { IfOk result (λ found. D.honest store.old.disk
         → (start : Start) (deeds : List PastDeed) (desktop : Desktop)
-        → (keeps : KeepsAll D.Disk start deeds desktop store.old) → LiesInHalf D.Disk keeps
+        → (keeps : KeepsAll D.Disk start deeds desktop store.old) → LiesInPart D.Disk keeps
         → count ≤ length deeds → start.before + length deeds < 2 ^ 64
         → IsSomeAnd found (λ shown. shown.desktop ≡ moment_before start deeds count)) }
+    ensures over_parts { IfOk result (λ found. (past : PastOf D.Disk store.old)
+        → LiesInPart D.Disk past.keeps → (spans : List (Start × List Page))
+        → (are : SpansOf D.Disk past.keeps spans) → past.start.before + length past.deeds < 2 ^ 64
+        → (was : Desktop) → WasInSpans D.Disk past.keeps spans are
+        (past.start.before + length past.deeds - count) was
+        → count ≤ past.start.before + length past.deeds
+        → IsSomeAnd found (λ shown. shown.desktop ≡ was)) }
     ensures there { IfOk result (λ found. IfSome found (λ shown.
-        (past : PastOf D.Disk store.old) → LiesInHalf D.Disk past.keeps
-        → count ≤ length past.deeds)) }
+        (past : PastOf D.Disk store.old) → LiesInPart D.Disk past.keeps
+        → count ≤ past.start.before + length past.deeds)) }
     ensures still { OnOk result (IsOnlyReadFrom D.Disk store.old store.new) }
-    ensures stops { StopsAs D.Disk (KeepsInHalf D.Disk store.old) result store.old store.new }
+    ensures stops { StopsAs D.Disk (KeepsBack D.Disk count store.old) result store.old store.new }
 {
     store.shows_what_crashes_leave();
     let Some(reach) = reach_of(store)? else {
@@ -52,7 +61,7 @@ pub fn shown_before<D: Disk>(
     if count as u64 > now {
         return Ok(None);
     }
-    moment(alloc, store, reach.half.base, now - count as u64)
+    any_moment(alloc, store, now - count as u64)
 }
 
 /// What was found, and none where no start stands, or a damaged one.

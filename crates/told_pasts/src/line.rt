@@ -30,6 +30,13 @@ impl Line {
         Line { bytes }
     }
 
+    /// The bytes of the line.
+    pub fn as_bytes(&self) -> &[u8]
+        ensures { result.now ≡ self.now }
+    {
+        self.bytes.as_slice()
+    }
+
     /// The line as text. It has nothing but ASCII.
     pub fn as_str(&self) -> &str
         ensures { IsUtf8 self.now → result.now ≡ self.now }

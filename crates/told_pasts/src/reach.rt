@@ -3,22 +3,22 @@ ghost use Rattle.std.specs.Prelude.{◌≡◌, ◌+◌, ◌<◌, ◌≤◌, ◌^
 ghost use Rattle.desktop_definitions.specs.Desktop.{Desktop};
 ghost use Rattle.store_layout.specs.declared.layout.TheConstants.{STORE_SECTORS};
 ghost use Rattle.desk_past.specs.Deeds.{PastDeed};
-ghost use Rattle.desk_past.specs.Going.{LiesInHalf};
+ghost use Rattle.desk_past.specs.Going.{LiesInPart};
 ghost use Rattle.desk_past.specs.Past.{KeepsAll, Start};
 ghost use Rattle.desk_past.specs.Reading.{IsOnlyReadFrom};
 ghost use Rattle.told_pasts.specs.Reaching.{IsReach};
 ghost use Rattle.told_pasts.specs.Stopping.{StopsAs};
 
 use desk_journal::{Error, STORE_SECTORS, Store};
-use desk_past::{Half, half_at};
+use desk_past::{Part, part_at};
 use sector_disk::Disk;
 use store_layout::standing_law;
 
-/// How far a past reaches: the half in which it lies, the sector behind its pages, how many deeds came before the
+/// How far a past reaches: the part in which it lies, the sector behind its pages, how many deeds came before the
 /// journal in use, and how many events that has.
 #[derive(Clone, Copy, Debug, PartialEq, Eq)]
 pub struct Reach {
-    pub half: Half,
+    pub part: Part,
     pub next: u32,
     pub before: u64,
     pub journal: u32,
@@ -36,13 +36,13 @@ impl Reach {
 
 /// The sector of the first page. None where the pages can't begin there.
 pub(crate) fn first_of(reach: Reach) -> Option<u32>
-    ensures at { IfSome result (λ at. at ≡ reach.half.base + STORE_SECTORS) }
-    ensures none { IfNone result (reach.next < reach.half.base + STORE_SECTORS) }
+    ensures at { IfSome result (λ at. at ≡ reach.part.base + STORE_SECTORS) }
+    ensures none { IfNone result (reach.next < reach.part.base + STORE_SECTORS) }
 {
-    if reach.next < STORE_SECTORS || reach.half.base > reach.next - STORE_SECTORS {
+    if reach.next < STORE_SECTORS || reach.part.base > reach.next - STORE_SECTORS {
         None
     } else {
-        Some(reach.half.base + STORE_SECTORS)
+        Some(reach.part.base + STORE_SECTORS)
     }
 }
 
@@ -60,7 +60,7 @@ pub(crate) fn sum_of(first: u64, second: u64) -> u64
 pub fn reach_of<D: Disk>(store: &mut Store<D>) -> Result<Option<Reach>, Error>
     ensures told { IfOk result (λ found. D.honest store.old.disk
         → (start : Start) (deeds : List PastDeed) (desktop : Desktop)
-        → (keeps : KeepsAll D.Disk start deeds desktop store.old) → LiesInHalf D.Disk keeps
+        → (keeps : KeepsAll D.Disk start deeds desktop store.old) → LiesInPart D.Disk keeps
         → IsSomeAnd found (IsReach D.Disk keeps)) }
     ensures still { OnOk result (IsOnlyReadFrom D.Disk store.old store.new) }
     ensures stops { StopsAs D.Disk (store.old.must_reopen ≡ false) result store.old store.new }
@@ -69,10 +69,10 @@ pub fn reach_of<D: Disk>(store: &mut Store<D>) -> Result<Option<Reach>, Error>
     store.shows_what_crashes_leave();
     let told = store.past()?;
     let info = store.info()?;
-    match half_at(store.sectors(), told.next) {
+    match part_at(store.sectors(), told.next) {
         None => Ok(None),
-        Some(half) => Ok(Some(Reach {
-            half,
+        Some(part) => Ok(Some(Reach {
+            part,
             next: told.next,
             before: told.before,
             journal: info.events,

@@ -223,7 +223,7 @@ pub(crate) fn add_pages<D: Disk>(
         let Some(page) = page_in(alloc, store, at, reach.next)? else {
             return Err(Error::Damaged(at));
         };
-        let next = add_page(alloc, store, reach.half.base, replay, page, lines)?;
+        let next = add_page(alloc, store, reach.part.base, replay, page, lines)?;
         at = next;
     }
     Ok(())

@@ -5,10 +5,10 @@ ghost use Rattle.store_layout.specs.Meaning.{Standing};
 ghost use Rattle.store_slots.specs.Errors.{OfPost};
 ghost use Rattle.desk_journal.specs.Undoing.{IsLeft, ShowsStanding};
 ghost use Rattle.desk_past.specs.Deeds.{PastDeed, all_posted, brought};
-ghost use Rattle.desk_past.specs.Going.{LiesInHalf};
+ghost use Rattle.desk_past.specs.Going.{LiesInPart};
 ghost use Rattle.desk_past.specs.Past.{KeepsAll, Start};
 ghost use Rattle.desk_past.specs.Reading.{IsOnlyReadFrom};
-ghost use Rattle.told_pasts.specs.Reaching.{HasReach, KeepsInHalf};
+ghost use Rattle.told_pasts.specs.Reaching.{HasReach, KeepsInPart};
 ghost use Rattle.told_pasts.specs.Stopping.{StopsAs};
 ghost use Rattle.told_pasts.specs.Telling.{IsToldOn};
 ghost use Rattle.told_pasts.specs.Words.{told_lines};
@@ -32,10 +32,10 @@ use store_layout::standing_law;
 pub fn told_past<D: Disk>(alloc: Global, store: &mut Store<D>) -> Result<Option<Vec<Line>>, Error>
     ensures told { IfOk result (λ found. D.honest store.old.disk
         → (start : Start) (deeds : List PastDeed) (desktop : Desktop)
-        → (keeps : KeepsAll D.Disk start deeds desktop store.old) → LiesInHalf D.Disk keeps
+        → (keeps : KeepsAll D.Disk start deeds desktop store.old) → LiesInPart D.Disk keeps
         → IsSomeAnd found (λ lines. lines.items ≡ told_lines start.desktop deeds)) }
     ensures still { OnOk result (IsOnlyReadFrom D.Disk store.old store.new) }
-    ensures stops { StopsAs D.Disk (KeepsInHalf D.Disk store.old) result store.old store.new }
+    ensures stops { StopsAs D.Disk (KeepsInPart D.Disk store.old) result store.old store.new }
 {
     standing_law();
     store.shows_what_crashes_leave();
@@ -75,7 +75,7 @@ fn start_of<D: Disk>(
     if count > before {
         return Ok(None);
     }
-    moment(alloc, store, reach.half.base, before - count)
+    moment(alloc, store, reach.part.base, before - count)
 }
 
 /// All deeds of a past in words, whose start is this store in memory, and whose first page stands in sector `first`.
@@ -101,7 +101,7 @@ fn tell_all<D: Disk>(
     let mut replay = Replay { shown, due: None };
     let mut lines = Vec::new(alloc);
     add_pages(alloc, store, reach, first, &mut replay, &mut lines)?;
-    turn_if_due(alloc, store, reach.half.base, &mut replay)?;
+    turn_if_due(alloc, store, reach.part.base, &mut replay)?;
     add_journal(alloc, store, &mut replay.shown, reach.journal, &mut lines)?;
     Ok(lines)
 }

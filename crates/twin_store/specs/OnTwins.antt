@@ -1,12 +1,11 @@
 -- Calls of a store on two disks, said of the legs.
-use Rattle.std.specs.Prelude.{◌≡◌, ℕ, List, [], false}
+use Rattle.std.specs.Prelude.{◌++◌, ◌≡◌, ℕ, List, [], false}
 use Rattle.sector_disk.specs.declared.disk.Disk.{Ghosts}
 use Rattle.sector_disk.specs.Trail.{now, Leaves, LeavesOnly}
 use Rattle.event_bytes.specs.declared.event.Event.{Event}
 use Rattle.desktop_definitions.specs.Desktop.{Desktop}
 use Rattle.desktop_definitions.specs.Step.{step}
 use Rattle.store_layout.specs.Meaning.{Means, MeansEither}
-use Rattle.script_lines.specs.Script.{lines_at_end}
 use Rattle.desk_journal.specs.Prefixes.{MeansPrefix}
 use Rattle.desk_journal.specs.Session.{session_of}
 use Rattle.desk_journal.specs.View.{StoreView}
@@ -81,5 +80,5 @@ TwinScriptsSurvive {A = A} {B = B} {a = a} {b = b} d = (script : List ℕ)
     → HasHonestLegs new.store.disk
     → (left : ScriptSurvives d script old new)
     → TwinKeeps old.store.desktop (accepted_of_lines (session_of old.store) left.answered)
-    (accepted_of_lines (session_of old.store) (lines_at_end left.begins.ends left.begins.rest))
+    (accepted_of_lines (session_of old.store) (left.answered ++ left.begins.0))
     old.store new.store

@@ -53,6 +53,9 @@ try export --all out --join --replace my.disk
 try backup my.disk
 try backup my.disk copy.disk
 try backup my.disk copy.disk more
+try backup --without-past my.disk alone.disk
+try backup my.disk other.disk --without-past --without-past
+try backup --without-past my.disk
 try earlier my.disk 1
 try earlier my.disk x earlier.disk
 try earlier my.disk -1 earlier.disk

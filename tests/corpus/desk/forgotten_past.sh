@@ -37,12 +37,16 @@ reach my.disk
 "$DESK_PROGRAM" history my.disk --all | wc -l
 secrets
 python3 - my.disk << 'END'
-import sys
-STORE, HALF = 15621, 32768
-data = open(sys.argv[1], 'rb').read().ljust((STORE + 2 + 2 * HALF) * 1024, b'\0')
-halves = [data[(STORE + 2 + at) * 1024:][:HALF * 1024] for at in (0, HALF)]
-print(sorted('a start and zeros' if it[:16] == b'OBERONDESKSTORE1' and not any(it[STORE * 1024:]) else 'zeros'
-             if not any(it) else 'more' for it in halves))
+import os, sys
+sys.path.insert(0, os.environ['TESTS'] + '/lib/past')
+sys.dont_write_bytecode = True
+from reader import PART, SITTING, STORE
+with open(sys.argv[1], 'rb') as file:
+    for base in range(STORE + 2, SITTING, PART):
+        file.seek(base * 1024)
+        start, pages = file.read(STORE * 1024), file.read((PART - STORE) * 1024)
+        if any(start) or any(pages):
+            print('a start' if start[:16] == b'OBERONDESKSTORE1' and not any(pages) else 'more', 'in sector', base)
 END
 
 echo '--- it goes on'
@@ -52,7 +56,7 @@ desk earlier my.disk 3 then.disk
 cmp before <("$PROGRAM" screen then.disk) && echo same
 
 echo '--- a store without a past, what is no store, and nothing'
-desk backup my.disk copy.disk
+desk backup --without-past my.disk copy.disk
 cp copy.disk same.disk
 desk forget copy.disk
 cmp copy.disk same.disk && echo same

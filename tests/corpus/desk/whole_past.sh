@@ -35,7 +35,7 @@ desk earlier my.disk 601 none.disk
 desk earlier my.disk 550 then.disk
 
 echo '--- a reader that was made from docs/PAST.md alone finds the same'
-python3 "$TESTS/lib/past/reader.py" my.disk 81158 54 moment.disk rest
+python3 "$TESTS/lib/past/reader.py" my.disk sitting 54 moment.disk rest
 "$PROGRAM" play moment.disk < rest | uniq -c
 cmp <("$PROGRAM" screen then.disk) <("$PROGRAM" screen moment.disk) && echo same
 
@@ -62,15 +62,15 @@ for k in $(seq 0 9); do printf 'a document\n' > "Doc$k"; done
 desk import my.disk Doc?
 reach my.disk
 all=$(reach my.disk | sed 's/.* of \([0-9]*\) events.*/\1/')
-python3 "$TESTS/lib/past/reader.py" my.disk 81158 $((all - 4)) moment.disk rest
+python3 "$TESTS/lib/past/reader.py" my.disk sitting $((all - 4)) moment.disk rest
 grep -c '^import ' rest
 sed '/^import /d; s/^document /file /' rest | "$PROGRAM" play moment.disk | uniq -c
 cmp <("$PROGRAM" screen behind.disk) <("$PROGRAM" screen moment.disk) && echo same
 cmp <("$DESK_PROGRAM" list behind.disk | sed '/^held/,$d') <("$DESK_PROGRAM" list moment.disk | sed '/^held/,$d') && echo same
 rm -r A.Text B.Text Long Doc? there before.disk behind.disk
 
-echo '--- copies have the store alone, and begin a past of their own'
-desk backup my.disk copy.disk
+echo '--- a copy of the store alone begins a past of its own'
+desk backup --without-past my.disk copy.disk
 reach copy.disk
 typed 1 | desk sit 33 copy.disk > shown
 reach copy.disk

@@ -1,10 +1,11 @@
 # compare.sh SECTORS SCRIPT K..: keeps the past of a script in a store of so many sectors, here, and compares what the program and
-# the reader give of each moment K with the first K events, played to a new store. PAST_TRIAL and OBERON are the programs.
+# the reader give of each moment K with the first K events, played to a new store. MOST is how many sectors of pages fill a part,
+# if that isn't as many as it has. PAST_TRIAL and OBERON are the programs.
 here=$(dirname "$(realpath "$0")")
 sectors=$1 script=$2
 shift 2
 "$PAST_TRIAL" make a.disk "$sectors" > answer
-"$PAST_TRIAL" keep a.disk "$sectors" < "$script" > answers
+"$PAST_TRIAL" keep a.disk "$sectors" "${MOST-0}" < "$script" > answers
 good=0 bad=0 gone=0
 for k; do
     rm -f new.disk

@@ -1,10 +1,11 @@
 #!/usr/bin/env python3
-"""reader.py FILE SECTORS K DISK SCRIPT: the desktop of moment K of the store in FILE, a disk of so many sectors, as docs/PAST.md
-and docs/STORE.md tell: a store DISK to start from, and what leads from there as lines of a script; an import of N documents
-is a line `import N`, and a line `document NAME TEXT` for each. It returns 1 where no past leads there."""
+"""reader.py FILE SECTORS K DISK SCRIPT: the desktop of moment K of the store in FILE, a disk of so many sectors (`sitting`: of as
+many as a sitting's), as docs/PAST.md and docs/STORE.md tell: a store DISK to start from, and what leads from there as lines of a
+script; an import of N documents is a line `import N`, and a line `document NAME TEXT` for each. It returns 1 where no past
+leads there."""
 import sys
 
-SECTOR, STORE = 1024, 15621
+SECTOR, STORE, PART, SITTING = 1024, 15621, 32768, 1326343
 POINT = ['l', 'lm', 'lr', 'm', 'ml', 'mr', 'r', 'rl', 'rm']
 WORDS = ['back', 'copy', 'paste', 'cut', 'escape']
 
@@ -132,12 +133,25 @@ def way_to(deeds):
     return way_to(deeds[:deeds[turns[-1]]]) + deeds[turns[-1] + 1:] if turns else deeds
 
 
-def half_with(sectors, next_):
-    half = (sectors - STORE - 2) // 2
-    for base in (STORE + 2, STORE + 2 + half):
-        if half > STORE and base + STORE <= next_ <= base + half:
+def part_with(sectors, next_):
+    """Where the part begins in which pages go on in this sector."""
+    for base in range(STORE + 2, sectors - PART + 1, PART):
+        if base + STORE <= next_ <= base + PART:
             return base
-    raise Gone(f'no half has sector {next_}')
+    raise Gone(f'no part has sector {next_}')
+
+
+def span_with(disk, sectors, now, k):
+    """The part that has moment k, by its start, and where its pages end; and the numbers of the deeds before its start."""
+    told, epoch = now, None
+    while True:
+        base = part_with(sectors, told.next)
+        start = Slot(disk, base)
+        if epoch is not None and start.epoch >= epoch:
+            raise Gone('the part before has begun anew')
+        if k >= start.before:
+            return base, start, told
+        told, epoch = start, start.epoch
 
 
 def moment(disk, sectors, k):
@@ -148,24 +162,27 @@ def moment(disk, sectors, k):
         if k - now.before > len(lines):
             raise Gone('it has not come yet')
         return 0, now, lines[:k - now.before]
-    base = half_with(sectors, now.next)
-    start = Slot(disk, base)
-    first = start.before + len(journal(disk, base, start.slot))
-    deeds = [deed for page in pages(disk, base + STORE, now.next) for deed in page]
-    if first + len(deeds) != now.before:
-        raise Gone('the numbers do not agree')
+    base, start, told = span_with(disk, sectors, now, k)
+    own = journal(disk, base, start.slot)
+    first = start.before + len(own)
     if k < first:
-        raise Gone('it is older than the half')
+        before = Slot(disk, part_with(sectors, start.next))
+        if before.epoch >= start.epoch:
+            raise Gone('it is older than the part, and the one before has begun anew')
+        return base, start, own[:k - start.before]
+    deeds = [deed for page in pages(disk, base + STORE, told.next) for deed in page]
+    if first + len(deeds) != told.before:
+        raise Gone('the numbers do not agree')
     done = [deed - first if isinstance(deed, int) else deed for deed in deeds[:k - first]]
     if any(isinstance(deed, int) and not 0 <= deed <= place for place, deed in enumerate(done)):
-        raise Gone('a turn to a moment that the half does not have')
+        raise Gone('a turn to a moment that the part does not have')
     return base, None, [line for deed in way_to(done) for line in deed]
 
 
 def main(path, sectors, k, to, script):
     disk = Disk(path)
     try:
-        base, slot, lines = moment(disk, int(sectors), int(k))
+        base, slot, lines = moment(disk, SITTING if sectors == 'sitting' else int(sectors), int(k))
     except Gone as gone:
         print(gone, file=sys.stderr)
         return 1

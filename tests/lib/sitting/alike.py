@@ -46,6 +46,7 @@ def pair(seed, desk, oberon, folder, tool):
     begin(oberon, with_past, tool)
     shutil.copy(with_past, without)
     data = keys(chance)
+    sat(desk, folder, ['--past'], 'with', LEAVE)  # (that a past begins is told once)
     is_alike = sat(desk, folder, ['--past'], 'with', data) == sat(desk, folder, [], 'without', data)
     shown = [subprocess.run([oberon, 'play', it], input=LOOKS, capture_output=True, check=True).stdout for it in (with_past, without)]
     told = subprocess.run([desk, 'history', with_past, '--all'], capture_output=True, check=False).stdout

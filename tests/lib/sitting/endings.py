@@ -24,6 +24,8 @@ MARKED = f'A.Text{UNSTORED}'
 FORGETTING = 'Leaving loses what you took back: Ctrl-Q leaves, Ctrl-Y does it again.'
 NOTHING_BACK = 'There is nothing to take back.'
 NO_FURTHER = 'Undo reaches no further back.'
+PAST_BEGINS = 'All you do is kept from now on: Ctrl-P shows it, desk forget deletes it.'
+NO_PAST = 'No past is kept in this sitting: it can\'t be written (is the disk full?).'
 BEGIN = ['file System.Tool Edit.Open A.Text%0d', 'point m 60 31 60 31', 'point m 52 30 52 30', 'point l 1 30 1 30']
 
 
@@ -94,10 +96,10 @@ class Trial:
         sitting.wait(lambda: sitting.terminal.scenes > 0)
         return sitting
 
-    def sit_anew(self, before=()):
+    def sit_anew(self, *options, before=()):
         """A sitting over a store of its own."""
         self.store()
-        return self.sit(self.path, before=before)
+        return self.sit(*options, self.path, before=before)
 
     def leaves(self, sitting, keys=b'\x11', forgets=False):
         """The keys, of which one leaves, end it well. Where what was taken back can be done again they ask first."""
@@ -158,7 +160,7 @@ class Trial:
 
 def amid_typing(trial, before=()):
     """A sitting in which something was typed: the sitting, what was typed, and the program's number."""
-    sitting = trial.sit_anew(before)
+    sitting = trial.sit_anew(before=before)
     text = trial.typing(sitting)
     return sitting, text, sitting.program()
 
@@ -207,8 +209,8 @@ def killed_with_a_past(trial):
     those that a Ctrl-Z took back, and a store that is gone back to shows the letters up to there. Ctrl-Y does it again."""
     trial.store()
     typed = ''
-    for turn, options in enumerate((['--past'], [], [])):
-        sitting = trial.sit(*options, trial.path)
+    for turn in range(3):
+        sitting = trial.sit(trial.path)
         for _place in range(150):
             letter = trial.chance.choice(LETTERS)
             typed += letter
@@ -237,7 +239,7 @@ def undone_to_the_beginning(trial):
     """A letter is taken back to the beginning at a desk that keeps its past, further than two journals reach, the program is
     killed, and all of it is done again."""
     trial.store()
-    sitting = trial.sit('--past', trial.path)
+    sitting = trial.sit(trial.path)
     before = shown(sitting.terminal.cells)
     words = [''.join(trial.chance.choice(LETTERS) for _ in range(trial.chance.randrange(1, 12))) for _ in range(110)]
     for place, word in enumerate(words):
@@ -322,7 +324,7 @@ def refusing(trial, call, number):
 def disk_fails(trial):
     """Where a write or a sync of the store fails the sitting ends, and says so; what was seen is kept."""
     for call in ('pwrite', 'fdatasync'):
-        sitting = trial.sit_anew(refusing(trial, call, 60))
+        sitting = trial.sit_anew('--no-past', before=refusing(trial, call, 60))
         text = ''.join(trial.chance.choice(LETTERS) for _ in range(100))
         try:
             for letter in text:
@@ -336,6 +338,32 @@ def disk_fails(trial):
         trial.check(wanted.replace(' ', '') in said.replace(' ', ''), f'it says {said!r}')  # (a line may end at a blank)
         trial.kept(text, text_of(shown(sitting.terminal.left)))
         os.remove(trial.path)
+
+
+def past_begins(trial):
+    """A store that was there before is told once that a past begins, unless none is to, and a new store isn't. Where the host
+    refuses a write of it the line below says so, and the sitting goes on without one."""
+    for refused in (0, 3, 9):
+        sitting = trial.sit_anew(before=refusing(trial, 'pwrite', refused))
+        trial.tells(sitting, NO_PAST)
+        text = ''.join(trial.chance.choice(LETTERS) for _ in range(40))
+        sitting.press(text.encode())
+        trial.check(sitting.look_anew(), 'no scene')
+        trial.leaves(sitting)
+        trial.kept(text, text)
+        os.remove(trial.path)
+    trial.store()
+    for options, begins in ((['--no-past'], False), ([], True), ([], False), (['--no-past'], False)):
+        sitting = trial.sit(*options, trial.path)
+        line = sitting.terminal.line(ROWS)
+        trial.check((line == PAST_BEGINS) == begins and line != NO_PAST, f'with {options} it says {line!r}')
+        trial.leaves(sitting)
+    sitting = trial.sit(f'{trial.folder}/new')
+    trial.check(sitting.terminal.line(ROWS).startswith('Help: '), f'a new store says {sitting.terminal.line(ROWS)!r}')
+    trial.leaves(sitting)
+    for path in (trial.path, f'{trial.folder}/new'):
+        blocks = os.stat(path).st_blocks * 512
+        trial.check(blocks < 40_000_000, f'{path} has {blocks} bytes')
 
 
 def folder_not_synced(trial):
@@ -562,7 +590,7 @@ def steps_of_undo(trial):
     undone(sitting, 'undid: typed 4 characters', 'two three')
     undone(sitting, 'undid: typed 6 characters', 'two')
     undone(sitting, 'undid: typed 4 characters', '')
-    trial.leaves(sitting, forgets=True)
+    trial.leaves(sitting)
 
 
 def words_at_the_edge(trial):
@@ -571,7 +599,7 @@ def words_at_the_edge(trial):
         sitting = trial.sit_anew()
         sitting.press(b'\x17' + b' ' * blanks + b'System.Directory\x05\x1a')
         trial.tells(sitting, f'undid: {word}')
-        trial.leaves(sitting, forgets=True)
+        trial.leaves(sitting)
         os.remove(trial.path)
 
 
@@ -579,16 +607,16 @@ def forgetting(trial):
     """Leaving asks while what was taken back can be done again, and the second key leaves. Nothing is asked where something else
     was done since, without questions, where the terminal goes away, and where a past has it: then the next sitting does it
     again."""
-    sitting = trial.sit_anew()
+    sitting = trial.sit_anew('--no-past')
     sitting.press(b'two words\x1a\x11')
     trial.tells(sitting, FORGETTING)
     sitting.press(b'\x19')
     trial.tells(sitting, 'did again: typed 5 characters')
     trial.leaves(sitting)
     trial.kept('two words', 'two words')
-    sitting = trial.sit(trial.path)
+    sitting = trial.sit('--no-past', trial.path)
     trial.leaves(sitting)
-    sitting = trial.sit(trial.path)
+    sitting = trial.sit('--no-past', trial.path)
     sitting.press(b'\x1a')
     trial.tells(sitting, 'undid: typed 5 characters')
     for keys in (b'\x11', b'\x04\x1b[21~'):  # (another key answers no)
@@ -597,21 +625,21 @@ def forgetting(trial):
     sitting.press(b'\x1b[21~')
     trial.check(sitting.end() == 0 and sitting.is_put_back, f'status {sitting.status}')
     trial.kept('two ', 'two')
-    sitting = trial.sit(trial.path)
+    sitting = trial.sit('--no-past', trial.path)
     sitting.press(b'three\x1afour')
     trial.leaves(sitting)
-    sitting = trial.sit('--no-questions', trial.path)
+    sitting = trial.sit('--no-past', '--no-questions', trial.path)
     sitting.press(b'five\x1a')
     trial.tells(sitting, 'undid: typed 8 characters')
     trial.leaves(sitting)
-    sitting = trial.sit(trial.path)
+    sitting = trial.sit('--no-past', trial.path)
     sitting.press(b'six\x1a')
     trial.tells(sitting, 'undid: typed 3 characters')
     trial.check(sitting.hang_up() is not None, 'the script does not end')
     trial.store()
-    for options, keys, line in ((['--past'], b'seven words\x1a', 'undid: typed 5 characters'), ([], b'\x19', 'did again: typed 5 characters'),
-                                ([], b'\x1a\x1a', 'undid: typed 6 characters'), ([], b'\x19', 'did again: typed 6 characters')):
-        sitting = trial.sit(*options, trial.path)
+    for keys, line in ((b'seven words\x1a', 'undid: typed 5 characters'), (b'\x19', 'did again: typed 5 characters'),
+                       (b'\x1a\x1a', 'undid: typed 6 characters'), (b'\x19', 'did again: typed 6 characters')):
+        sitting = trial.sit(trial.path)
         sitting.press(keys)
         trial.tells(sitting, line)
         trial.leaves(sitting)
@@ -620,16 +648,18 @@ def forgetting(trial):
 def refused_presses(trial):
     """What was refused is never said to be taken back: it goes with the press before it, and where there is none nothing is
     taken back. Nor does it take away what can be done again."""
-    sitting = trial.sit(trial.path)
-    sitting.press(b'x')
-    trial.tells(sitting, NO_CARET)
-    sitting.press(b'yz\x1a')
-    trial.tells(sitting, NOTHING_BACK)
-    sitting.press(b'\x1a')
-    trial.tells(sitting, NOTHING_BACK)
-    trial.leaves(sitting)
-    os.remove(trial.path)
-    sitting = trial.sit_anew()
+    for options, line in ((['--no-past'], NOTHING_BACK), ([], NO_FURTHER)):
+        sitting = trial.sit(*options, trial.path)
+        sitting.press(b'x')
+        trial.tells(sitting, NO_CARET)
+        sitting.press(b'yz\x1a')
+        trial.tells(sitting, line)
+        if options:
+            sitting.press(b'\x1a')
+            trial.tells(sitting, line)
+        trial.leaves(sitting)
+        os.remove(trial.path)
+    sitting = trial.sit_anew('--no-past')
     sitting.press(b'word\x1b')
     sitting.rest(0.3)
     sitting.press(b'x')
@@ -639,7 +669,7 @@ def refused_presses(trial):
         trial.tells(sitting, line)
     trial.leaves(sitting, forgets=True)
     trial.oberon_says('format', trial.path + '.none')
-    sitting = trial.sit(trial.path + '.none')
+    sitting = trial.sit('--no-past', trial.path + '.none')
     sitting.press(b'x\x1bOP' + click_at(5, 5) + b'\x1a')
     trial.tells(sitting, 'undid: the marker')
     sitting.press(b'\x1a')
@@ -652,7 +682,7 @@ def refused_presses(trial):
 def reach_of_undo(trial):
     """At the beginning there is nothing to take back. Behind a checkpoint from before which nothing is taken back, and behind an
     import, undo reaches no further."""
-    sitting = trial.sit(trial.path)
+    sitting = trial.sit('--no-past', trial.path)
     sitting.press(b'\x1a')
     trial.tells(sitting, NOTHING_BACK)
     trial.leaves(sitting)
@@ -664,7 +694,7 @@ def reach_of_undo(trial):
     trial.tells(sitting, NO_FURTHER)
     trial.leaves(sitting)
     trial.store_at(f'{trial.folder}/later', 3)
-    sitting = trial.sit(f'{trial.folder}/later')
+    sitting = trial.sit('--no-past', f'{trial.folder}/later')
     sitting.press(b'a\x1a')
     trial.tells(sitting, 'undid: typed 1 character')
     sitting.press(b'\x1a')
@@ -677,7 +707,7 @@ def outside(trial):
     stays in force."""
     trial.store()
     shutil.copy(trial.path, trial.path + '.before')
-    sitting = trial.sit(trial.path, rows=40, columns=100)
+    sitting = trial.sit('--no-past', trial.path, rows=40, columns=100)
     for place in (b'95;1', b'81;2', b'10;33', b'60;40'):
         sitting.press(b'\x1b[<1;%bM\x1b[<1;%bm' % (place, place))
         sitting.press(b'\x1bOP\x1b[<0;%bM\x1b[<0;%bm' % (place, place))
@@ -743,7 +773,7 @@ def resized(trial):
     for rows, columns in ((24, 80), (12, 90), (50, 132), (33, 80)):
         sitting.resize(rows, columns)
         count = min(rows - 1, ROWS)
-        scene = [*wanted[:count], GREETING] + [''] * (rows - count - 1)
+        scene = [*wanted[:count], PAST_BEGINS] + [''] * (rows - count - 1)
         trial.check(sitting.wait(lambda: sitting.terminal.lines() == scene), f'another screen in {rows} rows')
         trial.check(sitting.look_anew() and sitting.wait(lambda: sitting.terminal.lines() == scene),
                     f'another one in {rows} rows when it is painted anew')
@@ -778,7 +808,7 @@ def stock(trial):
     for rows, columns in ((24, 80), (12, 90), (50, 132), (33, 80)):
         sitting.resize(rows, columns)
         count = min(rows - 1, ROWS)
-        scene = [*wanted[:count], GREETING] + [''] * (rows - count - 1)
+        scene = [*wanted[:count], PAST_BEGINS] + [''] * (rows - count - 1)
         trial.check(sitting.wait(lambda: sitting.terminal.lines() == scene), f'another screen in {rows} rows')
     trial.leaves(sitting)
 
@@ -839,8 +869,8 @@ def removed(trial):
 
 
 def deleting(trial):
-    """System.DeleteFiles asks, and names what goes; what is behind a name that goes on oddly stays; and so does Edit.Open
-    ask where a name goes on oddly."""
+    """System.DeleteFiles asks, and names what goes, also where the button goes up beside the text; what is behind a name that goes
+    on oddly stays; and so does Edit.Open ask where a name goes on oddly."""
     sitting = trial.sit_anew()
     terminal = sitting.terminal
     middle = b'\x1b[<1;4;%dM\x1b[<1;4;%dm'
@@ -855,6 +885,8 @@ def deleting(trial):
                   b'Edit.Open A.Text, then\r' + STORE)
     press_at(3)
     told('Press again to delete: A.Text')
+    sitting.press(b'\x1b[<1;4;2M\x1b[<1;1;1m')  # (it goes up beside the text, nearest to its first cell)
+    told('Press again to delete: A.Text B.Text')
     sitting.press(b'x')
     press_at(4)
     told('B-Notes.Text is no name: press again for B')
@@ -879,12 +911,12 @@ def first_scene(trial):
     these are."""
     trial.store()
     trial.oberon_says('play', trial.path, lines=['type ' + '%0d' * 25 + 'last'])
-    for rows in (24, 12):
+    for rows, greeting in ((24, PAST_BEGINS), (12, GREETING)):
         sitting = trial.begin(trial.desk, trial.path, rows=rows, columns=80)
         sitting.answers = False
         sitting.wait(lambda: sitting.terminal.scenes > 0)
         lines = sitting.terminal.lines()
-        trial.check(lines[-1] == GREETING and any('last' in line for line in lines[:-1]), f'in {rows} rows: {lines}')
+        trial.check(lines[-1] == greeting and any('last' in line for line in lines[:-1]), f'in {rows} rows: {lines}')
         trial.leaves(sitting)
 
 
@@ -1177,6 +1209,7 @@ TRIALS = {
     'keys after the one that leaves': left_amid,
     'Escape': escape,
     'a disk that fails': disk_fails,
+    'a past that begins': past_begins,
     'a folder that is not synced': folder_not_synced,
     'pastes': pasted,
     'signal 9 amid a paste': killed_amid_paste,

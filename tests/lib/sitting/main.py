@@ -15,6 +15,7 @@ import endings
 import pairs
 from model import COLUMNS, ROWS, Model
 from presses import FILES, press, spelled
+from scrolling import copied
 from sitting import MODES, Ended, Sitting, TooSlow
 
 PRESSES = 300
@@ -85,7 +86,7 @@ def press_by_hearings(sitting, model, presses, chance):
         for one in run:
             take(sitting, model, *one)
         data = b''.join(data for data, _ in run)
-        if len(data) < 64:
+        if len(data) < 64 and not has_line_end(data):  # (with one in it another scene may ring before the last one)
             heard = sitting.hear(data)
             model.take(('ring',))
         else:
@@ -98,8 +99,8 @@ def press_by_hearings(sitting, model, presses, chance):
 
 
 def take(sitting, model, data, meanings):
-    """What one press comes to. What is heard at one time goes no further than to the end of a line, so behind each of
-    these the screen is shown: within a press, where it says so or else before all of it is meant, and behind it."""
+    """What one press comes to. What is heard at one time goes no further than to the end of a line or to a TAB, so behind each
+    of these the screen is shown: within a press, where it says so or else before all of it is meant, and behind it."""
     if has_line_end(data[:-1]) and ('look',) not in meanings:
         model.look()
     for meaning in meanings:
@@ -111,7 +112,8 @@ def take(sitting, model, data, meanings):
 
 
 def has_line_end(data):
-    return b'\r' in data or b'\n' in data
+    """Whether something ends in it with which a hearing ends."""
+    return any(end in data for end in (b'\r', b'\n', b'\t'))
 
 
 def characters(cells, rows):
@@ -132,13 +134,13 @@ def sit(seed, desk, oberon, folder, tool, twins):
     rows, columns = WINDOWS[seed % len(WINDOWS)]
     theirs, ours = f'{folder}/theirs', f'{folder}/ours'
     begin(oberon, theirs, tool)
-    shutil.copy(theirs, ours)
+    copied(theirs, ours)
     for name, data in FILES.items():
         with open(f'{folder}/{name}', 'wb') as file:
             file.write(data)
     os.mkfifo(f'{folder}/pipe')
     twin = f'{folder}/twin'
-    words = [desk, '--no-questions', theirs] + ['--twin', twin] * twins
+    words = [desk, '--no-questions', '--no-past', theirs] + ['--twin', twin] * twins
     sitting, model = Sitting(words, rows, columns, folder), Model(oberon, ours, rows, columns)
     try:
         wrong = sat(sitting, model, rows > ROWS and columns >= COLUMNS, rows, chance)

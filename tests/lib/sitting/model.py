@@ -94,13 +94,19 @@ def is_in_word(character):
     return character.isascii() and character.isalnum() or character == '.'
 
 
+def nearest(number, least, most):
+    """The nearest number from the least to the most one."""
+    return max(least, min(number, most))
+
+
 def called_word(screen, x, y):
-    """The letters, digits and periods around a cell."""
+    """The letters, digits and periods around a cell, in its track."""
     row = screen.rows[ROWS - 1 - y].ljust(COLUMNS)
+    left = 0 if x < 50 else 50
     start, end = x, x
-    while start > 0 and is_in_word(row[start - 1]):
+    while start > left and is_in_word(row[start - 1]):
         start -= 1
-    while end < len(row) and is_in_word(row[end]):
+    while end < left + WIDTHS[left] and is_in_word(row[end]):
         end += 1
     return row[start:end][:31]
 
@@ -566,21 +572,32 @@ class Model:
         if keys != 'm':
             return self.post(event)
         before, screen = Listing(self.lines('list')), self.screen()
-        seen, had = screen.caret(), self.viewer_of_caret()
+        seen, had, place = screen.caret(), self.viewer_of_caret(), self.place_called(start, end)
         if not self.post(event):
             return False
-        left = 0 if start[0] < 50 else 50
-        end = min(max(end[0], left), left + WIDTHS[left] - 1), end[1]
-        after, word = Listing(self.lines('list')), called_word(screen, *end)
+        after, word = Listing(self.lines('list')), called_word(screen, *place) if place else ''
         viewer = after.opened_since(before) or self.replaced(before, after, screen, word)
         if viewer:
             return self.enter(viewer, viewer[3] == 'System.Log' and not opens_document(word))
-        line = self.logged(before, after, end, word)
+        line = place and self.logged(before, after, place, word)
         if line:
             self.saying = line[:80]
         elif seen and had and self.stays(had, before, after) and self.has_no_caret():
             return self.post('point l %d %d %d %d' % (*seen, *seen))
         return True
+
+    def place_called(self, start, end):
+        """The cell whose word is called where the middle button goes down at one cell and up at another: of the menu, or of the
+        text, in which it went down the one that is nearest to where it went up. None in a scroll bar, and where no viewer is."""
+        viewer = self.viewer_at(*start)
+        if not viewer:
+            return None
+        left, bottom, top, _ = viewer
+        if start[1] == top - 1:
+            return nearest(end[0], left, left + WIDTHS[left] - 1), top - 1
+        if start[0] == left:
+            return None
+        return nearest(end[0], left + 1, left + WIDTHS[left] - 1), nearest(end[1], bottom, top - 2)
 
     @staticmethod
     def stays(viewer, before, after):

@@ -14,7 +14,7 @@ TESTS = os.path.dirname(os.path.dirname(os.path.dirname(os.path.realpath(__file_
 sys.path.insert(0, f'{TESTS}/lib/past')
 import reader  # noqa: E402, beside the other tests of a past
 
-SECTORS = 81158
+SECTORS = int(os.environ.get('PAST_SECTORS', reader.SITTING))
 PRESSES = 120
 MOMENTS = 100
 KEYS = [b'\x7f', b'\r', b'\x1b[A', b'\x1b[D', b'\x1b[1;2D', b'\x03', b'\x16', b'\x0b']
@@ -35,6 +35,12 @@ def now_of(path):
     disk = reader.Disk(path)
     slot = reader.Slot(disk, 0)
     return slot.before + len(reader.journal(disk, 0, slot.slot))
+
+
+def start_of(path):
+    """How many deeds came before the part in use, as far as its start's head tells."""
+    disk = reader.Disk(path)
+    return reader.Slot(disk, reader.part_with(SECTORS, reader.Slot(disk, 0).next)).before
 
 
 def go_on(trial, chance, sitting):
@@ -91,33 +97,35 @@ def sit(trial, chance):
 
 
 def attempt(seed, desk, oberon):
-    """What is wrong with a sitting, in words, and how many moments were looked at."""
+    """What is wrong with a sitting, in words, how many moments were looked at, and how many of these lie before the part in use."""
     chance = random.Random(seed)
-    trial, looked = Trial(desk, oberon, chance), 0
+    trial, looked, former = Trial(desk, oberon, chance), 0, 0
     try:
         seen = sit(trial, chance)
+        begun = start_of(trial.path)
         for moment in chance.sample(sorted(seen), min(MOMENTS, len(seen))):
             found = screen_at(trial, moment)
             looked += found is not None
+            former += found is not None and moment < begun
             if found is not None and not is_shown(found, seen[moment]):
                 trial.wrong.append(f'another screen at moment {moment}')
         trial.check(looked > 0, 'no moment was found')
     except (Ended, OSError, subprocess.CalledProcessError, reader.Gone) as error:
         trial.wrong.append(repr(error))
     trial.stop()
-    return trial.wrong, looked
+    return trial.wrong, looked, former
 
 
 def main():
     desk, oberon, runs, first = sys.argv[1:5]
-    failed = looked = 0
+    failed = looked = before = 0
     for seed in range(int(first), int(first) + int(runs)):
-        wrong, found = attempt(seed, desk, oberon)
-        looked += found
+        wrong, found, former = attempt(seed, desk, oberon)
+        looked, before = looked + found, before + former
         failed += bool(wrong)
         if wrong:
             print(f'{seed}: ' + '; '.join(wrong[:3]), flush=True)
-    print(f'{looked} moments', file=sys.stderr)
+    print(f'{looked} moments, {before} before the part in use', file=sys.stderr)
     print(f'{runs} sittings with a past, {failed} differ', flush=True)
     sys.exit(1 if failed else 0)
 

@@ -164,7 +164,7 @@ def press(random, rows, is_whole):
     if kind == 19:
         text = ''.join(random.choices(['word ', 'a ', 'longer ', 'sentence. ', 'end,  ', 'x', '\t'], k=random.randrange(20)))
         text = text if is_whole else text[:63]  # (more isn't heard at one time, and the screen is shown between)
-        return text.encode(), [('type', character) for character in text]
+        return text.encode(), [meaning for character in text for meaning in typed(character)]
     if kind in (17, 18):
         return scroll(random, rows)
     if kind == 28:
@@ -175,6 +175,11 @@ def press(random, rows, is_whole):
     data, meanings = mouse(random, rows, is_whole)
     _, column, row = data.rstrip(b'm').rsplit(b';', 2)
     return data, meanings + [('pointer', int(column), int(row))]
+
+
+def typed(character):
+    """What a character amid others means. Behind a TAB the screen is shown."""
+    return [('type', character)] + [('look',)] * (character == '\t')
 
 
 def sought(random, rows):

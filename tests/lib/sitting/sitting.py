@@ -184,7 +184,8 @@ class Sitting:
         if not self.shell:
             return
         if self.status is None:
-            os.kill(self.process, signal.SIGKILL)
+            with contextlib.suppress(ProcessLookupError):  # (it may have ended unasked)
+                os.kill(self.process, signal.SIGKILL)
         os.write(self.hold, b'.')
         os.waitpid(self.shell, 0)
         for file in (self.hold, self.news, self.file):

@@ -10,6 +10,7 @@ import tempfile
 from main import begin, beginning, characters
 from model import Model, is_draw, word_told
 from presses import FILES, drag, press
+from scrolling import copied
 from sitting import MODES, Ended, Sitting, TooSlow
 
 PRESSES = 100
@@ -141,6 +142,7 @@ class Undoing(Model):
         subprocess.run([oberon, 'format', self.base], check=True, stdout=subprocess.DEVNULL)
         self.history, self.undone, self.stands = History(lines), [], list(lines)
         self.presses, self.refused, self.joins, self.pastes, self.goes_on = [], 0, False, False, False
+        self.patterns = [(0, b'')]  # (behind how many events the pattern became which one)
         for line in lines:
             self.add(line)
         self.at_first = len(self.presses)
@@ -150,7 +152,7 @@ class Undoing(Model):
     def copied(self):
         self.count += 1
         name = f'{self.folder}/model.{self.count}'
-        shutil.copy(self.base, name)
+        copied(self.base, name)
         return name
 
     def take(self, meaning):
@@ -158,6 +160,12 @@ class Undoing(Model):
         self.pastes = meaning[0] in ('paste', 'file')
         super().take(meaning)
         self.pastes = False
+        self.note_pattern()
+
+    def note_pattern(self):
+        """The pattern of the desktop is one of its events, and goes back with them."""
+        if self.pattern != self.patterns[-1][1]:
+            self.patterns.append((len(self.stands), self.pattern))
 
     def begin_press(self):
         self.joins = False
@@ -211,6 +219,7 @@ class Undoing(Model):
         """The last press is taken back, of this sitting, with what only moved behind it."""
         self.replacing.typed = None
         self.gather()
+        pattern = self.pattern
         lines = self.history.take_back(self.presses[-1][0] if self.presses else self.refused + 1)
         if lines:
             self.play_without(lines)
@@ -220,13 +229,16 @@ class Undoing(Model):
             self.saying = 'There is nothing to take back.' if is_first else 'Undo reaches no further back.'
             return
         deed = self.deed_of(lines)
-        self.undone = [*self.undone, (lines, deed)][-MOST_AGAIN:]
+        self.undone = [*self.undone, (lines, deed, pattern)][-MOST_AGAIN:]
         self.follows = True
         self.saying = 'undid: ' + (deed.told(self.screen()) if deed else PART)
 
     def play_without(self, lines):
         """The events that stand without these, the last ones, are played to a new store."""
         self.stands = self.stands[:-len(lines)]
+        while self.patterns[-1][0] > len(self.stands):
+            self.patterns.pop()
+        self.pattern = self.patterns[-1][1]
         self.end()
         self.store = self.copied()
         self.play = subprocess.Popen([self.oberon, 'play', self.store], stdin=subprocess.PIPE, stdout=subprocess.PIPE)
@@ -250,12 +262,13 @@ class Undoing(Model):
         if not self.undone:
             self.saying = 'There is nothing to do again.'
             return
-        lines, deed = self.undone.pop()
+        lines, deed, self.pattern = self.undone.pop()
         self.joins = False
         for line in lines:
             self.posted(line)
         if self.joins and not self.goes_on:
             self.presses[-1][1] = deed or Deed.named(PART)
+        self.note_pattern()
         self.saying = 'did again: ' + (deed.told() if deed else PART)
 
 
@@ -280,12 +293,12 @@ def sit(seed, desk, oberon, folder, tool):
     chance = random.Random(seed)
     theirs, ours = f'{folder}/theirs', f'{folder}/ours'
     begin(oberon, theirs, tool)
-    shutil.copy(theirs, ours)
+    copied(theirs, ours)
     for name, data in FILES.items():
         with open(f'{folder}/{name}', 'wb') as file:
             file.write(data)
     os.mkfifo(f'{folder}/pipe')
-    sitting, model = Sitting([desk, '--no-questions', theirs], ROWS, 80, folder), Undoing(oberon, ours, ROWS, folder, beginning(tool))
+    sitting, model = Sitting([desk, '--no-questions', '--no-past', theirs], ROWS, 80, folder), Undoing(oberon, ours, ROWS, folder, beginning(tool))
     terminal = sitting.terminal
     try:
         if not sitting.wait(lambda: terminal.scenes > 0 and MODES <= terminal.modes):

@@ -1,11 +1,12 @@
 use Rattle.std.proofs.Common.{◌^◌, ◌<◌, ◌∙◌, ap, arith, length, subst, sym}
 use Rattle.sector_disk.specs.Trail.{now}
 use Rattle.store_layout.specs.declared.head.PastEnd.{PastEnd}
-use Rattle.desk_past.specs.Halves.{IsHalf}
+use Rattle.desk_past.specs.Parts.{IsPastPart}
 use Rattle.desk_past.proofs.Brought.{few_ahead, page_few, is_ahead, room_ahead}
 use Rattle.desk_past.proofs.Rooms.{behind_start}
 use Rattle.desk_past.proofs.StillReads.{still_left, still_looked, still_none, still_shows}
 use Rattle.desk_past.proofs.Told.{ok_of, shown_as}
+use Rattle.desk_past.proofs.Sparing.{in_part}
 use Rattle.desk_past.proofs.ahead.page_ahead.Goals as goal
 
 pub returns-in_err-told-clause-still : goal.returns-in_err-told-clause-still
@@ -52,9 +53,9 @@ returns-in_default-clause-none g c = λ honest start deeds desktop p keeps is_pa
     let first = still_looked d c.past.result (still_none d c.args.store.now c.requires) c.past.ensures.looks in
     let told = c.in_ok-told.ensures.told honest s keeps.remembers.past.stands in
     let next = ap (λ (x : PastEnd). x.next) told in
-    let half = subst (λ n. IsHalf n start.base can.end) (sym (c.sectors.ensures ∙ first.left.disk.device.as_large))
-    can.half in
-    absurd (c.in_default.ensures.all start.base can.end half
+    let part = subst (λ n. IsPastPart n start.base can.end) (sym (c.sectors.ensures ∙ first.left.disk.device.as_large))
+    can.part in
+    absurd (c.in_default.ensures.all start.base can.end part
     (omega (arith, behind_start d keeps, next)) (omega (arith, can.room.pages, next)))
 
 pub returns-in_default-2-clause-none : goal.returns-in_default-2-clause-none
@@ -68,8 +69,8 @@ returns-in_default-3-clause-none g c = λ honest start deeds desktop p keeps is_
     let first = still_looked d c.past.result (still_none d c.args.store.now c.requires) c.past.ensures.looks in
     let told = c.in_ok-told.ensures.told honest s keeps.remembers.past.stands in
     let next = ap (λ (x : PastEnd). x.next) told in
-    let half = subst (λ n. IsHalf n start.base can.end) (sym (c.sectors.ensures ∙ first.left.disk.device.as_large))
-    can.half in
+    let part = subst (λ n. IsPastPart n start.base can.end) (sym (c.sectors.ensures ∙ first.left.disk.device.as_large))
+    can.part in
     let mid = first.left.disk.device.still honest in
     let shows = still_shows d first (c.shows_what_crashes_leave.ensures.quiet keeps.usable honest) honest s
     keeps.remembers.past.stands in
@@ -78,7 +79,7 @@ returns-in_default-3-clause-none g c = λ honest start deeds desktop p keeps is_
     let info_is = ap (ok_of c.in_ok-info.info) (sym c.in_ok-info.was ∙ c.info.ensures.value first.usable) in
     let many = is.events ∙ sym (ap (λ x. x.events) info_is) in
     let journal = (rw c.in-Some-2.is at c.in_ok-journal.ensures.page) mid s shows in
-    let found = c.in-Some.ensures.all start.base can.end half
+    let found = c.in-Some.ensures.all start.base can.end part
     (omega (arith, behind_start d keeps, next)) (omega (arith, can.room.pages, next)) in
     (rw c.in_default-3.is at c.in_ok-ahead.ensures.none)
     (rw c.in-Some-2.is at c.in_ok-journal.ensures.short)
@@ -135,3 +136,12 @@ returns-clause-fit g c =
       room = omega (arith, at.limit.1, at.limit.2, c.min-end.ensures, c.sectors-2.ensures);
       fits = at.fits;
     }
+
+pub returns-clause-inside : goal.returns-clause-inside
+returns-clause-inside g c = λ honest s shows n there.
+    let next = ap (λ (x : PastEnd). x.next) (c.in_ok-told.ensures.told honest s shows) in
+    let at = rw c.in-Some-3.is at c.in_ok-ahead.ensures in
+    let from = at.from.0 in
+    in_part _ _ _ _ _ _ n (c.sectors.ensures ∙ c.past.ensures.looks.disk.device.as_large) c.in-Some.ensures.is
+    c.in-Some.ensures.within.0 c.in-Some.ensures.within.1 next
+    (omega (arith, there.0, from, next), omega (arith, there.1, at.limit.1, at.limit.2, c.min-end.ensures))

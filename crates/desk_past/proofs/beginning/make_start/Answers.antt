@@ -14,6 +14,9 @@ copy_behind-requires-clause-start g c = record {
   room = omega (arith, c.requires.room, c.events_before.ensures.disk.device.as_large);
 }
 
+pub is_copied-requires-clause-numbered : goal.is_copied-requires-clause-numbered
+is_copied-requires-clause-numbered g c = omega (arith, c.requires.numbered)
+
 pub is_copied-requires-clause-there : goal.is_copied-requires-clause-there
 is_copied-requires-clause-there g c =
     omega (arith, c.requires.room, c.events_before.ensures.disk.device.as_large, c.copy_behind.ensures.device.same.as_large)
@@ -81,7 +84,7 @@ returns-clause-start g c =
           let same = still_reads d still
           (c.shows_what_crashes_leave-3.ensures.quiet second.usable (device.still honest)) (device.still honest) in
           ap (λ r. r (c.args.base + n)) same
-          ∙ c.in_ok-is_copied.ensures.same c.if-not-branch.false (device.still honest) n low
+          ∙ c.in_ok-is_copied.ensures.same c.if-not-branch.false (device.still honest) n (omega arith, omega (arith, low))
           ∙ ap (λ r. r n) (sym same);
       counted = λ honest s at. (rw c.in-Some.is at c.in_ok-before.ensures.sum) honest s at;
     }
@@ -101,3 +104,24 @@ returns-then-not-branch-clause-none g c = λ honest.
     (λ inside. omega (arith, inside.0, c.requires.behind, within.1))) (c.in_ok-copy_behind.ensures.copied second) in
     absurd (false≢true (sym c.if-not-branch.true
     ∙ c.in_ok-is_copied.ensures.all (c.copy_behind.ensures.device.same.still second) all))
+
+-- ---- something was written behind the store, or nothing
+
+pub returns-in_default-clause-aside : goal.returns-in_default-clause-aside
+returns-in_default-clause-aside g c = aside_read g.D.Disk c.in_ok-before.ensures.still
+
+pub returns-then-not-branch-clause-aside : goal.returns-then-not-branch-clause-aside
+returns-then-not-branch-clause-aside g c =
+    let d = g.D.Disk in
+    let first = c.events_before.ensures.disk.device in
+    aside_both d (same_both d first c.copy_behind.ensures.device.same)
+    (aside_both d first (aside_read d c.in_ok-before.ensures.still) c.in_ok-copy_behind.ensures.aside)
+    (aside_read d c.is_copied.ensures.still)
+
+pub returns-clause-aside : goal.returns-clause-aside
+returns-clause-aside g c =
+    let d = g.D.Disk in
+    let first = c.events_before.ensures.disk.device in
+    aside_both d (same_both d first c.copy_behind.ensures.device.same)
+    (aside_both d first (aside_read d c.in_ok-before.ensures.still) c.in_ok-copy_behind.ensures.aside)
+    (aside_read d c.is_copied.ensures.still)

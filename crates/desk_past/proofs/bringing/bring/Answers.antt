@@ -6,6 +6,8 @@ use Rattle.desk_past.proofs.ImportWays.{none_brought, none_forgotten, none_reope
 use Rattle.desk_past.proofs.ImportWays.{told_epoch, unwritten_behind, worn_behind}
 use Rattle.desk_past.proofs.StillReads.{still_none, usable_of}
 use Rattle.desk_past.proofs.Ways.{never, not_reopen, not_worn}
+use Rattle.std.proofs.Common.{rules}
+use Rattle.desk_past.proofs.Sparing.{only_behind_reads, only_none, only_read, only_within, only_within_read, uses_only}
 use Rattle.desk_past.proofs.bringing.bring.Goals as goal
 
 pub returns-then-info-clause-ok : goal.returns-then-info-clause-ok
@@ -151,3 +153,30 @@ returns-clause-nothing_forgotten g c =
     c.in-Some.ahead.limit c.bring_behind.new.self c.shows_what_crashes_leave-2.ensures.quiet
     c.bring_behind.ensures.behaves.within c.as_slice.ensures.value (rw c.in-Some.is at c.in_ok-ahead.ensures.ahead)
     c.bring_behind.ensures.comes.moments
+
+-- ---- what is written behind the store
+
+pub returns-in_err-info-clause-device : goal.returns-in_err-info-clause-device
+returns-in_err-info-clause-device g c =
+    uses_only g.D.Disk (search rules) (only_none g.D.Disk c.shows_what_crashes_leave.ensures.quiet)
+
+pub returns-then-info-clause-device : goal.returns-then-info-clause-device
+returns-then-info-clause-device g c = uses_only g.D.Disk (search rules)
+    (only_within g.D.Disk c.bring.ensures.behaves.within c.shows_what_crashes_leave.ensures.quiet)
+
+pub returns-in_err-ahead-clause-device : goal.returns-in_err-ahead-clause-device
+returns-in_err-ahead-clause-device g c = uses_only g.D.Disk (search rules)
+    (only_read g.D.Disk c.pages_ahead.ensures.still.left.disk c.shows_what_crashes_leave.ensures.quiet)
+
+pub returns-in_default-clause-device : goal.returns-in_default-clause-device
+returns-in_default-clause-device g c = uses_only g.D.Disk (search rules)
+    (only_within_read g.D.Disk c.pages_ahead.new.store c.bring-in_default.new.self c.pages_ahead.ensures.still.left.disk
+    c.shows_what_crashes_leave.ensures.quiet (λ _. c.pages_ahead.ensures.still.usable)
+    c.bring-in_default.ensures.behaves.within)
+
+pub returns-clause-device : goal.returns-clause-device
+returns-clause-device g c = uses_only g.D.Disk (search rules)
+    (only_behind_reads g.D.Disk c.pages_ahead.new.store c.bring_behind.new.self c.in-Some.ahead.from c.in-Some.ahead.limit
+    c.pages_ahead.ensures.still.left.disk c.shows_what_crashes_leave.ensures.quiet
+    (λ _. c.pages_ahead.ensures.still.usable) (rw c.in-Some.is at c.in_ok-ahead.ensures.inside)
+    c.bring_behind.ensures.behaves.within)

@@ -5,6 +5,7 @@ use Rattle.sector_disk.specs.Faults.{FailsAs}
 use Rattle.desk_journal.specs.Errors.{Fault}
 use Rattle.desk_journal.specs.Undoing.{OfUndo}
 use Rattle.desk_past.proofs.InMemory.{error_from, fails_none, none_failed, undo_none, undo_refused}
+use Rattle.desk_past.proofs.Sparing.{only_none, only_within, uses_only}
 use Rattle.desk_past.proofs.StillReads.{usable_of}
 use Rattle.desk_past.proofs.Told.{ok_of}
 use Rattle.desk_past.proofs.Undoing.{none_undone, others_kept, some_undone}
@@ -39,11 +40,13 @@ pub returns-in_err-info-clause-device : goal.returns-in_err-info-clause-device
 returns-in_err-info-clause-device g c =
     let p = err_from_is_err_and c.from_residual.result c.from_residual.ensures.1 in
     let failed : c.info.result ≡ Err p.0 = cc (p.2, c.in_err-info.was) in
-    undo_refused g.D.Disk c.args.store.now c.info.ensures.value c.info.ensures.reopen failed p.1
+    uses_only g.D.Disk (undo_refused g.D.Disk c.args.store.now c.info.ensures.value c.info.ensures.reopen failed p.1)
+    (only_none g.D.Disk c.shows_what_crashes_leave.ensures.quiet)
 
 pub returns-then-info-count-clause-device : goal.returns-then-info-count-clause-device
-returns-then-info-count-clause-device g c = undo_none g.D.Disk None c.args.store.now
-    (usable_of c.args.store.now.must_reopen c.info.ensures.reopen c.in_ok-info.was)
+returns-then-info-count-clause-device g c = uses_only g.D.Disk (undo_none g.D.Disk None c.args.store.now
+    (usable_of c.args.store.now.must_reopen c.info.ensures.reopen c.in_ok-info.was))
+    (only_none g.D.Disk c.shows_what_crashes_leave.ensures.quiet)
 
 pub returns-in_err-events-clause-device : goal.returns-in_err-events-clause-device
 returns-in_err-events-clause-device g c =
@@ -51,6 +54,7 @@ returns-in_err-events-clause-device g c =
     let failed : c.undo.result ≡ Err p.0 = cc (p.2, c.in_err-events.was) in record {
       same = c.undo.ensures.behaves.device;
       faults = error_from c.undo.ensures.behaves.faults (λ e named. named) refl failed p.1;
+      others = only_within g.D.Disk c.undo.ensures.behaves.within c.shows_what_crashes_leave.ensures.quiet;
     }
 
 pub returns-clause-device : goal.returns-clause-device
@@ -58,4 +62,5 @@ returns-clause-device g c = record {
   same = c.undo.ensures.behaves.device;
   faults = fails_none (none_failed (subst (λ r. FailsAs Fault OfUndo r (g.D.Disk.failures c.args.store.now.disk)
       (g.D.Disk.failures c.undo.new.self.disk)) c.in_ok-events.was c.undo.ensures.behaves.faults));
+  others = only_within g.D.Disk c.undo.ensures.behaves.within c.shows_what_crashes_leave.ensures.quiet;
 }

@@ -1,10 +1,13 @@
-use Rattle.std.proofs.Common.{◌∙◌, arith}
+use Rattle.std.proofs.Common.{◌∙◌, ap, arith, rules}
 use Rattle.store_layout.specs.declared.layout.TheConstants.{STORE_SECTORS}
 use Rattle.std.proofs.lemmas.Option.{IfSome_then}
 use Rattle.std.proofs.lemmas.Result.{IfOk-weaker}
 use Rattle.desk_past.proofs.Told.{none_then}
-use Rattle.desk_past.proofs.Remembering.{leaves_then, read_keeps, read_moments, told_room_still, told_still}
+use Rattle.desk_past.proofs.Remembering.{leaves_then, read_moments, told_room_still, told_still}
+use Rattle.desk_past.proofs.StillReads.{read_behind, usable_of}
 use Rattle.desk_past.proofs.Begun.{aside_looked, desktop_spared, desktop_then, spared_read}
+use Rattle.store_layout.specs.declared.head.PastEnd.{PastEnd}
+use Rattle.desk_past.proofs.Sparing.{only_as, only_behind_read, only_read, uses_only}
 use Rattle.desk_past.proofs.keeping.write_page.Goals as goal
 
 pub returns-in_err-told-clause-any_moment : goal.returns-in_err-told-clause-any_moment
@@ -33,10 +36,9 @@ returns-clause-written g c = IfOk-weaker c.write_page_at.result _ _
 
 pub returns-clause-none : goal.returns-clause-none
 returns-clause-none g c = IfOk-weaker c.write_page_at.result _ _
-    (λ end fact. none_then end fact (λ kept honest start deeds desktop keeps.
-    kept (c.past.ensures.looks.disk.device.still honest) start deeds desktop
-    (read_keeps g.D.Disk keeps honest (c.shows_what_crashes_leave.ensures.quiet keeps.usable honest)
-    c.past.ensures.looks.disk (c.past.ensures.looks.usable ∙ keeps.usable)))) c.write_page_at.ensures.none
+    (λ end fact. none_then end fact (λ still.
+    read_behind g.D.Disk c.past.result c.past.ensures.looks still
+    (usable_of c.args.store.now.must_reopen c.past.ensures.looks.reopen.1 c.in_ok-told.was))) c.write_page_at.ensures.none
 
 pub returns-clause-full : goal.returns-clause-full
 returns-clause-full g c = IfOk-weaker c.write_page_at.result _ _
@@ -61,3 +63,16 @@ returns-clause-moments g c = λ usable honest.
     (spared_read d STORE_SECTORS 0 run c.shows_what_crashes_leave.ensures.quiet))
     (aside_looked d c.past.result usable c.past.ensures.looks) c.write_page_at.ensures.moments
     usable honest
+
+pub returns-in_err-told-clause-device : goal.returns-in_err-told-clause-device
+returns-in_err-told-clause-device g c = uses_only g.D.Disk (search rules)
+    (only_read g.D.Disk c.past.ensures.looks.disk c.shows_what_crashes_leave.ensures.quiet)
+
+pub returns-clause-device : goal.returns-clause-device
+returns-clause-device g c =
+    let d = g.D.Disk in
+    uses_only d (search rules) (only_as d (only_behind_read d c.write_page_at.new.store c.past.ensures.looks.disk
+    c.shows_what_crashes_leave.ensures.quiet (λ usable. c.past.ensures.looks.usable ∙ usable)
+    c.write_page_at.ensures.device.others) (λ honest s at n up.
+    let next = ap (λ (x : PastEnd). x.next) (c.in_ok-told.ensures.told honest s at) in
+    (omega (arith, next, up.0), up.1)))

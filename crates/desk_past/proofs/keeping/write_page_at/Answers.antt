@@ -1,14 +1,15 @@
 use Rattle.std.proofs.Common.{◌+◌, ◌-◌, ◌^◌, ◌<◌, ◌∙◌, ap, arith, length, refl, rules, subst, sym}
 use Rattle.sector_disk.specs.Trail.{now}
 use Rattle.desk_past.proofs.Told.{counts_on, ok_of, page_ends_at, shown_as}
-use Rattle.desk_past.proofs.Remembering.{read_keeps, read_moments, read_then_moments, read_then_page}
+use Rattle.desk_past.proofs.Remembering.{read_moments, read_then_moments, read_then_page}
 use Rattle.desk_past.proofs.Begun.{desktop_spared, spared_none, spared_read, spared_then, spared_write}
 use Rattle.sector_disk.specs.Stored.{last_sector}
 use Rattle.store_layout.specs.declared.layout.TheConstants.{STORE_SECTORS}
 use Rattle.store_layout.specs.declared.head.PastEnd.{PastEnd}
 use Rattle.desk_past.specs.Past.{journal_of}
 use Rattle.desk_past.proofs.Rooms.{behind_start}
-use Rattle.desk_past.proofs.StillReads.{usable_of}
+use Rattle.desk_past.proofs.StillReads.{still_left, still_none, usable_of}
+use Rattle.desk_past.proofs.Sparing.{only_behind_read, only_none, only_read, only_there, uses_only}
 use Rattle.desk_past.proofs.keeping.write_page_at.Goals as goal
 
 pub returns-in_err-bytes-clause-any_moment : goal.returns-in_err-bytes-clause-any_moment
@@ -22,9 +23,9 @@ returns-in_default-end_behind-clause-any_moment g c = λ honest start deeds desk
     c.page_read.new.store c.page_read.ensures.looks.disk
 
 pub returns-in_default-end_behind-clause-none : goal.returns-in_default-end_behind-clause-none
-returns-in_default-end_behind-clause-none g c = λ honest start deeds desktop keeps.
-    read_keeps g.D.Disk keeps honest (c.shows_what_crashes_leave.ensures.quiet keeps.usable honest)
-    c.page_read.ensures.looks.disk (c.page_read.ensures.usable ∙ keeps.usable)
+returns-in_default-end_behind-clause-none g c =
+    let usable = usable_of c.args.store.now.must_reopen c.info.ensures.reopen c.in_ok-info.was in
+    still_left g.D.Disk (still_none g.D.Disk c.args.store.now usable) c.page_read.ensures.looks c.page_read.ensures.usable
 
 pub returns-in_err-write_behind-clause-any_moment : goal.returns-in_err-write_behind-clause-any_moment
 returns-in_err-write_behind-clause-any_moment g c = λ honest start deeds desktop keeps told.
@@ -72,9 +73,9 @@ returns-in_default-clause-any_moment g c = λ honest start deeds desktop keeps t
     c.page_read.new.store c.page_read.ensures.looks.disk
 
 pub returns-in_default-clause-none : goal.returns-in_default-clause-none
-returns-in_default-clause-none g c = λ honest start deeds desktop keeps.
-    read_keeps g.D.Disk keeps honest (c.shows_what_crashes_leave.ensures.quiet keeps.usable honest)
-    c.page_read.ensures.looks.disk (c.page_read.ensures.usable ∙ keeps.usable)
+returns-in_default-clause-none g c =
+    let usable = usable_of c.args.store.now.must_reopen c.info.ensures.reopen c.in_ok-info.was in
+    still_left g.D.Disk (still_none g.D.Disk c.args.store.now usable) c.page_read.ensures.looks c.page_read.ensures.usable
 
 pub returns-in_err-info-clause-moments : goal.returns-in_err-info-clause-moments
 returns-in_err-info-clause-moments g c = desktop_spared g.D.Disk STORE_SECTORS 0
@@ -144,3 +145,39 @@ returns-in_default-end_behind-clause-full g c = λ honest start deeds desktop ke
     (omega (arith, behind_start g.D.Disk keeps, keeps.behind, next))
     (omega (arith, ends, room.page, room.inside, next, c.min-end.ensures, c.sectors.ensures, c.page_read.ensures.looks.disk.device.as_large))
     (omega (arith, room.few, before, count))
+
+pub returns-in_err-info-clause-device : goal.returns-in_err-info-clause-device
+returns-in_err-info-clause-device g c =
+    uses_only g.D.Disk (search rules) (only_none g.D.Disk c.shows_what_crashes_leave.ensures.quiet)
+
+pub returns-in_err-bytes-clause-device : goal.returns-in_err-bytes-clause-device
+returns-in_err-bytes-clause-device g c = uses_only g.D.Disk (search rules)
+    (only_read g.D.Disk c.page_read.ensures.looks.disk c.shows_what_crashes_leave.ensures.quiet)
+
+pub returns-in_default-clause-device : goal.returns-in_default-clause-device
+returns-in_default-clause-device g c = uses_only g.D.Disk (search rules)
+    (only_read g.D.Disk c.page_read.ensures.looks.disk c.shows_what_crashes_leave.ensures.quiet)
+
+pub returns-in_default-end_behind-clause-device : goal.returns-in_default-end_behind-clause-device
+returns-in_default-end_behind-clause-device g c = uses_only g.D.Disk (search rules)
+    (only_read g.D.Disk c.page_read.ensures.looks.disk c.shows_what_crashes_leave.ensures.quiet)
+
+pub returns-in_err-write_behind-clause-device : goal.returns-in_err-write_behind-clause-device
+returns-in_err-write_behind-clause-device g c =
+    let d = g.D.Disk in
+    let more = c.in-Some-end_behind.ensures.later in
+    let room = c.in-Some-end_behind.ensures.room in
+    uses_only d (search rules) (only_behind_read d {mid = c.page_read.new.store} c.write_behind.new.self c.page_read.ensures.looks.disk
+    c.shows_what_crashes_leave.ensures.quiet (λ usable. c.page_read.ensures.usable ∙ usable)
+    (only_there d _ _ (λ next n there. (there.0, omega (arith, there.1, more, room, c.min-end.ensures)))
+    c.write_behind.ensures.only c.shows_what_crashes_leave-2.ensures.quiet))
+
+pub returns-clause-device : goal.returns-clause-device
+returns-clause-device g c =
+    let d = g.D.Disk in
+    let more = c.in-Some-end_behind.ensures.later in
+    let room = c.in-Some-end_behind.ensures.room in
+    uses_only d (search rules) (only_behind_read d {mid = c.page_read.new.store} c.write_behind.new.self c.page_read.ensures.looks.disk
+    c.shows_what_crashes_leave.ensures.quiet (λ usable. c.page_read.ensures.usable ∙ usable)
+    (only_there d _ _ (λ next n there. (there.0, omega (arith, there.1, more, room, c.min-end.ensures)))
+    c.write_behind.ensures.only c.shows_what_crashes_leave-2.ensures.quiet))

@@ -9,9 +9,10 @@ use Rattle.desktop_definitions.specs.Step.{steps_in}
 use Rattle.desk_past.proofs.InMemory.{error_calm, error_from, failing_on, left_looked, moment_of_laying, moment_of_look}
 use Rattle.desk_past.proofs.InMemory.{never_reopened, none_failed, steps_of_look, stop_at, whatever}
 use Rattle.desk_past.proofs.Opened.{if_some_then, some_then}
-use Rattle.desk_past.proofs.Remembering.{read_keeps, told_still}
-use Rattle.desk_past.proofs.Stepping.{few_in_journal, moment_in_journal, moment_of_journal, moment_of_pages}
-use Rattle.desk_past.proofs.StillReads.{read_twice, still_both, still_looked, still_none, still_shows}
+use Rattle.desk_past.specs.Past.{HasStart, HoldsPages}
+use Rattle.desk_past.proofs.Gone.{holds_told}
+use Rattle.desk_past.proofs.Stepping.{few_in_journal, moment_in_journal, moment_in_pages, moment_of_journal, moment_of_pages}
+use Rattle.desk_past.proofs.StillReads.{read_twice, still_both, still_looked, still_none, still_reads, still_shows}
 use Rattle.desk_past.proofs.reading.moment.Goals as goal
 
 pub returns-then-k-told-clause-comes_back : goal.returns-then-k-told-clause-comes_back
@@ -36,12 +37,15 @@ returns-clause-comes_back g c = IfOk-weaker c.in_pages.result _ _
     let d = g.D.Disk in
     let r = keeps.remembers in
     let still = still_looked d c.past.result (still_none d c.args.store.now keeps.usable) c.past.ensures.looks in
-    let quiet = c.shows_what_crashes_leave.ensures.quiet keeps.usable honest in
-    told_still d keeps honest quiet c.past.new.self c.past.ensures.looks.disk
-    (c.past.ensures.looks.usable ∙ keeps.usable) _
-    (c.in_ok-told.ensures.told honest r.standing r.past.stands)
-    (λ after told. fact (still.left.disk.device.still honest) tt start deeds desktop after told is within.low
-    (omega (arith, c.if-k-told.false)))) c.in_pages.ensures.is_one
+    let reads = still_reads d still (c.shows_what_crashes_leave.ensures.quiet keeps.usable honest) honest in
+    let head = c.in_ok-told.ensures.told honest r.standing r.past.stands in
+    let told = ap (λ p. p.before) head in
+    let has = holds_told r _ head still.left.disk.device.as_large
+    (subst (λ x. HoldsPages x start r.pages) (sym reads) r.past.written) in
+    some_then found (fact (still.left.disk.device.still honest) tt start r.pages has is within.low
+    (omega (arith, c.if-k-told.false)))
+    (λ shown eq. eq ∙ moment_in_pages r c.args.k within.low (omega (arith, told, c.if-k-told.false))))
+    c.in_pages.ensures.is_one
 
 pub returns-then-k-told-clause-still : goal.returns-then-k-told-clause-still
 returns-then-k-told-clause-still g c =
@@ -74,15 +78,13 @@ returns-clause-there g c = IfOk-weaker c.in_pages.result _ _ (λ found fact. if_
     let d = g.D.Disk in
     let r = keeps.remembers in
     let still = still_looked d c.past.result (still_none d c.args.store.now keeps.usable) c.past.ensures.looks in
-    let quiet = c.shows_what_crashes_leave.ensures.quiet keeps.usable honest in
-    let told = ap (λ p. p.before) (c.in_ok-told.ensures.told honest r.standing r.past.stands) in
-    let high : c.args.k < r.standing.past.before = omega (arith, told, c.if-k-told.false) in
-    told_still d keeps honest quiet c.past.new.self c.past.ensures.looks.disk
-    (c.past.ensures.looks.usable ∙ keeps.usable) _
-    (c.in_ok-told.ensures.told honest r.standing r.past.stands)
-    (λ after head. let some = fact (still.left.disk.device.still honest) tt start deeds desktop after head is
-    (omega (arith, c.if-k-told.false)) in
-    moment_of_pages r c.args.k some.0 high))) c.in_pages.ensures.there
+    let reads = still_reads d still (c.shows_what_crashes_leave.ensures.quiet keeps.usable honest) honest in
+    let head = c.in_ok-told.ensures.told honest r.standing r.past.stands in
+    let told = ap (λ p. p.before) head in
+    let has = holds_told r _ head still.left.disk.device.as_large
+    (subst (λ x. HoldsPages x start r.pages) (sym reads) r.past.written) in
+    let some = fact (still.left.disk.device.still honest) tt refl start r.pages has is (omega (arith, c.if-k-told.false)) in
+    moment_of_pages r c.args.k some.0 (omega (arith, told, c.if-k-told.false)))) c.in_pages.ensures.there
 
 pub returns-in_err-told-clause-left : goal.returns-in_err-told-clause-left
 returns-in_err-told-clause-left g c = left_looked g.D.Disk c.past.ensures.looks
@@ -169,7 +171,6 @@ returns-clause-stops g c = IfErr-weaker c.in_pages.result _ _
     (λ e stops honest start deeds desktop keeps is.
     let d = g.D.Disk in
     let still = still_looked d c.past.result (still_none d c.args.store.now keeps.usable) c.past.ensures.looks in
-    let quiet = c.shows_what_crashes_leave.ensures.quiet keeps.usable honest in
-    stops (still.left.disk.device.still honest) tt start deeds desktop
-    (read_keeps d keeps honest quiet {new = c.past.new.self} c.past.ensures.looks.disk
-    (c.past.ensures.looks.usable ∙ keeps.usable)) is) c.in_pages.ensures.stops
+    let reads = still_reads d still (c.shows_what_crashes_leave.ensures.quiet keeps.usable honest) honest in
+    stops (still.left.disk.device.still honest) tt start
+    (subst (λ x. HasStart x start) (sym reads) keeps.remembers.past.written.0) is) c.in_pages.ensures.stops

@@ -9,7 +9,8 @@ pub loop-k-init : goal.loop-k-init
 loop-k-init g c = record {
   still = still_none g.D.Disk c.args.store.now c.requires.usable;
   calm = refl;
-  same = λ honest k low. absurd (omega (arith, low));
+  low = omega arith;
+  same = λ honest k high low. absurd (omega (arith, high, low));
 }
 
 pub returns-in_err-are_alike-clause-still : goal.returns-in_err-are_alike-clause-still
@@ -25,8 +26,9 @@ loop-k-preserved g c =
     record {
       still = still_both d i.still c.are_alike.ensures.still;
       calm = search rules;
-      same = λ honest k low. elim (cases_lt k c.loop-k.k) [
-        | inl less ↦ i.same honest k less
+      low = omega (arith, i.low);
+      same = λ honest k high low. elim (cases_lt k c.loop-k.k) [
+        | inl less ↦ i.same honest k high less
         | inr ge ↦
             let same = still_reads d i.still (c.shows_what_crashes_leave.ensures.quiet c.requires.usable honest) honest in
             let reads = (now (d.trail c.args.store.now.disk)).reads in
@@ -43,5 +45,5 @@ returns-then-not-branch-clause-all g c = λ honest copied.
     let i = c.loop-k.invariant in
     let same = still_reads d i.still (c.shows_what_crashes_leave.ensures.quiet c.requires.usable honest) honest in
     let alike = subst (λ (r : Content). HoldsSame (r (c.args.base + c.loop-k.k)) (r c.loop-k.k)) (sym same)
-    (copied c.loop-k.k (omega arith, omega (arith, c.loop-k-test.true))) in
+    (copied c.loop-k.k (c.loop-k.invariant.low, omega (arith, c.loop-k-test.true))) in
     absurd (false≢true (sym c.if-not-branch.true ∙ c.in_ok-are_alike.ensures.all (i.still.left.disk.device.still honest) alike))

@@ -1,4 +1,4 @@
-use Rattle.std.proofs.Common.{◌≡◌, ◌+◌, ◌<◌, ℕ}
+use Rattle.std.proofs.Common.{◌≡◌, ◌+◌, ◌<◌, ◌≤◌, ℕ}
 use Rattle.sector_disk.specs.Trail.{now}
 use Rattle.desk_past.specs.Reading.{IsOnlyReadFrom}
 use Rattle.desk_past.proofs.sectors.is_copied.Given as goal
@@ -8,6 +8,7 @@ abbrev pub invariant-loop-k : goal.invariant-loop-k
 invariant-loop-k g l = record {
   still : IsOnlyReadFrom g.D.Disk l.fn.store l.store;
   calm : g.D.Disk.failures l.store.disk ≡ g.D.Disk.failures l.fn.store.disk;
-  same : g.D.Disk.honest l.fn.store.disk → (n : ℕ) → n < l.k
+  low : l.from ≤ l.k;
+  same : g.D.Disk.honest l.fn.store.disk → (n : ℕ) → l.from ≤ n → n < l.k
       → (now (g.D.Disk.trail l.fn.store.disk)).reads (l.base + n) ≡ (now (g.D.Disk.trail l.fn.store.disk)).reads n;
 }

@@ -1,7 +1,7 @@
 use Rattle.std.proofs.Common.{◌≡◌, ◌∙◌, ap, false, rules, sym}
 use Rattle.store_layout.specs.declared.head.PastEnd.{PastEnd}
 use Rattle.desk_past.proofs.StillReads.{still_both, still_looked, still_none}
-use Rattle.desk_past.proofs.TurnedBack.{half_found, left_looked, left_twice, past_behind}
+use Rattle.desk_past.proofs.TurnedBack.{part_found, left_looked, left_twice, past_behind}
 use Rattle.desk_past.proofs.turning.desktop_at.Goals as goal
 
 -- ---- nothing is written
@@ -53,7 +53,7 @@ pub returns-in_default-clause-none : goal.returns-in_default-clause-none
 returns-in_default-clause-none g c = λ past lies there.
     let told = ap (λ (x : PastEnd). x.next)
     (c.in_ok-told.ensures.told past.honest past.keeps.remembers.standing past.keeps.remembers.past.stands) in
-    absurd (half_found g.D.Disk past lies (c.sectors.ensures ∙ c.past.ensures.looks.disk.device.as_large) told
+    absurd (part_found g.D.Disk past lies (c.sectors.ensures ∙ c.past.ensures.looks.disk.device.as_large) told
     c.in_default.ensures.all)
 
 pub returns-in_default-2-clause-none : goal.returns-in_default-2-clause-none
@@ -62,7 +62,7 @@ returns-in_default-2-clause-none g c = λ past lies there.
     let still = still_looked d c.past.result (still_none d c.args.store.now past.keeps.usable) c.past.ensures.looks in
     let told = ap (λ (x : PastEnd). x.next)
     (c.in_ok-told.ensures.told past.honest past.keeps.remembers.standing past.keeps.remembers.past.stands) in
-    let found = half_found d past lies (c.sectors.ensures ∙ c.past.ensures.looks.disk.device.as_large) told
+    let found = part_found d past lies (c.sectors.ensures ∙ c.past.ensures.looks.disk.device.as_large) told
     c.in-Some.ensures.all in
     let later = past_behind d still c.shows_what_crashes_leave.ensures.quiet past in
     absurd ((rw c.in_default-2.is at c.in_ok-shown.ensures.comes_back) later.honest later.start later.deeds later.desktop
@@ -76,7 +76,7 @@ returns-clause-was g c = λ past lies.
     let still = still_looked d c.past.result (still_none d c.args.store.now past.keeps.usable) c.past.ensures.looks in
     let told = ap (λ (x : PastEnd). x.next)
     (c.in_ok-told.ensures.told past.honest past.keeps.remembers.standing past.keeps.remembers.past.stands) in
-    let found = half_found d past lies (c.sectors.ensures ∙ c.past.ensures.looks.disk.device.as_large) told
+    let found = part_found d past lies (c.sectors.ensures ∙ c.past.ensures.looks.disk.device.as_large) told
     c.in-Some.ensures.all in
     let later = past_behind d still c.shows_what_crashes_leave.ensures.quiet past in
     let there = (rw c.in-Some-2.is at c.in_ok-shown.ensures.there) later.honest later.start later.deeds later.desktop

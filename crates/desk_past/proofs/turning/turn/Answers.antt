@@ -1,5 +1,7 @@
+use Rattle.std.proofs.Common.{rules}
 use Rattle.std.proofs.lemmas.Result.{IfOk-weaker, IfErr-weaker}
 use Rattle.desk_past.proofs.Begun.{same_both}
+use Rattle.desk_past.proofs.Sparing.{only_as_large, only_behind_read, only_read, uses_only}
 use Rattle.desk_past.proofs.StillReads.{still_both}
 use Rattle.desk_past.proofs.TurnWays.{err_then, none_left, none_shown, shown_behind}
 use Rattle.desk_past.proofs.TurnedBack.{fails_behind, in_use_then, left_twice, lies_there, none_back, none_can, turned_back}
@@ -78,4 +80,15 @@ returns-clause-device g c = record {
   same = same_both g.D.Disk c.desktop_at.ensures.left.disk.device c.turn_to.ensures.device.same;
   faults = fails_behind c.desktop_at.result _ c.turn_to.result c.in_ok-to.was c.desktop_at.ensures.faults
       c.turn_to.ensures.device.faults;
+  others = only_behind_read g.D.Disk c.turn_to.new.store c.desktop_at.ensures.left.disk
+      c.shows_what_crashes_leave.ensures.quiet (λ _. c.in_ok-to.ensures.still.usable)
+      (only_as_large g.D.Disk c.args.store.now c.desktop_at.ensures.left.disk.device c.turn_to.ensures.device.others);
 }
+
+pub returns-in_err-to-clause-device : goal.returns-in_err-to-clause-device
+returns-in_err-to-clause-device g c = uses_only g.D.Disk (search rules)
+    (only_read g.D.Disk c.desktop_at.ensures.left.disk c.shows_what_crashes_leave.ensures.quiet)
+
+pub returns-in_default-clause-device : goal.returns-in_default-clause-device
+returns-in_default-clause-device g c = uses_only g.D.Disk (search rules)
+    (only_read g.D.Disk c.desktop_at.ensures.left.disk c.shows_what_crashes_leave.ensures.quiet)

@@ -1,4 +1,4 @@
-use Rattle.std.proofs.Common.{◌∙◌, Err, ap, sym}
+use Rattle.std.proofs.Common.{◌∙◌, Err, ap, rules, sym}
 use Rattle.std.proofs.lemmas.Bool.{false≢true}
 use Rattle.std.proofs.lemmas.Result.{err_from_is_err_and}
 use Rattle.store_slots.specs.declared.error.Error.TheVariants.{MustReopen}
@@ -8,6 +8,7 @@ use Rattle.desk_past.proofs.StillReads.{still_none, usable_of}
 use Rattle.desk_past.proofs.TurnWays.{err_then, fault_on, is_fault, none_shown, none_turned, shown_behind, turned_behind, turned_then}
 use Rattle.desk_past.proofs.TurnWays.{turns_behind}
 use Rattle.desk_past.proofs.Ways.{never, not_reopen}
+use Rattle.desk_past.proofs.Sparing.{only_behind_reads, only_none, only_read, uses_only}
 use Rattle.desk_past.proofs.turning.turn_to.Goals as goal
 
 -- ---- in the last epoch
@@ -127,6 +128,10 @@ returns-in_err-turn_behind-clause-device g c =
       same = same_both g.D.Disk c.turn_ahead.ensures.still.left.disk.device c.turn_behind.ensures.behaves.device;
       faults = fault_on c.turn_ahead.result _ c.turn_behind.result c.in_ok-ahead.was c.turn_ahead.ensures.faults
           c.turn_behind.ensures.behaves.faults (c.in_err-turn_behind.was ∙ ap Err fault) (cc (p.1, p.2, fault));
+      others = only_behind_reads g.D.Disk c.turn_ahead.new.store c.turn_behind.new.self c.in-Some.ahead.from c.in-Some.ahead.limit
+          c.turn_ahead.ensures.still.left.disk c.shows_what_crashes_leave.ensures.quiet
+          (λ _. c.turn_ahead.ensures.still.usable) (rw c.in-Some.is at c.in_ok-ahead.ensures.inside)
+          c.turn_behind.ensures.behaves.within;
     }
 
 -- ---- and is another one then
@@ -155,3 +160,28 @@ returns-clause-done g c = λ _. record {
       (rw c.in-Some.is at c.in_ok-ahead.ensures.ahead)
       c.in_ok-turn_behind.ensures.ok.usable c.in_ok-turn_behind.ensures.comes.done;
 }
+
+pub returns-clause-device : goal.returns-clause-device
+returns-clause-device g c = uses_only g.D.Disk (search rules)
+    (only_behind_reads g.D.Disk c.turn_ahead.new.store c.turn_behind.new.self c.in-Some.ahead.from c.in-Some.ahead.limit
+    c.turn_ahead.ensures.still.left.disk c.shows_what_crashes_leave.ensures.quiet
+    (λ _. c.turn_ahead.ensures.still.usable) (rw c.in-Some.is at c.in_ok-ahead.ensures.inside)
+    c.turn_behind.ensures.behaves.within)
+
+-- ---- nothing is written
+
+pub returns-in_err-info-clause-device : goal.returns-in_err-info-clause-device
+returns-in_err-info-clause-device g c =
+    uses_only g.D.Disk (search rules) (only_none g.D.Disk c.shows_what_crashes_leave.ensures.quiet)
+
+pub returns-then-info-clause-device : goal.returns-then-info-clause-device
+returns-then-info-clause-device g c =
+    uses_only g.D.Disk (search rules) (only_none g.D.Disk c.shows_what_crashes_leave.ensures.quiet)
+
+pub returns-in_err-ahead-clause-device : goal.returns-in_err-ahead-clause-device
+returns-in_err-ahead-clause-device g c = uses_only g.D.Disk (search rules)
+    (only_read g.D.Disk c.turn_ahead.ensures.still.left.disk c.shows_what_crashes_leave.ensures.quiet)
+
+pub returns-in_default-clause-device : goal.returns-in_default-clause-device
+returns-in_default-clause-device g c = uses_only g.D.Disk (search rules)
+    (only_read g.D.Disk c.turn_ahead.ensures.still.left.disk c.shows_what_crashes_leave.ensures.quiet)

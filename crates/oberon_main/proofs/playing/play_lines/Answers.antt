@@ -1,5 +1,4 @@
 use Rattle.std.proofs.Common.{refl, ◌∙◌, inl, inr, ap, ◌+◌, arith}
-use Rattle.oberon_main.specs.declared.playing.PlayEnd.TheVariants as ends
 use Rattle.oberon_main.proofs.Played.{played_none, played_more, pieces_with, ended_by_line, ended_by_rest, ended_by_read}
 use Rattle.oberon_main.proofs.Causes.{rises_in_line, rises_from, never_rises, only_failures, few_reads, blank_after}
 use Rattle.oberon_main.proofs.Causes.{input_failed}

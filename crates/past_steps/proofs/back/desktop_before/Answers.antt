@@ -1,6 +1,6 @@
 use Rattle.std.proofs.Common.{refl, subst, sym}
 use Rattle.past_steps.specs.Steps.{IsMomentOf}
-use Rattle.past_steps.proofs.Looking.{broken, looked, looked_on, looked_twice, starved}
+use Rattle.desk_past.proofs.Looks.{broken, looked, looked_on, looked_twice, starved}
 use Rattle.past_steps.proofs.back.desktop_before.Goals as goal
 
 -- ---- it only looks

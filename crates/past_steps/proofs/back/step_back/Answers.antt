@@ -6,7 +6,7 @@ use Rattle.desk_journal.specs.Errors.{Fault, MustReopen}
 use Rattle.desk_past.proofs.Begun.{same_both}
 use Rattle.desk_past.proofs.InMemory.{closed_of, error_from, failing_on, fails_none, none_failed, read_none, stop_at}
 use Rattle.past_steps.specs.Steps.{only_read as nothing_done}
-use Rattle.past_steps.proofs.Looking.{left_twice}
+use Rattle.desk_past.proofs.Looks.{left_twice}
 use Rattle.past_steps.proofs.Turned.{closed_device, closed_reopen, leaves_after, leaves_stepped, no_reopen, undone_after}
 use Rattle.past_steps.proofs.back.step_back.Goals as goal
 

@@ -6,7 +6,8 @@ use Rattle.desk_journal.specs.Undoing.{IsLeft}
 use Rattle.desk_past.proofs.InMemory.{stop_at}
 use Rattle.desk_past.proofs.StillReads.{still_both}
 use Rattle.past_steps.specs.Steps.{BreaksOff}
-use Rattle.past_steps.proofs.Looking.{looks_then, only_read}
+use Rattle.desk_past.proofs.Looks.{looks_then, only_read}
+use Rattle.desk_past.proofs.Sparing.{device_used}
 use Rattle.past_steps.proofs.Turned.{look_broken, look_fails, looks_end, then_done, then_fails, turn_broken, turn_made}
 use Rattle.past_steps.proofs.back.turned_back.Goals as goal
 
@@ -78,7 +79,7 @@ returns-in_err-turn_to-clause-breaks g c =
     stop_at (λ error. BreaksOff d c.args.count error old c.turn_to.new.store)
     (turn_broken d c.requires first second c.shows_what_crashes_leave.ensures.quiet
     c.shows_what_crashes_leave-2.ensures.quiet c.in-Some.last.base c.in-Some.last.k c.in-Some.last.events.items
-    c.in-Some-2.to (rw c.in-Some.is at c.in_ok-last.ensures.half) (rw c.in-Some-2.is at c.in_ok-to.ensures.was)
+    c.in-Some-2.to (rw c.in-Some.is at c.in_ok-last.ensures.part) (rw c.in-Some-2.is at c.in_ok-to.ensures.was)
     (rw c.in-Some-2.is at c.in_ok-to.ensures.leads) c.args.count (rw c.in-Some.is at c.in_ok-last.ensures.few)
     c.turn_to.ensures.any_store c.turn_to.ensures.any_moment
     p.0 (λ is. c.turn_to.ensures.memory (failed ∙ ap (λ e. Err e) is))
@@ -92,7 +93,7 @@ returns-in_err-turn_to-clause-device g c =
     let failed : c.turn_to.result ≡ Err p.0 = cc (p.2, c.in_err-turn_to.was) in
     then_fails g.D.Disk c.turn_to.result
     (looks_then g.D.Disk _ _ c.args.store.now c.last_events.new.store c.desktop_before.new.store
-    c.in_ok-last.ensures.looks c.in_ok-to.ensures.looks) c.turn_to.ensures.device failed p.1
+    c.in_ok-last.ensures.looks c.in_ok-to.ensures.looks) (device_used g.D.Disk c.turn_to.ensures.device) failed p.1
 
 pub returns-then-branch-clause-turned : goal.returns-then-branch-clause-turned
 returns-then-branch-clause-turned g c =
@@ -102,7 +103,7 @@ returns-then-branch-clause-turned g c =
     let second = only_read d _ c.last_events.new.store c.desktop_before.new.store first.usable c.in_ok-to.ensures.looks in
     turn_made d c.requires first second c.shows_what_crashes_leave.ensures.quiet
     c.shows_what_crashes_leave-2.ensures.quiet c.in-Some.last.base c.in-Some.last.k c.in-Some.last.events.items
-    c.in-Some-2.to (rw c.in-Some.is at c.in_ok-last.ensures.half) (rw c.in-Some-2.is at c.in_ok-to.ensures.was)
+    c.in-Some-2.to (rw c.in-Some.is at c.in_ok-last.ensures.part) (rw c.in-Some-2.is at c.in_ok-to.ensures.was)
     (rw c.in-Some-2.is at c.in_ok-to.ensures.leads) c.args.count (rw c.in-Some.is at c.in_ok-last.ensures.few)
     c.turn_to.ensures.any_store c.turn_to.ensures.any_moment
     (λ none. eqb-false _ _ (sym c.is_empty.ensures ∙ c.if-is_empty.false)
@@ -112,7 +113,7 @@ returns-then-branch-clause-turned g c =
 pub returns-then-branch-clause-device : goal.returns-then-branch-clause-device
 returns-then-branch-clause-device g c = then_done g.D.Disk c.turn_to.result
     (looks_then g.D.Disk _ _ c.args.store.now c.last_events.new.store c.desktop_before.new.store
-    c.in_ok-last.ensures.looks c.in_ok-to.ensures.looks) c.turn_to.ensures.device _ c.in_ok-turn_to.was
+    c.in_ok-last.ensures.looks c.in_ok-to.ensures.looks) (device_used g.D.Disk c.turn_to.ensures.device) _ c.in_ok-turn_to.was
 
 pub returns-else-branch-clause-none : goal.returns-else-branch-clause-none
 returns-else-branch-clause-none g c = still_both g.D.Disk
@@ -123,4 +124,4 @@ returns-else-branch-clause-none g c = still_both g.D.Disk
 pub returns-else-branch-clause-device : goal.returns-else-branch-clause-device
 returns-else-branch-clause-device g c = then_done g.D.Disk c.turn_to.result
     (looks_then g.D.Disk _ _ c.args.store.now c.last_events.new.store c.desktop_before.new.store
-    c.in_ok-last.ensures.looks c.in_ok-to.ensures.looks) c.turn_to.ensures.device _ c.in_ok-turn_to.was
+    c.in_ok-last.ensures.looks c.in_ok-to.ensures.looks) (device_used g.D.Disk c.turn_to.ensures.device) _ c.in_ok-turn_to.was

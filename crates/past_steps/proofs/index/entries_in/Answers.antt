@@ -1,4 +1,4 @@
-use Rattle.past_steps.proofs.Looking.{broken, looked_on, looked_twice, starved}
+use Rattle.desk_past.proofs.Looks.{broken, looked_on, looked_twice, starved}
 use Rattle.past_steps.proofs.index.entries_in.Goals as goal
 
 pub returns-in_err-entry : goal.returns-in_err-entry

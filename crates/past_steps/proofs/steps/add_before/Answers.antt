@@ -1,4 +1,4 @@
-use Rattle.past_steps.proofs.Looking.{broken, looked_on, looked_twice, starved}
+use Rattle.desk_past.proofs.Looks.{broken, looked_on, looked_twice, starved}
 use Rattle.past_steps.proofs.steps.add_before.Goals as goal
 
 pub returns-in_err-events-clause-looks : goal.returns-in_err-events-clause-looks

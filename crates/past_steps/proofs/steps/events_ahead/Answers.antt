@@ -1,4 +1,4 @@
-use Rattle.past_steps.proofs.Looking.{broken, looked_on, looked_twice, usable_after}
+use Rattle.desk_past.proofs.Looks.{broken, looked_on, looked_twice, usable_after}
 use Rattle.past_steps.proofs.steps.events_ahead.Goals as goal
 
 pub taken_back-requires : goal.taken_back-requires

@@ -1,5 +1,5 @@
 use Rattle.std.proofs.Common.{◌∙◌, sym}
-use Rattle.past_steps.proofs.Looking.{broken, looked_on, looked_twice, usable_after}
+use Rattle.desk_past.proofs.Looks.{broken, looked_on, looked_twice, usable_after}
 use Rattle.past_steps.proofs.steps.last_events.Goals as goal
 
 pub run_before-requires : goal.run_before-requires
@@ -13,6 +13,6 @@ pub returns-clause-looks : goal.returns-clause-looks
 returns-clause-looks g c = looked_twice g.D.Disk c.in_ok-index.ensures.looks c.in_ok-events.ensures.looks
 
 -- what is read afterwards leaves the index where it begins
-pub returns-clause-half : goal.returns-clause-half
-returns-clause-half g c = λ past lies.
-    (rw c.in-Some.is at c.in_ok-index.ensures.half) past lies ∙ sym c.run_before.ensures.base
+pub returns-clause-part : goal.returns-clause-part
+returns-clause-part g c = λ past lies.
+    (rw c.in-Some.is at c.in_ok-index.ensures.part) past lies ∙ sym c.run_before.ensures.base

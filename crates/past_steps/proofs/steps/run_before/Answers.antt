@@ -1,5 +1,5 @@
 use Rattle.desk_past.proofs.InMemory.{looks_none}
-use Rattle.past_steps.proofs.Looking.{starved}
+use Rattle.desk_past.proofs.Looks.{starved}
 use Rattle.past_steps.proofs.steps.run_before.Goals as goal
 
 pub returns-in_err-add_last-clause-looks : goal.returns-in_err-add_last-clause-looks

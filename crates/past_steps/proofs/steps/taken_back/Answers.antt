@@ -1,4 +1,4 @@
-use Rattle.past_steps.proofs.Looking.{broken, looked_on, looked_twice, starved, usable_after}
+use Rattle.desk_past.proofs.Looks.{broken, looked_on, looked_twice, starved, usable_after}
 use Rattle.past_steps.proofs.steps.taken_back.Goals as goal
 
 pub run_before-requires : goal.run_before-requires

@@ -1,9 +1,9 @@
 use Rattle.std.proofs.Common.{◌≡◌, ◌++◌, ◌∙◌, sym, ap, subst, arith, length, drop, length-drop}
-use Rattle.std.specs.List.{flat_map}
 use Rattle.piece_ring.specs.Text.{Text}
-use Rattle.script_lines.specs.Answer.{stretches, stretch_line}
+use Rattle.screen_pictures.specs.Printed.{ended_line}
+use Rattle.script_lines.specs.Answer.{escaped_answer, look_words}
 use Rattle.script_lines.specs.Stretch.{stretch_bytes}
-use Rattle.script_lines.proofs.Stretches.{some_counted, line_more}
+use Rattle.script_lines.proofs.Stretches.{lines_of, some_counted, line_more}
 use Rattle.script_lines.proofs.answer.text_bytes.Goals as goal
 
 pub loop-first-smaller : goal.loop-first-smaller
@@ -21,10 +21,9 @@ loop-first-preserved c =
     let rest = c.loop-first.rest.now in
     let first = c.in-Some.first.now in
     let n = c.count_in_look.result in
-    let all = flat_map stretch_line (stretches c.args.text.now) in
+    let all = lines_of c.args.text.now in
     let grown = c.in_ok-push_stretch.ensures ∙ ap (λ (s : Text _). c.loop-first.bytes.items
-    ++ stretch_line (record { look = first.1; bytes = stretch_bytes s })) c.split_at.ensures.front in
-    subst (λ (r : Text _). c.push_stretch.new.text.items ++ flat_map stretch_line (stretches r) ≡ all)
-    (sym c.split_at.ensures.back)
+    ++ ended_line (look_words first.1 ++ escaped_answer (stretch_bytes s))) c.split_at.ensures.front in
+    subst (λ (r : Text _). c.push_stretch.new.text.items ++ lines_of r ≡ all) (sym c.split_at.ensures.back)
     (line_more c.loop-first.bytes.items c.push_stretch.new.text.items rest first n all
     (sym c.in-Some.ensures.value) c.count_in_look.ensures.count grown c.loop-first.invariant)

@@ -1,7 +1,11 @@
-use Rattle.store_runs.proofs.Surviving.{told_brought}
 use Rattle.store_runs.proofs.run.bring_in.Goals as goal
 
 pub returns : goal.returns
-returns g c = told_brought g.D.Disk c.args.documents.now c.bring.result c.args.store.now c.bring.new.self
-    c.bring.ensures.any_moment c.bring.ensures.ok c.bring.ensures.memory c.bring.ensures.fault c.bring.ensures.worn
-    c.bring.ensures.behaves
+returns g c = record {
+  any_moment = c.bring.ensures.any_moment;
+  ok = c.bring.ensures.ok;
+  memory = c.bring.ensures.memory;
+  fault = c.bring.ensures.fault;
+  worn = c.bring.ensures.worn;
+  behaves = c.bring.ensures.behaves;
+}

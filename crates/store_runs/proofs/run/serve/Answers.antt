@@ -1,11 +1,11 @@
 use Rattle.std.proofs.Common.{sym, subst}
-use Rattle.store_runs.specs.Deeds.{DoesDeed, answered_deed}
+use Rattle.store_runs.specs.Deeds.{DoesDeed, called}
 use Rattle.store_runs.proofs.run.serve.Goals as goal
 
 -- src/run.rt:20:1
 pub returns-in-Post : goal.returns-in-Post
 returns-in-Post g c =
-    subst (λ call. DoesDeed g.D.Disk (answered_deed call c.post.result) c.args.store.now c.post.new.self) (sym c.in-Post.is) (record {
+    subst (λ call. DoesDeed g.D.Disk (called call c.post.result) c.args.store.now c.post.new.self) (sym c.in-Post.is) (record {
       any_moment = c.post.ensures.any_moment;
       ok = c.post.ensures.ok;
       memory = c.post.ensures.memory;

@@ -1,6 +1,6 @@
 use Rattle.std.proofs.Common.{◌≡◌, List, ◌∷◌, [], ◌++◌, refl, sym, ◌∙◌, ap, subst, arith, rules, length, get_or, ◌<◌}
-use Rattle.store_runs.specs.Deeds.{Deed, IsRun, answered_deed, deeds_of}
-use Rattle.store_runs.proofs.Chaining.{deeds_grow, none_done, one_deed_more}
+use Rattle.store_runs.specs.Deeds.{Deed, IsRun, called}
+use Rattle.store_runs.proofs.Chaining.{answered, deeds_grow, none_done, one_deed_more}
 use Rattle.store_runs.proofs.run.serve_all.Goals as goal
 
 pub loop-call-init : goal.loop-call-init
@@ -9,8 +9,8 @@ loop-call-init g c = record {
   room = search rules;
   run =
       let store = c.args.store.now in
-      let undone : deeds_of c.args.calls.now c.in_ok-answers.answers.items
-      ≡ [] = ap (deeds_of c.args.calls.now) c.in_ok-answers.ensures.items ∙ none_done c.args.calls.now in
+      let undone : answered c.args.calls.now c.in_ok-answers.answers.items
+      ≡ [] = ap (answered c.args.calls.now) c.in_ok-answers.ensures.items ∙ none_done c.args.calls.now in
       subst (λ (deeds : List Deed). IsRun g.D.Disk deeds store store) (sym undone) refl;
 }
 
@@ -25,16 +25,16 @@ loop-call-preserved g c =
       count = search rules;
       room = search rules;
       run =
-          let deed : Deed = answered_deed call answer in
-          let goes = one_deed_more g.D.Disk (deeds_of calls answers) deed c.args.store.now c.loop-call.store
+          let deed : Deed = called call answer in
+          let goes = one_deed_more g.D.Disk (answered calls answers) deed c.args.store.now c.loop-call.store
           c.serve-answer.new.store i.run c.serve-answer.ensures in
           let long : length answers ≡ c.loop-call.call-index = search rules in
           let room : length answers < length calls = omega (arith, long, c.loop-call-test.true) in
           let here : get_or calls (length answers) call ≡ call = ap (λ k. get_or calls k call) long
           ∙ sym c.call-item.is in
-          let grown : deeds_of calls c.push_reserved.new.self.items ≡ deeds_of calls answers ++ deed ∷ [] =
-          ap (deeds_of calls) c.push_reserved.ensures.items ∙ deeds_grow calls answers answer call room
-          ∙ ap (λ x. deeds_of calls answers ++ answered_deed x answer ∷ []) here in
+          let grown : answered calls c.push_reserved.new.self.items ≡ answered calls answers ++ deed ∷ [] =
+          ap (answered calls) c.push_reserved.ensures.items ∙ deeds_grow calls answers answer call room
+          ∙ ap (λ x. answered calls answers ++ called x answer ∷ []) here in
           subst (λ (ds : List Deed). IsRun g.D.Disk ds c.args.store.now c.serve-answer.new.store) (sym grown) goes;
     }
 

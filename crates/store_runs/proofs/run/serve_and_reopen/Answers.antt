@@ -75,15 +75,12 @@ returns-in-Err-clause-stops g c = λ h.
     c.loop-call.invariant.usable c.in-Err.ensures
 
 pub returns-in-Err-clause-worn : goal.returns-in-Err-clause-worn
-returns-in-Err-clause-worn g c = λ is.
-    let i = c.loop-call.invariant in
-    record {
-      count = c.loop-call.call-index;
-      within = i.within;
-      last = sym (ap (λ (n : StoreCounts). n.epoch) i.counts)
-          ∙ call_worn g.D.Disk c.call-item.result c.in-Err.error c.loop-call.store c.serve.new.store
-          c.in-Err.ensures is;
-    }
+returns-in-Err-clause-worn g c = λ is. (
+  c.loop-call.call-index,
+  sym (ap (λ (n : StoreCounts). n.epoch) c.loop-call.invariant.counts)
+      ∙ call_worn g.D.Disk c.call-item.result c.in-Err.error c.loop-call.store c.serve.new.store
+      c.in-Err.ensures is,
+)
 
 pub returns-clause-ok : goal.returns-clause-ok
 returns-clause-ok g c = IfOk-weaker c.open.result _ _ (λ reopened found.

@@ -5,7 +5,7 @@ use Rattle.sector_disk.specs.Trail.{now}
 use Rattle.desk_past.proofs.InMemory.{none_failed}
 use Rattle.desk_past.proofs.StillReads.{still_looked, still_none}
 use Rattle.desk_past.proofs.Told.{ok_of, shown_as}
-use Rattle.told_pasts.proofs.Reached.{half_found}
+use Rattle.told_pasts.proofs.Reached.{part_found}
 use Rattle.told_pasts.proofs.Stops.{looks_stop, stops_first, stops_none}
 use Rattle.told_pasts.proofs.reach.reach_of.Goals as goal
 
@@ -14,8 +14,8 @@ returns-in-None-clause-told g c = λ honest start deeds desktop keeps lies.
     let d = g.D.Disk in
     let read = still_looked d c.past.result (still_none d c.args.store.now keeps.usable) c.past.ensures.looks in
     let told = c.in_ok-told.ensures.told honest keeps.remembers.standing keeps.remembers.past.stands in
-    let found : IsSomeAnd c.half_at.result (λ half. (half.base ≡ start.base) × (half.end ≡ lies.end)) =
-    half_found d keeps lies c.half_at.result _ _ c.half_at.ensures.all
+    let found : IsSomeAnd c.part_at.result (λ part. (part.base ≡ start.base) × (part.end ≡ lies.end)) =
+    part_found d keeps lies c.part_at.result _ _ c.part_at.ensures.all
     (c.sectors.ensures ∙ read.left.disk.device.as_large) (ap (λ p. p.next) told) in
     absurd (rw c.in-None.is at found)
 
@@ -25,8 +25,8 @@ returns-in-Some-clause-told g c = λ honest start deeds desktop keeps lies.
     let s = keeps.remembers.standing in
     let read = still_looked d c.past.result (still_none d c.args.store.now keeps.usable) c.past.ensures.looks in
     let told = c.in_ok-told.ensures.told honest s keeps.remembers.past.stands in
-    let found : IsSomeAnd c.half_at.result (λ half. (half.base ≡ start.base) × (half.end ≡ lies.end)) =
-    half_found d keeps lies c.half_at.result _ _ c.half_at.ensures.all
+    let found : IsSomeAnd c.part_at.result (λ part. (part.base ≡ start.base) × (part.end ≡ lies.end)) =
+    part_found d keeps lies c.part_at.result _ _ c.part_at.ensures.all
     (c.sectors.ensures ∙ read.left.disk.device.as_large) (ap (λ p. p.next) told) in
     let at = rw c.in-Some.is at found in
     let is = shown_as (now (d.trail c.args.store.now.disk)) s c.standing_law.ensures

@@ -1,4 +1,4 @@
-use Rattle.past_steps.proofs.Looking.{broken, looked_on, looked_twice}
+use Rattle.desk_past.proofs.Looks.{broken, looked_on, looked_twice}
 use Rattle.past_steps.proofs.index.Index.behind.Goals as goal
 
 pub returns-in_err-journal-clause-looks : goal.returns-in_err-journal-clause-looks

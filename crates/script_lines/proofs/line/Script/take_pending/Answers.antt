@@ -1,6 +1,7 @@
 use Rattle.std.proofs.Common.{◌≡◌, ◌∙◌, ◌++◌, ◌+◌, List, ℕ, ap, subst, sym, take}
 use Rattle.std.specs.List.{between}
-use Rattle.script_lines.specs.Script.{script_line, IsLine}
+use Rattle.screen_pictures.specs.Printed.{ended_line}
+use Rattle.script_lines.specs.Script.{IsLine}
 use Rattle.script_lines.specs.Reading.{HoldsLine, Unplayed}
 use Rattle.script_lines.proofs.Feeds.{no_feed, before_feed, behind_feed, between_behind, between_none}
 use Rattle.script_lines.proofs.line.Script.take_pending.Goals as goal
@@ -12,7 +13,7 @@ returns-in-Some-clause-feed c = λ taken.
       take c.in-Some.feed pending,
       before_feed pending c.in-Some.feed (sym c.in-Some.ensures.first),
       is ∙ behind_feed pending c.in-Some.feed (sym c.in-Some.ensures.first)
-          ∙ ap (λ l. script_line (take c.in-Some.feed pending) ++ l)
+          ∙ ap (λ l. ended_line (take c.in-Some.feed pending) ++ l)
           (sym (between_behind c.self.inside.piece c.self.inside.next (c.in-Some.feed + 1) c.self.inside.end)),
       c.extend.ensures,
     )

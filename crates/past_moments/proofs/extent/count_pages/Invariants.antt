@@ -1,0 +1,20 @@
+use Rattle.std.proofs.Common.{◌≡◌, ◌-◌, ◌≤◌, List}
+use Rattle.sector_disk.specs.Trail.{now}
+use Rattle.desk_past.specs.Page.{Page, HasPages, end_of_pages}
+use Rattle.desk_past.specs.Past.{AreGood}
+use Rattle.desk_past.specs.Reading.{IsOnlyReadFrom}
+use Rattle.past_moments.proofs.Counting.{HasCounted}
+use Rattle.past_moments.proofs.extent.count_pages.Given as goal
+
+-- nothing is written to the store, and the pages before this sector have been counted
+abbrev pub invariant-loop-here : goal.invariant-loop-here
+invariant-loop-here g l = record {
+  still : IsOnlyReadFrom g.D.Disk l.fn.store l.store;
+  counted : g.D.Disk.honest l.fn.store.disk → (pages : List Page)
+      → HasPages (now (g.D.Disk.trail l.fn.store.disk)).reads l.first pages → AreGood pages
+      → end_of_pages l.first pages ≡ l.end → l.end ≤ g.D.Disk.size l.fn.store.disk
+      → HasCounted (now (g.D.Disk.trail l.fn.store.disk)).reads l.end pages l.here.at l.here.k;
+}
+
+abbrev pub decreases-loop-here : goal.decreases-loop-here
+decreases-loop-here g l = l.end - l.here.at

@@ -1,0 +1,15 @@
+use Rattle.std.proofs.Common.{◌∙◌}
+use Rattle.past_moments.proofs.Ways.{done_events, done_import}
+use Rattle.past_moments.proofs.legs.do_all.Goals as goal
+
+pub returns-in_ok-post_all-in-Events : goal.returns-in_ok-post_all-in-Events
+returns-in_ok-post_all-in-Events c = λ done p read.
+    done_events c.args.deeds.now p _ _ _ (λ version page is. c.as_slice.ensures.value ∙ (rw c.in-Events.is at is))
+    (λ version page is. (rw c.in-Events.is at is)) (λ version k to is. (rw c.in-Events.is at is)) read
+    (c.in_ok-post_all-in-Events.ensures.led.desktop tt)
+
+pub returns-in_ok-bring-in-Import : goal.returns-in_ok-bring-in-Import
+returns-in_ok-bring-in-Import c = λ done p read.
+    done_import c.args.deeds.now p _ _ _ (λ version page is. (rw c.in-Import.is at is))
+    (λ version page is. c.as_slice-in-Import.ensures.value ∙ (rw c.in-Import.is at is))
+    (λ version k to is. (rw c.in-Import.is at is)) read c.in_ok-bring-in-Import.ensures

@@ -1,0 +1,13 @@
+use Rattle.desk_past.proofs.StillReads.{still_both}
+use Rattle.past_moments.proofs.Carried.{moments_on}
+use Rattle.past_moments.proofs.moments.Moments.step_forth.Goals as goal
+
+pub returns-in_err-end-clause-still : goal.returns-in_err-end-clause-still
+returns-in_err-end-clause-still g c = still_both g.D.Disk c.at.ensures.still c.end_at.ensures.still
+
+pub returns-clause-are : goal.returns-clause-are
+returns-clause-are g c = λ are. moments_on g.D.Disk c.end_at.ensures.still c.at.ensures.still.usable
+    (c.shows_what_crashes_leave.ensures.quiet c.at.ensures.still.usable) c.at.new.self (c.in_ok-mark.ensures.are are)
+
+pub returns-clause-still : goal.returns-clause-still
+returns-clause-still g c = still_both g.D.Disk c.at.ensures.still c.end_at.ensures.still

@@ -1,0 +1,4 @@
+mod Ending
+mod Lines
+mod Parts
+mod Showing

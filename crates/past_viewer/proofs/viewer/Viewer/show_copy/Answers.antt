@@ -1,0 +1,53 @@
+use Rattle.std.proofs.Common.{◌∙◌, refl}
+use Rattle.std.proofs.lemmas.Result.{err_from_is_err_and, on_ok_weaker}
+use Rattle.past_moments.proofs.Telling.{last_is}
+use Rattle.past_viewer.proofs.Ending.{of_memory_alone, of_store, output_calm}
+use Rattle.past_viewer.proofs.Showing.{says_copied, viewer_read}
+use Rattle.past_viewer.proofs.viewer.Viewer.show_copy.Goals as goal
+
+-- ---- it isn't copied
+
+pub returns-in_err-copied-clause-viewer : goal.returns-in_err-copied-clause-viewer
+returns-in_err-copied-clause-viewer g c = λ is.
+    viewer_read g.D.Disk c.args.self.now _ refl refl c.copied_of.ensures.same refl refl is
+
+pub returns-in_err-copied-clause-output : goal.returns-in_err-copied-clause-output
+returns-in_err-copied-clause-output g c =
+    let p = err_from_is_err_and c.from_residual.result c.from_residual.ensures.1 in
+    rw (p.1, p.2) (output_calm _ _ _ (of_store c.in_err-copied.field-0.0).1 refl)
+
+pub returns-in_err-copied-clause-cause : goal.returns-in_err-copied-clause-cause
+returns-in_err-copied-clause-cause g c =
+    let p = err_from_is_err_and c.from_residual.result c.from_residual.ensures.1 in
+    rw (p.1, p.2) (of_store c.in_err-copied.field-0.0).0
+
+-- ---- the line isn't made
+
+pub returns-in_err-line-clause-viewer : goal.returns-in_err-line-clause-viewer
+returns-in_err-line-clause-viewer g c = λ is.
+    viewer_read g.D.Disk c.args.self.now _ refl refl c.copied_of.ensures.same refl refl is
+
+pub returns-in_err-line-clause-output : goal.returns-in_err-line-clause-output
+returns-in_err-line-clause-output g c =
+    let p = err_from_is_err_and c.from_residual-in_err-line.result c.from_residual-in_err-line.ensures.1 in
+    rw (p.1, p.2) (output_calm _ _ _ of_memory_alone.1 refl)
+
+pub returns-in_err-line-clause-cause : goal.returns-in_err-line-clause-cause
+returns-in_err-line-clause-cause g c =
+    let p = err_from_is_err_and c.from_residual-in_err-line.result c.from_residual-in_err-line.ensures.1 in
+    rw (p.1, p.2) of_memory_alone.0
+
+-- ---- it is shown, and said
+
+pub returns-clause-viewer : goal.returns-clause-viewer
+returns-clause-viewer g c = λ is. c.show_saying.ensures.viewer
+    (viewer_read g.D.Disk c.args.self.now _ refl refl c.copied_of.ensures.same refl refl is)
+
+pub returns-clause-scenes : goal.returns-clause-scenes
+returns-clause-scenes g c = on_ok_weaker c.show_saying.result (λ shown is. shown
+    (viewer_read g.D.Disk c.args.self.now _ refl refl c.copied_of.ensures.same refl refl is)
+    (says_copied g.D.Disk c.args.self.now.shown c.args.self.now.moments.extent.last c.args.self.now.look.shown.desktop
+    _ _ _ _ (last_is g.D.Disk c.args.self.now.moments.extent is.moments.extent) c.copied_of.ensures.same
+    (c.as_slice-3.ensures.value ∙ c.in_ok-copied.ensures.clip)
+    (c.as_slice.ensures.value ∙ c.in_ok-copied.ensures.words)
+    (c.as_slice-2.ensures.value ∙ c.in_ok-line.ensures))) c.show_saying.ensures.scenes

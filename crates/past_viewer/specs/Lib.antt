@@ -1,0 +1,5 @@
+pub mod Calling
+pub mod Copies
+pub mod Panes
+pub mod Viewing
+pub mod Words
