@@ -86,7 +86,7 @@ def press_by_hearings(sitting, model, presses, chance):
         for one in run:
             take(sitting, model, *one)
         data = b''.join(data for data, _ in run)
-        if len(data) < 64 and not has_line_end(data):  # (with one in it another scene may ring before the last one)
+        if len(data) < 64 and not is_heard_apart(data):  # (else another scene may ring before the last one)
             heard = sitting.hear(data)
             model.take(('ring',))
         else:
@@ -99,8 +99,9 @@ def press_by_hearings(sitting, model, presses, chance):
 
 
 def take(sitting, model, data, meanings):
-    """What one press comes to. What is heard at one time goes no further than to the end of a line or to a TAB, so behind each
-    of these the screen is shown: within a press, where it says so or else before all of it is meant, and behind it."""
+    """What one press comes to. What is heard at one time goes no further than to the end of a line, a TAB, or a key by which one
+    may leave the past, so behind each of these the screen is shown: within a press, where it says so or else before all of it is
+    meant, and behind it."""
     if has_line_end(data[:-1]) and ('look',) not in meanings:
         model.look()
     for meaning in meanings:
@@ -114,6 +115,11 @@ def take(sitting, model, data, meanings):
 def has_line_end(data):
     """Whether something ends in it with which a hearing ends."""
     return any(end in data for end in (b'\r', b'\n', b'\t'))
+
+
+def is_heard_apart(data):
+    """Whether it may be heard at several times: with an end of a line in it, a letter by which one may leave the past, or Escape."""
+    return has_line_end(data) or b'q' in data or b'\x1b\x00' in data
 
 
 def characters(cells, rows):

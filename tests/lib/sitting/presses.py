@@ -32,6 +32,10 @@ NOTHING = [b'\x1b[<64;3;4m', b'\x1b[<66;3;4M', b'\x1b[<35;3;4M', b'\x1b[1;5E', b
 RINGING = [b'\x1bOQ\x1b\x00', b'\x1b1\x1b\x00', b'\x04', b'\x00', '\u00e4'.encode(), '\u2014'.encode(), b'\xff']
 
 
+# An escape byte, and one that shows that it was the key: the screen is shown before that means anything, and behind it.
+CALLED_OFF = [('look',), ('called off',), ('look',), ('ring',)]
+
+
 # The files of the host that are brought in, and names of what is none: that isn't there, a folder, a pipe.
 FILES = {'note.txt': b'a short note\n', 'long.txt': b'a line of a long file\r\n' * 100, 'odd': bytes(range(256)) * 2,
          'empty': b''}
@@ -110,7 +114,7 @@ def called_off(random):
     """A name of a host file is asked for, and nothing comes of it."""
     name, rings = random.choice([(b'', 0), (b'n', 0), (b'a name.txt', 0), (b'x\x7f\x7f', 1), (b'\xff\x18', 1), (b'\x1b[A', 1),
                                  (b'\x1b[<0;3;4M\x1b[<0;3;4m', 0), (b'\x1b[200~x\n\x1b[201~', 1)])
-    return random.choice([b'\x0f', b'\x1b[19~']) + name + b'\x1b\x00', [('ring at a name',)] * rings + [('ring',)]
+    return random.choice([b'\x0f', b'\x1b[19~']) + name + b'\x1b\x00', [('ring at a name',)] * rings + [('look',), ('ring',)]
 
 
 def line_asked(random):
@@ -126,7 +130,7 @@ def press(random, rows, is_whole):
     kind = random.randrange(32)
     if kind < 6:
         character = random.choice(PRINTED + ['\r', '\t', 'e', 'a', ' '])
-        return character.encode(), [('type', character)]
+        return character.encode(), typed(character)
     if kind < 8:
         return random.choice([b'\x7f', b'\x08']), [('key', 'back')]
     if kind == 8:
@@ -135,7 +139,7 @@ def press(random, rows, is_whole):
     if kind == 9:
         return paste(random, is_whole and random.random() < 0.2)
     if kind == 10:
-        return random.choice([(random.choice(NOTHING), []), (random.choice(RINGING), [('ring',)])])
+        return random.choice([(random.choice(NOTHING), []), rung(random.choice(RINGING))])
     if kind == 11:
         return arrow(random)
     if kind == 12 or kind == 13 and not is_whole:
@@ -177,9 +181,14 @@ def press(random, rows, is_whole):
     return data, meanings + [('pointer', int(column), int(row))]
 
 
+def rung(data):
+    """What rings. Behind Escape the screen is shown."""
+    return data, [('look',)] * (b'\x1b\x00' in data) + [('ring',)]
+
+
 def typed(character):
-    """What a character amid others means. Behind a TAB the screen is shown."""
-    return [('type', character)] + [('look',)] * (character == '\t')
+    """What a character means. Behind a TAB and a q the screen is shown."""
+    return [('type', character)] + [('look',)] * (character in '\tq')
 
 
 def sought(random, rows):
@@ -188,17 +197,17 @@ def sought(random, rows):
     row = random.randrange(2, min(rows, 5))
     column = random.randrange(2, 12)
     end = column + random.randrange(0, 2)
-    typed = '\x7f' * (end - column + 1) + random.choice(['', 'q', 'Zz', ' ', '.'])
+    count, word = end - column + 1, random.choice(['', 'q', 'Zz', ' ', '.'])
     data, meanings = b'', []
     for piece, found in ((drag(random, 'l', (2, 2), (2, 2)), [('point', 'l', 2, 2, 2, 2), ('pointer', 2, 2)]),
                          (drag(random, 'r', (column, row), (end, row)), [('point', 'r', column, row, end, row), ('pointer', end, row)]),
                          (b'\x06', [('search', False)]),
-                         (typed.encode(), [('key', 'back') if letter == '\x7f' else ('type', letter) for letter in typed]),
+                         (b'\x7f' * count + word.encode(), [('key', 'back')] * count + [it for letter in word for it in typed(letter)]),
                          (b'\x06\x06', [('search', False)] * 2), (b'\x12', [('replace',)]), (b'\x06', [('search', False)]),
                          (b'\x1b[D', [('arrow', 'left')]), (b'\x12', [('replace',)])):
         if random.random() < (0.3 if piece == b'\x1b[D' else 0.9) and len(data + piece) < 58:
             data, meanings = data + piece, meanings + found
-    return data + b'\x1b\x00', meanings + [('called off',), ('ring',)]
+    return data + b'\x1b\x00', meanings + CALLED_OFF
 
 
 def extended(random, rows):
@@ -245,7 +254,7 @@ def asked_for(random):
     for _ in range(random.randrange(3)):
         first, last = random.choice(list(keys)), random.choice([b'\r', *keys])
         data, meanings = data + first + last, [*meanings, ('search', keys[first]), *ended(last, keys)]
-    return data + b'\x1b\x00', meanings + [('called off',), ('ring',)]
+    return data + b'\x1b\x00', meanings + CALLED_OFF
 
 
 def stretched(random):
@@ -259,7 +268,7 @@ def stretched(random):
         word = word if random.random() < 0.7 else random.choice([*SHIFTED])
         data, meanings = data + SHIFTED[word], [*meanings, ('select', word)]
     more, meaning = random.choice([(b'\x7f', ('key', 'back')), (b'\x1b[3~', ('delete',)), (b'q', ('type', 'q')), (b' ', ('type', ' ')), (b'', None)])
-    return data + more, meanings + [meaning] * bool(more)
+    return data + more, meanings + [meaning] * bool(more) + [('look',)] * (more == b'q')
 
 
 def keyed(random):
