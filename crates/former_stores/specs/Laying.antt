@@ -20,6 +20,11 @@ pub record IsBlankFrom {E : Type 0} (e : Ghosts E) (to count : ℕ) (disk : E) :
 abbrev pub IsCopiedTo : ℕ → ℕ → ℕ → Content → Content → Type 0
 IsCopiedTo from to count was c = (k : ℕ) → k < count → c (to + k) ≡ was (from + k)
 
+-- a disk of this size has those of a store from this one on
+pub record HasStoreRoom (size base : ℕ) : Type 0 where
+  pub numbered : base + STORE_SECTORS < 2 ^ 32
+  pub room : base + STORE_SECTORS ≤ size
+
 -- so many sectors lie behind a store, on a disk as large
 pub record ArePlaced (from count size : ℕ) : Type 0 where
   pub behind : STORE_SECTORS ≤ from
@@ -30,10 +35,12 @@ pub record ArePlaced (from count size : ℕ) : Type 0 where
 abbrev pub StandsNone : Content → ℕ → Type 0
 StandsNone c base = (t : Standing) → StandsFrom c base t → ⊥
 
--- the store shows what stands there, on a disk as large as this, which has these sectors, too
+-- A store stands there, and this one shows what that does. It is on a disk of this size, which has these sectors, too.
 pub record IsLaid {E : Type 0} (e : Ghosts E) (c : Content) (base from count large : ℕ)
     (store : StoreView E)
     : Type 0 where
-  pub shows : (t : Standing) → StandsFrom c base t → ShowsNow e t store
+  pub standing : Standing
+  pub stands : StandsFrom c base standing
+  pub shows : ShowsNow e standing store
   pub pages : (n : ℕ) → InRange from count n → (now (e.trail store.disk)).reads n ≡ c n
   pub size : e.size store.disk ≡ large

@@ -1,16 +1,16 @@
 //! The store as it was when a part of its past began.
-ghost use Rattle.std.specs.Prelude.{◌≡◌, List, false, true, Decides, IfErr, IfOk, IfSome, IsErrOf, IsSomeAnd, OnOk};
+ghost use Rattle.std.specs.Prelude.{◌≡◌, List, false, Decides, IfErr, IfOk, IfSome, IsSomeAnd, MatchOption, OnOk};
 ghost use Rattle.sector_disk.specs.Faults.{FailsAs};
 ghost use Rattle.sector_disk.specs.Trail.{now};
 ghost use Rattle.desktop_definitions.specs.Desktop.{Desktop};
 ghost use Rattle.store_layout.specs.Meaning.{Standing};
-ghost use Rattle.store_slots.specs.Errors.{OfDesktop, OfLook};
-ghost use Rattle.desk_past.specs.Beginning.{HasStartRoom};
+ghost use Rattle.store_slots.specs.Errors.{OfDesktop};
+ghost use Rattle.desk_journal.specs.Looking.{OnlyLooks};
 ghost use Rattle.desk_past.specs.Deeds.{PastDeed};
-ghost use Rattle.desk_past.specs.Past.{StandsFrom, Start};
+ghost use Rattle.desk_past.specs.Past.{Start};
 ghost use Rattle.desk_past.specs.Reading.{IsBlankRoom, IsOnlyReadFrom, ShowsNow};
-ghost use Rattle.former_stores.specs.Former.{ArePagesBefore, IsFormer, IsOlderBehind, KeepsWhole};
-ghost use Rattle.former_stores.specs.Laying.{ArePlaced};
+ghost use Rattle.former_stores.specs.Former.{AreSectorsBefore, HasPartBefore, IsFormer, IsFormerStore, KeepsWhole, SaysOfStart};
+ghost use Rattle.former_stores.specs.Laying.{ArePlaced, HasStoreRoom, StandsNone};
 
 use crate::laying::laid;
 use desk_journal::{Error, STORE_SECTORS, Store};
@@ -66,11 +66,11 @@ fn told_at<D: Disk, E: Disk + Drop>(
     disk: E,
 ) -> Result<Option<Told>, Error>
     requires usable { store.old.must_reopen ≡ false }
-    requires start { HasStartRoom (D.size store.old.disk) base }
+    requires start { HasStoreRoom (D.size store.old.disk) base }
     requires blank { IsBlankRoom E.Disk disk }
-    ensures told { IfOk result (λ found. D.honest store.old.disk → E.honest disk → (t : Standing)
-        → StandsFrom (now (D.trail store.old.disk)).reads base t
-        → IsSomeAnd found (λ told. (told.epoch ≡ t.epoch) × (told.next ≡ t.past.next))) }
+    ensures told { IfOk result (λ found. D.honest store.old.disk → E.honest disk
+        → MatchOption found (StandsNone (now (D.trail store.old.disk)).reads base)
+        (SaysOfStart (now (D.trail store.old.disk)).reads base)) }
     ensures still { IsOnlyReadFrom D.Disk store.old store.new }
     ensures faults { FailsAs Error.Fault OfDesktop result (D.failures store.old.disk)
         (D.failures store.new.disk) }
@@ -88,10 +88,10 @@ fn told_at<D: Disk, E: Disk + Drop>(
 /// Errors: those of `laid`.
 fn told_of<D: Disk>(alloc: Global, store: &mut Store<D>, base: u32) -> Result<Option<Told>, Error>
     requires usable { store.old.must_reopen ≡ false }
-    requires start { HasStartRoom (D.size store.old.disk) base }
-    ensures told { IfOk result (λ found. D.honest store.old.disk → (t : Standing)
-        → StandsFrom (now (D.trail store.old.disk)).reads base t
-        → IsSomeAnd found (λ told. (told.epoch ≡ t.epoch) × (told.next ≡ t.past.next))) }
+    requires start { HasStoreRoom (D.size store.old.disk) base }
+    ensures told { IfOk result (λ found. D.honest store.old.disk
+        → MatchOption found (StandsNone (now (D.trail store.old.disk)).reads base)
+        (SaysOfStart (now (D.trail store.old.disk)).reads base)) }
     ensures still { IsOnlyReadFrom D.Disk store.old store.new }
     ensures faults { FailsAs Error.Fault OfDesktop result (D.failures store.old.disk)
         (D.failures store.new.disk) }
@@ -102,10 +102,10 @@ fn told_of<D: Disk>(alloc: Global, store: &mut Store<D>, base: u32) -> Result<Op
 }
 
 /// Whether a disk of so many sectors has room for a start in sector `base`.
-fn has_start_room(sectors: u32, base: u32) -> bool
-    ensures { Decides result (HasStartRoom sectors base) }
+fn has_store_room(sectors: u32, base: u32) -> bool
+    ensures { Decides result (HasStoreRoom sectors base) }
 {
-    base >= STORE_SECTORS && sectors >= STORE_SECTORS && base <= sectors - STORE_SECTORS
+    sectors >= STORE_SECTORS && base <= sectors - STORE_SECTORS
 }
 
 /// Where the start and the pages stand that came before the start in sector `base`. None where no start stands there, or
@@ -118,19 +118,18 @@ fn stretch_before<D: Disk>(
     base: u32,
 ) -> Result<Option<Stretch>, Error>
     requires usable { store.old.must_reopen ≡ false }
-    requires start { HasStartRoom (D.size store.old.disk) base }
-    ensures are { IfOk result (λ found. D.honest store.old.disk → (start : Start)
-        (deeds : List PastDeed) (desktop : Desktop) → (is : IsFormer (D.size store.old.disk) base
-        start deeds desktop (now (D.trail store.old.disk)).reads)
-        → IsSomeAnd found (ArePagesBefore is)) }
-    ensures inside { IfOk result (λ found. IfSome found (λ s.
-        ArePlaced s.from s.count (D.size store.old.disk))) }
-    ensures older { IfOk result (λ found. IfSome found (λ s. D.honest store.old.disk
-        → IsOlderBehind (D.size store.old.disk) base (now (D.trail store.old.disk)).reads)) }
+    requires start { HasStoreRoom (D.size store.old.disk) base }
+    ensures found { IfOk result (λ found. D.honest store.old.disk → MatchOption found
+        (HasPartBefore (D.size store.old.disk) base (now (D.trail store.old.disk)).reads → ⊥)
+        (λ stretch. (has : HasPartBefore (D.size store.old.disk) base
+        (now (D.trail store.old.disk)).reads) × AreSectorsBefore has stretch)) }
+    ensures inside { IfOk result (λ found. IfSome found (λ stretch.
+        ArePlaced stretch.from stretch.count (D.size store.old.disk))) }
     ensures still { IsOnlyReadFrom D.Disk store.old store.new }
     ensures faults { FailsAs Error.Fault OfDesktop result (D.failures store.old.disk)
         (D.failures store.new.disk) }
 {
+    standing_law();
     store.shows_what_crashes_leave();
     let Some(told) = told_of(alloc, store, base)? else {
         return Ok(None);
@@ -150,6 +149,33 @@ fn stretch_before<D: Disk>(
     }))
 }
 
+/// What `former_store` finds, of a store in use, where there is room for a start in that sector.
+///
+/// Errors: those of `laid`.
+fn laid_before<D: Disk>(
+    alloc: Global,
+    store: &mut Store<D>,
+    base: u32,
+) -> Result<Option<Store<MemoryDisk>>, Error>
+    requires usable { store.old.must_reopen ≡ false }
+    requires start { HasStoreRoom (D.size store.old.disk) base }
+    ensures found { IfOk result (λ found. D.honest store.old.disk → MatchOption found
+        (HasPartBefore (D.size store.old.disk) base (now (D.trail store.old.disk)).reads → ⊥)
+        (IsFormerStore ⟦<MemoryDisk as Disk>⟧ (D.size store.old.disk) base
+        (now (D.trail store.old.disk)).reads)) }
+    ensures still { IsOnlyReadFrom D.Disk store.old store.new }
+    ensures faults { FailsAs Error.Fault OfDesktop result (D.failures store.old.disk)
+        (D.failures store.new.disk) }
+{
+    standing_law();
+    store.shows_what_crashes_leave();
+    let Some(pages) = stretch_before(alloc, store, base)? else {
+        return Ok(None);
+    };
+    let disk = MemoryDisk::new(alloc, store.sectors())?;
+    laid(alloc, store, base, pages.from, pages.count, disk)
+}
+
 /// The store as it was when the part began whose start stands in sector `base`, in memory, with the past that it had then. It
 /// is on a disk as large. None where no start stands there, or where that past is no more, since another part has begun
 /// where it lay.
@@ -160,31 +186,29 @@ pub fn former_store<D: Disk>(
     store: &mut Store<D>,
     base: u32,
 ) -> Result<Option<Store<MemoryDisk>>, Error>
+    ensures found { IfOk result (λ found. D.honest store.old.disk → MatchOption found
+        (HasPartBefore (D.size store.old.disk) base (now (D.trail store.old.disk)).reads → ⊥)
+        (IsFormerStore ⟦<MemoryDisk as Disk>⟧ (D.size store.old.disk) base
+        (now (D.trail store.old.disk)).reads)) }
     ensures former { IfOk result (λ found. D.honest store.old.disk → (start : Start)
         (deeds : List PastDeed) (desktop : Desktop) → IsFormer (D.size store.old.disk) base
         start deeds desktop (now (D.trail store.old.disk)).reads
         → IsSomeAnd found (KeepsWhole ⟦<MemoryDisk as Disk>⟧ start deeds desktop)) }
-    ensures shown { IfOk result (λ found. IfSome found (λ shown. D.honest store.old.disk
-        → (t : Standing) → StandsFrom (now (D.trail store.old.disk)).reads base t
-        → ShowsNow ⟦<MemoryDisk as Disk>⟧ t shown)) }
-    ensures older { IfOk result (λ found. IfSome found (λ shown. D.honest store.old.disk
-        → IsOlderBehind (D.size store.old.disk) base (now (D.trail store.old.disk)).reads)) }
+    ensures no_other { IfOk result (λ found. IfSome found (λ shown. D.honest store.old.disk
+        → (start : Start) (deeds : List PastDeed) (desktop : Desktop)
+        → KeepsWhole ⟦<MemoryDisk as Disk>⟧ start deeds desktop shown
+        → IsFormer (D.size store.old.disk) base start deeds desktop
+        (now (D.trail store.old.disk)).reads)) }
     ensures still { OnOk result (IsOnlyReadFrom D.Disk store.old store.new) }
-    ensures faults { FailsAs Error.Fault OfLook result (D.failures store.old.disk)
-        (D.failures store.new.disk) }
-    ensures open { IsErrOf result Error.MustReopen → store.old.must_reopen ≡ true }
+    ensures looks { OnlyLooks D.Disk result store.old store.new }
 {
+    standing_law();
     store.shows_what_crashes_leave();
     if store.info().is_err() {
         return Err(Error::MustReopen);
     }
-    let sectors = store.sectors();
-    if !has_start_room(sectors, base) {
+    if !has_store_room(store.sectors(), base) {
         return Ok(None);
     }
-    let Some(pages) = stretch_before(alloc, store, base)? else {
-        return Ok(None);
-    };
-    let disk = MemoryDisk::new(alloc, sectors)?;
-    laid(alloc, store, base, pages.from, pages.count, disk)
+    laid_before(alloc, store, base)
 }

@@ -10,9 +10,8 @@ ghost use Rattle.store_slots.specs.Errors.{OfDesktop, OfOpen};
 ghost use Rattle.desk_journal.specs.Device.{IsSameDevice};
 ghost use Rattle.desk_journal.specs.Looking.{OnlyLooks};
 ghost use Rattle.desk_journal.specs.Opening.{IsNoStore, IsOpened};
-ghost use Rattle.desk_past.specs.Beginning.{HasStartRoom};
 ghost use Rattle.desk_past.specs.Reading.{IsBlankRoom, IsOnlyReadFrom};
-ghost use Rattle.former_stores.specs.Laying.{ArePlaced, IsBlankFrom, IsCopiedTo, IsLaid, StandsNone};
+ghost use Rattle.former_stores.specs.Laying.{ArePlaced, HasStoreRoom, IsBlankFrom, IsCopiedTo, IsLaid, StandsNone};
 
 use desk_journal::{Error, STORE_SECTORS, Store};
 use sector_disk::{Disk, NoMemory, SECTOR_BYTES, Sector};
@@ -148,7 +147,7 @@ pub(crate) fn laid<D: Disk, E: Disk + Drop>(
     disk: E,
 ) -> Result<Option<Store<E>>, Error>
     requires usable { store.old.must_reopen ≡ false }
-    requires start { HasStartRoom (D.size store.old.disk) base }
+    requires start { HasStoreRoom (D.size store.old.disk) base }
     requires pages { ArePlaced from count (D.size store.old.disk) }
     requires blank { IsBlankRoom E.Disk disk × (from + count ≤ E.size disk) }
     ensures found { IfOk result (λ found. D.honest store.old.disk → E.honest disk
