@@ -1,5 +1,12 @@
 //! The past that a store keeps behind it: all its events in words, the store as it was, and how far both reach.
-ghost use Rattle.std.specs.Prelude.{◌≡◌, IfOk};
+ghost use Rattle.std.specs.Prelude.{◌≡◌, IfOk, IsSomeAnd, List, OnOk};
+ghost use Rattle.sector_disk.specs.Trail.{now};
+ghost use Rattle.desktop_definitions.specs.Desktop.{Desktop};
+ghost use Rattle.desk_past.specs.Deeds.{PastDeed};
+ghost use Rattle.desk_past.specs.Past.{Start};
+ghost use Rattle.desk_past.specs.Reading.{IsOnlyReadFrom};
+ghost use Rattle.former_stores.specs.Former.{IsFormer};
+ghost use Rattle.told_pasts.specs.Words.{told_lines};
 ghost use Rattle.cli_documents.specs.Stops.{IsOutOfReach};
 ghost use Rattle.cli_copies.specs.declared.sentences.Stop.TheVariants.{Refused};
 
@@ -11,7 +18,8 @@ use desk_past::{PART_SECTORS, PARTS, first_start, forget, start_of};
 use former_stores::former_store;
 use host_files::{length_of, lock_alone};
 use host_stores::with_past_room;
-use sector_disk::{MemoryDisk, SECTOR_BYTES};
+use sector_disk::{Disk, MemoryDisk, SECTOR_BYTES};
+use std::alloc::Global;
 use std::io;
 use told_pasts::{
     Line, Pages, Reach, counted_pages, none_where_missing, reach_of, shown_before, told_past,
@@ -133,7 +141,7 @@ fn print_former(
     let mut base = base;
     let mut number = number;
     for _part in 0..store.sectors() / PART_SECTORS {
-        let Some((lines, first)) = told_before(rt, store, base)? else {
+        let Some((lines, first)) = told_before(rt.alloc(), store, base)? else {
             return Ok(());
         };
         number = print_told(rt, lines, number)?;
@@ -144,19 +152,28 @@ fn print_former(
 
 /// The events of the part before the one that begins in sector `base`, in words, and the sector in which that part begins.
 /// None where none stands.
-fn told_before(
-    rt: &HostRuntime,
-    store: &mut LockedStore,
+///
+/// Errors: those of `former_store` and `told_past`.
+fn told_before<D: Disk>(
+    alloc: Global,
+    store: &mut Store<D>,
     base: u32,
-) -> Result<Option<(Vec<Line>, u32)>, Stop> {
-    let Some(former) = former_store(rt.alloc(), store, base)? else {
+) -> Result<Option<(Vec<Line>, u32)>, Error>
+    ensures told { IfOk result (λ found. D.honest store.old.disk → (start : Start)
+        (deeds : List PastDeed) (desktop : Desktop) → IsFormer (D.size store.old.disk) base start
+        deeds desktop (now (D.trail store.old.disk)).reads → IsSomeAnd found (λ part.
+        (part.0.items ≡ told_lines start.desktop deeds) × (part.1 ≡ start.base))) }
+    ensures still { OnOk result (IsOnlyReadFrom D.Disk store.old store.new) }
+{
+    let Some(former) = former_store(alloc, store, base)? else {
         return Ok(None);
     };
     let mut former = former;
+    former.shows_what_crashes_leave();
     let Some(reach) = reach_of(&mut former)? else {
         return Ok(None);
     };
-    match told_past(rt.alloc(), &mut former)? {
+    match told_past(alloc, &mut former)? {
         None => Ok(None),
         Some(lines) => Ok(Some((lines, reach.part.base))),
     }

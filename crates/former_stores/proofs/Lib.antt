@@ -1,2 +1,3 @@
 pub mod Formers
+pub mod Kept
 pub mod Laid
