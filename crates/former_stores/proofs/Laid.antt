@@ -47,16 +47,16 @@ some_where (Some x) is none f = f x is
 some_where None is none f = absurd (none is)
 
 -- and what was found satisfies that
-pub if_some_where : {T A N : Type 0} {P Q : T → Type 0} (found : Option T) → (A → MatchOption found N P)
+pub if_some_where : {T A : Type 0} (N : Type 0) {P Q : T → Type 0} (found : Option T) → (A → MatchOption found N P)
     → ((x : T) → (A → P x) → Q x) → IfSome found Q
-if_some_where (Some x) is f = f x is
-if_some_where None is f = tt
+if_some_where N (Some x) is f = f x is
+if_some_where N None is f = tt
 
-pub both_some : {T E : Type 0} {P Q : T → Type 0} (answer : Result (Option T) E) → IfOk answer (λ found. IfSome found P)
+pub both_some : {T E : Type 0} (P Q : T → Type 0) (answer : Result (Option T) E) → IfOk answer (λ found. IfSome found P)
     → IfOk answer (λ found. IfSome found Q) → IfOk answer (λ found. IfSome found (λ x. P x × Q x))
-both_some (Ok (Some x)) p q = (p, q)
-both_some (Ok None) p q = tt
-both_some (Err e) p q = tt
+both_some P Q (Ok (Some x)) p q = (p, q)
+both_some P Q (Ok None) p q = tt
+both_some P Q (Err e) p q = tt
 
 -- ---- a store that stands is found
 

@@ -10,6 +10,7 @@ ghost use Rattle.store_slots.specs.Errors.{OfDesktop, OfOpen};
 ghost use Rattle.desk_journal.specs.Device.{IsSameDevice};
 ghost use Rattle.desk_journal.specs.Looking.{OnlyLooks};
 ghost use Rattle.desk_journal.specs.Opening.{IsNoStore, IsOpened};
+ghost use Rattle.desk_past.specs.Errors.{IsNoStart};
 ghost use Rattle.desk_past.specs.Reading.{IsBlankRoom, IsOnlyReadFrom};
 ghost use Rattle.former_stores.specs.Laying.{ArePlaced, HasStoreRoom, IsBlankFrom, IsCopiedTo, IsLaid, StandsNone};
 
@@ -115,6 +116,21 @@ fn found<E: Disk + Drop>(alloc: Global, disk: E) -> Result<Store<E>, Error>
     }
 }
 
+/// Whether an error says that no store stands there, or a damaged one.
+fn is_no_store(error: Error) -> bool
+    ensures { result ≡ true → IsNoStart error }
+{
+    match error {
+        Error::NotAStore => true,
+        Error::Damaged(_) => true,
+        Error::NoMemory => false,
+        Error::Fault => false,
+        Error::MustReopen => false,
+        Error::TooSmall => false,
+        Error::Worn => false,
+    }
+}
+
 /// The store on a disk in memory. None where none stands there, or a damaged one.
 ///
 /// Error: `NoMemory`.
@@ -129,8 +145,13 @@ fn opened<E: Disk + Drop>(alloc: Global, disk: E) -> Result<Option<Store<E>>, Er
     finding_law();
     match found(alloc, disk) {
         Ok(shown) => Ok(Some(shown)),
-        Err(Error::NotAStore | Error::Damaged(_)) => Ok(None),
-        Err(_) => Err(Error::NoMemory),
+        Err(error) => {
+            if is_no_store(error) {
+                Ok(None)
+            } else {
+                Err(Error::NoMemory)
+            }
+        }
     }
 }
 

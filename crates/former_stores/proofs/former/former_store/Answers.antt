@@ -60,7 +60,7 @@ returns-clause-former g c = IfOk-weaker c.laid_before.result _ _ (λ found fact 
     there is)) c.laid_before.ensures.found
 
 pub returns-clause-no_other : goal.returns-clause-no_other
-returns-clause-no_other g c = IfOk-weaker c.laid_before.result _ _ (λ found fact. if_some_where found fact
+returns-clause-no_other g c = IfOk-weaker c.laid_before.result _ _ (λ found fact. if_some_where _ found fact
     (λ shown there honest start deeds desktop whole. kept_former c.standing_law.ensures in_memory
     (now (g.D.Disk.trail c.args.store.now.disk)).reads shown (there honest) whole)) c.laid_before.ensures.found
 

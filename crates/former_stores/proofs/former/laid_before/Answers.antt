@@ -41,9 +41,9 @@ returns-clause-found g c =
     let d = g.D.Disk in
     let still = c.stretch_before.ensures.still in
     let large = still.left.disk.device.as_large in
-    let size = ap (λ (m : _). m.size) c.in_ok-disk.ensures in
+    let size = ap (λ d. d.size) c.in_ok-disk.ensures in
     let reads = (now (d.trail c.args.store.now.disk)).reads in
-    let same = λ honest. still_reads d still (c.shows_what_crashes_leave.ensures.quiet c.requires.usable honest) honest in
+    let same = λ (honest : d.honest c.args.store.now.disk). still_reads d still (c.shows_what_crashes_leave.ensures.quiet c.requires.usable honest) honest in
     match_under c.laid.result c.laid.ensures.found (λ honest. still.left.disk.device.still honest) (λ honest. tt)
     (λ honest none has. none has.standing
     (subst (λ r. StandsFrom r c.args.base has.standing) (sym (same honest)) has.stands))

@@ -9,4 +9,4 @@ returns-clause-told g c = λ t shown.
     let is = shown_as (now (g.E.Disk.trail c.args.shown.now.disk)) t c.standing_law.ensures
     (c.info.ensures.durable shown.usable shown.honest) shown.shows in
     let told = ap (λ x. x.epoch) (ap (ok_of c.in-Ok.info) (sym c.in-Ok.is ∙ c.info.ensures.value shown.usable)) in
-    (told ∙ sym is.epoch, ap (λ (p : PastEnd). p.next) (c.in-Ok-2.ensures.told shown.honest t shown.shows))
+    (told ∙ sym is.epoch, ap (λ (p : PastEnd). p.next) (c.in-Ok-past.ensures.told shown.honest t shown.shows))

@@ -47,7 +47,7 @@ loop-k-preserved g c =
                 (omega (arith, low, ge))
                 (c.in_ok-put.ensures.here (i.device.still other)
                 (i.others other there (λ within. omega (arith, within.1))
-                ∙ blank.zeros other there (omega arith, omega (arith, c.loop-k.far-k)))
+                ∙ blank.zeros other there (omega arith, omega arith))
                 ∙ c.in_ok-sector.ensures.bytes (i.still.left.disk.device.still honest)
                 ∙ ap (λ r. r (c.args.from + c.loop-k.k)) same)
           ];
