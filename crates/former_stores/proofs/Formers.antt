@@ -10,7 +10,7 @@ use Rattle.store_layout.specs.Finding.{StandingLaw}
 use Rattle.store_layout.specs.Meaning.{Standing}
 use Rattle.desk_journal.proofs.Aside.{stands_behind}
 use Rattle.desk_journal.specs.View.{StoreView}
-use Rattle.desk_past.specs.Beginning.{RemembersFormer, copied_back}
+use Rattle.desk_past.specs.Beginning.{copied_back}
 use Rattle.desk_past.specs.Deeds.{PastDeed}
 use Rattle.desk_past.specs.Parts.{GoesOnIn, IsPastPart}
 use Rattle.desk_past.specs.Past.{KeepsAll, StandsFrom, Start, first_page}

@@ -1,5 +1,5 @@
 -- What a store keeps in a part it keeps there when it was read. `e` is what is known of its disk.
-use Rattle.std.proofs.Common.{◌≡◌, ℕ, List, false, subst, sym}
+use Rattle.std.proofs.Common.{ℕ, List, subst, sym}
 use Rattle.sector_disk.specs.declared.disk.Disk.{Ghosts}
 use Rattle.sector_disk.specs.Trail.{Content}
 use Rattle.desktop_definitions.specs.Desktop.{Desktop}

@@ -1,6 +1,5 @@
-use Rattle.std.proofs.Common.{◌≡◌, ◌+◌, ◌-◌, ◌<◌, ◌≤◌, ◌∙◌, ℕ, arith, subst, sym}
-use Rattle.sector_disk.specs.Trail.{Content, now}
-use Rattle.store_layout.specs.declared.layout.TheConstants.{STORE_SECTORS}
+use Rattle.std.proofs.Common.{◌≡◌, ◌∙◌, ℕ, arith, subst, sym}
+use Rattle.sector_disk.specs.Trail.{Content}
 use Rattle.desk_past.specs.Past.{StandsFrom}
 use Rattle.desk_past.proofs.Apart.{part_far, part_room}
 use Rattle.desk_past.proofs.StillReads.{still_both, still_reads}

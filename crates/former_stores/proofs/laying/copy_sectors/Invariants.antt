@@ -1,4 +1,4 @@
-use Rattle.std.proofs.Common.{◌≡◌, ◌+◌, ◌≤◌, ℕ}
+use Rattle.std.proofs.Common.{◌≡◌, ℕ}
 use Rattle.sector_disk.specs.Trail.{now}
 use Rattle.store_layout.specs.Filling.{InRange}
 use Rattle.store_slots.specs.Device.{IsSameDevice}

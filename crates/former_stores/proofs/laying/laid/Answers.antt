@@ -1,4 +1,4 @@
-use Rattle.std.proofs.Common.{◌≡◌, ◌+◌, ◌<◌, ◌≤◌, ◌∙◌, ℕ, arith, ap, subst}
+use Rattle.std.proofs.Common.{◌+◌, ◌<◌, ◌∙◌, ℕ, arith, ap, subst}
 use Rattle.sector_disk.specs.Trail.{now}
 use Rattle.desk_past.proofs.Opened.{copied_stands}
 use Rattle.desk_past.proofs.StillReads.{still_both, still_reads}

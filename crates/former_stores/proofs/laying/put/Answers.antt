@@ -1,4 +1,4 @@
-use Rattle.std.proofs.Common.{◌≡◌, ◌∙◌, ap, refl, sym}
+use Rattle.std.proofs.Common.{◌∙◌, ap, refl, sym}
 use Rattle.sector_disk.specs.Trail.{now}
 use Rattle.store_layout.proofs.Filled.{reads_elsewhere, reads_here}
 use Rattle.former_stores.proofs.laying.put.Goals as goal
