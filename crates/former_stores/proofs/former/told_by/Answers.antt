@@ -1,4 +1,4 @@
-use Rattle.std.proofs.Common.{◌≡◌, ◌∙◌, ap, sym}
+use Rattle.std.proofs.Common.{◌∙◌, ap, sym}
 use Rattle.sector_disk.specs.Trail.{now}
 use Rattle.store_layout.specs.declared.head.PastEnd.{PastEnd}
 use Rattle.desk_past.proofs.Told.{ok_of, shown_as}
