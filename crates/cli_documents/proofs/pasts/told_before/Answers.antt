@@ -20,8 +20,8 @@ returns-in-None-clause-told g c = λ honest start deeds desktop is.
     (c.shows_what_crashes_leave.ensures.quiet kept.0.usable tt) kept in
     absurd ((rw c.in-None.is at c.in_ok-told_past.ensures.told) tt start deeds desktop later.0 later.1)
 
-pub returns-in-Some-clause-told : goal.returns-in-Some-clause-told
-returns-in-Some-clause-told g c = λ honest start deeds desktop is.
+pub returns-clause-told : goal.returns-clause-told
+returns-clause-told g c = λ honest start deeds desktop is.
     let kept = (rw c.in-Some.is at c.in_ok-former.ensures.former) honest start deeds desktop is in
     let reach = (rw c.in-Some-2.is at c.in_ok-reach.ensures.told) tt start deeds desktop kept.0 kept.1 in
     let later = whole_on in_memory c.in_ok-reach.ensures.still tt
