@@ -15,21 +15,21 @@ pub fn events_back(rt: &HostRuntime, path: &str) -> Result<(), Stop> {
     let events = store.undo(rt.alloc(), u32::MAX)?;
     let mut lines = Vec::new(rt.alloc());
     add_lines(rt.alloc(), &mut store, events.as_slice(), &mut lines)?;
-    match print_lines(rt, lines.as_slice()) {
-        Ok(()) => Ok(()),
+    match print_lines_from(rt, lines.as_slice(), 0) {
+        Ok(_last) => Ok(()),
         Err(_) => Err(Stop::Trouble(Trouble::Output)),
     }
 }
 
-/// Prints lines behind their numbers, the last one first.
-pub(crate) fn print_lines(rt: &HostRuntime, lines: &[Line]) -> io::Result<()> {
-    let mut number = 0u32;
+/// Prints lines behind their numbers, the last one first. The numbers go on from this one; the last of them is returned.
+pub(crate) fn print_lines_from(rt: &HostRuntime, lines: &[Line], before: u32) -> io::Result<u32> {
+    let mut number = before;
     for line in lines.iter().rev() {
         number = number.saturating_add(1);
         let line = line.as_str();
         println!(rt; "{number:>3}  {line}")?;
     }
-    Ok(())
+    Ok(number)
 }
 
 /// The store in a file as it was before so many of its last events, in memory: by the past behind it, or by what can be

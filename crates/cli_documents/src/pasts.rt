@@ -1,19 +1,28 @@
 //! The past that a store keeps behind it: all its events in words, the store as it was, and how far both reach.
-ghost use Rattle.std.specs.Prelude.{◌≡◌, IfOk};
+ghost use Rattle.std.specs.Prelude.{◌≡◌, IfOk, IsSomeAnd, List, OnOk};
+ghost use Rattle.sector_disk.specs.Trail.{now};
+ghost use Rattle.desktop_definitions.specs.Desktop.{Desktop};
+ghost use Rattle.desk_past.specs.Deeds.{PastDeed};
+ghost use Rattle.desk_past.specs.Past.{Start};
+ghost use Rattle.desk_past.specs.Reading.{IsOnlyReadFrom};
+ghost use Rattle.former_stores.specs.Former.{IsFormer};
+ghost use Rattle.told_pasts.specs.Words.{told_lines};
 ghost use Rattle.cli_documents.specs.Stops.{IsOutOfReach};
 ghost use Rattle.cli_copies.specs.declared.sentences.Stop.TheVariants.{Refused};
 
-use crate::history::print_lines;
+use crate::history::print_lines_from;
 use cli_copies::{LockedStore, Stop};
 use cli_stores::{Trouble, looked_at};
 use desk_journal::{Error, STORE_SECTORS, Store};
-use desk_past::{PARTS, first_start, forget, start_of};
+use desk_past::{PART_SECTORS, PARTS, first_start, forget, start_of};
+use former_stores::former_store;
 use host_files::{length_of, lock_alone};
 use host_stores::with_past_room;
-use sector_disk::{MemoryDisk, SECTOR_BYTES};
+use sector_disk::{Disk, MemoryDisk, SECTOR_BYTES};
+use std::alloc::Global;
 use std::io;
 use told_pasts::{
-    Pages, Reach, counted_pages, none_where_missing, reach_of, shown_before, told_past,
+    Line, Pages, Reach, counted_pages, none_where_missing, reach_of, shown_before, told_past,
 };
 
 /// The store in a file, which is locked beside other programs that look, on a disk that has room for a past.
@@ -96,7 +105,8 @@ fn too_far(rt: &HostRuntime, path: &str, kept: u64) -> Stop
     Stop::Refused
 }
 
-/// Prints all events of the past of the store in a file, the last one first, each in words behind its number.
+/// Prints all events of the past of the store in a file, over all its parts that stand, the last one first, each in words
+/// behind its number.
 pub fn events_all(rt: &HostRuntime, path: &str) -> Result<(), Stop> {
     let mut store = past_at(rt, path)?;
     let Some(reach) = reach_of(&mut store)? else {
@@ -108,9 +118,64 @@ pub fn events_all(rt: &HostRuntime, path: &str) -> Result<(), Stop> {
     let Some(lines) = told_past(rt.alloc(), &mut store)? else {
         return Err(no_past(rt, path));
     };
-    match print_lines(rt, lines.as_slice()) {
-        Ok(()) => Ok(()),
+    let number = print_told(rt, lines, 0)?;
+    print_former(rt, &mut store, reach.part.base, number)
+}
+
+/// Prints lines, the last one first, behind numbers that go on from this one. Returns the last number.
+fn print_told(rt: &HostRuntime, lines: Vec<Line>, number: u32) -> Result<u32, Stop> {
+    match print_lines_from(rt, lines.as_slice(), number) {
+        Ok(last) => Ok(last),
         Err(_) => Err(Stop::Trouble(Trouble::Output)),
+    }
+}
+
+/// Prints the events of the parts before the one that begins in sector `base`, as `events_all` does, by numbers that go on
+/// from this one.
+fn print_former(
+    rt: &HostRuntime,
+    store: &mut LockedStore,
+    base: u32,
+    number: u32,
+) -> Result<(), Stop> {
+    let mut base = base;
+    let mut number = number;
+    for _part in 0..store.sectors() / PART_SECTORS {
+        let Some((lines, first)) = told_before(rt.alloc(), store, base)? else {
+            return Ok(());
+        };
+        number = print_told(rt, lines, number)?;
+        base = first;
+    }
+    Ok(())
+}
+
+/// The events of the part before the one that begins in sector `base`, in words, and the sector in which that part begins.
+/// None where none stands.
+///
+/// Errors: those of `former_store` and `told_past`.
+fn told_before<D: Disk>(
+    alloc: Global,
+    store: &mut Store<D>,
+    base: u32,
+) -> Result<Option<(Vec<Line>, u32)>, Error>
+    ensures told { IfOk result (λ found. D.honest store.old.disk → (start : Start)
+        (deeds : List PastDeed) (desktop : Desktop) → IsFormer (D.size store.old.disk) base start
+        deeds desktop (now (D.trail store.old.disk)).reads → IsSomeAnd found (λ part.
+        (part.0.items ≡ told_lines start.desktop deeds) × (part.1 ≡ start.base))) }
+    ensures still { OnOk result (IsOnlyReadFrom D.Disk store.old store.new) }
+{
+    let Some(former) = former_store(alloc, store, base)? else {
+        return Ok(None);
+    };
+    let mut former = former;
+    former.shows_what_crashes_leave();
+    let Some(reach) = reach_of(&mut former)? else {
+        return Ok(None);
+    };
+    match told_past(alloc, &mut former)? {
+        None => Ok(None),
+        Some(lines) => Ok(Some((lines, reach.part.base))),
     }
 }
 

@@ -1,0 +1,3 @@
+pub mod Formers
+pub mod Kept
+pub mod Laid
