@@ -2,7 +2,6 @@ use Rattle.std.proofs.Common.{◌∙◌, Err, ap, refl}
 use Rattle.std.proofs.lemmas.Result.{err_from_is_err_and, on_ok_weaker}
 use Rattle.desk_sitting.specs.Sittings.{refused}
 use Rattle.desk_sitting.specs.Travels.{took_back, took_import}
-use Rattle.past_steps.specs.declared.steps.Step.TheVariants.{Events, Import}
 use Rattle.status_line.specs.declared.saying.Saying.TheVariants.{NotBack}
 use Rattle.desk_sitting.proofs.Travelling.{goes_back, goes_not, goes_over, goes_unread}
 use Rattle.desk_sitting.proofs.travels.take_back.Goals as goal
@@ -18,8 +17,8 @@ returns-in-Ok-Events g c =
     let e = c.in-Ok-Events.ensures in
     let k = c.in_ok-look_behind.ensures in
     goes_back g.D.Disk c.args.sitting.now k.knows.0 k.knows.1 c.settle-count.result c.settle-count.ensures.count c.requires.asked
-    c.requires.usable k.looks tt (Events c.in-Ok-Events.events) c.in-Ok-Events.events.items c.place-from.result c.place.result
-    e.ok e.device c.place-from.ensures c.place.ensures
+    c.requires.usable k.looks tt _ c.in-Ok-Events.events.items c.place-from.result c.place.result
+    (rw c.in-Ok-Events.field-0-is at e.ok) e.device c.place-from.ensures c.place.ensures
     (c.took_back.ensures ∙ ap (took_back c.in-Ok-Events.events.items c.place-from.result c.place.result)
     c.settle-count.ensures.sitting)
 
@@ -28,8 +27,8 @@ returns-in-Ok-Import g c =
     let e = c.in-Ok-Import.ensures in
     let k = c.in_ok-look_behind.ensures in
     goes_over g.D.Disk c.args.sitting.now k.knows.0 k.knows.1 c.settle-count.result c.settle-count.ensures.count c.requires.asked
-    c.requires.usable k.looks tt (Import c.in-Ok-Import.documents) c.in-Ok-Import.documents.items c.place-from.result
-    c.place.result e.ok e.device c.place-from.ensures c.place.ensures
+    c.requires.usable k.looks tt _ c.in-Ok-Import.documents.items c.place-from.result c.place.result
+    (rw c.in-Ok-Import.field-0-is at e.ok) e.device c.place-from.ensures c.place.ensures
     (c.took_import.ensures ∙ ap (took_import c.in-Ok-Import.documents.items c.place-from.result c.place.result)
     c.settle-count.ensures.sitting)
 

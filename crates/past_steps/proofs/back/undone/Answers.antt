@@ -1,5 +1,4 @@
 use Rattle.std.proofs.Common.{refl}
-use Rattle.desk_past.proofs.InMemory.{failing_on, fails_none, none_failed}
 use Rattle.past_steps.specs.Steps.{undone}
 use Rattle.past_steps.proofs.back.undone.Goals as goal
 
