@@ -61,8 +61,8 @@ use Rattle.press_plans.specs.Tasks.{task_of}
 use Rattle.press_plans.specs.Plans.{Plan, Aims, Asks, Events, Keeps, PutsAway, Refused as NotDone, Says, Shows, Tells, plan_of}
 use Rattle.desk_sitting.specs.Travelling.{IsBetween}
 use Rattle.desk_sitting.specs.Travels.{Travelled, did_again, foreseen, goes_again, is_unmoved, none_again, none_back, recalled, settled, store_place}
-use Rattle.desk_sitting.specs.Travels.{took_deed, took_back, still_kept}
-use Rattle.desk_sitting.specs.Travels.{none as not_asked, back, nothing, again}
+use Rattle.desk_sitting.specs.Travels.{did_import, took_deed, took_back, took_import, still_kept}
+use Rattle.desk_sitting.specs.Travels.{none as not_asked, back, nothing, again, import_again, import_back}
 use Rattle.desk_sitting.specs.Sittings.{is_missed}
 use Rattle.desk_sitting.specs.Clips.{clip_saying, clip_sent, copied_text}
 use Rattle.desk_sitting.specs.Stored.{unstored_caret}
@@ -496,6 +496,10 @@ module _ {D : Type 0} (d : Ghosts D) {s s' : Sitting} {old new : StoreView D} wh
   travelled_due (not_asked none same unmoved) = inl (same, unmoved)
   travelled_due (back told events asked taken is) = inr (subst IsDue (sym is)
       (back_due events (store_place old) (store_place new) (settled (recalled told s))))
+  travelled_due (import_back told documents asked taken is) = inr (subst IsDue (sym is)
+      (follows_due (took_import documents (store_place old) (store_place new) (settled (recalled told s))) refl))
+  travelled_due (import_again told documents asked none came is) = inr (subst IsDue (sym is) (follows_due
+      (did_import documents (store_place new) (goes_again (store_place old) (foreseen (store_place old) told s))) refl))
   travelled_due (nothing told asked none is left) = inr (subst IsDue (sym is)
       (rings_due (none_again (store_place old) (foreseen (store_place old) told s)) refl))
   travelled_due (again told event asked next takes past is) = inr (subst IsDue (sym is)

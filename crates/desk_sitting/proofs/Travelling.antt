@@ -1,5 +1,5 @@
 -- What taking back and doing again come to.
-use Rattle.std.proofs.Common.{◌≡◌, ◌≢◌, ◌<◌, inl, inr, ℕ, List, [], false, refl, sym, ap, ◌∙◌}
+use Rattle.std.proofs.Common.{◌≡◌, ◌≢◌, ◌<◌, ◌∷◌, inl, inr, ℕ, List, [], false, refl, sym, ap, ◌∙◌}
 use Rattle.std.proofs.Common.{Option, Some, None, subst, arith, ◌≤◌}
 use Rattle.done_presses.specs.declared.again.NextEvent.{NextEvent}
 use Rattle.std.specs.Prelude.{Result, Ok, Err, OnOk, IfErr}
@@ -14,13 +14,17 @@ use Rattle.desk_journal.specs.Errors.{Error, NoMemory, Fault, MustReopen, OfLook
 use Rattle.desk_journal.specs.Posting.{AnswersMustReopen}
 use Rattle.desk_journal.specs.Looking.{OnlyLooks}
 use Rattle.desk_journal.specs.Undoing.{IsLeft, IsTakenBack, OfUndo}
+use Rattle.document_filing.specs.Bringing.{Documents, brought_in}
+use Rattle.desktop_definitions.specs.Step.{Outcome}
+use Rattle.desk_past.specs.Deeds.{PastDeed, all_posted, brought}
 use Rattle.desk_past.specs.Keeping.{UsesDevice}
 use Rattle.desk_past.specs.Reading.{IsOnlyReadFrom}
 use Rattle.desk_past.proofs.StillReads.{read_twice, still_both, still_left, still_looked, still_none}
-use Rattle.past_steps.specs.Steps.{IsSteppedBack, LeavesSteppedBack, TakesBack, goes_back as left_by, only_read, turned, undone}
+use Rattle.past_steps.specs.Steps.{IsBroughtAgain, IsSteppedBack, LeavesBroughtAgain, LeavesSteppedBack, TakesBack}
+use Rattle.past_steps.specs.Steps.{brings, goes_back as left_by, only_read, turned, unbegun, undone}
 use Rattle.desk_journal.specs.View.{StoreView, IsDurable}
 use Rattle.desk_journal.proofs.Passing.{at_start, shows_means}
-use Rattle.status_line.specs.declared.saying.Saying.TheVariants.{NotBack, NothingAgain}
+use Rattle.status_line.specs.declared.saying.Saying.TheVariants.{NotBack}
 use Rattle.desk_sitting.specs.declared.sitting.Sitting.{Sitting}
 use Rattle.desk_sitting.specs.declared.sitting.Travel.TheVariants.{Back, Again}
 use Rattle.done_presses.specs.Again.{next_event}
@@ -28,9 +32,10 @@ use Rattle.done_presses.specs.declared.again.StorePlace.{StorePlace}
 use Rattle.desk_sitting.specs.Doing.{IsUndone, OfPresses, ComesToSeat, seat_of}
 use Rattle.desk_sitting.specs.Pasts.{KeepsPast, PostsOn, PostsUpTo}
 use Rattle.desk_sitting.specs.Sittings.{accepted_one, after_post, refused}
-use Rattle.desk_sitting.specs.Travels.{Travelled, Travels, did_again, foreseen, goes_again, is_turn, recalled, settled, step_count}
-use Rattle.desk_sitting.specs.Travels.{store_place, took_back}
+use Rattle.desk_sitting.specs.Travels.{Travelled, Travels, did_again, did_import, ended_there, foreseen, goes_again, is_turn}
+use Rattle.desk_sitting.specs.Travels.{recalled, settled, step_count, store_place, took_back, took_import}
 use Rattle.desk_sitting.specs.Travels.{ComesBack, LaterStepsAreTurns, back, nothing, again, not_taken, taken as came_back, unread}
+use Rattle.desk_sitting.specs.Travels.{import_again, import_back, import_taken}
 use Rattle.desk_journal.specs.Session.{Session, session_of, taken}
 use Rattle.desk_sitting.specs.Desk.{Seat}
 use Rattle.desk_sitting.specs.TheDesk.{the_desk}
@@ -89,14 +94,19 @@ module _ {D : Type 0} (d : Ghosts D) where
   leaves_still count still (only_read read) = only_read (read_twice d still.left.disk read)
   leaves_still count still (left_by between read leaves) = left_by between (still_both d still read) leaves
 
+  brought_still : {old mid new : StoreView D} → IsOnlyReadFrom d old mid → LeavesBroughtAgain d mid new
+      → LeavesBroughtAgain d old new
+  brought_still still (unbegun read) = unbegun (read_twice d still.left.disk read)
+  brought_still still (brings documents between read leaves past) = brings documents between (still_both d still read) leaves past
+
   -- ---- what is taken back
 
-  -- a crash leaves the desktop before the events were taken back or the one after it
-  taken_either : (count : ℕ) (events : List Event) (old new : StoreView D) → TakesBack d count events old new
+  -- a crash leaves the desktop before the deeds were taken back or the one after it
+  taken_either : (count : ℕ) (deeds : List PastDeed) (old new : StoreView D) → TakesBack d count deeds old new
       → d.honest old.disk → IsDurable d old
       → LeavesOnly (d.trail old.disk) (d.trail new.disk) (MeansEither (d.size old.disk) old.desktop new.desktop)
-  taken_either count events old new (turned made) honest durable = made.leaves.any_moment honest
-  taken_either count events old new (undone taken_back) honest durable =
+  taken_either count deeds old new (turned made) honest durable = made.leaves.any_moment honest
+  taken_either count deeds old new (undone events are taken_back) honest durable =
       let shows = durable honest (now (d.trail old.disk)).reads (read_is_an_image (now (d.trail old.disk))) in
       let w = taken_back.back honest shows.standing shows.stands in
       weakened w.1.leaves.any_moment (λ c either. elim either [
@@ -104,15 +114,15 @@ module _ {D : Type 0} (d : Ghosts D) where
         | inr all ↦ inl (shows.standing, all, shows.is)
       ])
 
-  taken_durable : (count : ℕ) (events : List Event) (old new : StoreView D) → TakesBack d count events old new
+  taken_durable : (count : ℕ) (deeds : List PastDeed) (old new : StoreView D) → TakesBack d count deeds old new
       → IsDurable d new
-  taken_durable count events old new (turned made) = made.durable
-  taken_durable count events old new (undone taken_back) = taken_back.durable
+  taken_durable count deeds old new (turned made) = made.durable
+  taken_durable count deeds old new (undone events are taken_back) = taken_back.durable
 
-  taken_usable : (count : ℕ) (events : List Event) (old new : StoreView D) → TakesBack d count events old new
+  taken_usable : (count : ℕ) (deeds : List PastDeed) (old new : StoreView D) → TakesBack d count deeds old new
       → new.must_reopen ≡ false
-  taken_usable count events old new (turned made) = made.usable
-  taken_usable count events old new (undone taken_back) = taken_back.usable
+  taken_usable count deeds old new (turned made) = made.usable
+  taken_usable count deeds old new (undone events are taken_back) = taken_back.usable
 
   -- an undo leads to no later epoch
   undone_below : (count : ℕ) (events : List Event) {old new : StoreView D} → IsTakenBack d count events old new
@@ -126,21 +136,21 @@ module _ {D : Type 0} (d : Ghosts D) where
   ]
 
   pub later_is_turned : LaterStepsAreTurns d
-  later_is_turned count events old new stepped later =
+  later_is_turned count deeds old new stepped later =
       let above = ltb-true old.epoch new.epoch later in
       let same = stepped.read.left.epoch in
       elim stepped.takes [
         | turned made ↦ (stepped.between, stepped.read, made)
-        | undone taken_back ↦
+        | undone events are taken_back ↦
             let below = undone_below count events taken_back in absurd (omega (arith, above, same, below))
       ]
 
-  stepped_either : (count : ℕ) (events : List Event) (old new : StoreView D) → IsSteppedBack d count events old new
+  stepped_either : (count : ℕ) (deeds : List PastDeed) (old new : StoreView D) → IsSteppedBack d count deeds old new
       → d.honest old.disk → IsDurable d old
       → LeavesOnly (d.trail old.disk) (d.trail new.disk) (MeansEither (d.size old.disk) old.desktop new.desktop)
-  stepped_either count events old new stepped honest durable =
+  stepped_either count deeds old new stepped honest durable =
       either_still new stepped.read honest durable
-      (taken_either count events stepped.between new stepped.takes (stepped.read.left.disk.device.still honest)
+      (taken_either count deeds stepped.between new stepped.takes (stepped.read.left.disk.device.still honest)
       (durable_still stepped.read durable))
 
   -- nothing was written
@@ -192,20 +202,34 @@ module _ {D : Type 0} (d : Ghosts D) where
     counted : count ≡ step_count (recalled told s)
     counted = counts ∙ ap step_count knows
 
-    -- the events of the last press were taken back
-    pub goes_back : {T U : Type 0} {s' : Sitting} {new : StoreView D} (value : T) (x : U) (events : List Event) (from to : StorePlace)
-        → IsSteppedBack d count events mid new → UsesDevice d {T = U} OfUndo (Ok x) mid new
-        → from ≡ store_place mid → to ≡ store_place new
-        → s' ≡ took_back events from to (settled known) → Travels the_desk d (Ok value) s s' old new
-    goes_back {s' = s'} {new = new} value x events from to stepped device at come is = record {
+    stepped_so : {new : StoreView D} (deeds : List PastDeed) → IsSteppedBack d count deeds mid new
+        → IsSteppedBack d (step_count (recalled told s)) deeds old new
+    stepped_so {new = new} deeds stepped = record {
+      between = stepped.between;
+      read = still_both d still stepped.read;
+      takes = subst (λ n. TakesBack d n deeds stepped.between new) counted stepped.takes;
+    }
+
+    -- what the sitting comes to, where the store stood at these places
+    comes_so : {s' : Sitting} {new : StoreView D} (comes : StorePlace → StorePlace → Sitting → Sitting) (from to : StorePlace)
+        → from ≡ store_place mid → to ≡ store_place new → s' ≡ comes from to (settled known)
+        → s' ≡ comes (store_place old) (store_place new) (settled (recalled told s))
+    comes_so {new = new} comes from to at come is = is ∙ ap (λ p. comes p to (settled known)) (at ∙ place_still still)
+        ∙ ap (λ p. comes (store_place old) p (settled known)) come
+        ∙ ap (λ t. comes (store_place old) (store_place new) (settled t)) knows
+
+    gone_back : {T U : Type 0} {s' : Sitting} {new : StoreView D} (value : T) (x : U) (deeds : List PastDeed)
+        → IsSteppedBack d count deeds mid new → UsesDevice d {T = U} OfUndo (Ok x) mid new
+        → Travelled the_desk d s s' old new → ComesBack d s s' old new → Travels the_desk d (Ok value) s s' old new
+    gone_back {new = new} value x deeds stepped device what comes = record {
       done = λ honest durable. record {
-        what = back told events asked taken_back so;
-        any_moment = stepped_either (step_count (recalled told s)) events old new taken_back honest durable;
-        durable = taken_durable count events stepped.between new stepped.takes;
+        what = what;
+        any_moment = stepped_either (step_count (recalled told s)) deeds old new (stepped_so deeds stepped) honest durable;
+        durable = taken_durable count deeds stepped.between new stepped.takes;
       };
       stuck = tt;
-      told = λ _. came_back told events taken_back so;
-      usable = taken_usable count events stepped.between new stepped.takes;
+      told = λ _. comes;
+      usable = taken_usable count deeds stepped.between new stepped.takes;
       faults = record {
         rose = λ wrong. absurd (cc wrong);
         calm = λ other. device.faults.calm (λ wrong. absurd (cc wrong)) ∙ calm;
@@ -213,18 +237,28 @@ module _ {D : Type 0} (d : Ghosts D) where
       };
       device = joined_device d old.disk mid.disk new.disk looks.disk.device device.same;
     }
-      where
-        taken_back : IsSteppedBack d (step_count (recalled told s)) events old new
-        taken_back = record {
-          between = stepped.between;
-          read = still_both d still stepped.read;
-          takes = subst (λ n. TakesBack d n events stepped.between new) counted stepped.takes;
-        }
 
-        so : s' ≡ took_back events (store_place old) (store_place new) (settled (recalled told s))
-        so = is ∙ ap (λ p. took_back events p to (settled known)) (at ∙ place_still still)
-            ∙ ap (λ p. took_back events (store_place old) p (settled known)) come
-            ∙ ap (λ t. took_back events (store_place old) (store_place new) (settled t)) knows
+    -- the events of the last press were taken back
+    pub goes_back : {T U : Type 0} {s' : Sitting} {new : StoreView D} (value : T) (x : U) (events : List Event) (from to : StorePlace)
+        → IsSteppedBack d count (all_posted events) mid new → UsesDevice d {T = U} OfUndo (Ok x) mid new
+        → from ≡ store_place mid → to ≡ store_place new
+        → s' ≡ took_back events from to (settled known) → Travels the_desk d (Ok value) s s' old new
+    goes_back value x events from to stepped device at come is =
+        let so = comes_so (took_back events) from to at come is in
+        gone_back value x (all_posted events) stepped device
+        (back told events asked (stepped_so (all_posted events) stepped) so)
+        (came_back told events (stepped_so (all_posted events) stepped) so)
+
+    -- an import was
+    pub goes_over : {T U : Type 0} {s' : Sitting} {new : StoreView D} (value : T) (x : U) (documents : Documents)
+        (from to : StorePlace) → IsSteppedBack d count (brought documents ∷ []) mid new
+        → UsesDevice d {T = U} OfUndo (Ok x) mid new → from ≡ store_place mid → to ≡ store_place new
+        → s' ≡ took_import documents from to (settled known) → Travels the_desk d (Ok value) s s' old new
+    goes_over value x documents from to stepped device at come is =
+        let so = comes_so (took_import documents) from to at come is in
+        gone_back value x (brought documents ∷ []) stepped device
+        (import_back told documents asked (stepped_so (brought documents ∷ []) stepped) so)
+        (import_taken told documents (stepped_so (brought documents ∷ []) stepped) so)
 
     -- they weren't
     pub goes_not : {U : Type 0} {s' : Sitting} {new : StoreView D} (error : Error) (result : Result Unit Error)
@@ -289,26 +323,85 @@ module _ {D : Type 0} (d : Ghosts D) where
     same = left ∙ ap (λ p. goes_again p known) at ∙ ap (goes_again (store_place old)) knows
 
     -- nothing can be done again
-    pub nothing_again : {T : Type 0} (value : T) {s' : Sitting} → found ≡ None → s' ≡ refused NothingAgain gone
-        → Travels the_desk d (Ok value) s s' old mid
-    nothing_again value none_left is = record {
-      done = λ honest durable. record {
-        what = nothing told asked (followed ∙ none_left) (is ∙ ap (refused NothingAgain) same) seen_still.left;
-        any_moment = either_still mid seen_still honest durable (at_start (d.trail mid.disk) _ (λ c image. inl
-            (shows_means (d.size mid.disk) mid.epoch mid.events mid.desktop c
-            (durable_still seen_still durable (looks.disk.device.still honest) c image))));
-        durable = durable_still seen_still durable;
-      };
-      stuck = tt;
-      told = λ wrong. again_not_back (sym asked ∙ wrong);
-      usable = seen_still.usable;
-      faults = record {
-        rose = λ wrong. absurd (cc wrong);
-        calm = λ other. looks.faults.calm (λ wrong. absurd (cc wrong));
-        errors = tt;
-      };
-      device = looks.disk.device;
-    }
+    pub nothing_again : {T U : Type 0} (value : T) (x : U) {s' : Sitting} {new : StoreView D} → found ≡ None
+        → IsOnlyReadFrom d mid new → UsesDevice d {T = U} OfPresses (Ok x) mid new → s' ≡ ended_there gone
+        → Travels the_desk d (Ok value) s s' old new
+    nothing_again value x {new = new} none_left read device is =
+        let both : IsOnlyReadFrom d old new = still_both d seen_still read in
+        record {
+          done = λ honest durable. record {
+            what = nothing told asked (followed ∙ none_left) (is ∙ ap ended_there same) both.left;
+            any_moment = either_still new both honest durable (at_start (d.trail new.disk) _ (λ c image. inl
+                (shows_means (d.size new.disk) new.epoch new.events new.desktop c
+                (durable_still both durable (both.left.disk.device.still honest) c image))));
+            durable = durable_still both durable;
+          };
+          stuck = tt;
+          told = λ wrong. again_not_back (sym asked ∙ wrong);
+          usable = both.usable;
+          faults = record {
+            rose = λ wrong. absurd (cc wrong);
+            calm = λ other. device.faults.calm (λ wrong. absurd (cc wrong)) ∙ looks.faults.calm (λ wrong. absurd (cc wrong));
+            errors = tt;
+          };
+          device = joined_device d old.disk mid.disk new.disk looks.disk.device device.same;
+        }
+
+    -- an import comes again
+    pub goes_import : {T U : Type 0} (value : T) (x : U) {s' : Sitting} {new : StoreView D} (documents : Documents) (to : StorePlace)
+        → found ≡ None → IsBroughtAgain d documents mid new → UsesDevice d {T = U} OfPresses (Ok x) mid new
+        → to ≡ store_place new → s' ≡ did_import documents to gone → Travels the_desk d (Ok value) s s' old new
+    goes_import value x {new = new} documents to none_left came device come is =
+        let read : IsOnlyReadFrom d old came.between = still_both d seen_still came.read in
+        record {
+          done = λ honest durable.
+              let there : d.honest came.between.disk = read.left.disk.device.still honest in
+              let shows : new.desktop ≡ (brought_in came.between.desktop documents).desktop =
+              ap (λ (o : Outcome). o.desktop) (came.brought.answers.brought.done there) in
+              record {
+                what = import_again told documents asked (followed ∙ none_left) (record {
+                  between = came.between;
+                  read = read;
+                  brought = came.brought;
+                  any_moment = came.any_moment;
+                  nothing_forgotten = came.nothing_forgotten;
+                })
+                    (is ∙ ap (λ p. did_import documents p gone) come ∙ ap (did_import documents (store_place new)) same);
+                any_moment = either_still new read honest durable
+                    (subst (λ x. LeavesOnly (d.trail came.between.disk) (d.trail new.disk)
+                    (MeansEither (d.size came.between.disk) came.between.desktop x)) (sym shows)
+                    (came.any_moment came.read.usable there));
+                durable = came.brought.answers.durable;
+              };
+          stuck = tt;
+          told = λ wrong. again_not_back (sym asked ∙ wrong);
+          usable = came.brought.answers.usable;
+          faults = record {
+            rose = λ wrong. absurd (cc wrong);
+            calm = λ other. device.faults.calm (λ wrong. absurd (cc wrong)) ∙ looks.faults.calm (λ wrong. absurd (cc wrong));
+            errors = tt;
+          };
+          device = joined_device d old.disk mid.disk new.disk looks.disk.device device.same;
+        }
+
+    -- it fails
+    pub fails_import : {T U : Type 0} {s' : Sitting} {new : StoreView D} (error : Error) (result : Result T Error)
+        → result ≡ Err error → found ≡ None → LeavesBroughtAgain d mid new → UsesDevice d {T = U} OfPresses (Err error) mid new
+        → Travels the_desk d result s s' old new
+    fails_import {T = T} {s' = s'} {new = new} error result is none_left leaves device =
+        let before : d.failures mid.disk ≡ d.failures old.disk = looks.faults.calm (λ wrong. absurd (cc wrong)) in
+        subst (λ (r : Result T Error). Travels the_desk d r s s' old new) (sym is) (record {
+          done = tt;
+          stuck = λ honest durable. import_again told asked (followed ∙ none_left) (brought_still seen_still leaves);
+          told = tt;
+          usable = tt;
+          faults = record {
+            rose = λ fault. subst (λ (n : ℕ). n < d.failures new.disk) before (device.faults.rose (cc fault));
+            calm = λ fine. device.faults.calm (λ fault. fine (cc fault)) ∙ before;
+            errors = device.faults.errors;
+          };
+          device = joined_device d old.disk mid.disk new.disk looks.disk.device device.same;
+        })
 
     module _ (event : NextEvent) (is_event : found ≡ Some event) (done_so : Sitting) (new : StoreView D) where
       there : next_event (store_place old) (foreseen (store_place old) told s).again ≡ Some event

@@ -5,6 +5,7 @@ use Rattle.host_files.specs.declared.HostFault.{HostFault}
 use Rattle.event_bytes.specs.declared.event.Event.{Event}
 use Rattle.screen_pictures.specs.declared.cell.Cell.{Cell}
 use Rattle.desktop_definitions.specs.Desktop.{Desktop}
+use Rattle.document_filing.specs.Bringing.{Documents}
 use Rattle.terminal_keyboard.specs.declared.completion.Completion.{Completion}
 use Rattle.terminal_keyboard.specs.declared.parser.Parser.{Parser}
 use Rattle.terminal_presses.specs.declared.press.Heard.{Heard}
@@ -45,12 +46,14 @@ pub record Desk : Type 0 where
   -- the sitting once a past told of the events that were done last, or at a place of those that were taken back last
   pub recalls : Option (List Event) → Sitting → Sitting
   pub foresees : StorePlace → Option (List Event) → Sitting → Sitting
-  -- how many events are taken back, and the sitting after these were, from one place of the store to another
+  -- how many events are taken back, and the sitting after these were, or an import, from one place of the store to another
   pub counts : Sitting → ℕ
   pub takes_back : List Event → StorePlace → StorePlace → Sitting → Sitting
-  -- which event is done again at a place, and the sitting after it was, or where there is none
+  pub takes_import : Documents → StorePlace → StorePlace → Sitting → Sitting
+  -- which event is done again at a place, and the sitting after it was, or an import, or where there is none
   pub follows : StorePlace → Sitting → Option NextEvent
   pub repeats : NextEvent → Session → StorePlace → StorePlace → Sitting → Sitting
+  pub brings_again : Documents → StorePlace → StorePlace → Sitting → Sitting
   pub ends_there : StorePlace → Sitting → Sitting
 
 module _ (desk : Desk) where

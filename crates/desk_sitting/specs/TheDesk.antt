@@ -14,7 +14,8 @@ use Rattle.desk_sitting.specs.Clips.{clip_sent}
 use Rattle.desk_sitting.specs.Desk.{Desk, Seat, accepted_events, after_presses}
 use Rattle.desk_sitting.specs.Sittings.{accepted_of, after_completion, after_fetch, after_press, looked, new_sitting}
 use Rattle.desk_sitting.specs.Telling.{scene_told}
-use Rattle.desk_sitting.specs.Travels.{done_again, foreseen, none_again, recalled, settled, step_count, took_back}
+use Rattle.desk_sitting.specs.Travels.{did_import, done_again, foreseen, goes_again, none_again, recalled, settled}
+use Rattle.desk_sitting.specs.Travels.{step_count, took_back, took_import}
 
 -- where in the terminal the pointer is that keys move, while it is shown
 abbrev pub pointer_of : Sitting → Option (ℕ × ℕ)
@@ -46,8 +47,10 @@ the_desk = record {
   foresees = foreseen;
   counts = step_count;
   takes_back = λ events from to s. took_back events from to (settled s);
+  takes_import = λ documents from to s. took_import documents from to (settled s);
   follows = λ place s. next_event place s.again;
   repeats = done_again;
+  brings_again = λ documents from to s. did_import documents to (goes_again from s);
   ends_there = none_again;
 }
 

@@ -1,5 +1,5 @@
 -- Taking back and doing again, at the desk. `d` is what is known of a disk.
-use Rattle.std.specs.Prelude.{◌≡◌, ℕ, true, false, Bool, length, Option, ◌==◌, ◌&&◌, ◌||◌, not, nat_lt, if◌then◌else◌}
+use Rattle.std.specs.Prelude.{◌≡◌, ◌∷◌, ℕ, true, false, Bool, length, Option, ◌==◌, ◌&&◌, ◌||◌, not, nat_lt, if◌then◌else◌}
 use Rattle.std.specs.Prelude.{List, [], Some, None, Result, OnOk, IfErr}
 use Rattle.sector_disk.specs.declared.disk.Disk.{Ghosts}
 use Rattle.sector_disk.specs.Faults.{FailsAs}
@@ -10,8 +10,10 @@ use Rattle.desk_journal.specs.Device.{IsOnlyRead, IsSameDevice}
 use Rattle.desk_journal.specs.Errors.{Error, Fault}
 use Rattle.desk_journal.specs.Undoing.{IsLeft}
 use Rattle.desk_journal.specs.View.{StoreView, IsDurable}
+use Rattle.desk_past.specs.Deeds.{PastDeed, all_posted, brought}
 use Rattle.desk_past.specs.Reading.{IsOnlyReadFrom}
-use Rattle.past_steps.specs.Steps.{IsSteppedBack, IsTurnedBack, LeavesSteppedBack}
+use Rattle.document_filing.specs.Bringing.{Documents}
+use Rattle.past_steps.specs.Steps.{IsBroughtAgain, IsSteppedBack, IsTurnedBack, LeavesBroughtAgain, LeavesSteppedBack}
 use Rattle.done_presses.specs.declared.again.StorePlace.{StorePlace}
 use Rattle.status_line.specs.declared.saying.Saying.{Saying}
 use Rattle.status_line.specs.declared.saying.Saying.TheVariants.{TookBack, DidAgain, NotBack, NothingBack, NoFurtherBack}
@@ -20,9 +22,10 @@ use Rattle.desk_sitting.specs.declared.sitting.Sitting.{Sitting}
 use Rattle.desk_sitting.specs.declared.sitting.Travel.TheVariants.{Back, Again}
 use Rattle.done_presses.specs.declared.again.NextEvent.{NextEvent}
 use Rattle.status_line.specs.declared.deed.Deed.{Deed}
+use Rattle.status_line.specs.declared.deed.Deed.TheVariants.{Import}
 use Rattle.desk_sitting.specs.declared.sitting.Travel.{Travel}
-use Rattle.done_presses.specs.Again.{again_of, has_again, is_first, kept_at, carried_again, next_event, rest_at, taken_press}
-use Rattle.done_presses.specs.Past.{back_count, back_deed, gathered, knows_none, left_past, named, no_past, past_of}
+use Rattle.done_presses.specs.Again.{again_of, has_again, is_first, kept_at, carried_again, next_event, no_again, rest_at, taken_press}
+use Rattle.done_presses.specs.Past.{back_count, back_deed, counted, gathered, knows_none, left_past, named, no_past, past_of}
 use Rattle.desk_sitting.specs.Doing.{IsUndone, OfPresses}
 use Rattle.desk_journal.specs.Session.{Session, session_of, taken as meant_by}
 use Rattle.desk_sitting.specs.Desk.{Desk}
@@ -89,6 +92,16 @@ took_back events from to s = if length events == 0 then refused (none_back to) s
     else took_deed (back_deed events s.past) events from to
     (record s { past = left_past (length events) s.past; kept = still_kept from to s })
 
+-- So many documents came by an import.
+abbrev pub import_deed : Documents → Deed
+import_deed documents = Import (counted (length documents))
+
+-- The sitting after an import was taken back, which led from one place to another. What was done before it the past is asked
+-- for, and of the import it is kept that it comes next: no event is.
+abbrev pub took_import : Documents → StorePlace → StorePlace → Sitting → Sitting
+took_import documents from to s = took_deed (Some (import_deed documents)) [] from to
+    (record s { past = no_past; kept = still_kept from to s })
+
 -- what is asked for once the next event is done again: the other events of its press, if any are left
 abbrev pub on_to : Option NextEvent → Option Travel
 on_to None = None
@@ -117,27 +130,43 @@ abbrev pub done_again : NextEvent → Session → StorePlace → StorePlace → 
 done_again event session from to s = did_again event.deed from to
     (after_post event.event (record { sitting = goes_again from s; session = session })).sitting
 
+-- the sitting after an import was done again, which led to this place
+abbrev pub did_import : Documents → StorePlace → Sitting → Sitting
+did_import documents to s = record s {
+  saying = DidAgain (import_deed documents);
+  follows = true;
+  again = record s.again { place = to };
+  past = no_past;
+}
+
 -- where there is nothing to do again
+abbrev pub ended_there : Sitting → Sitting
+ended_there s = refused NothingAgain (record s { again = no_again })
+
 abbrev pub none_again : StorePlace → Sitting → Sitting
-none_again place s = refused NothingAgain (goes_again place s)
+none_again place s = ended_there (goes_again place s)
 
 module _ {D : Type 0} (d : Ghosts D) where
-  -- Over any disk: the events of the last press were taken back, or nothing was done, and that is said. Nothing more is
-  -- asked for. Of which presses they were a past may have told.
+  -- Over any disk: the events of the last press were taken back, or an import, or nothing was done, and that is said. Nothing
+  -- more is asked for. Of which presses they were a past may have told.
   pub data ComesBack (s s' : Sitting) (old new : StoreView D) : Type 0 where
     taken : (told : Option (List Event)) (events : List Event)
-        → IsSteppedBack d (step_count (recalled told s)) events old new
+        → IsSteppedBack d (step_count (recalled told s)) (all_posted events) old new
         → s' ≡ took_back events (store_place old) (store_place new) (settled (recalled told s))
+        → ComesBack s s' old new
+    import_taken : (told : Option (List Event)) (documents : Documents)
+        → IsSteppedBack d (step_count (recalled told s)) (brought documents ∷ []) old new
+        → s' ≡ took_import documents (store_place old) (store_place new) (settled (recalled told s))
         → ComesBack s s' old new
     not_taken : (told : Option (List Event)) → IsLeft d old new
         → s' ≡ refused NotBack (settled (recalled told s)) → ComesBack s s' old new
 
   -- A step back that leads to a later epoch is a turn, over which a past goes on.
   abbrev pub LaterStepsAreTurns : Type 0
-  LaterStepsAreTurns = (count : ℕ) (events : List Event) (old new : StoreView D)
-      → IsSteppedBack d count events old new → is_turn (store_place old) (store_place new) ≡ true
+  LaterStepsAreTurns = (count : ℕ) (deeds : List PastDeed) (old new : StoreView D)
+      → IsSteppedBack d count deeds old new → is_turn (store_place old) (store_place new) ≡ true
       → (between : StoreView D) × IsOnlyReadFrom d old between
-      × IsTurnedBack d count events between new
+      × IsTurnedBack d count deeds between new
 
 module _ (desk : Desk) {D : Type 0} (d : Ghosts D) where
   -- What was asked for beside the presses is done. Where nothing was known of that, a past may have told.
@@ -146,8 +175,14 @@ module _ (desk : Desk) {D : Type 0} (d : Ghosts D) where
     none : s.travels ≡ None → s' ≡ s → new ≡ old → Travelled s s' old new
     -- the events of the last press were taken back, as far as there were any
     back : (told : Option (List Event)) (events : List Event) → s.travels ≡ Some Back
-        → IsSteppedBack d (desk.counts (desk.recalls told s)) events old new
+        → IsSteppedBack d (desk.counts (desk.recalls told s)) (all_posted events) old new
         → s' ≡ desk.takes_back events (store_place old) (store_place new) (desk.recalls told s)
+        → Travelled s s' old new
+    -- an import was, which came last
+    import_back : (told : Option (List Event)) (documents : Documents) → s.travels ≡ Some Back
+        → IsSteppedBack d (desk.counts (desk.recalls told s)) (brought documents ∷ []) old new
+        → s' ≡ desk.takes_import documents (store_place old) (store_place new)
+        (desk.recalls told s)
         → Travelled s s' old new
     -- there was nothing to do again
     nothing : (told : Option (List Event)) → s.travels ≡ Some Again
@@ -160,6 +195,13 @@ module _ (desk : Desk) {D : Type 0} (d : Ghosts D) where
         → session_of new ≡ meant_by (session_of old) event.event
         → PostsOn d (accepted_one (session_of old) event.event) old new
         → s' ≡ desk.repeats event (session_of old) (store_place old) (store_place new)
+        (desk.foresees (store_place old) told s)
+        → Travelled s s' old new
+    -- no event was next, but an import, of which the past told, and its documents came again
+    import_again : (told : Option (List Event)) (documents : Documents) → s.travels ≡ Some Again
+        → desk.follows (store_place old) (desk.foresees (store_place old) told s) ≡ None
+        → IsBroughtAgain d documents old new
+        → s' ≡ desk.brings_again documents (store_place old) (store_place new)
         (desk.foresees (store_place old) told s)
         → Travelled s s' old new
 
@@ -181,6 +223,9 @@ module _ (desk : Desk) {D : Type 0} (d : Ghosts D) where
         → IsUndone d error (meant_by (session_of old) event.event).desktop old new
         → PostsUpTo d [] (accepted_one (session_of old) event.event) old new
         → IsStuck error s old new
+    import_again : (told : Option (List Event)) → s.travels ≡ Some Again
+        → desk.follows (store_place old) (desk.foresees (store_place old) told s) ≡ None
+        → LeavesBroughtAgain d old new → IsStuck error s old new
 
   -- All that a call promises that is to do what was asked for.
   pub record Travels {T : Type 0} (result : Result T Error) (s s' : Sitting) (old new : StoreView D)

@@ -9,14 +9,14 @@ ghost use Rattle.done_presses.specs.Again.{has_again, next_event};
 ghost use Rattle.desk_sitting.specs.Doing.{OfPresses, ComesToSeat, seat_of};
 ghost use Rattle.desk_sitting.specs.Sittings.{after_post, refused};
 ghost use Rattle.desk_sitting.specs.Travels.{Travels, did_again, foreseen, goes_again, none_back, on_to, recalled, settled, step_count, store_place};
-ghost use Rattle.desk_sitting.specs.Travels.{still_kept, took_deed, took_back};
+ghost use Rattle.desk_sitting.specs.Travels.{did_import, ended_there, import_deed, still_kept, took_deed, took_back, took_import};
 ghost use Rattle.desk_sitting.specs.TheDesk.{the_desk};
 
 use crate::sitting::{Doing, Sitting, Travel};
-use desk_journal::{Error, Store};
+use desk_journal::{Document, Error, Store};
 use done_presses::{Again, MOST_DONE, NextEvent, Past, StorePlace, TakenPress};
 use event_bytes::Event;
-use past_steps::{events_ahead, events_behind, step_back};
+use past_steps::{Step, events_ahead, events_behind, import_again, step_back};
 use sector_disk::Disk;
 use status_line::{Deed, Saying};
 use std::alloc::{AllocError, Global};
@@ -55,7 +55,7 @@ pub(crate) fn place<D: Disk>(store: &Store<D>) -> StorePlace
     }
 }
 
-/// Takes the events of the last press back.
+/// Takes the events of the last press back, or an import that came last.
 fn take_back<D: Disk>(alloc: Global, sitting: &mut Sitting, store: &mut Store<D>) -> Doing
     requires usable { store.old.must_reopen ≡ false }
     requires asked { sitting.old.travels ≡ Some Back }
@@ -65,15 +65,19 @@ fn take_back<D: Disk>(alloc: Global, sitting: &mut Sitting, store: &mut Store<D>
     let from = place(store);
     let count = sitting.settle();
     match step_back(alloc, store, count) {
-        Ok(events) => {
+        Ok(Step::Events(events)) => {
             sitting.took_back(events, from, place(store));
+            Ok(())
+        }
+        Ok(Step::Import(documents)) => {
+            sitting.took_import(alloc, documents.as_slice(), from, place(store));
             Ok(())
         }
         Err(error) => sitting.stay(error),
     }
 }
 
-/// Does the next event again of what was taken back last.
+/// Does the next event again of what was taken back last, or an import.
 fn do_again<D: Disk>(alloc: Global, sitting: &mut Sitting, store: &mut Store<D>) -> Doing
     requires usable { store.old.must_reopen ≡ false }
     requires asked { sitting.old.travels ≡ Some Forth }
@@ -83,7 +87,10 @@ fn do_again<D: Disk>(alloc: Global, sitting: &mut Sitting, store: &mut Store<D>)
     let from = place(store);
     match sitting.next_again(from) {
         None => {
-            sitting.refuse(Saying::NothingAgain);
+            match import_again(alloc, store)? {
+                None => sitting.end_there(),
+                Some(documents) => sitting.did_import(documents.as_slice(), place(store)),
+            }
             Ok(())
         }
         Some(event) => {
@@ -197,6 +204,39 @@ impl Sitting {
         self.tell_back(deed, events, from, to);
     }
 
+    /// An import of these documents was taken back.
+    fn took_import(
+        &mut self,
+        alloc: Global,
+        documents: &[Document],
+        from: StorePlace,
+        to: StorePlace,
+    )
+        ensures { self.new ≡ took_import documents.now from to self.old }
+    {
+        self.past = Past::none();
+        self.kept = self.still_kept(from, to);
+        self.tell_back(Some(import_deed(documents)), Vec::new(alloc), from, to);
+    }
+
+    /// There is nothing to do again.
+    fn end_there(&mut self)
+        ensures { self.new ≡ ended_there self.old }
+    {
+        self.again = Again::none();
+        self.refuse(Saying::NothingAgain);
+    }
+
+    /// An import of these documents was done again, which led to this place.
+    fn did_import(&mut self, documents: &[Document], to: StorePlace)
+        ensures { self.new ≡ did_import documents.now to self.old }
+    {
+        self.saying = Saying::DidAgain(import_deed(documents));
+        self.follows = true;
+        self.again.come_to(to);
+        self.past = Past::none();
+    }
+
     /// Whether a past has all that can be done again, once events were taken back.
     fn still_kept(&self, from: StorePlace, to: StorePlace) -> bool
         ensures { result ≡ still_kept from to self.now }
@@ -256,6 +296,13 @@ impl Sitting {
         self.again.come_to(to);
         self.past.name(deed);
     }
+}
+
+/// That so many documents came by an import.
+fn import_deed(documents: &[Document]) -> Deed
+    ensures { result ≡ import_deed documents.now }
+{
+    Deed::Import(documents.len().min(u32::MAX as usize) as u32)
 }
 
 /// Why nothing is taken back, where a store stands at this place.

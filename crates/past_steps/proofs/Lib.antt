@@ -1,2 +1,3 @@
+mod Coming
 mod Looking
 mod Turned

@@ -1,18 +1,17 @@
 //! A step back by a turn of the store, which is tried in memory first.
 ghost use Rattle.std.specs.Prelude.{◌≡◌, ◌≢◌, ◌≤◌, false, length, IfErr, IfOk, IfSome, IfNone, IsErr, OnOk, Ok};
-ghost use Rattle.desktop_definitions.specs.Step.{steps};
 ghost use Rattle.store_slots.specs.Errors.{OfLook};
 ghost use Rattle.desk_journal.specs.Looking.{OnlyLooks};
 ghost use Rattle.desk_journal.specs.Posting.{AnswersMustReopen};
-ghost use Rattle.desk_journal.specs.Undoing.{IsLeft, OfUndo};
+ghost use Rattle.desk_journal.specs.Undoing.{IsLeft, LeavesUndone, OfUndo};
+ghost use Rattle.desk_past.specs.Deeds.{after_deeds};
 ghost use Rattle.desk_past.specs.Keeping.{UsesDevice};
 ghost use Rattle.desk_past.specs.Reading.{IsOnlyReadFrom};
-ghost use Rattle.past_steps.specs.Steps.{BreaksOff, IsMomentOf, IsSteppedBack, LeavesSteppedBack};
+ghost use Rattle.past_steps.specs.Steps.{BreaksOff, IsMomentOf, IsSteppedBack, LeavesSteppedBack, TakesBack, step_deeds};
 
-use crate::steps::{Candidate, last_events};
+use crate::steps::{Candidate, Step, last_step};
 use desk_journal::{Error, GatheredDesktop, Store};
 use desk_past::{copy_of, moment, post_all, turn_to};
-use event_bytes::Event;
 use sector_disk::{Disk, MemoryDisk, NoMemory};
 use std::alloc::Global;
 
@@ -27,20 +26,36 @@ fn of_memory<T: Drop>(made: Result<T, Error>) -> Result<Option<T>, NoMemory>
     }
 }
 
-/// What this store shows, and what it shows once these events are posted. It is let go.
+/// Does a step to a store in memory.
 ///
-/// Errors: those of `copy_of`, `post_all` and `Store::gathered`.
+/// Errors: those of `post_all` and `Store::bring`.
+fn do_step(alloc: Global, shown: &mut Store<MemoryDisk>, step: &Step) -> Result<(), Error>
+    ensures { OnOk result (shown.new.desktop
+        ≡ after_deeds shown.old.desktop (step_deeds step.now)) }
+{
+    match step {
+        Step::Events(events) => post_all(alloc, shown, events.as_slice()),
+        Step::Import(documents) => {
+            let _ = shown.bring(alloc, documents.as_slice())?;
+            Ok(())
+        }
+    }
+}
+
+/// What this store shows, and what it shows once a step is done. It is let go.
+///
+/// Errors: those of `copy_of`, `do_step` and `Store::gathered`.
 fn both_gathered(
     alloc: Global,
     shown: Store<MemoryDisk>,
-    events: &[Event],
+    step: &Step,
 ) -> Result<(GatheredDesktop, GatheredDesktop), Error>
     ensures { IfOk result (λ both. (both.0.desktop ≡ shown.desktop)
-        × (both.1.desktop ≡ steps shown.desktop events.now)) }
+        × (both.1.desktop ≡ after_deeds shown.desktop (step_deeds step.now))) }
 {
     let mut shown = shown;
     let copy = copy_of(alloc, &mut shown)?;
-    post_all(alloc, &mut shown, events)?;
+    do_step(alloc, &mut shown, step)?;
     let before = copy.gathered(alloc)?;
     let after = shown.gathered(alloc)?;
     Ok((before, after))
@@ -68,7 +83,7 @@ fn moment_in<D: Disk>(
     }
 }
 
-/// The desktop of the moment before these events, where they lead from it to what the store shows. None where they don't.
+/// The desktop of the moment before a step, where that leads from it to what the store shows. None where it doesn't.
 ///
 /// Errors: those of `moment_in` and `Store::shows_same`.
 fn desktop_before<D: Disk>(
@@ -80,13 +95,13 @@ fn desktop_before<D: Disk>(
     ensures was { IfOk result (λ found. IfSome found (λ to.
         IsMomentOf D.Disk last.now.base last.now.k to.desktop store.old)) }
     ensures leads { IfOk result (λ found. IfSome found (λ to. D.honest store.old.disk
-        → steps to.desktop last.now.events.items ≡ store.old.desktop)) }
+        → after_deeds to.desktop (step_deeds last.now.step) ≡ store.old.desktop)) }
     ensures looks { OnlyLooks D.Disk result store.old store.new }
 {
     let Some(shown) = moment_in(alloc, store, last.base, last.k)? else {
         return Ok(None);
     };
-    let both = of_memory(both_gathered(alloc, shown, last.events.as_slice()))?;
+    let both = of_memory(both_gathered(alloc, shown, &last.step))?;
     let Some((before, after)) = both else {
         return Ok(None);
     };
@@ -97,53 +112,67 @@ fn desktop_before<D: Disk>(
     }
 }
 
-/// Takes the last events back by a turn, so many, or as many as the past tells of. None where it tells of none that lead to
-/// what the store shows, where too much was done since its part began, or where it has no room for a turn: then nothing is
-/// written.
+/// Takes the last step back by a turn: so many events, or as many as the past tells of, or an import. None where it tells of
+/// none that leads to what the store shows, where too much was done since its part began, or where it has no room for a
+/// turn: then nothing is written.
 ///
-/// Errors: those of `last_events`, `desktop_before` and `turn_to`.
+/// Errors: those of `last_step`, `desktop_before` and `turn_to`.
 fn turned_back<D: Disk>(
     alloc: Global,
     store: &mut Store<D>,
     count: u32,
-) -> Result<Option<Vec<Event>>, Error>
+) -> Result<Option<Step>, Error>
     requires { store.old.must_reopen ≡ false }
-    ensures turned { IfOk result (λ found. IfSome found (λ events.
-        IsSteppedBack D.Disk count events.items store.old store.new)) }
+    ensures turned { IfOk result (λ found. IfSome found (λ step.
+        IsSteppedBack D.Disk count (step_deeds step) store.old store.new)) }
     ensures none { IfOk result (λ found. IfNone found (IsOnlyReadFrom D.Disk store.old store.new)) }
     ensures breaks { IfErr result (λ error. BreaksOff D.Disk count error store.old store.new) }
     ensures device { UsesDevice D.Disk OfLook result store.old store.new }
 {
     store.shows_what_crashes_leave();
-    let Some(last) = last_events(alloc, store, count as usize)? else {
+    let Some(last) = last_step(alloc, store, count as usize)? else {
         return Ok(None);
     };
     store.shows_what_crashes_leave();
-    if last.events.as_slice().is_empty() {
-        return Ok(None);
-    }
     let Some(to) = desktop_before(alloc, store, &last)? else {
         return Ok(None);
     };
     if turn_to(alloc, store, last.k, to)? {
-        Ok(Some(last.events))
+        Ok(Some(last.step))
     } else {
         Ok(None)
     }
 }
 
-/// Takes the last events back, so many, or fewer, and hands them out in their order. Where the store keeps a past that
-/// tells of them, and not too much was done since its part began, it is turned to the moment before them, so that nothing
-/// is forgotten; else it takes them back itself, as `Store::undo` does.
+/// Takes events back as `Store::undo` does.
+///
+/// Errors: those of `Store::undo`.
+fn undone<D: Disk>(alloc: Global, store: &mut Store<D>, count: u32) -> Result<Step, Error>
+    ensures any_moment { LeavesUndone D.Disk count store.old store.new }
+    ensures ok { IfOk result (λ step. TakesBack D.Disk count (step_deeds step) store.old
+        store.new) }
+    ensures left { IsErr result → store.old.must_reopen ≡ false → store.new.must_reopen ≡ false
+        → IsLeft D.Disk store.old store.new }
+    ensures in_use { IfErr result (λ e. e ≢ Error.Fault → e ≢ Error.MustReopen
+        → store.new.must_reopen ≡ false) }
+    ensures stops { D.honest store.old.disk → IfErr result OfLook }
+    ensures reopen { AnswersMustReopen result store.old store.new }
+    ensures device { UsesDevice D.Disk OfUndo result store.old store.new }
+{
+    match store.undo(alloc, count) {
+        Ok(events) => Ok(Step::Events(events)),
+        Err(error) => Err(error),
+    }
+}
+
+/// Takes the last events back, so many, or fewer, or where an import came last, this, and hands out what was taken back.
+/// Where the store keeps a past that tells of it, and not too much was done since its part began, it is turned to the moment
+/// before it, so that nothing is forgotten; else it takes events back itself, as `Store::undo` does.
 ///
 /// Errors: those of `Store::undo`; a disk in memory that fails is want of memory.
-pub fn step_back<D: Disk>(
-    alloc: Global,
-    store: &mut Store<D>,
-    count: u32,
-) -> Result<Vec<Event>, Error>
+pub fn step_back<D: Disk>(alloc: Global, store: &mut Store<D>, count: u32) -> Result<Step, Error>
     ensures any_moment { LeavesSteppedBack D.Disk count store.old store.new }
-    ensures ok { IfOk result (λ events. IsSteppedBack D.Disk count events.items store.old
+    ensures ok { IfOk result (λ step. IsSteppedBack D.Disk count (step_deeds step) store.old
         store.new) }
     ensures left { IsErr result → store.old.must_reopen ≡ false → store.new.must_reopen ≡ false
         → IsLeft D.Disk store.old store.new }
@@ -157,7 +186,7 @@ pub fn step_back<D: Disk>(
         return Err(Error::MustReopen);
     }
     match turned_back(alloc, store, count)? {
-        Some(events) => Ok(events),
-        None => store.undo(alloc, count),
+        Some(step) => Ok(step),
+        None => undone(alloc, store, count),
     }
 }

@@ -42,6 +42,13 @@ pub(crate) struct Found {
     pub count: u64,
 }
 
+impl Found {
+    /// Whether it has events or an import, and no turn.
+    fn is_done(self) -> bool {
+        !matches!(self.kind, Kind::Turn(_))
+    }
+}
+
 /// The pages of a past that have deeds, oldest first, the sector from which the part begins in which they stand, and the
 /// one behind them; how many deeds came before them, and before the journal in use; and the events of that.
 #[derive(Drop)]
@@ -280,12 +287,21 @@ impl Index {
         self.source(k) == self.source(other)
     }
 
-    /// The moment before the events that were posted before moment `k`, one right behind another, of the journal too.
+    /// Where the page stands of the import that was done right before moment `k`. None where something else was done then.
+    pub fn import_before(&self, k: u64) -> Option<u32> {
+        match self.page_before(k) {
+            Some(page) if page.kind == Kind::Import => Some(page.at),
+            _ => None,
+        }
+    }
+
+    /// The moment before what was done before moment `k`, one deed right behind another, of the journal too, down to the last
+    /// turn.
     pub fn run_start(&self, k: u64) -> u64 {
         let mut k = k.min(self.before);
         for _count in 0..self.entries.len() {
             match self.page_before(k) {
-                Some(page) if page.kind == Kind::Events => k = k.saturating_sub(page.count),
+                Some(page) if page.is_done() => k = k.saturating_sub(page.count),
                 _ => return k,
             }
         }

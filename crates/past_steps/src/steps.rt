@@ -1,22 +1,28 @@
-//! Steps through a past: what was done last, and what the last turns took back. It is read from the pages, and nothing is
-//! known of it.
-ghost use Rattle.std.specs.Prelude.{◌≡◌, ◌≤◌, false, length, IfOk, IfSome, OnOk};
+//! Steps through a past: what was done last. It is read from the pages, and nothing is known of it.
+ghost use Rattle.std.specs.Prelude.{◌≡◌, ◌≢◌, ◌≤◌, false, length, IfOk, IfSome, OnOk};
 ghost use Rattle.desk_journal.specs.Looking.{OnlyLooks};
-ghost use Rattle.past_steps.specs.Steps.{IsPartInUse};
+ghost use Rattle.past_steps.specs.Steps.{IsPartInUse, step_deeds};
 
 use crate::index::{Found, Index, last_of};
-use desk_journal::{Error, Store};
+use desk_journal::{Document, Error, Store};
 use desk_past::{PageDeeds, page_in};
 use event_bytes::Event;
 use sector_disk::Disk;
 use std::alloc::{AllocError, Global};
 
-/// A moment of the past that begins in sector `base`, and the events that are said to have followed it.
+/// What a step takes back: events, in their order, or the documents of an import.
+#[derive(Drop)]
+pub enum Step {
+    Events(Vec<Event>),
+    Import(Vec<Document>),
+}
+
+/// A moment of the past that begins in sector `base`, and what is said to have followed it.
 #[derive(Drop)]
 pub(crate) struct Candidate {
     pub base: u32,
     pub k: u64,
-    pub events: Vec<Event>,
+    pub step: Step,
 }
 
 /// Adds the last of these events, up to `most`, the last one first.
@@ -116,7 +122,7 @@ fn journal_before(alloc: Global, index: &mut Index, k: u64) -> Vec<Event>
 /// the moment before them.
 ///
 /// Errors: those of `page_in`; `NoMemory`.
-fn run_before<D: Disk>(
+pub(crate) fn run_before<D: Disk>(
     alloc: Global,
     store: &mut Store<D>,
     index: &mut Index,
@@ -138,72 +144,72 @@ fn run_before<D: Disk>(
     Ok(found)
 }
 
-/// Adds these events.
-fn add_all(events: Vec<Event>, found: &mut Vec<Event>) -> Result<(), AllocError> {
-    for event in events {
-        found.push(event)?;
+/// The documents that a page says came. None where it says that something else was done.
+fn documents_of(deeds: PageDeeds) -> Option<Vec<Document>> {
+    match deeds {
+        PageDeeds::Import(documents) => Some(documents),
+        _ => None,
     }
-    Ok(())
 }
 
-/// Adds the events that the turns right before moment `k` took back, of the last one first, each in their order. Where one
-/// leads to a moment from which no events lead to where it was, it took none back, and neither did those before it.
+/// The documents of the import that was done right before moment `k`. None where something else was done then.
 ///
-/// Errors: those of `run_before`.
-fn add_turns<D: Disk>(
+/// Errors: those of `page_in`.
+pub(crate) fn import_before<D: Disk>(
     alloc: Global,
     store: &mut Store<D>,
-    index: &mut Index,
+    index: &Index,
     k: u64,
-    found: &mut Vec<Event>,
-) -> Result<(), Error>
+) -> Result<Option<Vec<Document>>, Error>
     requires { store.old.must_reopen ≡ false }
     ensures { OnlyLooks D.Disk result store.old store.new }
 {
-    let mut k = k;
-    for _count in 0..index.entries.len() {
-        let Some(to) = index.turn_before(k) else {
-            return Ok(());
-        };
-        k = k.saturating_sub(1);
-        let mut from = index.source(k);
-        let many = from.saturating_sub(to) as usize;
-        let events = run_before(alloc, store, index, &mut from, to, many)?;
-        if !index.are_alike(from, to) {
-            return Ok(());
-        }
-        add_all(events, found)?;
-    }
-    Ok(())
-}
-
-/// These events without their first ones, which were done again. None of them where something else was done.
-fn rest_behind(events: Vec<Event>, done: &[Event]) -> Result<Vec<Event>, AllocError> {
-    let mut events = events;
-    if events.len() < done.len() {
-        events.truncate(0);
-        return Ok(events);
-    }
-    let rest = events.split_off(done.len())?;
-    if events.as_slice() == done {
-        Ok(rest)
-    } else {
-        events.truncate(0);
-        Ok(events)
+    let Some(at) = index.import_before(k) else {
+        return Ok(None);
+    };
+    match page_in(alloc, store, at, index.end)? {
+        None => Ok(None),
+        Some(page) => Ok(documents_of(page.deeds)),
     }
 }
 
-/// The last events that led to what a store shows, at most so many, in their order, and the moment before them, or the one
-/// to which a turn right before them led. None where it keeps no past, where its pages
-/// can't be read, or where too much was done since its part began.
+/// What was done last, before moment `k`, if that is an import.
+///
+/// Errors: those of `page_in`.
+fn import_at<D: Disk>(
+    alloc: Global,
+    store: &mut Store<D>,
+    index: &Index,
+    k: u64,
+) -> Result<Option<Candidate>, Error>
+    requires { store.old.must_reopen ≡ false }
+    ensures one { IfOk result (λ found. IfSome found (λ last.
+        (last.base ≡ index.now.base) × (length (step_deeds last.step) ≡ 1))) }
+    ensures looks { OnlyLooks D.Disk result store.old store.new }
+{
+    match import_before(alloc, store, index, k)? {
+        None => Ok(None),
+        Some(documents) => Ok(Some(Candidate {
+            base: index.base,
+            k: index.source(k.saturating_sub(1)),
+            step: Step::Import(documents),
+        })),
+    }
+}
+
+/// What led to what a store shows last: at most so many events, in their order, or where none did an import; and the moment
+/// before that, or the one to which a turn right before it led. None where the store keeps no past, where its pages can't be
+/// read, or where too much was done since its part began.
 ///
 /// Errors: those of `Store::past`, `page_in` and `Store::history`.
-pub(crate) fn last_events<D: Disk>(
+pub(crate) fn last_step<D: Disk>(
     alloc: Global,
     store: &mut Store<D>,
     most: usize,
 ) -> Result<Option<Candidate>, Error>
-    ensures few { IfOk result (λ found. IfSome found (λ last. length last.events.items ≤ most)) }
+    ensures few { IfOk result (λ found. IfSome found (λ last.
+        length (step_deeds last.step) ≤ most)) }
+    ensures some { IfOk result (λ found. IfSome found (λ last. length (step_deeds last.step) ≢ 0)) }
     ensures part { IfOk result (λ found. IfSome found (λ last.
         IsPartInUse D.Disk last.base store.old)) }
     ensures looks { OnlyLooks D.Disk result store.old store.new }
@@ -212,19 +218,33 @@ pub(crate) fn last_events<D: Disk>(
         return Ok(None);
     };
     let mut k = index.source(index.now());
-    if !index.is_near(k) {
+    if most == 0 || !index.is_near(k) {
         return Ok(None);
     }
     let events = run_before(alloc, store, &mut index, &mut k, 0, most)?;
+    if events.as_slice().is_empty() {
+        return import_at(alloc, store, &index, k);
+    }
     Ok(Some(Candidate {
         base: index.base,
         k: index.source(k),
-        events,
+        step: Step::Events(events),
     }))
 }
 
-/// The last events that led to what a store shows, as its past tells: at most so many, in their order. None where it keeps
-/// no past, where its pages can't be read or are too many, or where too much was done since its part began.
+/// The events that a step takes back.
+fn events_of(step: Step, alloc: Global) -> Vec<Event>
+    ensures { length result.items ≤ length (step_deeds step) }
+{
+    match step {
+        Step::Events(events) => events,
+        Step::Import(_) => Vec::new(alloc),
+    }
+}
+
+/// The last events that led to what a store shows, as its past tells: at most so many, in their order. None of them where an
+/// import came last. None where it keeps no past, where its pages can't be read or are too many, or where too much was done
+/// since its part began.
 ///
 /// Errors: `MustReopen`; `NoMemory`; `Fault`.
 pub fn events_behind<D: Disk>(
@@ -235,54 +255,8 @@ pub fn events_behind<D: Disk>(
     ensures few { IfOk result (λ found. IfSome found (λ events. length events.items ≤ most)) }
     ensures looks { OnlyLooks D.Disk result store.old store.new }
 {
-    match last_events(alloc, store, most)? {
+    match last_step(alloc, store, most)? {
         None => Ok(None),
-        Some(last) => Ok(Some(last.events)),
+        Some(last) => Ok(Some(events_of(last.step, alloc))),
     }
-}
-
-/// The events that the last turns took back, as the past tells, in their order, without those that were done again since;
-/// the first of them, at most so many. None of them where something else was done since. None where the store keeps no
-/// past, or its pages can't be read or are too many.
-///
-/// Errors: `MustReopen`; `NoMemory`; `Fault`.
-pub fn events_ahead<D: Disk>(
-    alloc: Global,
-    store: &mut Store<D>,
-    most: usize,
-) -> Result<Option<Vec<Event>>, Error>
-    ensures few { IfOk result (λ found. IfSome found (λ events. length events.items ≤ most)) }
-    ensures looks { OnlyLooks D.Disk result store.old store.new }
-{
-    let Some(index) = Index::of(alloc, store)? else {
-        return Ok(None);
-    };
-    let mut events = taken_back(alloc, store, index)?;
-    events.truncate(most);
-    Ok(Some(events))
-}
-
-/// The same by the pages of the past.
-///
-/// Errors: those of `run_before`.
-fn taken_back<D: Disk>(
-    alloc: Global,
-    store: &mut Store<D>,
-    index: Index,
-) -> Result<Vec<Event>, Error>
-    requires { store.old.must_reopen ≡ false }
-    ensures { OnlyLooks D.Disk result store.old store.new }
-{
-    let mut index = index;
-    let now = index.now();
-    let since = index.run_start(now);
-    let mut found = Vec::new(alloc);
-    add_turns(alloc, store, &mut index, since, &mut found)?;
-    if found.as_slice().is_empty() {
-        return Ok(found);
-    }
-    let many = now.saturating_sub(since) as usize;
-    let mut k = now;
-    let done = run_before(alloc, store, &mut index, &mut k, since, many)?;
-    Ok(rest_behind(found, done.as_slice())?)
 }

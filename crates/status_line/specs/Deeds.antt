@@ -9,7 +9,7 @@ use Rattle.event_bytes.specs.declared.keys.Keys.TheVariants.{Left, LeftMiddle, L
 use Rattle.event_bytes.specs.declared.keys.Keys.TheVariants.{MiddleRight, Right, RightLeft, RightMiddle}
 use Rattle.status_line.specs.declared.deed.Deed.{Deed}
 use Rattle.status_line.specs.declared.deed.Deed.TheVariants.{Typed, Key, Mark, Click, Call, Store, Search, Scroll}
-use Rattle.status_line.specs.declared.deed.Deed.TheVariants.{File, Replacement, Paragraph, Delete, Part}
+use Rattle.status_line.specs.declared.deed.Deed.TheVariants.{File, Import, Replacement, Paragraph, Delete, Part}
 
 abbrev pub is_middle : MouseKeys → Bool
 is_middle Middle = true
@@ -65,7 +65,10 @@ keys_deed MiddleRight = codes "a click"
 abbrev pub typed_words : ℕ → List ℕ
 typed_words n = if n == 1 then codes " character" else codes " characters"
 
--- the words for it, but for the number of characters and for the word that was called
+abbrev pub import_words : ℕ → List ℕ
+import_words n = if n == 1 then codes " document" else codes " documents"
+
+-- the words for it, but for the number of characters or documents and for the word that was called
 abbrev pub deed_words : Deed → List ℕ
 deed_words (Typed n) = typed_words n
 deed_words (Key key) = key_deed key
@@ -76,6 +79,7 @@ deed_words Store = codes "Edit.Store"
 deed_words Search = codes "Edit.Search"
 deed_words Scroll = codes "a scroll"
 deed_words File = codes "a file"
+deed_words (Import n) = import_words n
 deed_words Replacement = codes "a replacement"
 deed_words Paragraph = codes "the paragraph"
 deed_words Delete = codes "a Delete"

@@ -111,14 +111,15 @@ abbrev pub click_words : Click → List ℕ
 click_words Mark = codes "the next click sets the marker in the viewer there; Escape calls it off"
 click_words (Keys keys) = keys_words keys
 
--- of what was typed it is said how many characters these were
-abbrev pub typed_count : Deed → List ℕ
-typed_count (deed.Typed count) = codes "typed " ++ decimal count
-typed_count _ = []
+-- it is said how many characters were typed, and how many documents came
+abbrev pub count_told : Deed → List ℕ
+count_told (deed.Typed count) = codes "typed " ++ decimal count
+count_told (deed.Import count) = codes "imported " ++ decimal count
+count_told _ = []
 
 -- what was taken back, or done again
 unfoldable pub told : List ℕ → Deed → List ℕ
-told before what = before ++ typed_count what ++ deed_words what
+told before what = before ++ count_told what ++ deed_words what
 
 -- of a command its word, where that is seen
 unfoldable pub called : List ℕ → Deed → List ℕ

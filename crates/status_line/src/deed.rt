@@ -1,7 +1,7 @@
 //! What a press did, in words.
 ghost use Rattle.std.specs.Prelude.{◌≡◌, ◌≤◌, length};
 ghost use Rattle.status_line.specs.Deeds.{click_deed, deed_of, deed_with, deed_words, key_deed, keys_deed, typed_more};
-ghost use Rattle.status_line.specs.Deeds.{erasing_deed, typed_words};
+ghost use Rattle.status_line.specs.Deeds.{erasing_deed, import_words, typed_words};
 
 use event_bytes::{Event, Key, Keys};
 
@@ -26,6 +26,8 @@ pub enum Deed {
     Scroll,
     /// A file was made, or got other characters.
     File,
+    /// So many documents came by an import.
+    Import(u32),
     /// What was typed where a pattern was found was typed in another such place.
     Replacement,
     /// A paragraph was filled.
@@ -79,7 +81,7 @@ impl Deed {
         }
     }
 
-    /// The words for it, but for the number of characters and for the word that was called.
+    /// The words for it, but for the number of characters or documents and for the word that was called.
     pub fn words(self) -> &'static [u8]
         ensures value { result.now ≡ deed_words self }
         ensures short { length result.now ≤ 40 }
@@ -94,6 +96,7 @@ impl Deed {
             Deed::Search => b"Edit.Search",
             Deed::Scroll => b"a scroll",
             Deed::File => b"a file",
+            Deed::Import(count) => import_words(count),
             Deed::Replacement => b"a replacement",
             Deed::Paragraph => b"the paragraph",
             Deed::Delete => b"a Delete",
@@ -132,6 +135,18 @@ fn typed_words(count: u32) -> &'static [u8]
         b" character"
     } else {
         b" characters"
+    }
+}
+
+/// The words behind the number of documents.
+fn import_words(count: u32) -> &'static [u8]
+    ensures value { result.now ≡ import_words count }
+    ensures short { length result.now ≤ 40 }
+{
+    if count == 1 {
+        b" document"
+    } else {
+        b" documents"
     }
 }
 

@@ -1,6 +1,7 @@
 //! What was taken back, or done again, in words.
 ghost use Rattle.std.specs.Prelude.{◌≡◌, ◌≤◌, ◌++◌, codes, length};
-ghost use Rattle.status_line.specs.Sayings.{called, told, is_cut, told_back, word_told};
+ghost use Rattle.std.specs.Fmt.{decimal};
+ghost use Rattle.status_line.specs.Sayings.{called, count_told, told, is_cut, told_back, word_told};
 ghost use Rattle.screen_reading.specs.Frames.{track_end};
 
 use crate::deed::Deed;
@@ -79,6 +80,31 @@ fn called(word: &[u8], deed: Deed) -> SayingLine
     text
 }
 
+/// A number behind these words.
+fn counted(before: &[u8], count: u32) -> SayingLine
+    requires { length before.now ≤ 9 }
+    ensures value { result.items ≡ before.now ++ decimal count }
+    ensures short { length result.items ≤ 19 }
+{
+    let mut digits = itoa::Buffer::new();
+    let mut text = line(before);
+    text.try_extend_from_slice(digits.format(count).as_bytes())
+        .unwrap();
+    text
+}
+
+/// How many characters were typed, or how many documents came.
+fn count_told(deed: Deed) -> SayingLine
+    ensures value { result.items ≡ count_told deed }
+    ensures short { length result.items ≤ 19 }
+{
+    match deed {
+        Deed::Typed(count) => counted(b"typed ", count),
+        Deed::Import(count) => counted(b"imported ", count),
+        _ => SayingLine::new(),
+    }
+}
+
 /// What was taken back, or done again.
 #[tactic(auto, unfolding(crate::specs::Sayings::told))]
 pub(crate) fn told(before: &[u8], deed: Deed) -> SayingLine
@@ -86,12 +112,8 @@ pub(crate) fn told(before: &[u8], deed: Deed) -> SayingLine
     ensures { result.items ≡ told before.now deed }
 {
     let mut text = line(before);
-    if let Deed::Typed(count) = deed {
-        let mut digits = itoa::Buffer::new();
-        text.try_extend_from_slice(b"typed ").unwrap();
-        text.try_extend_from_slice(digits.format(count).as_bytes())
-            .unwrap();
-    }
+    text.try_extend_from_slice(count_told(deed).as_slice())
+        .unwrap();
     text.try_extend_from_slice(deed.words()).unwrap();
     text
 }

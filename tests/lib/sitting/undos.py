@@ -385,6 +385,119 @@ def kills(seed, desk, oberon, folder, tool):
     return wrong if played(oberon, store, ['list']) == had else [*wrong, 'another list']
 
 
+# ---- imports
+
+NAMES = ['Plan', 'A.Text', 'Letter.Text', 'Notes']
+STEPS = 40  # presses, kills and imports
+
+
+class Walk:
+    """A store that keeps a past, and somebody at it: what was shown and kept behind each step, and where among them it is. A
+    step is a word that was typed, or an import between two sittings."""
+
+    def __init__(self, chance, desk, oberon, folder, tool):
+        self.chance, self.desk, self.oberon, self.folder, self.store = chance, desk, oberon, folder, f'{folder}/store'
+        begin(oberon, self.store, tool)
+        self.wrong, self.at = [], 0
+        documents = self.documents()
+        self.begin()
+        self.steps = [(self.screen(), documents, '')]
+
+    def begin(self):
+        self.sitting = Sitting([self.desk, '--no-questions', self.store], ROWS, 80, self.folder)
+        if not self.sitting.wait(lambda: self.sitting.terminal.scenes > 0):
+            raise TooSlow
+
+    def documents(self):
+        """The documents that there are, with their sizes, and what those of these names are."""
+        listed = [line for line in played(self.oberon, self.store, ['list']) if line.startswith('file ')]
+        return listed + played(self.oberon, self.store, [f'show {name}' for name in NAMES])
+
+    def screen(self):
+        return characters(self.sitting.terminal.cells, ROWS - 1)
+
+    def press(self, data):
+        self.sitting.press(data)
+        self.sitting.hear_long(b'')
+
+    def go(self, key, to, words):
+        """A step back or forth, to what was shown then."""
+        self.press(key)
+        line = self.sitting.terminal.line(ROWS - 1)
+        if line != words:
+            self.wrong.append(f'the line below is {line!r} and not {words!r}')
+        self.at = to
+        self.compare('screen', self.screen(), 0)
+
+    def compare(self, word, seen, part):
+        if seen != self.steps[self.at][part]:
+            self.wrong.append(f'another {word} at step {self.at} of {len(self.steps) - 1}')
+
+    def add(self, documents, words):
+        """A step was done, behind which no other is."""
+        self.at += 1
+        self.steps[self.at:] = [(self.screen(), documents, words)]
+
+    def type(self):
+        word = ''.join(self.chance.choice('abcde') for _ in range(self.chance.randrange(1, 4))) + ' '
+        self.press(word.encode())
+        self.add(self.steps[self.at][1], f'typed {len(word)} characters')
+
+    def leave(self):
+        self.sitting.press(b'\x11')
+        self.sitting.end()
+        self.compare('document', self.documents(), 1)
+
+    def bring(self):
+        """Leaves, and imports files, over other documents or not."""
+        self.leave()
+        names = self.chance.sample(NAMES, self.chance.randrange(1, 4))
+        for name in names:
+            with open(f'{self.folder}/{name}', 'w', encoding='ascii') as file:
+                file.write(f'{name} of {self.chance.random()}\n' * self.chance.choice([1, 30]))
+        subprocess.run([self.desk, 'import', self.store, '--replace', *(f'{self.folder}/{name}' for name in names)], check=True,
+                       stdout=subprocess.DEVNULL)
+        documents = self.documents()
+        self.begin()
+        self.add(documents, f'imported {len(names)} document' + 's' * (len(names) > 1))
+
+    def kill(self):
+        os.kill(self.sitting.program(), signal.SIGKILL)
+        self.sitting.end()
+        self.begin()
+        self.compare('screen', self.screen(), 0)
+
+    def turn(self):
+        kind = self.chance.randrange(20)
+        if kind < 7 and self.at:
+            self.go(b'\x1a', self.at - 1, 'undid: ' + self.steps[self.at][2])
+        elif kind < 12 and self.at < len(self.steps) - 1:
+            self.go(b'\x19', self.at + 1, 'did again: ' + self.steps[self.at + 1][2])
+        elif kind == 12 and self.at == len(self.steps) - 1:
+            self.go(b'\x19', self.at, 'There is nothing to do again.')
+        elif kind < 16:
+            self.kill()
+        elif kind < 18 or self.chance.random() < 0.5:
+            self.type()
+        else:
+            self.bring()
+
+
+def walks(seed, desk, oberon, folder, tool):
+    """Words and imports at a desk that keeps its past, and steps back and forth over them, also after a kill."""
+    walk = Walk(random.Random(seed), desk, oberon, folder, tool)
+    try:
+        for _ in range(3):
+            walk.type()
+            walk.bring()
+        for _ in range(STEPS):
+            walk.turn()
+        walk.leave()
+    finally:
+        walk.sitting.stop()
+    return walk.wrong[:3]
+
+
 # ---- scripts
 
 
@@ -460,7 +573,7 @@ def main():
         tool = text.read()
     faults = 0
     for does, runs, words in ((sit, int(sittings), 'sittings with Ctrl-Z and Ctrl-Y'), (kills, 1, 'desks killed amid them'),
-                              (plays, int(scripts), 'scripts with undos')):
+                              (walks, int(sittings), 'walks over imports'), (plays, int(scripts), 'scripts with undos')):
         differ = 0
         for seed in range(int(first), int(first) + runs):
             wrong = tried(does, seed, desk, oberon, tool)

@@ -1,6 +1,6 @@
-use Rattle.std.proofs.Common.{◌∙◌, Err, ap}
+use Rattle.std.proofs.Common.{◌∙◌, Err, None, Some, ap}
 use Rattle.std.proofs.lemmas.Result.{err_from_is_err_and}
-use Rattle.desk_sitting.proofs.Travelling.{goes_on, goes_unread, goes_wrong, nothing_again}
+use Rattle.desk_sitting.proofs.Travelling.{fails_import, goes_import, goes_on, goes_unread, goes_wrong, nothing_again}
 use Rattle.desk_sitting.proofs.travels.do_again.Goals as goal
 
 pub returns-in_err-look_ahead : goal.returns-in_err-look_ahead
@@ -9,12 +9,35 @@ returns-in_err-look_ahead g c =
     goes_unread g.D.Disk c.in_err-look_ahead.field-0.0 c.from_residual.result c.args.store.now c.look_ahead.new.store
     c.requires.usable (p.1 ∙ ap (λ e. Err e) p.2) c.in_err-look_ahead.ensures.looks
 
-pub returns-in-None : goal.returns-in-None
-returns-in-None g c =
+-- no event is next
+
+pub returns-in_err-import_again-in-None : goal.returns-in_err-import_again-in-None
+returns-in_err-import_again-in-None g c =
     let k = c.in_ok-look_ahead.ensures in
+    let e = c.in_err-import_again-in-None.ensures in
+    let p = err_from_is_err_and c.from_residual-in_err-import_again-in-None.result
+    c.from_residual-in_err-import_again-in-None.ensures.1 in
+    fails_import g.D.Disk c.args.sitting.now k.knows.0 k.knows.1 c.requires.asked c.requires.usable k.looks c.place-from.result
+    c.place-from.ensures c.next_again.new.self c.next_again.result c.next_again.ensures.event c.next_again.ensures.sitting
+    c.in_err-import_again-in-None.field-0.0 c.from_residual-in_err-import_again-in-None.result (p.1 ∙ ap (λ e. Err e) p.2)
+    c.in-None.is e.breaks e.device
+
+pub returns-in-None-in-None : goal.returns-in-None-in-None
+returns-in-None-in-None g c =
+    let k = c.in_ok-look_ahead.ensures in
+    let e = c.in_ok-import_again.ensures in
     nothing_again g.D.Disk c.args.sitting.now k.knows.0 k.knows.1 c.requires.asked c.requires.usable k.looks c.place-from.result
     c.place-from.ensures c.next_again.new.self c.next_again.result c.next_again.ensures.event c.next_again.ensures.sitting
-    tt c.in-None.is c.refuse.ensures
+    tt None c.in-None.is (rw c.in-None-in-None.is at e.none) e.device c.end_there.ensures
+
+pub returns-in-Some-in-None : goal.returns-in-Some-in-None
+returns-in-Some-in-None g c =
+    let k = c.in_ok-look_ahead.ensures in
+    let e = c.in_ok-import_again.ensures in
+    goes_import g.D.Disk c.args.sitting.now k.knows.0 k.knows.1 c.requires.asked c.requires.usable k.looks c.place-from.result
+    c.place-from.ensures c.next_again.new.self c.next_again.result c.next_again.ensures.event c.next_again.ensures.sitting
+    tt (Some c.in-Some-in-None.documents) c.in-Some-in-None.documents.items c.place.result c.in-None.is
+    (rw c.in-Some-in-None.is at e.brought) e.device c.place.ensures c.did_import.ensures
 
 pub returns-in_ok-post-in-Some : goal.returns-in_ok-post-in-Some
 returns-in_ok-post-in-Some g c =

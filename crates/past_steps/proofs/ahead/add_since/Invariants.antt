@@ -1,6 +1,6 @@
 use Rattle.std.proofs.Common.{Ok}
 use Rattle.desk_journal.specs.Looking.{OnlyLooks}
-use Rattle.past_steps.proofs.steps.add_turns.Given as goal
+use Rattle.past_steps.proofs.ahead.add_since.Given as goal
 
 -- the store was only read
 abbrev pub invariant-loop-count : goal.invariant-loop-count
