@@ -211,10 +211,10 @@ module _ {D : Type 0} (d : Ghosts D) where
     }
 
     -- what the sitting comes to, where the store stood at these places
-    comes_so : {s' : Sitting} {new : StoreView D} (comes : StorePlace → StorePlace → Sitting → Sitting) (from to : StorePlace)
+    comes_so : {s' : Sitting} (new : StoreView D) (comes : StorePlace → StorePlace → Sitting → Sitting) (from to : StorePlace)
         → from ≡ store_place mid → to ≡ store_place new → s' ≡ comes from to (settled known)
         → s' ≡ comes (store_place old) (store_place new) (settled (recalled told s))
-    comes_so {new = new} comes from to at come is = is ∙ ap (λ p. comes p to (settled known)) (at ∙ place_still still)
+    comes_so new comes from to at come is = is ∙ ap (λ p. comes p to (settled known)) (at ∙ place_still still)
         ∙ ap (λ p. comes (store_place old) p (settled known)) come
         ∙ ap (λ t. comes (store_place old) (store_place new) (settled t)) knows
 
@@ -243,8 +243,8 @@ module _ {D : Type 0} (d : Ghosts D) where
         → IsSteppedBack d count (all_posted events) mid new → UsesDevice d {T = U} OfUndo (Ok x) mid new
         → from ≡ store_place mid → to ≡ store_place new
         → s' ≡ took_back events from to (settled known) → Travels the_desk d (Ok value) s s' old new
-    goes_back value x events from to stepped device at come is =
-        let so = comes_so (took_back events) from to at come is in
+    goes_back {new = new} value x events from to stepped device at come is =
+        let so = comes_so new (took_back events) from to at come is in
         gone_back value x (all_posted events) stepped device
         (back told events asked (stepped_so (all_posted events) stepped) so)
         (came_back told events (stepped_so (all_posted events) stepped) so)
@@ -254,8 +254,8 @@ module _ {D : Type 0} (d : Ghosts D) where
         (from to : StorePlace) → IsSteppedBack d count (brought documents ∷ []) mid new
         → UsesDevice d {T = U} OfUndo (Ok x) mid new → from ≡ store_place mid → to ≡ store_place new
         → s' ≡ took_import documents from to (settled known) → Travels the_desk d (Ok value) s s' old new
-    goes_over value x documents from to stepped device at come is =
-        let so = comes_so (took_import documents) from to at come is in
+    goes_over {new = new} value x documents from to stepped device at come is =
+        let so = comes_so new (took_import documents) from to at come is in
         gone_back value x (brought documents ∷ []) stepped device
         (import_back told documents asked (stepped_so (brought documents ∷ []) stepped) so)
         (import_taken told documents (stepped_so (brought documents ∷ []) stepped) so)

@@ -27,9 +27,11 @@ returns-in-Ok-Import g c =
     let e = c.in-Ok-Import.ensures in
     let k = c.in_ok-look_behind.ensures in
     goes_over g.D.Disk c.args.sitting.now k.knows.0 k.knows.1 c.settle-count.result c.settle-count.ensures.count c.requires.asked
-    c.requires.usable k.looks tt _ c.in-Ok-Import.documents.items c.place-from.result c.place.result
-    (rw c.in-Ok-Import.field-0-is at e.ok) e.device c.place-from.ensures c.place.ensures
-    (c.took_import.ensures ∙ ap (took_import c.in-Ok-Import.documents.items c.place-from.result c.place.result)
+    c.requires.usable k.looks tt _ c.in-Ok-Import.documents.items c.place-from.result c.place-in-Ok-Import.result
+    (rw c.in-Ok-Import.field-0-is at e.ok) e.device c.place-from.ensures c.place-in-Ok-Import.ensures
+    (c.took_import.ensures
+    ∙ ap (λ ds. took_import ds c.place-from.result c.place-in-Ok-Import.result c.settle-count.new.self) c.as_slice.ensures.value
+    ∙ ap (took_import c.in-Ok-Import.documents.items c.place-from.result c.place-in-Ok-Import.result)
     c.settle-count.ensures.sitting)
 
 pub returns-in-Err : goal.returns-in-Err
