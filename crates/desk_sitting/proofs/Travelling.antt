@@ -32,7 +32,7 @@ use Rattle.done_presses.specs.declared.again.StorePlace.{StorePlace}
 use Rattle.desk_sitting.specs.Doing.{IsUndone, OfPresses, ComesToSeat, seat_of}
 use Rattle.desk_sitting.specs.Pasts.{KeepsPast, PostsOn, PostsUpTo}
 use Rattle.desk_sitting.specs.Sittings.{accepted_one, after_post, refused}
-use Rattle.desk_sitting.specs.Travels.{Travelled, Travels, did_again, did_import, ended_there, foreseen, goes_again, is_turn}
+use Rattle.desk_sitting.specs.Travels.{Travelled, Travels, did_again, did_import, ended_there, foreseen, goes_again}
 use Rattle.desk_sitting.specs.Travels.{recalled, settled, step_count, store_place, took_back, took_import}
 use Rattle.desk_sitting.specs.Travels.{ComesBack, LaterStepsAreTurns, back, nothing, again, not_taken, taken as came_back, unread}
 use Rattle.desk_sitting.specs.Travels.{import_again, import_back, import_taken}
