@@ -1,4 +1,3 @@
 mod Ending
 mod Lines
-mod Parts
 mod Showing

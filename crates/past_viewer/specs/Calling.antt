@@ -8,7 +8,7 @@ use Rattle.terminal_presses.specs.declared.press.Presses.{Presses}
 use Rattle.terminal_presses.specs.declared.press.Presses.TheVariants.{Nothing, One, Two}
 use Rattle.terminal_keyboard.specs.declared.parser.Parser.{Parser}
 use Rattle.terminal_keyboard.specs.Presses.{heard_by}
-use Rattle.past_viewer.specs.declared.keys.TheConstants.{CONTROL_P, CONTROL_Q, LEAVES}
+use Rattle.past_looks.specs.declared.hand.TheConstants.{CONTROL_P, CONTROL_Q, LEAVES}
 
 abbrev pub final_press : Presses → Option Press
 final_press Nothing = None

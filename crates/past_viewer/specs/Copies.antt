@@ -8,7 +8,7 @@ use Rattle.desktop_definitions.specs.Desktop.{Desktop}
 use Rattle.desktop_definitions.specs.Viewers.{newest, selected}
 use Rattle.desktop_definitions.specs.declared.viewer.Selection.{Selection}
 use Rattle.store_documents.specs.HostText.{exported}
-use Rattle.past_viewer.specs.Words.{grouped}
+use Rattle.past_looks.specs.Words.{grouped}
 use Rattle.past_viewer.specs.declared.copies.TheConstants.{MOST_COPIED}
 
 -- what is selected, as a text of the host's: its lines end with line feeds

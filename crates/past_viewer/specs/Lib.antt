@@ -2,4 +2,3 @@ pub mod Calling
 pub mod Copies
 pub mod Panes
 pub mod Viewing
-pub mod Words

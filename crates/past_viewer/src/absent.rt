@@ -3,11 +3,11 @@ ghost use Rattle.std.specs.Prelude.{◌≡◌, false, None, IfErr, OnOk};
 ghost use Rattle.desk_past.specs.Reading.{IsOnlyReadFrom};
 ghost use Rattle.past_viewer.specs.Viewing.{CountsViewOutput, EndsViewBy, TakesScenes};
 
-use crate::hand::{ViewHand, Wish};
 use crate::pane::{Pane, Window};
 use crate::viewer::{Doing, MOST_TURNS, ViewEnd, hear_on};
 use byte_streams::AnswerWriter;
 use desk_journal::Store;
+use past_looks::{ViewHand, Wish};
 use screen_cells::Screen;
 use sector_disk::Disk;
 use std::alloc::Global;

@@ -7,17 +7,9 @@ ghost use Rattle.terminal_keyboard.specs.Hearings.{IsWithinLine, heard_bytes, ke
 ghost use Rattle.past_viewer.specs.Calling.{begins_call, calls_past, final_press, may_leave, pastes_behind, shows_escape, still_pastes, told_at_once, wants_quiet};
 ghost use Rattle.terminal_keyboard.specs.Presses.{parser_after};
 
+use past_looks::{CONTROL_P, CONTROL_Q, LEAVES};
 use terminal_keyboard::{Hearing, KeySource, KeyboardEnd, Parser, Trace};
 use terminal_presses::{Heard, Press, Presses};
-
-/// The byte of Ctrl-P.
-pub(crate) const CONTROL_P: u8 = 16;
-
-/// The byte of Ctrl-Q.
-pub(crate) const CONTROL_Q: u8 = 17;
-
-/// The letter by which one leaves the past.
-pub(crate) const LEAVES: u8 = b'q';
 
 /// The last one of these presses.
 fn final_press(presses: Presses) -> Option<Press>

@@ -6,6 +6,7 @@ ghost use Rattle.screen_drawing.specs.Scene.{IsInSight, text_below};
 ghost use Rattle.past_viewer.specs.Panes.{IsPartPainted, IsShownBy, asked_bytes, ring_bytes, size_question};
 
 use byte_streams::{AnswerWriter, OutputFault};
+use past_looks::Wish;
 use screen_cells::Screen;
 use screen_drawing::{Painter, Scene, ring, send_bytes};
 use screen_reading::{caret_of, fitted, followed, height_told, moved, width_told};
@@ -58,9 +59,19 @@ impl Pane {
         self.rings = self.rings || rings;
     }
 
-    /// The rows in sight follow the caret of the next scene.
-    pub fn follow(&mut self) {
-        self.follows = true;
+    /// The rows in sight follow the caret of the next scene, where that is to be.
+    pub fn follow_where(&mut self, follows: bool) {
+        self.follows = self.follows || follows;
+    }
+
+    /// Does what is wished of the terminal alone. Other wishes do nothing.
+    pub fn change(&mut self, wish: &Wish) {
+        match wish {
+            Wish::LookAnew => self.look_anew(),
+            Wish::Move(page) => self.move_by(*page),
+            Wish::Fit(rows, columns) => self.fit(*rows, *columns),
+            _ => {}
+        }
     }
 
     /// All is shown anew, and the terminal is asked for its size.

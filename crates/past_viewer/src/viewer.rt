@@ -1,35 +1,25 @@
 //! The past on the screen, turn by turn.
-ghost use Rattle.std.specs.Prelude.{◌≡◌, Some, false, true, IfErr, IfOk, IfSome, OnOk};
+ghost use Rattle.std.specs.Prelude.{◌≡◌, Some, false, IfErr, IfOk, IfSome, OnOk};
 ghost use Rattle.desk_past.specs.Reading.{IsOnlyReadFrom};
-ghost use Rattle.past_moments.specs.Moments.{AreMomentsOf};
+ghost use Rattle.past_looks.specs.Looking.{IsLookerOf, StaysOrTurns};
 ghost use Rattle.past_viewer.specs.declared.viewer.ViewEnd.TheVariants.{Memory, Output as TakesNoMore};
-ghost use Rattle.past_viewer.specs.Viewing.{CountsViewOutput, DoesKey, EndsViewBy, IsViewed, IsViewerOf, LeavesViewed, LooksOn};
-ghost use Rattle.past_viewer.specs.Viewing.{IsOfStore, IsSameLook, IsUsableBehind, StaysOrLeaves, TurnsOrStays, heard_end, viewer_line, view_end_of};
-ghost use Rattle.past_viewer.specs.Viewing.{IsAlike, KeepsUntouched, SaysBelow, TakesScenes, TakesSome, is_of_mouse, untouched_of};
-ghost use Rattle.past_viewer.specs.Words.{said_words};
+ghost use Rattle.past_viewer.specs.Viewing.{CountsViewOutput, DoesKey, EndsViewBy, IsViewed, LeavesViewed, LooksOn, TakesScenes};
+ghost use Rattle.past_viewer.specs.Viewing.{IsOfStore, IsUsableBehind, TakesSome, TellsBelow, TurnsOrStays, heard_end, view_end_of};
 
 use crate::absent::serve_absent;
 use crate::copies::copied_of;
-use crate::hand::{PAGE_EVENTS, ViewHand, Way, Wish};
 use crate::pane::{Pane, Window};
-use crate::words::{asked_line, moment_line, seeking_line};
 use byte_streams::{AnswerWriter, OutputFault};
-use desk_journal::{Error, Store, Wish as Lines};
-use desk_past::{copy_of, turn_to};
-use desktop_definitions::Reply;
-use event_bytes::Event;
-use past_moments::{Look, Moments, Sought, of_memory};
+use desk_journal::{Error, Store};
+use past_looks::{Looker, Wish, moment_line};
 use screen_cells::Screen;
-use sector_disk::{Disk, MemoryDisk};
+use sector_disk::Disk;
 use std::alloc::{AllocError, Global};
 use terminal_keyboard::{Hearing, Keyboard, KeyboardEnd, Parser};
-use terminal_presses::{Heard, Press, Presses, Spot};
+use terminal_presses::{Heard, Press, Presses};
 
 /// How many turns there are at most.
 pub(crate) const MOST_TURNS: u64 = u64::MAX;
-
-/// By how many lines a text moves with the wheel, as in a sitting.
-const WHEEL_LINES: u32 = 3;
 
 /// Why nobody looks on.
 #[derive(Clone, Copy, Debug, PartialEq, Eq)]
@@ -90,27 +80,6 @@ impl From<AllocError> for ViewEnd {
     }
 }
 
-/// What the line below says behind the moment that is shown.
-#[derive(Clone, Copy, Debug, PartialEq, Eq)]
-pub(crate) enum Said {
-    /// Which keys there are.
-    Keys,
-    /// What led to the moment.
-    Deed,
-    /// That what the mouse does there is done in memory alone.
-    Tried,
-    /// That a key stopped what was sought.
-    Stopped,
-    /// That the word didn't go from the screen before.
-    NotThere,
-    /// That there is no word to be sought.
-    NoWord,
-    /// That the past has no room for a turn.
-    NoRoom,
-    /// That the moment can't be worked out.
-    Unread,
-}
-
 /// Whether the person looks on.
 #[derive(Clone, Copy, Debug, PartialEq, Eq)]
 pub(crate) enum Doing {
@@ -118,24 +87,14 @@ pub(crate) enum Doing {
     Leaves,
 }
 
-/// A person before a past.
+/// A person before a past, at a terminal.
 #[derive(Drop)]
 struct Viewer {
-    moments: Moments,
-    hand: ViewHand,
+    looker: Looker,
     parser: Parser,
     pane: Pane,
-    /// The moment that is shown, which one is to be shown, and the former in memory, behind what the mouse has done there.
-    shown: u64,
-    wished: u64,
-    look: Look,
-    /// That moment as it was, where the mouse has done anything.
-    untouched: Option<Store<MemoryDisk>>,
-    said: Said,
     /// Something that is shown may have changed since the last scene.
     due: bool,
-    /// Up to which moment it is sought next for the word, while it is.
-    seeks: Option<u64>,
 }
 
 /// What is heard next. Where Ctrl-P stops a keyboard it is heard again.
@@ -189,48 +148,17 @@ impl Viewer {
     ) -> Result<Option<Viewer>, ViewEnd>
         requires { store.old.must_reopen ≡ false }
         ensures is { IfOk result (λ found. IfSome found (λ viewer.
-            IsViewerOf D.Disk viewer store.new)) }
+            IsLookerOf D.Disk viewer.looker store.new)) }
         ensures still { IsOnlyReadFrom D.Disk store.old store.new }
         ensures cause { IfErr result IsOfStore }
     {
-        let Some(moments) = Moments::of(alloc, store)? else {
-            return Ok(None);
-        };
-        Viewer::with_look(alloc, store, window, moments)
-    }
-
-    /// The same, where these are its moments.
-    ///
-    /// Errors: `Memory`; `Fault`.
-    fn with_look<D: Disk>(
-        alloc: Global,
-        store: &mut Store<D>,
-        window: Window,
-        moments: Moments,
-    ) -> Result<Option<Viewer>, ViewEnd>
-        requires { store.old.must_reopen ≡ false }
-        ensures is { IfOk result (λ found. IfSome found (λ viewer.
-            AreMomentsOf D.Disk moments store.old → IsViewerOf D.Disk viewer store.new)) }
-        ensures still { IsOnlyReadFrom D.Disk store.old store.new }
-        ensures cause { IfErr result IsOfStore }
-    {
-        let mut moments = moments;
-        let last = moments.extent.last;
-        match moments.look(alloc, store, last) {
-            Err(error) => Err(ViewEnd::from(error)),
-            Ok(None) => Ok(None),
-            Ok(Some(look)) => Ok(Some(Viewer {
-                moments,
-                hand: ViewHand::new(),
+        match Looker::of(alloc, store)? {
+            None => Ok(None),
+            Some(looker) => Ok(Some(Viewer {
+                looker,
                 parser: Parser::new(),
                 pane: Pane::new(window),
-                shown: last,
-                wished: last,
-                look,
-                untouched: None,
-                said: Said::Keys,
                 due: true,
-                seeks: None,
             })),
         }
     }
@@ -244,10 +172,11 @@ impl Viewer {
         store: &mut Store<D>,
     ) -> Result<Window, ViewEnd>
         requires { store.old.must_reopen ≡ false }
-        ensures viewed { OnOk result (IsViewerOf D.Disk self.old store.old
+        ensures viewed { OnOk result (IsLookerOf D.Disk self.old.looker store.old
             → IsViewed D.Disk store.old store.new (W.contents writer.old) (W.contents writer.new)) }
-        ensures any_moment { IsViewerOf D.Disk self.old store.old → LeavesViewed D.Disk store.old
-            store.new (W.contents writer.old) (W.contents writer.new) }
+        ensures any_moment { IsLookerOf D.Disk self.old.looker store.old
+            → LeavesViewed D.Disk store.old store.new (W.contents writer.old)
+            (W.contents writer.new) }
         ensures usable { IsUsableBehind result store.new }
         ensures ended { IfErr result (EndsViewBy (K.ended keyboard.new)) }
         ensures output { CountsViewOutput result (W.failures writer.old) (W.failures writer.new) }
@@ -264,7 +193,7 @@ impl Viewer {
         Err(ViewEnd::TooLong)
     }
 
-    /// Shows the moment that is in memory, where anything that is shown may have changed.
+    /// Shows what is in memory, where anything that is shown may have changed.
     ///
     /// Errors: those of `show`.
     fn show_if_due<W: AnswerWriter, D: Disk>(
@@ -273,9 +202,9 @@ impl Viewer {
         store: &Store<D>,
         writer: &mut W,
     ) -> Result<(), ViewEnd>
-        ensures viewer { IsViewerOf D.Disk self.old store.now
-            → IsViewerOf D.Disk self.new store.now }
-        ensures scenes { OnOk result (IsViewerOf D.Disk self.old store.now
+        ensures looker { IsLookerOf D.Disk self.old.looker store.now
+            → IsLookerOf D.Disk self.new.looker store.now }
+        ensures scenes { OnOk result (IsLookerOf D.Disk self.old.looker store.now
             → TakesSome D.Disk store.now (W.contents writer.old) (W.contents writer.new)) }
         ensures output { CountsViewOutput result (W.failures writer.old) (W.failures writer.new) }
         ensures cause { IfErr result (EndsViewBy (λ why. ⊥)) }
@@ -287,7 +216,7 @@ impl Viewer {
         }
     }
 
-    /// Shows the moment that is in memory.
+    /// Shows what is in memory.
     ///
     /// Errors: `Memory`; `Output`.
     fn show<W: AnswerWriter, D: Disk>(
@@ -296,19 +225,20 @@ impl Viewer {
         store: &Store<D>,
         writer: &mut W,
     ) -> Result<(), ViewEnd>
-        ensures viewer { IsViewerOf D.Disk self.old store.now
-            → IsViewerOf D.Disk self.new store.now }
-        ensures scenes { OnOk result (IsViewerOf D.Disk self.old store.now
-            → TakesScenes D.Disk store.now (Some self.new.shown) (W.contents writer.old)
+        ensures looker { IsLookerOf D.Disk self.old.looker store.now
+            → IsLookerOf D.Disk self.new.looker store.now }
+        ensures shown { self.new.looker.shown ≡ self.old.looker.shown }
+        ensures scenes { OnOk result (IsLookerOf D.Disk self.old.looker store.now
+            → TakesScenes D.Disk store.now (Some self.new.looker.shown) (W.contents writer.old)
             (W.contents writer.new)) }
         ensures output { CountsViewOutput result (W.failures writer.old) (W.failures writer.new) }
         ensures cause { IfErr result (EndsViewBy (λ why. ⊥)) }
     {
-        let line = self.line(alloc)?;
+        let line = self.looker.line(alloc)?;
         self.show_saying(alloc, store, writer, line.as_slice(), b"")
     }
 
-    /// Shows the moment that is in memory, and says this below, and sends this, which gives the clipboard a text.
+    /// Shows what is in memory, and says this below, and sends this, which gives the clipboard a text.
     ///
     /// Errors: `Memory`; `Output`.
     fn show_saying<W: AnswerWriter, D: Disk>(
@@ -319,34 +249,76 @@ impl Viewer {
         line: &[u8],
         clip: &[u8],
     ) -> Result<(), ViewEnd>
-        ensures viewer { IsViewerOf D.Disk self.old _store.now
-            → IsViewerOf D.Disk self.new _store.now }
-        ensures scenes { OnOk result (IsViewerOf D.Disk self.old _store.now
-            → SaysBelow D.Disk self.old.shown _store.now self.old.look.shown.desktop clip.now
-            line.now
-            → TakesScenes D.Disk _store.now (Some self.new.shown) (W.contents writer.old)
+        ensures looker { IsLookerOf D.Disk self.old.looker _store.now
+            → IsLookerOf D.Disk self.new.looker _store.now }
+        ensures shown { self.new.looker.shown ≡ self.old.looker.shown }
+        ensures scenes { OnOk result (IsLookerOf D.Disk self.old.looker _store.now
+            → TellsBelow D.Disk self.old.looker.shown _store.now
+            self.old.looker.look.shown.desktop clip.now line.now
+            → TakesScenes D.Disk _store.now (Some self.new.looker.shown) (W.contents writer.old)
             (W.contents writer.new)) }
         ensures output { CountsViewOutput result (W.failures writer.old) (W.failures writer.new) }
         ensures cause { IfErr result (EndsViewBy (λ why. ⊥)) }
     {
         self.due = false;
         let mut screen = Screen::new();
-        of_memory(self.look.shown.screen(alloc, &mut screen))?;
+        self.looker.screen(alloc, &mut screen)?;
+        self.pane.ring_where(self.looker.take_ring());
         Ok(self.pane.show(writer, &screen, line, clip)?)
     }
 
-    /// The line below.
-    fn line(&self, alloc: Global) -> Result<Vec<u8>, AllocError>
-        ensures { IfOk result (λ line. line.items ≡ viewer_line self.now) }
+    /// Gives the clipboard what is selected at the moment that is wished, which is shown, and the line below says so. Where
+    /// that moment can't be shown, nothing is copied.
+    ///
+    /// Errors: `Memory`; `Fault`; `Output`.
+    fn copy<W: AnswerWriter, D: Disk>(
+        &mut self,
+        alloc: Global,
+        writer: &mut W,
+        store: &mut Store<D>,
+    ) -> Result<(), ViewEnd>
+        requires { store.old.must_reopen ≡ false }
+        ensures looks { OnOk result (LooksOn D.Disk self.old.looker self.new.looker store.old
+            store.new (W.contents writer.old) (W.contents writer.new)) }
+        ensures still { IsOnlyReadFrom D.Disk store.old store.new }
+        ensures output { CountsViewOutput result (W.failures writer.old) (W.failures writer.new) }
+        ensures cause { IfErr result (EndsViewBy (λ why. ⊥)) }
     {
-        if let Some(word) = self.hand.asked() {
-            return asked_line(alloc, word);
+        if !self.come(alloc, store)? {
+            return Ok(());
         }
-        if let Some(k) = self.seeks {
-            return seeking_line(alloc, k);
-        }
-        let words = words_of(self.said, self.look.words.as_slice());
-        moment_line(alloc, self.shown, self.moments.extent.last, words)
+        self.show_copy(alloc, store, writer)
+    }
+
+    /// Shows what is in memory, gives the clipboard what is selected there, and says below what was copied. It rings where
+    /// nothing was.
+    ///
+    /// Errors: `Memory`; `Fault`; `Output`.
+    fn show_copy<W: AnswerWriter, D: Disk>(
+        &mut self,
+        alloc: Global,
+        store: &Store<D>,
+        writer: &mut W,
+    ) -> Result<(), ViewEnd>
+        ensures looker { IsLookerOf D.Disk self.old.looker store.now
+            → IsLookerOf D.Disk self.new.looker store.now }
+        ensures scenes { OnOk result (IsLookerOf D.Disk self.old.looker store.now
+            → TakesScenes D.Disk store.now (Some self.new.looker.shown) (W.contents writer.old)
+            (W.contents writer.new)) }
+        ensures output { CountsViewOutput result (W.failures writer.old) (W.failures writer.new) }
+        ensures cause { IfErr result (EndsViewBy (λ why. ⊥)) }
+    {
+        let copied = copied_of(alloc, &mut self.looker.look.shown)?;
+        self.looker.copied(copied.clip.is_empty());
+        let last = self.looker.moments.extent.last;
+        let line = moment_line(alloc, self.looker.shown, last, copied.words.as_slice())?;
+        self.show_saying(
+            alloc,
+            store,
+            writer,
+            line.as_slice(),
+            copied.clip.as_slice(),
+        )
     }
 
     /// Does what is pressed by all that was heard.
@@ -360,10 +332,11 @@ impl Viewer {
         hearing: &[Heard],
     ) -> Result<Doing, ViewEnd>
         requires { store.old.must_reopen ≡ false }
-        ensures does { IfOk result (λ doing. DoesKey D.Disk doing self.old self.new store.old
-            store.new (W.contents writer.old) (W.contents writer.new)) }
-        ensures any_moment { IsViewerOf D.Disk self.old store.old → LeavesViewed D.Disk store.old
-            store.new (W.contents writer.old) (W.contents writer.new) }
+        ensures does { IfOk result (λ doing. DoesKey D.Disk doing self.old.looker self.new.looker
+            store.old store.new (W.contents writer.old) (W.contents writer.new)) }
+        ensures any_moment { IsLookerOf D.Disk self.old.looker store.old
+            → LeavesViewed D.Disk store.old store.new (W.contents writer.old)
+            (W.contents writer.new) }
         ensures usable { IsUsableBehind result store.new }
         ensures output { CountsViewOutput result (W.failures writer.old) (W.failures writer.new) }
         ensures cause { IfErr result (EndsViewBy (λ why. ⊥)) }
@@ -377,22 +350,10 @@ impl Viewer {
             }
         }
         store.shows_what_crashes_leave();
-        self.go_on(alloc, store)?;
+        self.due = self.due || self.looker.seeks();
+        let comes = self.looker.go_on(alloc, store)?;
+        self.pane.follow_where(comes);
         Ok(Doing::Stays)
-    }
-
-    /// It is sought further, where that is to be, and the moment that is wished comes into memory.
-    ///
-    /// Errors: those of `seek_on` and `come`.
-    fn go_on<D: Disk>(&mut self, alloc: Global, store: &mut Store<D>) -> Result<(), ViewEnd>
-        requires { store.old.must_reopen ≡ false }
-        ensures viewer { OnOk result (IsViewerOf D.Disk self.old store.old
-            → IsViewerOf D.Disk self.new store.new) }
-        ensures still { IsOnlyReadFrom D.Disk store.old store.new }
-        ensures cause { IfErr result IsOfStore }
-    {
-        self.seek_on(alloc, store)?;
-        self.come(alloc, store)
     }
 
     /// Does at most two presses.
@@ -406,10 +367,11 @@ impl Viewer {
         presses: Presses,
     ) -> Result<Doing, ViewEnd>
         requires { store.old.must_reopen ≡ false }
-        ensures does { IfOk result (λ doing. DoesKey D.Disk doing self.old self.new store.old
-            store.new (W.contents writer.old) (W.contents writer.new)) }
-        ensures any_moment { IsViewerOf D.Disk self.old store.old → LeavesViewed D.Disk store.old
-            store.new (W.contents writer.old) (W.contents writer.new) }
+        ensures does { IfOk result (λ doing. DoesKey D.Disk doing self.old.looker self.new.looker
+            store.old store.new (W.contents writer.old) (W.contents writer.new)) }
+        ensures any_moment { IsLookerOf D.Disk self.old.looker store.old
+            → LeavesViewed D.Disk store.old store.new (W.contents writer.old)
+            (W.contents writer.new) }
         ensures usable { IsUsableBehind result store.new }
         ensures output { CountsViewOutput result (W.failures writer.old) (W.failures writer.new) }
         ensures cause { IfErr result (EndsViewBy (λ why. ⊥)) }
@@ -427,126 +389,6 @@ impl Viewer {
         }
     }
 
-    /// Gives the clipboard what is selected at the moment that is wished, which is shown, and the line below says so. Where
-    /// that moment can't be shown, nothing is copied.
-    ///
-    /// Errors: `Memory`; `Fault`; `Output`.
-    fn copy<W: AnswerWriter, D: Disk>(
-        &mut self,
-        alloc: Global,
-        writer: &mut W,
-        store: &mut Store<D>,
-    ) -> Result<(), ViewEnd>
-        requires { store.old.must_reopen ≡ false }
-        ensures looks { OnOk result (LooksOn D.Disk self.old self.new store.old store.new
-            (W.contents writer.old) (W.contents writer.new)) }
-        ensures still { IsOnlyReadFrom D.Disk store.old store.new }
-        ensures output { CountsViewOutput result (W.failures writer.old) (W.failures writer.new) }
-        ensures cause { IfErr result (EndsViewBy (λ why. ⊥)) }
-    {
-        let wished = self.wished;
-        self.come(alloc, store)?;
-        if self.shown != wished {
-            return Ok(());
-        }
-        self.show_copy(alloc, store, writer)
-    }
-
-    /// Shows the moment that is in memory, gives the clipboard what is selected there, and says below what was copied. It
-    /// rings where nothing was.
-    ///
-    /// Errors: `Memory`; `Fault`; `Output`.
-    fn show_copy<W: AnswerWriter, D: Disk>(
-        &mut self,
-        alloc: Global,
-        store: &Store<D>,
-        writer: &mut W,
-    ) -> Result<(), ViewEnd>
-        ensures viewer { IsViewerOf D.Disk self.old store.now
-            → IsViewerOf D.Disk self.new store.now }
-        ensures scenes { OnOk result (IsViewerOf D.Disk self.old store.now
-            → TakesScenes D.Disk store.now (Some self.new.shown) (W.contents writer.old)
-            (W.contents writer.new)) }
-        ensures output { CountsViewOutput result (W.failures writer.old) (W.failures writer.new) }
-        ensures cause { IfErr result (EndsViewBy (λ why. ⊥)) }
-    {
-        let copied = copied_of(alloc, &mut self.look.shown)?;
-        self.said = Said::Deed;
-        self.pane.ring_where(copied.clip.is_empty());
-        let last = self.moments.extent.last;
-        let line = moment_line(alloc, self.shown, last, copied.words.as_slice())?;
-        self.show_saying(
-            alloc,
-            store,
-            writer,
-            line.as_slice(),
-            copied.clip.as_slice(),
-        )
-    }
-
-    /// The mouse does something at the moment that is shown, in memory alone. It rings where that is refused.
-    ///
-    /// Errors: `Memory`; `Fault`.
-    fn point<D: Disk>(
-        &mut self,
-        alloc: Global,
-        _store: &Store<D>,
-        event: &Event,
-    ) -> Result<(), ViewEnd>
-        ensures viewer { OnOk result (IsViewerOf D.Disk self.old _store.now
-            → IsViewerOf D.Disk self.new _store.now) }
-        ensures cause { IfErr result IsOfStore }
-    {
-        if !is_of_mouse(event) {
-            return Ok(());
-        }
-        self.keep(alloc)?;
-        self.said = Said::Tried;
-        let reply = of_memory(self.look.shown.post(alloc, event))?;
-        self.pane.ring_where(reply != Reply::Done);
-        Ok(())
-    }
-
-    /// The wheel is turned at the moment that is shown, up or down: the text at that cell moves, in memory alone. It rings
-    /// where it can't.
-    ///
-    /// Errors: `Memory`; `Fault`.
-    fn scroll<D: Disk>(
-        &mut self,
-        alloc: Global,
-        store: &Store<D>,
-        spot: Spot,
-        up: bool,
-    ) -> Result<(), ViewEnd>
-        ensures viewer { OnOk result (IsViewerOf D.Disk self.old store.now
-            → IsViewerOf D.Disk self.new store.now) }
-        ensures cause { IfErr result IsOfStore }
-    {
-        let cell = Some((spot.x, spot.y));
-        let Some(events) = of_memory(self.look.shown.scroll(alloc, cell, turned(up)))? else {
-            self.pane.ring();
-            return Ok(());
-        };
-        for event in events.as_slice() {
-            self.point(alloc, store, event)?;
-        }
-        Ok(())
-    }
-
-    /// The moment that is shown is kept as it was, before the mouse does anything there.
-    ///
-    /// Errors: those of `copy_of`.
-    fn keep(&mut self, alloc: Global) -> Result<(), Error>
-        ensures kept { OnOk result (KeepsUntouched self.old self.new) }
-    {
-        if self.untouched.is_some() {
-            return Ok(());
-        }
-        let copy = copy_of(alloc, &mut self.look.shown)?;
-        self.untouched = Some(copy);
-        Ok(())
-    }
-
     /// Does what is pressed.
     ///
     /// Errors: `Memory`; `Fault`; `Output`.
@@ -558,208 +400,28 @@ impl Viewer {
         press: Press,
     ) -> Result<Doing, ViewEnd>
         requires { store.old.must_reopen ≡ false }
-        ensures does { IfOk result (λ doing. DoesKey D.Disk doing self.old self.new store.old
-            store.new (W.contents writer.old) (W.contents writer.new)) }
-        ensures any_moment { IsViewerOf D.Disk self.old store.old → LeavesViewed D.Disk store.old
-            store.new (W.contents writer.old) (W.contents writer.new) }
+        ensures does { IfOk result (λ doing. DoesKey D.Disk doing self.old.looker self.new.looker
+            store.old store.new (W.contents writer.old) (W.contents writer.new)) }
+        ensures any_moment { IsLookerOf D.Disk self.old.looker store.old
+            → LeavesViewed D.Disk store.old store.new (W.contents writer.old)
+            (W.contents writer.new) }
         ensures usable { IsUsableBehind result store.new }
         ensures output { CountsViewOutput result (W.failures writer.old) (W.failures writer.new) }
         ensures cause { IfErr result (EndsViewBy (λ why. ⊥)) }
     {
-        match self.wish_of(press) {
-            Wish::Go(way) => {
-                self.go(alloc, store, way)?;
-                Ok(Doing::Stays)
-            }
+        self.due = true;
+        match self.looker.wish_of(self.pane.sight(), press) {
             Wish::Turn => self.turn(alloc, writer, store),
             Wish::Leave => Ok(Doing::Leaves),
             Wish::Copy => {
                 self.copy(alloc, writer, store)?;
                 Ok(Doing::Stays)
             }
-            Wish::Point(event) => {
-                self.point(alloc, store, &event)?;
-                Ok(Doing::Stays)
-            }
-            Wish::Wheel(spot, up) => {
-                self.scroll(alloc, store, spot, up)?;
-                Ok(Doing::Stays)
-            }
             wish => {
-                self.change(wish);
+                self.pane.change(&wish);
+                self.looker.change(alloc, store, wish)?;
                 Ok(Doing::Stays)
             }
-        }
-    }
-
-    /// What a press comes to. While it is sought for a word any key stops that, and does nothing else.
-    fn wish_of(&mut self, press: Press) -> Wish
-        ensures same { IsSameLook self.old self.new }
-    {
-        self.due = true;
-        let wish = self.hand.take(self.pane.sight(), press);
-        if self.seeks.is_none() || matches!(wish, Wish::Nothing | Wish::LookAnew | Wish::Fit(..)) {
-            return wish;
-        }
-        self.seeks = None;
-        self.said = Said::Stopped;
-        Wish::Nothing
-    }
-
-    /// Does what leaves the store and the moment that is wished as they are. Others do nothing. At a key that means nothing
-    /// it rings, and the line below says which keys there are.
-    fn change(&mut self, wish: Wish)
-        ensures same { IsSameLook self.old self.new }
-    {
-        match wish {
-            Wish::Ring => self.refuse(Said::Keys),
-            Wish::Seek => self.seek(),
-            Wish::LookAnew => self.pane.look_anew(),
-            Wish::Move(page) => self.pane.move_by(page),
-            Wish::Fit(rows, columns) => self.pane.fit(rows, columns),
-            Wish::Nothing
-            | Wish::Go(_)
-            | Wish::Copy
-            | Wish::Point(_)
-            | Wish::Wheel(_, _)
-            | Wish::Turn
-            | Wish::Leave => {}
-        }
-    }
-
-    /// Another moment is wished. It rings where that is the same one.
-    ///
-    /// Errors: `Memory`; `Fault`.
-    fn go<D: Disk>(&mut self, alloc: Global, store: &mut Store<D>, way: Way) -> Result<(), ViewEnd>
-        requires { store.old.must_reopen ≡ false }
-        ensures viewer { OnOk result (IsViewerOf D.Disk self.old store.old
-            → IsViewerOf D.Disk self.new store.new) }
-        ensures still { IsOnlyReadFrom D.Disk store.old store.new }
-        ensures cause { IfErr result IsOfStore }
-    {
-        let to = self.goal_of(alloc, store, way)?;
-        self.wish(to);
-        Ok(())
-    }
-
-    /// The moment to which a way leads from the one that is wished. It may lie beyond the past.
-    ///
-    /// Errors: `Memory`; `Fault`.
-    fn goal_of<D: Disk>(
-        &mut self,
-        alloc: Global,
-        store: &mut Store<D>,
-        way: Way,
-    ) -> Result<u64, ViewEnd>
-        requires { store.old.must_reopen ≡ false }
-        ensures viewer { OnOk result (IsViewerOf D.Disk self.old store.old
-            → IsViewerOf D.Disk self.new store.new) }
-        ensures still { IsOnlyReadFrom D.Disk store.old store.new }
-        ensures cause { IfErr result IsOfStore }
-    {
-        store.shows_what_crashes_leave();
-        match way {
-            Way::StepBack => Ok(self.moments.step_back(alloc, store, self.wished)?),
-            Way::StepForth => Ok(self.moments.step_forth(alloc, store, self.wished)?),
-            way => Ok(leap(way, self.wished)),
-        }
-    }
-
-    /// That moment is wished, or the nearest one of the past.
-    fn wish(&mut self, to: u64)
-        ensures same { IsSameLook self.old self.new }
-    {
-        let extent = &self.moments.extent;
-        let to = to.max(extent.first).min(extent.last);
-        if to == self.wished {
-            self.pane.ring();
-        }
-        self.wished = to;
-        self.said = Said::Deed;
-    }
-
-    /// The moment that is wished comes into memory, where another one is there.
-    ///
-    /// Errors: `Memory`; `Fault`.
-    fn come<D: Disk>(&mut self, alloc: Global, store: &mut Store<D>) -> Result<(), ViewEnd>
-        requires { store.old.must_reopen ≡ false }
-        ensures viewer { OnOk result (IsViewerOf D.Disk self.old store.old
-            → IsViewerOf D.Disk self.new store.new) }
-        ensures still { IsOnlyReadFrom D.Disk store.old store.new }
-        ensures cause { IfErr result IsOfStore }
-    {
-        if self.wished == self.shown {
-            return Ok(());
-        }
-        store.shows_what_crashes_leave();
-        match self.moments.look(alloc, store, self.wished)? {
-            None => {
-                self.wished = self.shown;
-                self.refuse(Said::Unread);
-                Ok(())
-            }
-            Some(look) => {
-                self.look = look;
-                self.untouched = None;
-                self.shown = self.wished;
-                self.pane.follow();
-                Ok(())
-            }
-        }
-    }
-
-    /// It rings, and that is said.
-    fn refuse(&mut self, said: Said)
-        ensures same { IsSameLook self.old self.new }
-    {
-        self.said = said;
-        self.due = true;
-        self.pane.ring();
-    }
-
-    /// From now on it is sought, before the moment that is wished, for the last one at which a word stood on the screen that
-    /// wasn't there at the next one.
-    fn seek(&mut self)
-        ensures same { IsSameLook self.old self.new }
-    {
-        if self.hand.sought().is_empty() {
-            self.refuse(Said::NoWord);
-        } else if self.wished <= self.moments.extent.first {
-            self.refuse(Said::NotThere);
-        } else {
-            self.seeks = Some(self.wished);
-        }
-    }
-
-    /// It is sought further, where that is to be, through a page.
-    ///
-    /// Errors: `Memory`; `Fault`.
-    fn seek_on<D: Disk>(&mut self, alloc: Global, store: &mut Store<D>) -> Result<(), ViewEnd>
-        requires { store.old.must_reopen ≡ false }
-        ensures viewer { OnOk result (IsViewerOf D.Disk self.old store.old
-            → IsViewerOf D.Disk self.new store.new) }
-        ensures still { IsOnlyReadFrom D.Disk store.old store.new }
-        ensures cause { IfErr result IsOfStore }
-    {
-        let Some(k) = self.seeks else {
-            return Ok(());
-        };
-        store.shows_what_crashes_leave();
-        let sought = self.moments.seek_page(alloc, store, k, self.hand.sought())?;
-        self.note(sought);
-        Ok(())
-    }
-
-    /// This became of the word that is sought, in a page.
-    fn note(&mut self, sought: Sought)
-        ensures same { IsSameLook self.old self.new }
-    {
-        self.seeks = None;
-        self.due = true;
-        match sought {
-            Sought::At(k) => self.wish(k),
-            Sought::Before(k) => self.seeks = Some(k),
-            Sought::Nowhere => self.refuse(Said::NotThere),
         }
     }
 
@@ -774,38 +436,42 @@ impl Viewer {
         store: &mut Store<D>,
     ) -> Result<Doing, ViewEnd>
         requires { store.old.must_reopen ≡ false }
-        ensures does { IfOk result (λ doing. DoesKey D.Disk doing self.old self.new store.old
-            store.new (W.contents writer.old) (W.contents writer.new)) }
-        ensures any_moment { IsViewerOf D.Disk self.old store.old → LeavesViewed D.Disk store.old
-            store.new (W.contents writer.old) (W.contents writer.new) }
+        ensures does { IfOk result (λ doing. DoesKey D.Disk doing self.old.looker self.new.looker
+            store.old store.new (W.contents writer.old) (W.contents writer.new)) }
+        ensures any_moment { IsLookerOf D.Disk self.old.looker store.old
+            → LeavesViewed D.Disk store.old store.new (W.contents writer.old)
+            (W.contents writer.new) }
         ensures usable { IsUsableBehind result store.new }
         ensures output { CountsViewOutput result (W.failures writer.old) (W.failures writer.new) }
         ensures cause { IfErr result (EndsViewBy (λ why. ⊥)) }
     {
-        let wished = self.wished;
-        self.come(alloc, store)?;
-        store.shows_what_crashes_leave();
-        self.show(alloc, store, writer)?;
-        if self.shown != wished {
+        if !self.come(alloc, store)? {
             return Ok(Doing::Stays);
         }
-        if self.shown >= self.moments.extent.last {
+        store.shows_what_crashes_leave();
+        self.show(alloc, store, writer)?;
+        if self.looker.is_present() {
             return Ok(Doing::Leaves);
         }
         self.turn_back(alloc, store)
     }
 
-    /// A copy of the moment that is shown, as it was before the mouse did anything.
+    /// The moment that is wished comes into memory, where another one is there. Whether it is there then.
     ///
-    /// Errors: those of `copy_of`.
-    fn moment(&mut self, alloc: Global) -> Result<Store<MemoryDisk>, Error>
-        ensures copy { IfOk result (λ copy. copy.desktop ≡ untouched_of self.old) }
-        ensures same { IsAlike self.old self.new }
+    /// Errors: `Memory`; `Fault`.
+    fn come<D: Disk>(&mut self, alloc: Global, store: &mut Store<D>) -> Result<bool, ViewEnd>
+        requires { store.old.must_reopen ≡ false }
+        ensures looker { OnOk result (IsLookerOf D.Disk self.old.looker store.old
+            → IsLookerOf D.Disk self.new.looker store.new) }
+        ensures still { IsOnlyReadFrom D.Disk store.old store.new }
+        ensures cause { IfErr result IsOfStore }
     {
-        match &mut self.untouched {
-            Some(moment) => copy_of(alloc, moment),
-            None => copy_of(alloc, &mut self.look.shown),
+        if self.looker.has_come() {
+            return Ok(true);
         }
+        let comes = self.looker.come(alloc, store)?;
+        self.pane.follow_where(comes);
+        Ok(comes)
     }
 
     /// Turns the store back to the moment that is shown. Where the past has no room for that, the person looks on.
@@ -813,66 +479,17 @@ impl Viewer {
     /// Errors: `Memory`; `Fault`.
     fn turn_back<D: Disk>(&mut self, alloc: Global, store: &mut Store<D>) -> Result<Doing, ViewEnd>
         requires { store.old.must_reopen ≡ false }
-        ensures does { IfOk result (λ doing. TurnsOrStays D.Disk doing self.old self.new
-            store.old store.new) }
-        ensures any_moment { IsViewerOf D.Disk self.old store.old
-            → StaysOrLeaves D.Disk self.old.shown store.old store.new }
+        ensures does { IfOk result (λ doing. TurnsOrStays D.Disk doing self.old.looker
+            self.new.looker store.old store.new) }
+        ensures any_moment { IsLookerOf D.Disk self.old.looker store.old
+            → StaysOrTurns D.Disk self.old.looker.shown store.old store.new }
         ensures usable { IsUsableBehind result store.new }
         ensures cause { IfErr result IsOfStore }
     {
-        store.shows_what_crashes_leave();
-        let shown = self.shown;
-        let copy = self.moment(alloc)?;
-        let to = of_memory(copy.gathered(alloc))?;
-        if turn_to(alloc, store, shown, to)? {
+        if self.looker.turn_back(alloc, store)? {
             Ok(Doing::Leaves)
         } else {
-            self.refuse(Said::NoRoom);
             Ok(Doing::Stays)
         }
-    }
-}
-
-/// How far a text moves with the wheel.
-fn turned(up: bool) -> Lines {
-    if up {
-        Lines::Up(WHEEL_LINES)
-    } else {
-        Lines::Down(WHEEL_LINES)
-    }
-}
-
-/// Whether the mouse does this.
-fn is_of_mouse(event: &Event) -> bool
-    ensures { result ≡ is_of_mouse event.now }
-{
-    matches!(event, Event::Point { .. })
-}
-
-/// The moment to which a way leads from moment `k`, where that is no step of a hand.
-fn leap(way: Way, k: u64) -> u64 {
-    match way {
-        Way::Back | Way::StepBack => k.saturating_sub(1),
-        Way::Forth | Way::StepForth => k.saturating_add(1),
-        Way::PageBack => k.saturating_sub(PAGE_EVENTS),
-        Way::PageForth => k.saturating_add(PAGE_EVENTS),
-        Way::First => 0,
-        Way::Last => u64::MAX,
-    }
-}
-
-/// What is said, where these words tell what led to the moment that is shown.
-fn words_of(said: Said, led: &[u8]) -> &[u8]
-    ensures { result.now ≡ said_words said led.now }
-{
-    match said {
-        Said::Keys => b"Escape leaves, Left back, / seeks, Return turns back",
-        Said::Deed => led,
-        Said::Tried => b"this is in memory alone: Ctrl-C copies what is selected",
-        Said::Stopped => b"a key stopped the search",
-        Said::NotThere => b"that word didn't go from the screen before",
-        Said::NoWord => b"type the word behind / first",
-        Said::NoRoom => b"the past has no room for a turn",
-        Said::Unread => b"what was before can't be read",
     }
 }

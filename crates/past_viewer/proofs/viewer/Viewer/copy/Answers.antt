@@ -16,16 +16,16 @@ returns-in_err-come-clause-cause g c =
     let p = err_from_is_err_and c.from_residual.result c.from_residual.ensures.1 in
     rw (p.1, p.2) c.in_err-come.ensures.cause.0
 
--- ---- another one is there
+-- ---- it can't
 
-pub returns-then-self-wished-clause-looks : goal.returns-then-self-wished-clause-looks
-returns-then-self-wished-clause-looks g c = looks_read g.D.Disk c.come.ensures.still c.in_ok-come.ensures.viewer
+pub returns-then-not-branch-clause-looks : goal.returns-then-not-branch-clause-looks
+returns-then-not-branch-clause-looks g c = looks_read g.D.Disk c.come.ensures.still c.in_ok-come.ensures.looker
 
 -- ---- it is shown
 
 pub returns-clause-looks : goal.returns-clause-looks
 returns-clause-looks g c = on_ok_weaker c.show_copy.result (λ shown. record {
   read = c.come.ensures.still;
-  knows = λ is. c.show_copy.ensures.viewer (c.in_ok-come.ensures.viewer is);
-  scenes = λ is. (Some c.show_copy.new.self.shown, shown (c.in_ok-come.ensures.viewer is));
+  knows = λ is. c.show_copy.ensures.looker (c.in_ok-come.ensures.looker is);
+  scenes = λ is. (Some c.show_copy.new.self.looker.shown, shown (c.in_ok-come.ensures.looker is));
 }) c.show_copy.ensures.scenes

@@ -18,7 +18,7 @@ loop-count-preserved g c =
     let quiet = c.shows_what_crashes_leave.ensures.quiet so_far.usable in record {
       looks = looks_behind g.D.Disk so_far.usable quiet
           (looks_behind g.D.Disk so_far.usable quiet so_far.looks
-          (looks_shown g.D.Disk so_far.usable c.show_if_due.ensures.viewer c.in_ok-show_if_due.ensures.scenes))
+          (looks_shown g.D.Disk so_far.usable c.show_if_due.ensures.looker c.in_ok-show_if_due.ensures.scenes))
           (rw c.in-Stays.is at c.in_ok-take.ensures.does);
       usable = c.in_ok-take.ensures.usable;
       calm = c.in_ok-take.ensures.output ∙ c.in_ok-show_if_due.ensures.output ∙ so_far.calm;
@@ -71,7 +71,7 @@ returns-in_err-take-clause-any_moment g c =
     let so_far = c.loop-count.invariant in
     let quiet = c.shows_what_crashes_leave.ensures.quiet so_far.usable in
     leaves_looks g.D.Disk so_far.usable quiet (looks_behind g.D.Disk so_far.usable quiet so_far.looks
-    (looks_shown g.D.Disk so_far.usable c.show_if_due.ensures.viewer c.in_ok-show_if_due.ensures.scenes)) c.take.ensures.any_moment
+    (looks_shown g.D.Disk so_far.usable c.show_if_due.ensures.looker c.in_ok-show_if_due.ensures.scenes)) c.take.ensures.any_moment
 
 pub returns-in_err-take-clause-usable : goal.returns-in_err-take-clause-usable
 returns-in_err-take-clause-usable g c =
@@ -96,9 +96,9 @@ pub returns-in-Leaves-clause-viewed : goal.returns-in-Leaves-clause-viewed
 returns-in-Leaves-clause-viewed g c =
     let so_far = c.loop-count.invariant in
     let quiet = c.shows_what_crashes_leave.ensures.quiet so_far.usable in
-    does_behind g.D.Disk Leaves _ _ _ _ _ c.take.new.self _ _ _ so_far.usable quiet
+    does_behind g.D.Disk Leaves _ _ _ _ _ c.take.new.self.looker _ _ _ so_far.usable quiet
     (looks_behind g.D.Disk so_far.usable quiet so_far.looks
-    (looks_shown g.D.Disk so_far.usable c.show_if_due.ensures.viewer c.in_ok-show_if_due.ensures.scenes))
+    (looks_shown g.D.Disk so_far.usable c.show_if_due.ensures.looker c.in_ok-show_if_due.ensures.scenes))
     (rw c.in-Leaves.is at c.in_ok-take.ensures.does)
 
 pub returns-in-Leaves-clause-any_moment : goal.returns-in-Leaves-clause-any_moment
@@ -106,7 +106,7 @@ returns-in-Leaves-clause-any_moment g c =
     let so_far = c.loop-count.invariant in
     let quiet = c.shows_what_crashes_leave.ensures.quiet so_far.usable in
     leaves_looks g.D.Disk so_far.usable quiet (looks_behind g.D.Disk so_far.usable quiet so_far.looks
-    (looks_shown g.D.Disk so_far.usable c.show_if_due.ensures.viewer c.in_ok-show_if_due.ensures.scenes)) c.take.ensures.any_moment
+    (looks_shown g.D.Disk so_far.usable c.show_if_due.ensures.looker c.in_ok-show_if_due.ensures.scenes)) c.take.ensures.any_moment
 
 pub returns-in-Leaves-clause-output : goal.returns-in-Leaves-clause-output
 returns-in-Leaves-clause-output g c =

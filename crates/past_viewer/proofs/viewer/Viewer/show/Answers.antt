@@ -1,8 +1,8 @@
 use Rattle.std.proofs.Common.{◌∙◌, [], refl, subst, sym}
 use Rattle.std.proofs.lemmas.Result.{err_from_is_err_and, on_ok_weaker}
-use Rattle.past_viewer.specs.Viewing.{SaysBelow}
+use Rattle.past_viewer.specs.Viewing.{TellsBelow}
 use Rattle.past_viewer.proofs.Ending.{of_memory_alone, output_calm}
-use Rattle.past_viewer.proofs.Showing.{line_says}
+use Rattle.past_viewer.proofs.Showing.{line_told}
 use Rattle.past_viewer.proofs.viewer.Viewer.show.Goals as goal
 
 -- ---- the line isn't made
@@ -20,7 +20,9 @@ returns-in_err-line-clause-cause g c =
 -- ---- it is shown
 
 pub returns-clause-scenes : goal.returns-clause-scenes
-returns-clause-scenes g c = on_ok_weaker c.show_saying.result (λ shown is. shown is
-    (subst (SaysBelow g.D.Disk c.args.self.now.shown c.args.store.now c.args.self.now.look.shown.desktop [])
-    (sym (c.as_slice.ensures.value ∙ c.in_ok-line.ensures)) (line_says g.D.Disk c.args.self.now is)))
+returns-clause-scenes g c =
+    let looker = c.args.self.now.looker in
+    on_ok_weaker c.show_saying.result (λ shown is. shown is
+    (subst (TellsBelow g.D.Disk looker.shown c.args.store.now looker.look.shown.desktop [])
+    (sym (c.as_slice.ensures.value ∙ c.in_ok-line.ensures)) (line_told g.D.Disk looker is)))
     c.show_saying.ensures.scenes

@@ -1,15 +1,17 @@
-use Rattle.std.proofs.Common.{◌∙◌, refl}
+use Rattle.std.proofs.Common.{◌∙◌, ap, refl}
 use Rattle.std.proofs.lemmas.Result.{err_from_is_err_and, on_ok_weaker}
 use Rattle.past_moments.proofs.Telling.{last_is}
+use Rattle.past_moments.specs.declared.moments.Look.{Look}
+use Rattle.past_looks.proofs.Carrying.{looker_read, looker_same}
 use Rattle.past_viewer.proofs.Ending.{of_memory_alone, of_store, output_calm}
-use Rattle.past_viewer.proofs.Showing.{says_copied, viewer_read}
+use Rattle.past_viewer.proofs.Showing.{says_copied}
 use Rattle.past_viewer.proofs.viewer.Viewer.show_copy.Goals as goal
 
 -- ---- it isn't copied
 
-pub returns-in_err-copied-clause-viewer : goal.returns-in_err-copied-clause-viewer
-returns-in_err-copied-clause-viewer g c = λ is.
-    viewer_read g.D.Disk c.args.self.now _ refl refl c.copied_of.ensures.same refl refl is
+pub returns-in_err-copied-clause-looker : goal.returns-in_err-copied-clause-looker
+returns-in_err-copied-clause-looker g c = λ is.
+    looker_read g.D.Disk c.args.self.now.looker _ refl refl c.copied_of.ensures.same refl refl is
 
 pub returns-in_err-copied-clause-output : goal.returns-in_err-copied-clause-output
 returns-in_err-copied-clause-output g c =
@@ -23,9 +25,9 @@ returns-in_err-copied-clause-cause g c =
 
 -- ---- the line isn't made
 
-pub returns-in_err-line-clause-viewer : goal.returns-in_err-line-clause-viewer
-returns-in_err-line-clause-viewer g c = λ is.
-    viewer_read g.D.Disk c.args.self.now _ refl refl c.copied_of.ensures.same refl refl is
+pub returns-in_err-line-clause-looker : goal.returns-in_err-line-clause-looker
+returns-in_err-line-clause-looker g c = λ is. looker_same g.D.Disk c.copied.ensures.same
+    (looker_read g.D.Disk c.args.self.now.looker _ refl refl c.copied_of.ensures.same refl refl is)
 
 pub returns-in_err-line-clause-output : goal.returns-in_err-line-clause-output
 returns-in_err-line-clause-output g c =
@@ -39,15 +41,18 @@ returns-in_err-line-clause-cause g c =
 
 -- ---- it is shown, and said
 
-pub returns-clause-viewer : goal.returns-clause-viewer
-returns-clause-viewer g c = λ is. c.show_saying.ensures.viewer
-    (viewer_read g.D.Disk c.args.self.now _ refl refl c.copied_of.ensures.same refl refl is)
+pub returns-clause-looker : goal.returns-clause-looker
+returns-clause-looker g c = λ is. c.show_saying.ensures.looker (looker_same g.D.Disk c.copied.ensures.same
+    (looker_read g.D.Disk c.args.self.now.looker _ refl refl c.copied_of.ensures.same refl refl is))
 
 pub returns-clause-scenes : goal.returns-clause-scenes
-returns-clause-scenes g c = on_ok_weaker c.show_saying.result (λ shown is. shown
-    (viewer_read g.D.Disk c.args.self.now _ refl refl c.copied_of.ensures.same refl refl is)
-    (says_copied g.D.Disk c.args.self.now.shown c.args.self.now.moments.extent.last c.args.self.now.look.shown.desktop
-    _ _ _ _ (last_is g.D.Disk c.args.self.now.moments.extent is.moments.extent) c.copied_of.ensures.same
+returns-clause-scenes g c = on_ok_weaker c.show_saying.result (λ shown is.
+    let of = looker_same g.D.Disk c.copied.ensures.same
+    (looker_read g.D.Disk c.args.self.now.looker _ refl refl c.copied_of.ensures.same refl refl is) in
+    shown of (says_copied g.D.Disk c.copied.new.self.shown c.copied.new.self.moments.extent.last
+    c.args.self.now.looker.look.shown.desktop _ _ _ _
+    (last_is g.D.Disk c.copied.new.self.moments.extent of.moments.extent)
+    (ap (λ (look : Look). look.shown.desktop) c.copied.ensures.same.look ∙ c.copied_of.ensures.same)
     (c.as_slice-3.ensures.value ∙ c.in_ok-copied.ensures.clip)
     (c.as_slice.ensures.value ∙ c.in_ok-copied.ensures.words)
     (c.as_slice-2.ensures.value ∙ c.in_ok-line.ensures))) c.show_saying.ensures.scenes

@@ -2,8 +2,9 @@ use Rattle.std.proofs.Common.{◌∙◌, refl}
 use Rattle.std.proofs.lemmas.Result.{err_from_is_err_and}
 use Rattle.desk_past.proofs.StillReads.{still_both}
 use Rattle.past_viewer.specs.declared.viewer.Doing.TheVariants.{Leaves, Stays}
-use Rattle.past_viewer.proofs.Ending.{in_use, output_calm, rises_behind}
-use Rattle.past_viewer.proofs.Showing.{does_behind, does_same, leaves_looks, looks_behind, looks_read, looks_same, only_read_first, viewer_same}
+use Rattle.past_viewer.proofs.Ending.{in_use, of_store, output_calm, rises_behind}
+use Rattle.past_looks.proofs.Carrying.{looker_same}
+use Rattle.past_viewer.proofs.Showing.{does_behind, does_same, leaves_looks, looks_behind, looks_read, looks_same, only_read_first}
 use Rattle.past_viewer.proofs.viewer.Viewer.take.Goals as goal
 
 pub loop-heard-init : goal.loop-heard-init
@@ -29,7 +30,7 @@ pub returns-in_err-press_each-clause-any_moment : goal.returns-in_err-press_each
 returns-in_err-press_each-clause-any_moment g c =
     let so_far = c.loop-heard.invariant in
     leaves_looks g.D.Disk so_far.usable (c.shows_what_crashes_leave.ensures.quiet so_far.usable) so_far.looks
-    (λ is. c.press_each.ensures.any_moment (viewer_same g.D.Disk (record { moments = refl; shown = refl; look = refl; untouched = refl }) is))
+    (λ is. c.press_each.ensures.any_moment (looker_same g.D.Disk (record { moments = refl; shown = refl; look = refl; untouched = refl }) is))
 
 pub returns-in_err-press_each-clause-usable : goal.returns-in_err-press_each-clause-usable
 returns-in_err-press_each-clause-usable g c =
@@ -51,43 +52,43 @@ returns-in_err-press_each-clause-cause g c =
 pub returns-in-Leaves-clause-does : goal.returns-in-Leaves-clause-does
 returns-in-Leaves-clause-does g c =
     let so_far = c.loop-heard.invariant in
-    does_behind g.D.Disk Leaves _ _ _ _ _ c.press_each.new.self _ _ _ so_far.usable (c.shows_what_crashes_leave.ensures.quiet so_far.usable) so_far.looks
-    (does_same g.D.Disk Leaves _ _ _ _ c.press_each.new.self _ _ (record { moments = refl; shown = refl; look = refl; untouched = refl })
+    does_behind g.D.Disk Leaves _ _ _ _ _ c.press_each.new.self.looker _ _ _ so_far.usable (c.shows_what_crashes_leave.ensures.quiet so_far.usable) so_far.looks
+    (does_same g.D.Disk Leaves _ _ _ _ c.press_each.new.self.looker _ _ (record { moments = refl; shown = refl; look = refl; untouched = refl })
     (rw c.in-Leaves.is at c.in_ok-press_each.ensures.does))
 
 pub returns-in-Leaves-clause-any_moment : goal.returns-in-Leaves-clause-any_moment
 returns-in-Leaves-clause-any_moment g c =
     let so_far = c.loop-heard.invariant in
     leaves_looks g.D.Disk so_far.usable (c.shows_what_crashes_leave.ensures.quiet so_far.usable) so_far.looks
-    (λ is. c.press_each.ensures.any_moment (viewer_same g.D.Disk (record { moments = refl; shown = refl; look = refl; untouched = refl }) is))
+    (λ is. c.press_each.ensures.any_moment (looker_same g.D.Disk (record { moments = refl; shown = refl; look = refl; untouched = refl }) is))
 
 pub returns-in-Leaves-clause-output : goal.returns-in-Leaves-clause-output
 returns-in-Leaves-clause-output g c = c.in_ok-press_each.ensures.output ∙ c.loop-heard.invariant.calm
 
 -- ---- the person looks on
 
-pub returns-in_err-go_on-clause-any_moment : goal.returns-in_err-go_on-clause-any_moment
-returns-in_err-go_on-clause-any_moment g c = λ is.
+pub returns-in_err-comes-clause-any_moment : goal.returns-in_err-comes-clause-any_moment
+returns-in_err-comes-clause-any_moment g c = λ is.
     only_read_first g.D.Disk (still_both g.D.Disk c.loop-heard.invariant.looks.read c.go_on.ensures.still)
 
-pub returns-in_err-go_on-clause-usable : goal.returns-in_err-go_on-clause-usable
-returns-in_err-go_on-clause-usable g c = in_use c.from_residual-in_err-go_on.result _ c.go_on.ensures.still.usable
+pub returns-in_err-comes-clause-usable : goal.returns-in_err-comes-clause-usable
+returns-in_err-comes-clause-usable g c = in_use c.from_residual-in_err-comes.result _ c.go_on.ensures.still.usable
 
-pub returns-in_err-go_on-clause-output : goal.returns-in_err-go_on-clause-output
-returns-in_err-go_on-clause-output g c =
-    let p = err_from_is_err_and c.from_residual-in_err-go_on.result c.from_residual-in_err-go_on.ensures.1 in
-    rw (p.1, p.2) (output_calm _ _ _ c.in_err-go_on.ensures.cause.1 c.loop-heard.invariant.calm)
+pub returns-in_err-comes-clause-output : goal.returns-in_err-comes-clause-output
+returns-in_err-comes-clause-output g c =
+    let p = err_from_is_err_and c.from_residual-in_err-comes.result c.from_residual-in_err-comes.ensures.1 in
+    rw (p.1, p.2) (output_calm _ _ _ (of_store c.in_err-comes.field-0.0).1 c.loop-heard.invariant.calm)
 
-pub returns-in_err-go_on-clause-cause : goal.returns-in_err-go_on-clause-cause
-returns-in_err-go_on-clause-cause g c =
-    let p = err_from_is_err_and c.from_residual-in_err-go_on.result c.from_residual-in_err-go_on.ensures.1 in
-    rw (p.1, p.2) c.in_err-go_on.ensures.cause.0
+pub returns-in_err-comes-clause-cause : goal.returns-in_err-comes-clause-cause
+returns-in_err-comes-clause-cause g c =
+    let p = err_from_is_err_and c.from_residual-in_err-comes.result c.from_residual-in_err-comes.ensures.1 in
+    rw (p.1, p.2) (of_store c.in_err-comes.field-0.0).0
 
 pub returns-clause-does : goal.returns-clause-does
 returns-clause-does g c =
     let so_far = c.loop-heard.invariant in
     looks_behind g.D.Disk so_far.usable (c.shows_what_crashes_leave-2.ensures.quiet so_far.usable) so_far.looks
-    (looks_read g.D.Disk c.go_on.ensures.still c.in_ok-go_on.ensures.viewer)
+    (looks_read g.D.Disk c.go_on.ensures.still c.in_ok-comes.ensures.looker)
 
 pub returns-clause-any_moment : goal.returns-clause-any_moment
 returns-clause-any_moment g c = λ is.

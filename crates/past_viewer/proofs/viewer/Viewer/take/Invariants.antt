@@ -5,7 +5,7 @@ use Rattle.past_viewer.proofs.viewer.Viewer.take.Given as goal
 -- the person looks on so far
 abbrev pub invariant-loop-heard : goal.invariant-loop-heard
 invariant-loop-heard g l = record {
-  looks : LooksOn g.D.Disk l.fn.self l.self l.fn.store l.store (g.W.AnswerWriter.contents l.fn.writer)
+  looks : LooksOn g.D.Disk l.fn.self.looker l.self.looker l.fn.store l.store (g.W.AnswerWriter.contents l.fn.writer)
       (g.W.AnswerWriter.contents l.writer);
   usable : l.store.must_reopen ≡ false;
   calm : g.W.AnswerWriter.failures l.writer ≡ g.W.AnswerWriter.failures l.fn.writer;

@@ -2,7 +2,7 @@ use Rattle.std.proofs.Common.{Some, refl}
 use Rattle.std.proofs.lemmas.Result.{IfErr-weaker, IfOk-weaker, err_from_is_err_and}
 use Rattle.past_viewer.specs.Viewing.IsViewed.{looked}
 use Rattle.past_viewer.proofs.Ending.{in_use, output_behind, output_calm, output_unsent}
-use Rattle.past_viewer.proofs.Showing.{does_turned, leaves_shown, only_read_first}
+use Rattle.past_viewer.proofs.Showing.{does_turned, leaves_shown, looks_read, only_read_first}
 use Rattle.past_viewer.proofs.viewer.Viewer.turn.Goals as goal
 
 -- ---- the moment doesn't come into memory
@@ -43,24 +43,20 @@ returns-in_err-show-clause-cause g c =
 
 -- ---- another one is shown
 
-pub returns-then-self-wished-clause-does : goal.returns-then-self-wished-clause-does
-returns-then-self-wished-clause-does g c = record {
-  read = c.come.ensures.still;
-  knows = λ is. c.show.ensures.viewer (c.in_ok-come.ensures.viewer is);
-  scenes = λ is. (Some c.show.new.self.shown, c.in_ok-show.ensures.scenes (c.in_ok-come.ensures.viewer is));
-}
+pub returns-then-not-branch-clause-does : goal.returns-then-not-branch-clause-does
+returns-then-not-branch-clause-does g c = looks_read g.D.Disk c.come.ensures.still c.in_ok-come.ensures.looker
 
-pub returns-then-self-wished-clause-any_moment : goal.returns-then-self-wished-clause-any_moment
-returns-then-self-wished-clause-any_moment g c = λ is. only_read_first g.D.Disk c.come.ensures.still
+pub returns-then-not-branch-clause-any_moment : goal.returns-then-not-branch-clause-any_moment
+returns-then-not-branch-clause-any_moment g c = λ is. only_read_first g.D.Disk c.come.ensures.still
 
 -- ---- it is the present
 
-pub returns-then-self-clause-does : goal.returns-then-self-clause-does
-returns-then-self-clause-does g c = λ is. looked c.come.ensures.still (Some c.show.new.self.shown)
-    (c.in_ok-show.ensures.scenes (c.in_ok-come.ensures.viewer is))
+pub returns-then-is_present-clause-does : goal.returns-then-is_present-clause-does
+returns-then-is_present-clause-does g c = λ is. looked c.come.ensures.still (Some c.show.new.self.looker.shown)
+    (c.in_ok-show.ensures.scenes (c.in_ok-come.ensures.looker is))
 
-pub returns-then-self-clause-any_moment : goal.returns-then-self-clause-any_moment
-returns-then-self-clause-any_moment g c = λ is. only_read_first g.D.Disk c.come.ensures.still
+pub returns-then-is_present-clause-any_moment : goal.returns-then-is_present-clause-any_moment
+returns-then-is_present-clause-any_moment g c = λ is. only_read_first g.D.Disk c.come.ensures.still
 
 -- ---- the store is turned
 
@@ -68,13 +64,13 @@ pub returns-clause-does : goal.returns-clause-does
 returns-clause-does g c = IfOk-weaker c.turn_back.result _ _ (λ doing does.
     does_turned g.D.Disk doing _ _ _ _ _ _ _ _ c.come.ensures.still.usable
     (c.shows_what_crashes_leave.ensures.quiet c.come.ensures.still.usable) c.come.ensures.still
-    (λ is. c.show.ensures.viewer (c.in_ok-come.ensures.viewer is))
-    (λ is. c.in_ok-show.ensures.scenes (c.in_ok-come.ensures.viewer is)) does) c.turn_back.ensures.does
+    (λ is. c.show.ensures.looker (c.in_ok-come.ensures.looker is))
+    (λ is. c.in_ok-show.ensures.scenes (c.in_ok-come.ensures.looker is)) does) c.turn_back.ensures.does
 
 pub returns-clause-any_moment : goal.returns-clause-any_moment
 returns-clause-any_moment g c = λ is. leaves_shown g.D.Disk _ c.come.ensures.still
-    (c.in_ok-show.ensures.scenes (c.in_ok-come.ensures.viewer is))
-    (c.turn_back.ensures.any_moment (c.show.ensures.viewer (c.in_ok-come.ensures.viewer is)))
+    (c.in_ok-show.ensures.scenes (c.in_ok-come.ensures.looker is))
+    (c.turn_back.ensures.any_moment (c.show.ensures.looker (c.in_ok-come.ensures.looker is)))
 
 pub returns-clause-output : goal.returns-clause-output
 returns-clause-output g c = output_behind c.turn_back.result _ _ _ c.in_ok-show.ensures.output

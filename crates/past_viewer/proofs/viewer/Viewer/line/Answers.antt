@@ -1,4 +1,0 @@
-use Rattle.past_viewer.proofs.viewer.Viewer.line.Goals as goal
-
-pub returns-in-Some : goal.returns-in-Some
-returns-in-Some c = rw c.in-Some.ensures c.asked_line.ensures

@@ -1,7 +1,0 @@
-use Rattle.std.proofs.Common.{◌≡◌, ◌++◌}
-use Rattle.past_viewer.specs.Words.{grouped_front}
-use Rattle.past_viewer.proofs.words.push_grouped.Given as goal
-
--- the digits so far
-abbrev pub invariant-loop-i : goal.invariant-loop-i
-invariant-loop-i l = l.line.items ≡ l.fn.line.items ++ grouped_front l.digits l.i
