@@ -15,13 +15,14 @@ use Rattle.document_filing.specs.Bringing.{Documents}
 use Rattle.desk_past.specs.Deeds.{PastDeed, after_deeds, all_posted, brought, posted, turned}
 use Rattle.desk_past.specs.Page.{Page, of_events, of_import, of_turn, HasPages, deeds_in, end_of_pages, page_sectors}
 use Rattle.desk_past.specs.Past.{AreGood, AreTurns, HasMoment, IsTurn, Start, all_deeds, moment}
-use Rattle.desk_past.specs.Reading.{HasPage, IsLed, IsRead, many_deeds}
+use Rattle.desk_past.specs.Reading.{HasPage, IsKindOf, IsLed, kind_count}
 use Rattle.desk_past.specs.Routes.{AreLegs, HasNoTurn, IsLeg, IsPassed, IsReached, leg_from}
-use Rattle.desk_past.specs.declared.pages.PageDeeds.{PageDeeds}
+use Rattle.desk_past.specs.declared.pages.PageKind.{PageKind}
+use Rattle.desk_past.specs.declared.pages.PageKind.TheVariants as which
 use Rattle.desk_past.specs.declared.routes.Leg.{Leg}
 use Rattle.desk_past.proofs.Carrying.{end_above}
-use Rattle.desk_past.proofs.Moments.{after_both, joined, nil_right}
-use Rattle.desk_past.proofs.Stepping.{none_behind, read_many, some_left}
+use Rattle.desk_past.proofs.Moments.{after_both, joined, many_posted, nil_right}
+use Rattle.desk_past.proofs.Stepping.{none_behind, some_left}
 
 -- ---- pages behind others
 
@@ -52,6 +53,19 @@ none_in_both [] more first second = second
 none_in_both (posted event ∷ some) more first second = none_in_both some more first second
 none_in_both (brought documents ∷ some) more first second = none_in_both some more first second
 none_in_both (turned to ∷ some) more first second = absurd first
+
+-- ---- a page has as many deeds as its front says
+
+kind_many : (kind : PageKind) (p : Page) → IsKindOf kind p → kind_count kind ≡ length (deeds_in p)
+kind_many (which.Events n) (of_events version all) is = is ∙ sym (many_posted all)
+kind_many which.Import (of_import version all) is = refl
+kind_many (which.Turn k) (of_turn version moment to) is = refl
+kind_many (which.Events n) (of_import version all) is = absurd is
+kind_many (which.Events n) (of_turn version k to) is = absurd is
+kind_many which.Import (of_events version all) is = absurd is
+kind_many which.Import (of_turn version k to) is = absurd is
+kind_many (which.Turn k) (of_events version all) is = absurd is
+kind_many (which.Turn k) (of_import version all) is = absurd is
 
 -- ---- on the way to moment k
 
@@ -232,15 +246,15 @@ module _ {c : Content} {end : ℕ} {start : Start} {pages : List Page} {k at lef
       subst (λ (x : Option ℕ). IsReaching c end start pages k next less leg' x) (sym same.2)
       (turn_passed (of_turn version m to) more is next less behind rest to m refl turn.0 turn.1 some leg' same.0 same.1)
 
-  pub page_on : 0 < left → k ≤ start.before + length (all_deeds pages) → (deeds : PageDeeds) (next n less : ℕ)
-      → n ≡ many_deeds deeds → less ≡ left - n
-      → ((p : Page) → HasPage c at end p → IsRead deeds p × (next ≡ at + page_sectors p))
-      → {leg' : Leg} {from' : Option ℕ} → ((p : Page) → IsRead deeds p → IsPassed p next less leg from leg' from')
+  pub page_on : 0 < left → k ≤ start.before + length (all_deeds pages) → (kind : PageKind) (next n less : ℕ)
+      → n ≡ kind_count kind → less ≡ left - n
+      → ((p : Page) → HasPage c at end p → IsKindOf kind p × (next ≡ at + page_sectors p))
+      → {leg' : Leg} {from' : Option ℕ} → ((p : Page) → IsKindOf kind p → IsPassed p next less leg from leg' from')
       → IsReaching c end start pages k next less leg' from'
-  page_on some room deeds next n less many rest read passes =
+  page_on some room kind next n less many rest read passes =
       let x = page_left some room in
       let is = read x.0 (has_page x.0 x.1 x.2) in
-      let long = many ∙ read_many deeds x.0 is.0 in
+      let long = many ∙ kind_many kind x.0 is.0 in
       after_page x.0 x.1 x.2 next less is.1 (omega (arith, rest, long)) some
       (subst (AreTurns start (was.lead ++ all_deeds was.passed)) x.2 was.turns).0 (passes x.0 is.0)
 
@@ -407,21 +421,21 @@ all_gone e {c = c} {end = end} {legs = legs} {old = old} {new = new} was none =
 
 -- ---- what becomes of the last leg behind a page that was read
 
-pub passed_on : (deeds : PageDeeds) (p : Page) (at left : ℕ) (leg : Leg) (from : Option ℕ)
-    → ((version k : ℕ) (to : Desktop) → IsRead deeds (of_turn version k to) → ⊥) → IsRead deeds p
+pub passed_on : (kind : PageKind) (p : Page) (at left : ℕ) (leg : Leg) (from : Option ℕ)
+    → ((version k : ℕ) (to : Desktop) → IsKindOf kind (of_turn version k to) → ⊥) → IsKindOf kind p
     → IsPassed p at left leg from leg from
-passed_on deeds (of_events version events) at left leg from none read = (refl, refl)
-passed_on deeds (of_import version documents) at left leg from none read = (refl, refl)
-passed_on deeds (of_turn version k to) at left leg from none read = absurd (none version k to read)
+passed_on kind (of_events version events) at left leg from none is = (refl, refl)
+passed_on kind (of_import version documents) at left leg from none is = (refl, refl)
+passed_on kind (of_turn version k to) at left leg from none is = absurd (none version k to is)
 
-pub passed_turn : (deeds : PageDeeds) (p : Page) (at left : ℕ) (old leg : Leg) (before : Option ℕ) (to : ℕ)
-    → ((version : ℕ) (events : List Event) → IsRead deeds (of_events version events) → ⊥)
-    → ((version : ℕ) (documents : Documents) → IsRead deeds (of_import version documents) → ⊥)
-    → ((version k : ℕ) (d : Desktop) → IsRead deeds (of_turn version k d) → to ≡ k)
-    → leg.at ≡ at → leg.count ≡ left → IsRead deeds p → IsPassed p at left old before leg (Some to)
-passed_turn deeds (of_events version events) at left old leg before to events_not import_not same starts counts read =
-    absurd (events_not version events read)
-passed_turn deeds (of_import version documents) at left old leg before to events_not import_not same starts counts read =
-    absurd (import_not version documents read)
-passed_turn deeds (of_turn version k d) at left old leg before to events_not import_not same starts counts read =
-    (starts, counts, ap Some (same version k d read))
+pub passed_turn : (kind : PageKind) (p : Page) (at left : ℕ) (old leg : Leg) (before : Option ℕ) (to : ℕ)
+    → ((version : ℕ) (events : List Event) → IsKindOf kind (of_events version events) → ⊥)
+    → ((version : ℕ) (documents : Documents) → IsKindOf kind (of_import version documents) → ⊥)
+    → ((version k : ℕ) (d : Desktop) → IsKindOf kind (of_turn version k d) → to ≡ k)
+    → leg.at ≡ at → leg.count ≡ left → IsKindOf kind p → IsPassed p at left old before leg (Some to)
+passed_turn kind (of_events version events) at left old leg before to events_not import_not same starts counts is =
+    absurd (events_not version events is)
+passed_turn kind (of_import version documents) at left old leg before to events_not import_not same starts counts is =
+    absurd (import_not version documents is)
+passed_turn kind (of_turn version k d) at left old leg before to events_not import_not same starts counts is =
+    (starts, counts, ap Some (same version k d is))

@@ -19,6 +19,7 @@ pub mod TurnedBack
 pub mod Stepping
 pub mod Legs
 pub mod Opened
+pub mod Laid
 pub mod Sparing
 pub mod Copied
 pub mod Begun

@@ -51,11 +51,10 @@ copied_stands e {m = m} c t at large same =
     resized (e.size m) (now (e.trail m)).reads t large (stands_behind c (now (e.trail m)).reads t at same)
 
 module _ {E : Type 0} (e : Ghosts E) (law : StandingLaw) where
-  pub opened_shows : {m : E} {store : StoreView E} (c : Content) (t : Standing) → Stands STORE_SECTORS c t
-      → STORE_SECTORS ≤ e.size m → ((n : ℕ) → n < STORE_SECTORS → (now (e.trail m)).reads n ≡ c n) → e.honest m
+  -- a store that was opened shows what stood there
+  pub stands_shows : {m : E} {store : StoreView E} (t : Standing) → Stands (e.size m) (now (e.trail m)).reads t → e.honest m
       → IsOpened e m store → IsConfined e.size e.honest e.trail Nowhere m store.disk → ShowsNow e t store
-  opened_shows {m = m} {store = store} c t at large same honest opened run =
-      let stands = resized (e.size m) (now (e.trail m)).reads t large (stands_behind c (now (e.trail m)).reads t at same) in
+  stands_shows {m = m} {store = store} t stands honest opened run =
       let found = opened.found honest in
       record {
         usable = opened.usable;
@@ -65,6 +64,11 @@ module _ {E : Type 0} (e : Ghosts E) (law : StandingLaw) where
         desktop = sym found.is
             ∙ ap desktop_of (law (e.size m) (now (e.trail m)).reads found.standing t found.stands stands);
       }
+
+  pub opened_shows : {m : E} {store : StoreView E} (c : Content) (t : Standing) → Stands STORE_SECTORS c t
+      → STORE_SECTORS ≤ e.size m → ((n : ℕ) → n < STORE_SECTORS → (now (e.trail m)).reads n ≡ c n) → e.honest m
+      → IsOpened e m store → IsConfined e.size e.honest e.trail Nowhere m store.disk → ShowsNow e t store
+  opened_shows c t at large same = stands_shows t (copied_stands e c t at large same)
 
   -- without its last events it shows the desktop behind the others
   pub undone_to : {old new : StoreView E} (t : Standing) → ShowsNow e t old → IsDurable e old → (count back : ℕ)

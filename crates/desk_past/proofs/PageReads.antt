@@ -147,6 +147,13 @@ of_turn_page X (of_import version documents) kind bytes rest three is valid spel
 of_turn_page X (of_turn version k to) kind bytes rest three is valid spelled f =
     f version k to (turn_told k bytes rest valid spelled) (turn_long k bytes rest spelled)
 
+-- which stands in one sector
+pub turn_sectors : (p : Page) → page_kind p ≡ TURN_PAGE → page_sectors p ≡ 1
+turn_sectors (of_events version events) is = absurd (omega (arith, is))
+turn_sectors (of_import version documents) is = absurd (omega (arith, is))
+turn_sectors (of_turn version k to) is =
+    let long = page_long (of_turn version k to) in omega (arith, long, eight k)
+
 -- there is no other one
 pub of_no_page : (p : Page) (kind : ℕ) (bytes rest : List ℕ) → ¬ (kind ≡ EVENTS_PAGE) → ¬ (kind ≡ IMPORT_PAGE)
     → (kind ≡ TURN_PAGE → length bytes < 8) → kind ≡ page_kind p → bytes ≡ page_body p ++ rest → ⊥

@@ -2,6 +2,7 @@ pub mod Deeds
 pub mod Page
 pub mod Past
 pub mod Reading
+pub mod Laying
 pub mod Errors
 pub mod Beginning
 pub mod Going

@@ -16,6 +16,8 @@ use Rattle.desk_past.specs.Page.{Page, of_events, of_import, of_turn, end_of_pag
 use Rattle.desk_past.specs.Past.{AreGood, AreTurns, HoldsPages, IsGoodPage, Start, all_deeds, first_page}
 use Rattle.desk_past.specs.declared.pages.PageDeeds.{PageDeeds}
 use Rattle.desk_past.specs.declared.pages.PageDeeds.TheVariants.{Events, Import, Turn}
+use Rattle.desk_past.specs.declared.pages.PageKind.{PageKind}
+use Rattle.desk_past.specs.declared.pages.PageKind.TheVariants as which
 
 -- each sector of a disk reads as zeros
 abbrev pub ReadsZeros : {E : Type 0} → Ghosts E → E → Type 0
@@ -57,6 +59,19 @@ IsRead (Events events) (of_events version all) = events.items ≡ all
 IsRead (Import documents) (of_import version all) = documents.items ≡ all
 IsRead (Turn k) (of_turn version moment to) = k ≡ moment
 IsRead _ _ = ⊥
+
+-- the page is of this kind
+abbrev pub IsKindOf : PageKind → Page → Type 0
+IsKindOf (which.Events n) (of_events version events) = n ≡ length events
+IsKindOf which.Import (of_import version documents) = Unit {0}
+IsKindOf (which.Turn k) (of_turn version moment to) = k ≡ moment
+IsKindOf _ _ = ⊥
+
+-- and so many deeds it has
+abbrev pub kind_count : PageKind → ℕ
+kind_count (which.Events n) = n
+kind_count which.Import = 1
+kind_count (which.Turn k) = 1
 
 -- how much a page says was done: an import is one deed, and so is a turn
 abbrev pub many_deeds : PageDeeds → ℕ

@@ -11,7 +11,7 @@ ghost use Rattle.desk_journal.specs.Looking.{OnlyLooks};
 ghost use Rattle.desk_past.specs.declared.page.TheConstants.{EVENTS_PAGE, IMPORT_PAGE, PAGE_FRONT, TURN_PAGE};
 ghost use Rattle.desk_past.specs.Page.{Page, page_body, page_count, page_kind, page_sectors};
 ghost use Rattle.desk_past.specs.Past.{AreDoable, AreEvents};
-ghost use Rattle.desk_past.specs.Reading.{HasPage, IsOnlyReadFrom, IsRead};
+ghost use Rattle.desk_past.specs.Reading.{HasPage, IsKindOf, IsOnlyReadFrom, IsRead, kind_count};
 
 use crate::documents::documents_in;
 use crate::page::{EVENTS_PAGE, IMPORT_PAGE, PAGE_FRONT, TURN_PAGE, sectors_for};
@@ -21,7 +21,7 @@ use desk_journal::{Document, Error, Store};
 use event_bytes::Event;
 use sector_disk::{Disk, NoMemory};
 use std::alloc::Global;
-use store_layout::LAYOUT;
+use store_layout::{JOURNAL_EVENTS, LAYOUT};
 
 /// What a page says was done: events that were posted, an import, or a turn to a moment.
 #[derive(Drop)]
@@ -35,6 +35,33 @@ pub enum PageDeeds {
 #[derive(Drop)]
 pub struct PageRead {
     pub deeds: PageDeeds,
+    pub next: u32,
+}
+
+/// What kind of page it is: of so many events that were posted, of an import, or of a turn to a moment.
+#[derive(Clone, Copy, Debug, PartialEq, Eq)]
+pub enum PageKind {
+    Events(u32),
+    Import,
+    Turn(u64),
+}
+
+impl PageKind {
+    /// How many deeds such a page has: an import is one deed, and so is a turn.
+    pub fn count(self) -> u32
+        ensures { result ≡ kind_count self }
+    {
+        match self {
+            PageKind::Events(count) => count,
+            PageKind::Import | PageKind::Turn(_) => 1,
+        }
+    }
+}
+
+/// A page whose front was read: of which kind it is, and the sector behind it.
+#[derive(Clone, Copy, Debug)]
+pub struct PageFront {
+    pub kind: PageKind,
     pub next: u32,
 }
 
@@ -77,7 +104,7 @@ fn events_in(alloc: Global, bytes: &[u8], count: u32) -> Result<Option<Vec<Event
         → length events ≡ count → bytes.now ≡ spellings events ++ rest
         → IsSomeAnd found (λ v. v.items ≡ events)) }
 {
-    let mut events = Vec::new(alloc);
+    let mut events = Vec::with_capacity(alloc, count.min(JOURNAL_EVENTS) as usize)?;
     let mut place = 0;
     for k in 0..count {
         let (_read, left) = bytes.split_at(place);
@@ -111,6 +138,92 @@ fn deeds_of(alloc: Global, front: Front, bytes: &[u8]) -> Result<Option<PageDeed
     } else {
         Ok(None)
     }
+}
+
+/// The kind of a page with this front, whose first sector goes on with these bytes. None where there is no such kind.
+fn kind_of(front: Front, bytes: &[u8]) -> Option<PageKind>
+    ensures { (p : Page) (rest : List ℕ) → front.kind ≡ page_kind p → front.count ≡ page_count p
+        → AreDoable p → (front.kind ≡ TURN_PAGE → bytes.now ≡ page_body p ++ rest)
+        → IsSomeAnd result (λ kind. IsKindOf kind p) }
+{
+    if front.kind == EVENTS_PAGE {
+        Some(PageKind::Events(front.count))
+    } else if front.kind == IMPORT_PAGE {
+        Some(PageKind::Import)
+    } else if front.kind == TURN_PAGE && bytes.len() >= 8 {
+        Some(PageKind::Turn(BigEndian::read_u64(&bytes[..8])))
+    } else {
+        None
+    }
+}
+
+/// The front of the page in sector `at`: nothing behind its first sector is read. None where none stands there that ends
+/// before sector `end`.
+///
+/// Errors: those of `Store::read_behind`; `NoMemory`.
+pub(crate) fn front_at<D: Disk>(
+    alloc: Global,
+    store: &mut Store<D>,
+    at: u32,
+    end: u32,
+) -> Result<Option<PageFront>, Error>
+    requires usable { store.old.must_reopen ≡ false }
+    requires room { end ≤ D.size store.old.disk }
+    ensures found { IfOk result (λ found. D.honest store.old.disk → (p : Page)
+        → HasPage (now (D.trail store.old.disk)).reads at end p
+        → IsSomeAnd found (λ x. IsKindOf x.kind p × (x.next ≡ at + page_sectors p))) }
+    ensures later { IfOk result (λ found. IfSome found (λ x. (at < x.next) × (x.next ≤ end))) }
+    ensures still { IsOnlyReadFrom D.Disk store.old store.new }
+    ensures faults { FailsAs Error.Fault OfDesktop result (D.failures store.old.disk)
+        (D.failures store.new.disk) }
+{
+    store.shows_what_crashes_leave();
+    if at >= end {
+        return Ok(None);
+    }
+    let first = bytes_at(alloc, store, at, 1)?;
+    let (numbers, spelled) = first.as_slice().split_at(PAGE_FRONT as usize);
+    let Some(front) = front_of(numbers) else {
+        return Ok(None);
+    };
+    let Some(sectors) = sectors_for(front.spelled as usize + PAGE_FRONT as usize) else {
+        return Ok(None);
+    };
+    if sectors > end - at {
+        return Ok(None);
+    }
+    let Some(kind) = kind_of(front, spelled) else {
+        return Ok(None);
+    };
+    Ok(Some(PageFront {
+        kind,
+        next: at + sectors,
+    }))
+}
+
+/// The front of the page in sector `at` of a past that ends before sector `end`. None where no page stands there.
+///
+/// Errors: those of `Store::read_behind`; `NoMemory`.
+pub fn front_in<D: Disk>(
+    alloc: Global,
+    store: &mut Store<D>,
+    at: u32,
+    end: u32,
+) -> Result<Option<PageFront>, Error>
+    ensures found { IfOk result (λ found. D.honest store.old.disk → (p : Page)
+        → HasPage (now (D.trail store.old.disk)).reads at end p → end ≤ D.size store.old.disk
+        → IsSomeAnd found (λ x. IsKindOf x.kind p × (x.next ≡ at + page_sectors p))) }
+    ensures later { IfOk result (λ found. IfSome found (λ x. (at < x.next) × (x.next ≤ end))) }
+    ensures still { OnOk result (IsOnlyReadFrom D.Disk store.old store.new) }
+    ensures looks { OnlyLooks D.Disk result store.old store.new }
+{
+    if store.info().is_err() {
+        return Err(Error::MustReopen);
+    }
+    if end > store.sectors() {
+        return Ok(None);
+    }
+    front_at(alloc, store, at, end)
 }
 
 /// The page in sector `at`. None where none stands there that ends before sector `end`.

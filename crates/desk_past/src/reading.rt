@@ -19,16 +19,16 @@ ghost use Rattle.desk_past.specs.Routes.{AreLegs, HasNoTurn};
 use crate::again::{
     back_to, brought, empty_disk, many_before, opened, posted, taken_back, told_in,
 };
+use crate::laying::lay;
 use crate::pages::{PageDeeds, page_at};
 use crate::routes::{Leg, legs_to};
-use crate::sectors::copy_to;
 use desk_journal::{Error, STORE_SECTORS, Store};
 use event_bytes::Event;
 use sector_disk::{Disk, MemoryDisk};
 use std::alloc::Global;
 use store_layout::{PastEnd, standing_law};
 
-/// The store that stands from sector `base` on, copied to another disk, which is in memory, and opened.
+/// The store that stands from sector `base` on, laid on another disk, which is in memory, and opened.
 ///
 /// Errors: those of `Store::read_behind`; `NoMemory`; `NotAStore` and `Damaged` where none stands there.
 fn opened_at<D: Disk, E: Disk + Drop>(
@@ -51,7 +51,7 @@ fn opened_at<D: Disk, E: Disk + Drop>(
 {
     standing_law();
     let mut disk = disk;
-    copy_to(store, base, &mut disk)?;
+    lay(store, base, &mut disk)?;
     opened(alloc, disk)
 }
 
@@ -145,7 +145,7 @@ pub fn post_all<E: Disk>(alloc: Global, shown: &mut Store<E>, events: &[Event]) 
 }
 
 /// How much a page says was done: an import is one deed, and so is a turn.
-pub(crate) fn count_of(deeds: &PageDeeds) -> usize
+fn count_of(deeds: &PageDeeds) -> usize
     ensures { result ≡ many_deeds deeds.now }
 {
     match deeds {

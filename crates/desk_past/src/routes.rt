@@ -6,11 +6,10 @@ ghost use Rattle.store_slots.specs.Errors.{OfDesktop};
 ghost use Rattle.desk_past.specs.Deeds.{PastDeed, after_deeds};
 ghost use Rattle.desk_past.specs.Page.{Page, HasPages, end_of_pages};
 ghost use Rattle.desk_past.specs.Past.{AreGood, AreTurns, Start, all_deeds, moment as moment_of};
-ghost use Rattle.desk_past.specs.Reading.{IsOnlyReadFrom, IsRead};
+ghost use Rattle.desk_past.specs.Reading.{IsKindOf, IsOnlyReadFrom};
 ghost use Rattle.desk_past.specs.Routes.{AreLegs, IsPassed, IsReached};
 
-use crate::pages::{PageDeeds, page_at};
-use crate::reading::count_of;
+use crate::pages::{PageKind, front_at};
 use desk_journal::{Error, Store};
 use sector_disk::Disk;
 use std::alloc::{AllocError, Global};
@@ -30,16 +29,16 @@ struct Reach {
 }
 
 /// The last leg behind a page that ends at sector `at`, where so many deeds are left: behind a turn another one begins.
-fn reach_behind(reach: Reach, deeds: &PageDeeds, at: u32, left: u64) -> Reach
-    ensures { (p : Page) → IsRead deeds.now p
+fn reach_behind(reach: Reach, kind: PageKind, at: u32, left: u64) -> Reach
+    ensures { (p : Page) → IsKindOf kind p
         → IsPassed p at left reach.leg reach.from result.leg result.from }
 {
-    match deeds {
-        PageDeeds::Events(_events) => reach,
-        PageDeeds::Import(_documents) => reach,
-        PageDeeds::Turn(to) => Reach {
+    match kind {
+        PageKind::Events(_) => reach,
+        PageKind::Import => reach,
+        PageKind::Turn(to) => Reach {
             leg: Leg { at, count: left },
-            from: Some(*to),
+            from: Some(to),
         },
     }
 }
@@ -47,7 +46,7 @@ fn reach_behind(reach: Reach, deeds: &PageDeeds, at: u32, left: u64) -> Reach
 /// How moment `k` is reached by the pages from sector `first` up to sector `end`, before which so many deeds came. None
 /// where they have no such moment.
 ///
-/// Errors: those of `page_at`.
+/// Errors: those of `front_at`.
 fn reach_of<D: Disk>(
     alloc: Global,
     store: &mut Store<D>,
@@ -81,12 +80,12 @@ fn reach_of<D: Disk>(
     let mut at = first;
     let mut left = k - before;
     while left > 0 {
-        let Some(page) = page_at(alloc, store, at, end)? else {
+        let Some(page) = front_at(alloc, store, at, end)? else {
             return Ok(None);
         };
-        left = left.saturating_sub(count_of(&page.deeds) as u64);
+        left = left.saturating_sub(page.kind.count() as u64);
         at = page.next;
-        reach = reach_behind(reach, &page.deeds, at, left);
+        reach = reach_behind(reach, page.kind, at, left);
     }
     Ok(Some(reach))
 }
@@ -112,7 +111,7 @@ fn add(legs: &mut Vec<Leg>, leg: Leg) -> Result<(), AllocError>
 /// The legs of the way to moment `k` by the pages from sector `first` up to sector `end`, before which so many deeds
 /// came. The last of them is gone first. None where the pages have no such moment.
 ///
-/// Errors: those of `page_at`; `NoMemory`.
+/// Errors: those of `front_at`; `NoMemory`.
 pub(crate) fn legs_to<D: Disk>(
     alloc: Global,
     store: &mut Store<D>,

@@ -1,24 +1,22 @@
-//! Sectors behind a store: read, copied and compared.
-ghost use Rattle.std.specs.Prelude.{◌≡◌, ◌≢◌, ◌+◌, ◌*◌, ◌^◌, ◌<◌, ◌≤◌, ℕ, true, false, length, replicate, IfOk, OnOk};
+//! Sectors behind a store: read and compared.
+ghost use Rattle.std.specs.Prelude.{◌≡◌, ◌+◌, ◌*◌, ◌^◌, ◌<◌, ◌≤◌, ℕ, true, false, length, replicate, IfOk};
 ghost use Rattle.sector_disk.specs.declared.disk.TheConstants.{SECTOR_BYTES};
 ghost use Rattle.sector_disk.specs.Faults.{FailsAs};
 ghost use Rattle.sector_disk.specs.Stored.{stored};
 ghost use Rattle.sector_disk.specs.Trail.{now};
-ghost use Rattle.store_layout.specs.declared.layout.TheConstants.{STORE_SECTORS};
 ghost use Rattle.store_layout.specs.Filling.{InRange};
 ghost use Rattle.store_slots.specs.Errors.{OfDesktop};
-ghost use Rattle.desk_journal.specs.Device.{IsSameDevice};
 ghost use Rattle.desk_journal.specs.Looking.{OnlyLooks};
 ghost use Rattle.desk_past.specs.Beginning.{HasCopies, HoldsSame};
 ghost use Rattle.desk_past.specs.Forgetting.{AreBlank};
-ghost use Rattle.desk_past.specs.Reading.{IsBlankRoom, IsOnlyReadFrom};
+ghost use Rattle.desk_past.specs.Reading.{IsOnlyReadFrom};
 
-use desk_journal::{Error, STORE_SECTORS, Store};
-use sector_disk::{Disk, NoMemory, SECTOR_BYTES, Sector};
+use desk_journal::{Error, Store};
+use sector_disk::{Disk, SECTOR_BYTES, Sector};
 use std::alloc::{AllocError, Global};
 
 /// A sector of zeros, to be filled. Its callers know no byte of it.
-fn blank_sector() -> Sector {
+pub(crate) fn blank_sector() -> Sector {
     [0; SECTOR_BYTES as usize]
 }
 
@@ -72,67 +70,15 @@ pub(crate) fn bytes_at<D: Disk>(
     Ok(bytes)
 }
 
-/// A sector of zeros.
-fn zero_sector() -> Sector
-    ensures { result ≡ replicate SECTOR_BYTES 0 }
-{
-    [0; SECTOR_BYTES as usize]
-}
-
-/// Whether a sector holds nothing but zeros.
-fn is_zeros(sector: &Sector) -> bool
+/// Whether a sector holds nothing but zeros. All bytes are looked at, many at a time.
+pub(crate) fn is_zeros(sector: &Sector) -> bool
     ensures { result ≡ true → sector.now ≡ replicate SECTOR_BYTES 0 }
 {
-    *sector == zero_sector()
-}
-
-/// Gives a disk in memory this sector, where it reads zeros. Zeros aren't written.
-///
-/// Error: where the disk fails, there is no memory.
-fn put<E: Disk>(disk: &mut E, n: u32, sector: &Sector) -> Result<(), NoMemory>
-    requires { n < E.size disk.old }
-    ensures here { OnOk result (E.honest disk.old
-        → (now (E.trail disk.old)).reads n ≡ replicate SECTOR_BYTES 0
-        → (now (E.trail disk.new)).reads n ≡ sector.now) }
-    ensures others { OnOk result (E.honest disk.old → (k : ℕ) → k ≢ n
-        → (now (E.trail disk.new)).reads k ≡ (now (E.trail disk.old)).reads k) }
-    ensures device { IsSameDevice E.Disk disk.old disk.new }
-{
-    if is_zeros(sector) {
-        return Ok(());
+    let mut zeros = true;
+    for byte in sector {
+        zeros &= *byte == 0;
     }
-    match disk.write(n, sector) {
-        Ok(()) => Ok(()),
-        Err(_fault) => Err(NoMemory),
-    }
-}
-
-/// Copies the sectors of a store, which begin in sector `base`, to another disk, which is in memory and reads zeros.
-///
-/// Errors: those of `Store::read_behind`; `NoMemory` where the other disk fails.
-pub(crate) fn copy_to<D: Disk, E: Disk>(
-    store: &mut Store<D>,
-    base: u32,
-    disk: &mut E,
-) -> Result<(), Error>
-    requires usable { store.old.must_reopen ≡ false }
-    requires numbered { base + STORE_SECTORS < 2 ^ 32 }
-    requires there { base + STORE_SECTORS ≤ D.size store.old.disk }
-    requires blank { IsBlankRoom E.Disk disk.old }
-    ensures same { OnOk result (D.honest store.old.disk → E.honest disk.old → (n : ℕ)
-        → n < STORE_SECTORS → (now (E.trail disk.new)).reads n
-        ≡ (now (D.trail store.old.disk)).reads (base + n)) }
-    ensures device { IsSameDevice E.Disk disk.old disk.new }
-    ensures still { IsOnlyReadFrom D.Disk store.old store.new }
-    ensures faults { FailsAs Error.Fault OfDesktop result (D.failures store.old.disk)
-        (D.failures store.new.disk) }
-{
-    store.shows_what_crashes_leave();
-    for n in 0..STORE_SECTORS {
-        let sector = sector_at(store, base + n)?;
-        put(disk, n, &sector)?;
-    }
-    Ok(())
+    zeros
 }
 
 /// Whether so many sectors, from `from` on, are the same as those `base` sectors further on.

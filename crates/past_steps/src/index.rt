@@ -5,7 +5,7 @@ ghost use Rattle.desk_journal.specs.Looking.{OnlyLooks};
 ghost use Rattle.past_steps.specs.Steps.{IsPartInUse};
 
 use desk_journal::{Error, STORE_SECTORS, Store};
-use desk_past::{PageDeeds, Part, page_in, part_at};
+use desk_past::{PageKind, Part, front_in, part_at};
 use event_bytes::Event;
 use sector_disk::Disk;
 use std::alloc::{AllocError, Global};
@@ -17,35 +17,27 @@ const MOST_SECTORS: u32 = 4096;
 /// How many deeds are done once more in memory before a step, at most, for the same reason.
 const MOST_DONE_AGAIN: u64 = 32_768;
 
-/// What a page says was done: events, an import, or a turn to a moment.
-#[derive(Clone, Copy, Debug, PartialEq, Eq)]
-pub(crate) enum Kind {
-    Events,
-    Import,
-    Turn(u64),
-}
-
 /// A page: the sector in which it stands, how many deeds of the pages came before it, and how many it has.
 #[derive(Clone, Copy, Debug)]
 pub(crate) struct Entry {
     pub at: u32,
     pub before: u64,
     pub count: u64,
-    pub kind: Kind,
+    pub kind: PageKind,
 }
 
 /// The page of the deed right before a moment, and how many of its deeds came before that.
 #[derive(Clone, Copy, Debug)]
 pub(crate) struct Found {
     pub at: u32,
-    pub kind: Kind,
+    pub kind: PageKind,
     pub count: u64,
 }
 
 impl Found {
     /// Whether it has events or an import, and no turn.
     fn is_done(self) -> bool {
-        !matches!(self.kind, Kind::Turn(_))
+        !matches!(self.kind, PageKind::Turn(_))
     }
 }
 
@@ -61,18 +53,9 @@ pub(crate) struct Index {
     pub journal: Vec<Event>,
 }
 
-/// What kind of page it is, and how many deeds it has.
-fn kind_of(deeds: &PageDeeds) -> (Kind, u64) {
-    match deeds {
-        PageDeeds::Events(events) => (Kind::Events, events.len() as u64),
-        PageDeeds::Import(_) => (Kind::Import, 1),
-        PageDeeds::Turn(k) => (Kind::Turn(*k), 1),
-    }
-}
-
 /// The page in sector `at`, before which so many deeds came, and the sector behind it. None where none stands there.
 ///
-/// Errors: those of `page_in`.
+/// Errors: those of `front_in`.
 fn entry_at<D: Disk>(
     alloc: Global,
     store: &mut Store<D>,
@@ -83,15 +66,14 @@ fn entry_at<D: Disk>(
     ensures later { IfOk result (λ found. IfSome found (λ x. (at < x.1) × (x.1 ≤ end))) }
     ensures looks { OnlyLooks D.Disk result store.old store.new }
 {
-    match page_in(alloc, store, at, end)? {
+    match front_in(alloc, store, at, end)? {
         None => Ok(None),
         Some(page) => {
-            let (kind, count) = kind_of(&page.deeds);
             let entry = Entry {
                 at,
                 before,
-                count,
-                kind,
+                count: page.kind.count() as u64,
+                kind: page.kind,
             };
             Ok(Some((entry, page.next)))
         }
@@ -109,7 +91,7 @@ fn add(entries: &mut Vec<Entry>, entry: Entry) -> Result<(), AllocError> {
 /// The pages from sector `first` up to sector `end` that have deeds, each with how many came before it in these pages. None
 /// where one is missing.
 ///
-/// Errors: those of `page_in`; `NoMemory`.
+/// Errors: those of `front_in`; `NoMemory`.
 fn entries_in<D: Disk>(
     alloc: Global,
     store: &mut Store<D>,
@@ -186,7 +168,7 @@ impl Index {
     /// The pages of the past that a store keeps. None where it keeps none, where one is missing, or where they are too
     /// many.
     ///
-    /// Errors: those of `Store::past`, `page_in` and `Store::history`.
+    /// Errors: those of `Store::past`, `front_in` and `Store::history`.
     pub fn of<D: Disk>(alloc: Global, store: &mut Store<D>) -> Result<Option<Index>, Error>
         ensures part { IfOk result (λ found. IfSome found (λ index.
             IsPartInUse D.Disk index.base store.old)) }
@@ -201,7 +183,7 @@ impl Index {
 
     /// The pages behind the start in sector `base`, up to where the head says that they end.
     ///
-    /// Errors: those of `page_in` and `Store::history`.
+    /// Errors: those of `front_in` and `Store::history`.
     fn behind<D: Disk>(
         alloc: Global,
         store: &mut Store<D>,
@@ -265,7 +247,7 @@ impl Index {
     /// The moment to which a turn leads that was done right before moment `k`. None where something else was done then.
     pub fn turn_before(&self, k: u64) -> Option<u64> {
         match self.page_before(k)?.kind {
-            Kind::Turn(to) => Some(to),
+            PageKind::Turn(to) => Some(to),
             _ => None,
         }
     }
@@ -290,7 +272,7 @@ impl Index {
     /// Where the page stands of the import that was done right before moment `k`. None where something else was done then.
     pub fn import_before(&self, k: u64) -> Option<u32> {
         match self.page_before(k) {
-            Some(page) if page.kind == Kind::Import => Some(page.at),
+            Some(page) if page.kind == PageKind::Import => Some(page.at),
             _ => None,
         }
     }

@@ -27,20 +27,20 @@ returns-in_default-clause-reached g c = λ honest start pages same held good tur
     (subst (λ r. HasPage r c.loop-left.at c.args.end next.0) (sym reads) next.1))
 
 pub returns-in_default-clause-still : goal.returns-in_default-clause-still
-returns-in_default-clause-still g c = still_both g.D.Disk c.loop-left.invariant.still c.page_at.ensures.still
+returns-in_default-clause-still g c = still_both g.D.Disk c.loop-left.invariant.still c.front_at.ensures.still
 
 pub loop-left-preserved : goal.loop-left-preserved
 loop-left-preserved g c =
     let i = c.loop-left.invariant in
     let found = rw c.in-Some.is at c.in_ok-page.ensures.found in
     record {
-      still = still_both g.D.Disk i.still c.page_at.ensures.still;
+      still = still_both g.D.Disk i.still c.front_at.ensures.still;
       calm = none_failed c.in_ok-page.ensures.faults ∙ i.calm;
       reaching = λ honest start pages same held good turns ends room.
           let reads = still_reads g.D.Disk i.still (c.shows_what_crashes_leave.ensures.quiet c.requires.usable honest)
           honest in
           page_on (i.reaching honest start pages same held good turns ends room) c.loop-left-test.true
-          (omega (arith, same, room)) c.in-Some.page.deeds c.in-Some.page.next c.count_of.result _ c.count_of.ensures
+          (omega (arith, same, room)) c.in-Some.page.kind c.in-Some.page.next c.count.result _ c.count.ensures
           (omega (arith, c.saturating_sub-left.ensures))
           (λ p page. found (i.still.left.disk.device.still honest) p
           (subst (λ r. HasPage r c.loop-left.at c.args.end p) (sym reads) page))
@@ -52,13 +52,13 @@ loop-left-preserved-in-Some g c =
     let i = c.loop-left.invariant in
     let found = rw c.in-Some.is at c.in_ok-page.ensures.found in
     record {
-      still = still_both g.D.Disk i.still c.page_at.ensures.still;
+      still = still_both g.D.Disk i.still c.front_at.ensures.still;
       calm = none_failed c.in_ok-page.ensures.faults ∙ i.calm;
       reaching = λ honest start pages same held good turns ends room.
           let reads = still_reads g.D.Disk i.still (c.shows_what_crashes_leave.ensures.quiet c.requires.usable honest)
           honest in
           page_on (i.reaching honest start pages same held good turns ends room) c.loop-left-test.true
-          (omega (arith, same, room)) c.in-Some.page.deeds c.in-Some.page.next c.count_of.result _ c.count_of.ensures
+          (omega (arith, same, room)) c.in-Some.page.kind c.in-Some.page.next c.count.result _ c.count.ensures
           (omega (arith, c.saturating_sub-left.ensures))
           (λ p page. found (i.still.left.disk.device.still honest) p
           (subst (λ r. HasPage r c.loop-left.at c.args.end p) (sym reads) page))
@@ -70,13 +70,13 @@ loop-left-preserved-in-Some-2 g c =
     let i = c.loop-left.invariant in
     let found = rw c.in-Some.is at c.in_ok-page.ensures.found in
     record {
-      still = still_both g.D.Disk i.still c.page_at.ensures.still;
+      still = still_both g.D.Disk i.still c.front_at.ensures.still;
       calm = none_failed c.in_ok-page.ensures.faults ∙ i.calm;
       reaching = λ honest start pages same held good turns ends room.
           let reads = still_reads g.D.Disk i.still (c.shows_what_crashes_leave.ensures.quiet c.requires.usable honest)
           honest in
           page_on (i.reaching honest start pages same held good turns ends room) c.loop-left-test.true
-          (omega (arith, same, room)) c.in-Some.page.deeds c.in-Some.page.next c.count_of.result _ c.count_of.ensures
+          (omega (arith, same, room)) c.in-Some.page.kind c.in-Some.page.next c.count.result _ c.count.ensures
           (omega (arith, c.saturating_sub-left.ensures))
           (λ p page. found (i.still.left.disk.device.still honest) p
           (subst (λ r. HasPage r c.loop-left.at c.args.end p) (sym reads) page))
@@ -91,10 +91,10 @@ returns-clause-reached g c = λ honest start pages same held good turns ends roo
     )
 
 pub returns-in_err-page-clause-still : goal.returns-in_err-page-clause-still
-returns-in_err-page-clause-still g c = still_both g.D.Disk c.loop-left.invariant.still c.page_at.ensures.still
+returns-in_err-page-clause-still g c = still_both g.D.Disk c.loop-left.invariant.still c.front_at.ensures.still
 
 pub returns-in_err-page-clause-faults : goal.returns-in_err-page-clause-faults
 returns-in_err-page-clause-faults g c =
     let p = err_from_is_err_and c.from_residual.result c.from_residual.ensures.1 in
-    let failed : c.page_at.result ≡ Err p.0 = cc (p.1, p.2, c.in_err-page.was) in
-    error_from c.page_at.ensures.faults (λ e named. named) c.loop-left.invariant.calm failed p.1
+    let failed : c.front_at.result ≡ Err p.0 = cc (p.1, p.2, c.in_err-page.was) in
+    error_from c.front_at.ensures.faults (λ e named. named) c.loop-left.invariant.calm failed p.1

@@ -1,10 +1,13 @@
-use Rattle.std.proofs.Common.{◌≡◌, ◌∙◌, ap, refl, sym}
+use Rattle.std.proofs.Common.{◌≡◌, inl, inr, ◌∙◌, ap, refl, sym}
 use Rattle.sector_disk.specs.Trail.{now}
 use Rattle.store_layout.proofs.Filled.{reads_elsewhere, reads_here}
-use Rattle.desk_past.proofs.sectors.put.Goals as goal
+use Rattle.desk_past.proofs.laying.put.Goals as goal
 
 pub returns-then-is_zeros-clause-here : goal.returns-then-is_zeros-clause-here
-returns-then-is_zeros-clause-here g c = λ honest was. was ∙ sym (c.is_zeros.ensures c.if-is_zeros.true)
+returns-then-is_zeros-clause-here g c = λ honest was. elim was [
+  | inl zeros ↦ zeros ∙ sym (c.is_zeros.ensures c.if-is_zeros.true)
+  | inr same ↦ same
+]
 
 pub returns-then-is_zeros-clause-device : goal.returns-then-is_zeros-clause-device
 returns-then-is_zeros-clause-device g c = record { as_large = refl; still = λ h. h; already = λ h. h }

@@ -1,0 +1,2 @@
+use Rattle.std.proofs.Common.{◌≡◌, inl, ◌+◌, ◌∙◌, ap, arith, refl, rules, subst, sym}
+use Rattle.desk_past.proofs.laying.lay.Goals as goal
