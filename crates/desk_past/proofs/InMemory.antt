@@ -11,7 +11,7 @@ use Rattle.sector_disk.specs.Trail.{Content}
 use Rattle.store_layout.specs.Finding.{FindingLaw, IsDamagedAt, IsForeign}
 use Rattle.store_layout.specs.Meaning.{Standing, Stands}
 use Rattle.store_slots.specs.declared.error.Error.{Error}
-use Rattle.store_slots.specs.declared.error.Error.TheVariants.{Damaged, Fault, MustReopen, NoMemory, NotAStore, Worn}
+use Rattle.store_slots.specs.declared.error.Error.TheVariants.{Damaged, Fault, MustReopen, NoMemory, NotAStore}
 use Rattle.store_slots.specs.Errors.{OfDesktop, OfLook, OfOpen, OfPost}
 use Rattle.store_slots.proofs.TakingBack.{stops_there}
 use Rattle.store_slots.specs.Device.{IsOnlyRead}
@@ -22,7 +22,7 @@ use Rattle.desk_journal.specs.View.{StoreView}
 use Rattle.desk_past.specs.Keeping.{UsesDevice}
 use Rattle.desk_past.specs.Reading.{IsOnlyReadFrom}
 use Rattle.desk_past.proofs.StillReads.{nothing_written}
-use Rattle.desk_past.specs.Errors.{IsNoStart, OfDoing, OfFound, OfGoingBack, OfLaying, OfMoment, OfSteps, in_memory}
+use Rattle.desk_past.specs.Errors.{OfDoing, OfFound, OfGoingBack, OfLaying, OfMoment, OfSteps, in_memory}
 
 -- a sector that was never written
 pub zeros_are : zeros ≡ replicate SECTOR_BYTES 0

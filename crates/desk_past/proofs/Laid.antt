@@ -1,5 +1,5 @@
 -- A store that is laid on another disk, part by part.
-use Rattle.std.proofs.Common.{◌≡◌, ◌≢◌, ◌⊎◌, inl, inr, ◌+◌, ◌-◌, ◌*◌, ◌<◌, ◌≤◌, ℕ, length, sym, ◌∙◌, ap, arith, refl, subst, true}
+use Rattle.std.proofs.Common.{◌≡◌, ◌≢◌, ◌⊎◌, inl, inr, ◌+◌, ◌-◌, ◌*◌, ◌<◌, ◌≤◌, ℕ, zero, suc, length, sym, ◌∙◌, ap, arith, refl, subst, true}
 use Rattle.std.specs.Prelude.{replicate}
 use Rattle.std.proofs.lemmas.Bool.{cases_lt}
 use Rattle.sector_disk.specs.Trail.{Content}
@@ -12,6 +12,19 @@ use Rattle.store_layout.specs.Layout.{slot_head, IsGoodHead}
 use Rattle.store_layout.specs.Meaning.{Standing, Stands, full_sectors}
 use Rattle.store_layout.proofs.StandingLaws.{journal_short, journal_stays, older_stays, standing_carried}
 use Rattle.desk_past.specs.Laying.{HasLaid, HasLaidHead, HasLaidSlot, IsLaying, StaysLaid}
+
+-- the same of a content that is equal
+pub laid_in : {source source' old new : Content} {base from count : ℕ} → source' ≡ source
+    → (IsLaying source' base old → HasLaid source' base from count old new)
+    → IsLaying source base old → HasLaid source base from count old new
+laid_in {old = old} {new = new} {base = base} {from = from} {count = count} is f =
+    subst (λ s. IsLaying s base old → HasLaid s base from count old new) is f
+
+pub slot_laid_in : {source source' old new : Content} {base slot : ℕ} → source' ≡ source
+    → (IsLaying source' base old → HasLaidSlot source' base slot old new)
+    → IsLaying source base old → HasLaidSlot source base slot old new
+slot_laid_in {old = old} {new = new} {base = base} {slot = slot} is f =
+    subst (λ s. IsLaying s base old → HasLaidSlot s base slot old new) is f
 
 module _ (source : Content) (base : ℕ) where
   pub stays_none : {c : Content} → IsLaying source base c → StaysLaid source base c c
@@ -66,14 +79,14 @@ module _ (source : Content) (base : ℕ) where
       }
 
   -- the image and the characters that a head names, where so many sectors of both were laid
-  pub head_laid : {old mid new : Content} (slot : ℕ) (h : Head) (image full : ℕ) → slot < SLOTS → IsGoodHead h
-      → h.extent ≤ SECTOR_BYTES * image → full ≡ full_sectors h.written
-      → HasLaid source base (image_at slot) image old mid → HasLaid source base (area_start h.area) full mid new
+  pub head_laid : {old mid new : Content} {from from' image full : ℕ} (slot : ℕ) (h : Head) → slot < SLOTS → IsGoodHead h
+      → HasLaid source base from image old mid → from ≡ image_at slot → h.extent ≤ SECTOR_BYTES * image
+      → HasLaid source base from' full mid new → from' ≡ area_start h.area → full ≡ full_sectors h.written
       → HasLaidHead source base slot h new
-  head_laid slot h image full two good long many first second = record {
+  head_laid slot h two good first at long second at' many = record {
     image = λ k room. second.stays.kept (image_at slot + k) (omega (arith, two, room, good.extent))
-        (first.laid (image_at slot + k) (omega arith, omega (arith, room, long)));
-    area = λ k low. second.laid (area_at h.area k) (omega arith, omega (arith, low, many));
+        (first.laid (image_at slot + k) (omega (arith, at), omega (arith, room, long, at)));
+    area = λ k low. second.laid (area_at h.area k) (omega (arith, at'), omega (arith, low, many, at'));
   }
 
   pub head_stays : {mid new : Content} (slot : ℕ) (h : Head) → slot < SLOTS → IsGoodHead h
@@ -86,7 +99,10 @@ module _ (source : Content) (base : ℕ) where
 -- ---- what was laid shows what was shown there
 
 module _ (c c' : Content) (t : Standing) (at : Stands STORE_SECTORS c t)
-    (low : (n : ℕ) → n < IMAGES → c' n ≡ c n) (named : HasLaidHead c 0 t.slot (head c t.slot) c') where
+    (low : (n : ℕ) → n < IMAGES → c' n ≡ c n)
+    (image : (k : ℕ) → SECTOR_BYTES * k < (head c t.slot).extent → c' (image_at t.slot + k) ≡ c (image_at t.slot + k))
+    (area : (k : ℕ) → k < full_sectors (head c t.slot).written
+    → c' (area_at (head c t.slot).area k) ≡ c (area_at (head c t.slot).area k)) where
   pub laid_stands : Stands STORE_SECTORS c' t
   laid_stands =
       let few = journal_short t.events c t.slot 0 (omega arith) at.journal in
@@ -97,8 +113,27 @@ module _ (c c' : Content) (t : Standing) (at : Stands STORE_SECTORS c t)
       (λ idle two opened.
       let opened_before = sym (ap is_open (low (slot_gate idle) (omega (arith, two)))) ∙ opened in
       older_stays c c' t.epoch idle (low (slot_head idle) (omega (arith, two))) (at.other idle two opened_before))
-      named.image named.area
+      image area
       (journal_stays t.events c c' t.slot 0 (length t.events) (omega arith)
       (λ i first last room. low (gate t.slot i) (omega (arith, at.two, room)))
       (λ i first last. low (body t.slot i) (omega (arith, at.two, last, few)))
       at.journal)
+
+-- the whole: what stands before the images, and both slots
+module _ (source : Content) (base : ℕ) {blank first second new : Content}
+    (front : HasLaid source base 0 IMAGES blank first) (one : HasLaidSlot source base 0 first second)
+    (other : HasLaidSlot source base 1 second new) where
+  low_laid : (n : ℕ) → n < IMAGES → new n ≡ source (base + n)
+  low_laid n low = other.stays.kept n (omega (arith, low))
+      (one.stays.kept n (omega (arith, low)) (front.laid n (omega arith, omega (arith, low))))
+
+  slot_laid : (slot : ℕ) → slot < SLOTS → IsGoodHead (head (λ n. source (base + n)) slot)
+      → HasLaidHead source base slot (head (λ n. source (base + n)) slot) new
+  slot_laid zero two good = head_stays source base 0 (head (λ n. source (base + n)) 0) two good other.stays (one.named good)
+  slot_laid (suc zero) two good = other.named good
+  slot_laid (suc (suc n)) two good = absurd (omega (arith, two))
+
+  pub store_laid : (t : Standing) → Stands STORE_SECTORS (λ n. source (base + n)) t → Stands STORE_SECTORS new t
+  store_laid t at =
+      let named = slot_laid t.slot at.two at.good in
+      laid_stands (λ n. source (base + n)) new t at low_laid named.image named.area

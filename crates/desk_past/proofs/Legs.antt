@@ -6,7 +6,7 @@ use Rattle.std.specs.declared.option.Option.{Option}
 use Rattle.std.specs.Prelude.{Bool, Some, None, IfSome}
 use Rattle.sector_disk.specs.declared.disk.Disk.{Ghosts}
 use Rattle.desk_journal.specs.View.{StoreView}
-use Rattle.std.proofs.lemmas.List.{append-nil, take-append-le}
+use Rattle.std.proofs.lemmas.List.{take-append-le}
 use Rattle.std.proofs.Math.Seq.{take-append-add}
 use Rattle.sector_disk.specs.Trail.{Content}
 use Rattle.event_bytes.specs.declared.event.Event.{Event}
@@ -22,7 +22,7 @@ use Rattle.desk_past.specs.declared.pages.PageKind.TheVariants as which
 use Rattle.desk_past.specs.declared.routes.Leg.{Leg}
 use Rattle.desk_past.proofs.Carrying.{end_above}
 use Rattle.desk_past.proofs.Moments.{after_both, joined, many_posted, nil_right}
-use Rattle.desk_past.proofs.Stepping.{none_behind, some_left}
+use Rattle.desk_past.proofs.Stepping.{some_left}
 
 -- ---- pages behind others
 

@@ -1,5 +1,5 @@
 -- Moments of a past.
-use Rattle.std.proofs.Common.{◌≡◌, ◌+◌, ◌-◌, ◌≤◌, ℕ, zero, suc, List, [], ◌∷◌, ◌++◌, length, take, refl, sym, ◌∙◌, ap}
+use Rattle.std.proofs.Common.{◌≡◌, ◌+◌, ◌-◌, ℕ, zero, suc, List, [], ◌∷◌, ◌++◌, length, take, refl, sym, ◌∙◌, ap}
 use Rattle.std.proofs.Common.{arith}
 use Rattle.std.proofs.lemmas.List.{take_all}
 use Rattle.event_bytes.specs.declared.event.Event.{Event}
@@ -7,7 +7,7 @@ use Rattle.desktop_definitions.specs.Desktop.{Desktop}
 use Rattle.desktop_definitions.specs.Step.{Outcome, step, steps, steps_in}
 use Rattle.sector_disk.specs.Trail.{Content}
 use Rattle.store_layout.specs.declared.layout.TheConstants.{LAYOUT}
-use Rattle.store_layout.specs.Meaning.{Standing, desktop_of}
+use Rattle.store_layout.specs.Meaning.{Standing}
 use Rattle.store_slots.proofs.Recording.{in_newest}
 use Rattle.desk_past.specs.Deeds.{PastDeed, posted, after_deeds, after_deed, all_posted}
 use Rattle.desk_past.specs.Page.{Page, deeds_in}

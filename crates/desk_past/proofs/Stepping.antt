@@ -14,8 +14,6 @@ use Rattle.desktop_definitions.specs.declared.reply.Reply.{Reply}
 use Rattle.document_filing.specs.Bringing.{Documents}
 use Rattle.desk_journal.specs.Bringing.{AreBrought}
 use Rattle.desk_journal.specs.Undoing.{IsLedOn}
-use Rattle.store_layout.specs.declared.layout.TheConstants.{LAYOUT}
-use Rattle.store_layout.specs.Meaning.{Standing}
 use Rattle.desk_journal.specs.View.{StoreView}
 use Rattle.desk_past.specs.Deeds.{PastDeed, after_deeds, all_posted, brought, posted, turned}
 use Rattle.desk_past.specs.Page.{Page, of_events, of_import, of_turn, HasPages, deeds_in, end_of_pages, page_sectors}

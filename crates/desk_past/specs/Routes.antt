@@ -1,5 +1,5 @@
 -- The way to a moment: from the start, or from the moment to which a turn led last, by deeds none of which is a turn.
-use Rattle.std.specs.Prelude.{◌≡◌, ◌≤◌, ◌<◌, ℕ, List, [], ◌∷◌, ◌++◌, length, take, Option, None, Some}
+use Rattle.std.specs.Prelude.{◌≡◌, ◌≤◌, ℕ, List, [], ◌∷◌, ◌++◌, length, take, Option, None, Some}
 use Rattle.sector_disk.specs.Trail.{Content}
 use Rattle.desktop_definitions.specs.Desktop.{Desktop}
 use Rattle.desk_past.specs.Deeds.{PastDeed, after_deeds, posted, brought, turned}

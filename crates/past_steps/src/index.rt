@@ -14,8 +14,9 @@ use store_layout::PastEnd;
 /// How many sectors behind the start of a part are read at most: a step is to take no longer than a key may.
 const MOST_SECTORS: u32 = 4096;
 
-/// How many deeds are done once more in memory before a step, at most, for the same reason.
-const MOST_DONE_AGAIN: u64 = 32_768;
+/// How many deeds are done once more in memory before a step, at most, for the same reason: as many as the pages of a part can
+/// have that is full with 512 sectors.
+const MOST_DONE_AGAIN: u64 = 131_072;
 
 /// A page: the sector in which it stands, how many deeds of the pages came before it, and how many it has.
 #[derive(Clone, Copy, Debug)]

@@ -6,7 +6,7 @@ use Rattle.desk_past.proofs.pages.events_in.Goals as goal
 pub loop-k-init : goal.loop-k-init
 loop-k-init c = record {
   within = omega arith;
-  read = λ events rest valid long is. (c.new-events.ensures.items, is);
+  read = λ events rest valid long is. (c.in_ok-events.ensures.items, is);
 }
 
 pub returns-in_default : goal.returns-in_default

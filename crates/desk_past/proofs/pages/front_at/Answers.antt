@@ -1,4 +1,4 @@
-use Rattle.std.proofs.Common.{◌≡◌, ◌+◌, ◌*◌, ◌∙◌, ap, arith, length, refl, sym}
+use Rattle.std.proofs.Common.{◌+◌, ◌∙◌, ap, arith, length, sym}
 use Rattle.sector_disk.specs.Trail.{now}
 use Rattle.desk_past.proofs.PageReads.{count_is, kind_is, sectors_are, spelled_there, turn_sectors, version_is}
 use Rattle.desk_past.proofs.pages.front_at.Goals as goal
@@ -21,13 +21,13 @@ returns-then-sectors-end-clause-found g c = λ honest p page.
     c.in-Some-sectors_for.sectors c.in-Some.ensures.spelled c.in-Some-sectors_for.ensures.count in
     omega (arith, are, page.within, c.if-sectors-end.true)
 
-pub returns-in_default-2-clause-found : goal.returns-in_default-2-clause-found
-returns-in_default-2-clause-found g c = λ honest p page.
+pub returns-in_default-kind_of-clause-found : goal.returns-in_default-kind_of-clause-found
+returns-in_default-kind_of-clause-found g c = λ honest p page.
     let at = (now (g.D.Disk.trail c.args.store.now.disk)).reads in
     let read = c.as_slice.ensures.value ∙ c.in_ok-first.ensures.bytes honest in
     let kind = kind_is at c.args.at p page.held page.good _ _ c.split_at.ensures.front read c.in-Some.front.kind
     c.in-Some.ensures.kind in
-    (rw c.in_default-2.is at c.kind_of.ensures) p _ kind
+    (rw c.in_default-kind_of.is at c.kind_of.ensures) p _ kind
     (count_is at c.args.at p page.held page.good _ _ c.split_at.ensures.front read c.in-Some.front.count
     c.in-Some.ensures.count) page.good.valid
     (λ turn. spelled_there at c.args.at p page.held page.good _ _ 1 (sym (turn_sectors p (sym kind ∙ turn))) read
@@ -41,7 +41,7 @@ returns-clause-found g c = λ honest p page.
     c.in-Some.ensures.kind in
     let are = sectors_are at c.args.at p page.held page.good _ _ c.split_at.ensures.front read c.in-Some.front.spelled
     c.in-Some-sectors_for.sectors c.in-Some.ensures.spelled c.in-Some-sectors_for.ensures.count in (
-      (rw c.in-Some-2.is at c.kind_of.ensures) p _ kind
+      (rw c.in-Some-kind_of.is at c.kind_of.ensures) p _ kind
           (count_is at c.args.at p page.held page.good _ _ c.split_at.ensures.front read c.in-Some.front.count
           c.in-Some.ensures.count) page.good.valid
           (λ turn. spelled_there at c.args.at p page.held page.good _ _ 1 (sym (turn_sectors p (sym kind ∙ turn))) read

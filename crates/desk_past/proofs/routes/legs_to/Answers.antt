@@ -1,8 +1,7 @@
-use Rattle.std.proofs.Common.{◌≡◌, ◌+◌, ◌<◌, ◌≤◌, ◌∙◌, ap, arith, length, refl, subst, sym}
+use Rattle.std.proofs.Common.{◌≡◌, ◌<◌, ◌∙◌, arith, refl, subst, sym}
 use Rattle.std.specs.Prelude.{Err}
 use Rattle.std.proofs.lemmas.Bool.{false≢true}
 use Rattle.std.proofs.lemmas.Result.{err_from_is_err_and}
-use Rattle.sector_disk.specs.Trail.{now}
 use Rattle.desk_past.specs.Page.{HasPages}
 use Rattle.desk_past.specs.Past.{all_deeds}
 use Rattle.desk_past.specs.Routes.{IsReached}

@@ -1,7 +1,6 @@
-use Rattle.std.proofs.Common.{◌≡◌, ◌+◌, ◌<◌, ◌≤◌, ◌∙◌, ap, arith, refl, subst, sym}
+use Rattle.std.proofs.Common.{◌≡◌, ◌<◌, ◌≤◌, ◌∙◌, arith, refl, subst, sym}
 use Rattle.std.specs.Prelude.{Err, IfSome}
 use Rattle.std.proofs.lemmas.Result.{err_from_is_err_and}
-use Rattle.sector_disk.specs.Trail.{now}
 use Rattle.desk_past.specs.Reading.{HasPage}
 use Rattle.desk_past.proofs.InMemory.{error_from, none_failed}
 use Rattle.desk_past.proofs.Legs.{none_passed, one_left, page_on, reached}
@@ -31,42 +30,6 @@ returns-in_default-clause-still g c = still_both g.D.Disk c.loop-left.invariant.
 
 pub loop-left-preserved : goal.loop-left-preserved
 loop-left-preserved g c =
-    let i = c.loop-left.invariant in
-    let found = rw c.in-Some.is at c.in_ok-page.ensures.found in
-    record {
-      still = still_both g.D.Disk i.still c.front_at.ensures.still;
-      calm = none_failed c.in_ok-page.ensures.faults ∙ i.calm;
-      reaching = λ honest start pages same held good turns ends room.
-          let reads = still_reads g.D.Disk i.still (c.shows_what_crashes_leave.ensures.quiet c.requires.usable honest)
-          honest in
-          page_on (i.reaching honest start pages same held good turns ends room) c.loop-left-test.true
-          (omega (arith, same, room)) c.in-Some.page.kind c.in-Some.page.next c.count.result _ c.count.ensures
-          (omega (arith, c.saturating_sub-left.ensures))
-          (λ p page. found (i.still.left.disk.device.still honest) p
-          (subst (λ r. HasPage r c.loop-left.at c.args.end p) (sym reads) page))
-          c.reach_behind-reach.ensures;
-    }
-
-pub loop-left-preserved-in-Some : goal.loop-left-preserved-in-Some
-loop-left-preserved-in-Some g c =
-    let i = c.loop-left.invariant in
-    let found = rw c.in-Some.is at c.in_ok-page.ensures.found in
-    record {
-      still = still_both g.D.Disk i.still c.front_at.ensures.still;
-      calm = none_failed c.in_ok-page.ensures.faults ∙ i.calm;
-      reaching = λ honest start pages same held good turns ends room.
-          let reads = still_reads g.D.Disk i.still (c.shows_what_crashes_leave.ensures.quiet c.requires.usable honest)
-          honest in
-          page_on (i.reaching honest start pages same held good turns ends room) c.loop-left-test.true
-          (omega (arith, same, room)) c.in-Some.page.kind c.in-Some.page.next c.count.result _ c.count.ensures
-          (omega (arith, c.saturating_sub-left.ensures))
-          (λ p page. found (i.still.left.disk.device.still honest) p
-          (subst (λ r. HasPage r c.loop-left.at c.args.end p) (sym reads) page))
-          c.reach_behind-reach.ensures;
-    }
-
-pub loop-left-preserved-in-Some-2 : goal.loop-left-preserved-in-Some-2
-loop-left-preserved-in-Some-2 g c =
     let i = c.loop-left.invariant in
     let found = rw c.in-Some.is at c.in_ok-page.ensures.found in
     record {

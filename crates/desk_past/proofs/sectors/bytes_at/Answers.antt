@@ -1,6 +1,5 @@
-use Rattle.std.proofs.Common.{◌≡◌, ◌+◌, ◌*◌, ◌++◌, ◌∙◌, List, length, length-append, refl, rules, sym, ap, arith}
+use Rattle.std.proofs.Common.{◌≡◌, ◌+◌, ◌++◌, ◌∙◌, length, length-append, refl, rules, sym, ap, arith}
 use Rattle.sector_disk.specs.Trail.{now}
-use Rattle.sector_disk.specs.Stored.{stored}
 use Rattle.sector_disk.specs.declared.disk.TheConstants.{SECTOR_BYTES}
 use Rattle.sector_disk.proofs.StoredLaws.{none_stored, sector_more}
 use Rattle.desk_past.proofs.StillReads.{still_looked, still_none, still_reads}
