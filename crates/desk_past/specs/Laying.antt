@@ -1,6 +1,6 @@
 -- A store that is laid on another disk, part by part. `source` is what stands on the one disk, where the store begins in
 -- sector `base`, and `old` and `new` what the other one reads before and after.
-use Rattle.std.specs.Prelude.{◌≡◌, ◌⊎◌, ◌+◌, ◌*◌, ◌<◌, ℕ, replicate}
+use Rattle.std.specs.Prelude.{◌≡◌, ◌⊎◌, ◌+◌, ◌*◌, ◌<◌, ◌≤◌, ◌^◌, ℕ, replicate}
 use Rattle.sector_disk.specs.Trail.{Content}
 use Rattle.sector_disk.specs.declared.disk.TheConstants.{SECTOR_BYTES}
 use Rattle.store_layout.specs.declared.head.Head.{Head}
@@ -8,6 +8,11 @@ use Rattle.store_layout.specs.declared.layout.TheConstants.{STORE_SECTORS}
 use Rattle.store_layout.specs.Filling.{InRange}
 use Rattle.store_layout.specs.Layout.{area_at, head, image_at, IsGoodHead}
 use Rattle.store_layout.specs.Meaning.{full_sectors}
+
+-- a disk of so many sectors has a store's from this one on, each of which has a number
+pub record HasStoreRoom (size base : ℕ) : Type 0 where
+  pub numbered : base + STORE_SECTORS < 2 ^ 32
+  pub there : base + STORE_SECTORS ≤ size
 
 -- each sector reads zeros, or what the store has there
 abbrev pub IsLaying : Content → ℕ → Content → Type 0

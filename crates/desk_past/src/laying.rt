@@ -7,7 +7,7 @@ ghost use Rattle.store_layout.specs.declared.layout.TheConstants.{SLOTS, STORE_S
 ghost use Rattle.store_layout.specs.Meaning.{Standing, Stands};
 ghost use Rattle.store_slots.specs.Errors.{OfDesktop};
 ghost use Rattle.desk_journal.specs.Device.{IsSameDevice};
-ghost use Rattle.desk_past.specs.Laying.{HasLaid, HasLaidSlot, IsLaying};
+ghost use Rattle.desk_past.specs.Laying.{HasLaid, HasLaidSlot, HasStoreRoom, IsLaying};
 ghost use Rattle.desk_past.specs.Past.{StandsFrom};
 ghost use Rattle.desk_past.specs.Reading.{IsBlankRoom, IsOnlyReadFrom};
 
@@ -49,8 +49,7 @@ fn lay_some<D: Disk, E: Disk>(
     disk: &mut E,
 ) -> Result<(), Error>
     requires usable { store.old.must_reopen ≡ false }
-    requires numbered { base + STORE_SECTORS < 2 ^ 32 }
-    requires there { base + STORE_SECTORS ≤ D.size store.old.disk }
+    requires there { HasStoreRoom (D.size store.old.disk) base }
     requires inside { from + count ≤ STORE_SECTORS }
     requires room { STORE_SECTORS ≤ E.size disk.old }
     ensures laid { OnOk result (D.honest store.old.disk → E.honest disk.old
@@ -81,8 +80,7 @@ fn lay_slot<D: Disk, E: Disk>(
     disk: &mut E,
 ) -> Result<(), Error>
     requires usable { store.old.must_reopen ≡ false }
-    requires numbered { base + STORE_SECTORS < 2 ^ 32 }
-    requires there { base + STORE_SECTORS ≤ D.size store.old.disk }
+    requires there { HasStoreRoom (D.size store.old.disk) base }
     requires slot { slot < SLOTS }
     requires room { STORE_SECTORS ≤ E.size disk.old }
     ensures laid { OnOk result (D.honest store.old.disk → E.honest disk.old
@@ -116,8 +114,7 @@ pub(crate) fn lay<D: Disk, E: Disk>(
     disk: &mut E,
 ) -> Result<(), Error>
     requires usable { store.old.must_reopen ≡ false }
-    requires numbered { base + STORE_SECTORS < 2 ^ 32 }
-    requires there { base + STORE_SECTORS ≤ D.size store.old.disk }
+    requires there { HasStoreRoom (D.size store.old.disk) base }
     requires blank { IsBlankRoom E.Disk disk.old }
     ensures stands { OnOk result (D.honest store.old.disk → E.honest disk.old → (t : Standing)
         → StandsFrom (now (D.trail store.old.disk)).reads base t
