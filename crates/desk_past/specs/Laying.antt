@@ -9,10 +9,10 @@ use Rattle.store_layout.specs.Filling.{InRange}
 use Rattle.store_layout.specs.Layout.{area_at, head, image_at, IsGoodHead}
 use Rattle.store_layout.specs.Meaning.{full_sectors}
 
--- a disk of so many sectors has a store's from this one on, each of which has a number
+-- a disk of this size has those of a store from this one on
 pub record HasStoreRoom (size base : ℕ) : Type 0 where
   pub numbered : base + STORE_SECTORS < 2 ^ 32
-  pub there : base + STORE_SECTORS ≤ size
+  pub room : base + STORE_SECTORS ≤ size
 
 -- each sector reads zeros, or what the store has there
 abbrev pub IsLaying : Content → ℕ → Content → Type 0

@@ -20,11 +20,6 @@ pub record IsBlankFrom {E : Type 0} (e : Ghosts E) (to count : ℕ) (disk : E) :
 abbrev pub IsCopiedTo : ℕ → ℕ → ℕ → Content → Content → Type 0
 IsCopiedTo from to count was c = (k : ℕ) → k < count → c (to + k) ≡ was (from + k)
 
--- a disk of this size has those of a store from this one on
-pub record HasStoreRoom (size base : ℕ) : Type 0 where
-  pub numbered : base + STORE_SECTORS < 2 ^ 32
-  pub room : base + STORE_SECTORS ≤ size
-
 -- so many sectors lie behind a store, on a disk as large
 pub record ArePlaced (from count size : ℕ) : Type 0 where
   pub behind : STORE_SECTORS ≤ from

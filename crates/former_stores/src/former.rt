@@ -7,10 +7,11 @@ ghost use Rattle.store_layout.specs.Meaning.{Standing};
 ghost use Rattle.store_slots.specs.Errors.{OfDesktop};
 ghost use Rattle.desk_journal.specs.Looking.{OnlyLooks};
 ghost use Rattle.desk_past.specs.Deeds.{PastDeed};
+ghost use Rattle.desk_past.specs.Laying.{HasStoreRoom};
 ghost use Rattle.desk_past.specs.Past.{Start};
 ghost use Rattle.desk_past.specs.Reading.{IsBlankRoom, IsOnlyReadFrom, ShowsNow};
 ghost use Rattle.former_stores.specs.Former.{AreSectorsBefore, HasPartBefore, IsFormer, IsFormerStore, KeepsWhole, SaysOfStart};
-ghost use Rattle.former_stores.specs.Laying.{ArePlaced, HasStoreRoom, StandsNone};
+ghost use Rattle.former_stores.specs.Laying.{ArePlaced, StandsNone};
 
 use crate::laying::laid;
 use desk_journal::{Error, STORE_SECTORS, Store};
