@@ -1,5 +1,5 @@
 #!/usr/bin/env python3
-"""pasts.py: the past in the page, in each browser. Ctrl-Z reaches over a reload and over a killed browser; Ctrl-P and the button
+"""pasts.py: the past in the page, in each browser. Ctrl-Z reaches over a reload; Ctrl-P and the button
 show the past, keys lead through it and seek a word, Return turns back to what is shown; what is selected there can be copied, and a
 document given as it was; the store is saved with its past and opened again; where the medium has no room for a past the desktop
 opens without one. Each line says what should be so, and whether it is; the status is 1 where something isn't."""
@@ -86,8 +86,12 @@ def tried(kind):
     there = page.rows()
     press(page, 'Enter')
     say('Return turns back to it', not page.js(IN_PAST) and page.rows() == there, shown(page))
-    press(page, 'z', True)
-    say('and what was there before is kept', page.js('document.body.dataset.failed') == '', shown(page))
+    press(page, 'p', True)
+    press(page, 'ArrowLeft')
+    say('and what was there before is kept', page.rows() == before, shown(page))
+    for key in ('/', 'o', 'Escape', 'Escape'):
+        press(page, key)
+    say('Escape leaves a word that is asked for, and then the past', not page.js(IN_PAST) and page.rows() == there, shown(page))
     store, there = saved(page), page.rows()
     page.quit()
     page = opened(kind, url, room())

@@ -54,7 +54,7 @@ async function bringIn(files) {                           // what can't be read 
     if (!files.length) return;
     try {
         if (!isOpen()) throw Error('The desktop is not open');
-        if (state.looks) await send(control('p'));
+        for (let tries = 3; state.looks && tries; tries--) await send(PLAIN.Escape);  // the past, and a word that is asked for
         await importFiles([...files]);
     } catch (error) {
         tell({ said: `${wordsOf(error)} Nothing was imported.` });
