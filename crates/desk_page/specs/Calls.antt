@@ -1,6 +1,6 @@
 -- What an exported call leaves of what is kept. `d` is what is known of the disk.
 use Rattle.std.specs.Prelude.{◌≡◌, ◌==◌, ◌+◌, ◌*◌, ◌++◌, ℕ, List, [], ◌∷◌, Bool, false, Option, Some, None, Ok, Err}
-use Rattle.std.specs.Prelude.{if◌then◌else◌}
+use Rattle.std.specs.Prelude.{if◌then◌else◌, is_some}
 use Rattle.sector_disk.specs.declared.disk.Disk.{Ghosts}
 use Rattle.event_bytes.specs.Bytes.{is_name}
 use Rattle.desktop_definitions.specs.Desktop.{Desktop}
@@ -50,12 +50,8 @@ has_left (Some (Present page)) = page.sitting.leaves
 has_left desk = false
 
 -- whether a past is shown, and while it is sought for a word
-abbrev pub looks_by : Option ℕ → ℕ
-looks_by None = 1
-looks_by (Some k) = 2
-
 abbrev pub looks_of : Option Desk → ℕ
-looks_of (Some (Past looking)) = looks_by looking.looker.seeks
+looks_of (Some (Past looking)) = if is_some looking.looker.seeks then 2 else 1
 looks_of desk = 0
 
 -- a cell's number: 1 at the lower left, and one more for each to the right of it and in the rows above
