@@ -1,5 +1,5 @@
 -- A page that begins, and keeps a past from then on. `d` is what is known of the disk.
-use Rattle.std.proofs.Common.{◌≡◌, ◌∙◌, ◌⊎◌, inl, inr, refl, subst, sym, Bool, true, false, Option, Some, None, Result, Ok, Err, IfOk, IfErr}
+use Rattle.std.proofs.Common.{◌≡◌, ◌∙◌, ◌⊎◌, ℕ, inl, inr, refl, subst, sym, Bool, true, false, Option, Some, None, Result, Ok, Err, IfOk, IfErr}
 use Rattle.std.proofs.lemmas.Bool.{true≢false}
 use Rattle.sector_disk.specs.declared.disk.Disk.{Ghosts}
 use Rattle.store_layout.specs.declared.layout.TheConstants.{LAST_EPOCH}

@@ -15,9 +15,10 @@ use Rattle.desk_page.specs.declared.looks.Desk.TheVariants.{Present}
 use Rattle.desk_page.specs.Looks.{IsNotPressedAt, IsOfLook, LooksAtPast, PressesDesk, shown_desktop, page_of}
 use Rattle.desk_page.specs.Calls.{AnswersAsk, AnswersBegin, AnswersBring, AnswersLook, AnswersPress, IsEnded, IsOnlyAsked}
 use Rattle.desk_page.specs.Calls.{IsUncalled, TellsNoCall, begun, broken, brought, failed, lost, pressed, refused, shown}
-use Rattle.desk_page.specs.Calls.{turned_down, unlooked}
+use Rattle.desk_page.specs.Calls.{turned_down, unkept, unlooked}
+use Rattle.desk_page.specs.Looks.LooksAtPast.{has_none, shows}
 use Rattle.desk_page.specs.Calls.{given as given_to, missing as missing_of}
-use Rattle.desk_page.specs.Statuses.{no_room, not_there, status_of_error}
+use Rattle.desk_page.specs.Statuses.{no_room, not_there, status_of_error, without_past}
 use Rattle.desk_page.specs.Turns.{HostPage, Begins, BringsOrTurnsDown, Documents, IsHanded, IsNotBegun}
 use Rattle.desk_page.specs.Turns.{IsUnbrought, IsWithheld, faulty, starved}
 
@@ -91,16 +92,44 @@ module _ (d : Ghosts Recording) where
       subst (AnswersPress d bytes old new) (sym told) (failed before error was why ended)
 
   -- the past is shown, or there is none
-  pub is_looked : (before after : Desk) (scene : Scene) (old new : Kept) (status : ℕ) → old.desk ≡ Some before
-      → LooksAtPast d (page_of before) after (Some scene) → new.desk ≡ Some after → new.scene ≡ scene
-      → new.text ≡ old.text → status ≡ 0 → AnswersLook d old new status
-  is_looked before after scene old new status was looks kept is text done =
-      subst (AnswersLook d old new) (sym done) (shown before was (record {
+  pub is_looked : (before after : Desk) (scene : Option Scene) (old new : Kept) (status : ℕ) → old.desk ≡ Some before
+      → LooksAtPast d (page_of before) after scene → new.desk ≡ Some after → new.text ≡ old.text
+      → IfSome scene (λ s. (new.scene ≡ s) × (status ≡ 0))
+      → (scene ≡ None → TellsNoCall old new × (status ≡ without_past)) → AnswersLook d old new status
+  is_looked before after (Some scene) old new status was looks kept text handed left =
+      subst (AnswersLook d old new) (sym handed.1) (shown before was (record {
         after = after;
-        looks = subst (λ s. LooksAtPast d (page_of before) after (Some s)) (sym is) looks;
+        looks = subst (λ s. LooksAtPast d (page_of before) after (Some s)) (sym handed.0) looks;
         kept = kept;
         text = text;
       }))
+  is_looked before after None old new status was looks kept text handed left =
+      let both = left refl in
+      subst (AnswersLook d old new) (sym both.1) (unkept before was (record {
+        after = after;
+        none = looks;
+        kept = kept;
+        text = text;
+        untold = both.0;
+      }))
+
+  told_none : (page : HostPage) (after : Desk) (scene : Option Scene) → LooksAtPast d page after scene
+      → IfSome scene (λ s. s.calls.items ≡ [])
+  told_none page after scene (shows looking handed same past known) = past.shows.calls
+  told_none page after scene (has_none other same) = tt
+
+  calls_none : (scene : Option Scene) (old new : Kept) (status : ℕ) → IfSome scene (λ s. s.calls.items ≡ [])
+      → old.scene.calls.items ≡ [] → IfSome scene (λ s. (new.scene ≡ s) × (status ≡ 0))
+      → (scene ≡ None → (new.scene ≡ old.scene) × (status ≡ without_past)) → new.scene.calls.items ≡ []
+  calls_none (Some scene) old new status none cleared handed left = ap (λ (s : Scene). s.calls.items) handed.0 ∙ none
+  calls_none None old new status none cleared handed left = ap (λ (s : Scene). s.calls.items) (left refl).0 ∙ cleared
+
+  pub look_tells_none : (page : HostPage) (after : Desk) (scene : Option Scene) (old new : Kept) (status : ℕ)
+      → LooksAtPast d page after scene → old.scene.calls.items ≡ []
+      → IfSome scene (λ s. (new.scene ≡ s) × (status ≡ 0))
+      → (scene ≡ None → (new.scene ≡ old.scene) × (status ≡ without_past)) → new.scene.calls.items ≡ []
+  look_tells_none page after scene old new status looks cleared handed left =
+      calls_none scene old new status (told_none page after scene looks) cleared handed left
 
   pub not_looked : (before : Desk) (old new : Kept) (error : Error) (status : ℕ) → old.desk ≡ Some before
       → IsWithheld (page_of before) error → IsEnded old new → status ≡ status_of_error error

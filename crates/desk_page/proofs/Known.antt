@@ -1,5 +1,5 @@
 -- What is known of a look at a past, from call to call. `d` is what is known of the disk.
-use Rattle.std.proofs.Common.{◌≡◌, ℕ, List, Option, Some, None, subst, sym}
+use Rattle.std.proofs.Common.{◌≡◌, ℕ, Bool, List, Option, Some, None, subst, sym}
 use Rattle.sector_disk.specs.declared.disk.Disk.{Ghosts}
 use Rattle.past_looks.specs.Looking.{IsLookerOf}
 use Rattle.past_looks.proofs.Carrying.{looker_alike}

@@ -27,7 +27,7 @@ pub one_more : (bytes : List ℕ) (first n : ℕ) (before : Content) (old new : 
     → ReadsWith bytes first (n + 1) before (now (trail_since new)).reads
 one_more bytes first n before old new was is k = ap (λ (m : Moment). m.reads k) is
     ∙ ap (λ l. if k == first + n then sector_of bytes n else l) (was k)
-    ∙ at_offset bytes first n k _ (k == first + n) (λ here. grind (here, nat_tests)) ∙ same k
+    ∙ at_offset bytes first n k _ (k == first + n) (λ here. grind (arith, here, nat_tests)) ∙ same k
   where
     same : (k : ℕ) → (if k == first + n then sector_of bytes (k - first) else (if nat_lt k first then before k
         else if nat_lt k (first + n) then sector_of bytes (k - first) else before k))

@@ -135,6 +135,14 @@ module _ (d : Ghosts Recording) where
       → LeavesLook d page desk scene → PressesLook d old desk scene
   goes old page desk scene same (leaves after shown handed) = goes_back page after shown same handed
 
-  pub goes_turned : (old : Looking) (page : HostPage) (desk : Desk) (scene : Scene) → TurnsPage d old page
-      → LeavesLook d page desk scene → PressesLook d old desk scene
-  goes_turned old page desk scene then_turned (leaves after shown handed) = turns page after shown then_turned handed
+  -- the sitting begins anew before the page that was turned back
+  pub turned_back : (old new : Looking) (page again : HostPage) (desk : Desk) (scene : Scene)
+      → ComesOfPresses d Turned old new → page ≡ new.page → again.store ≡ page.store
+      → again.sitting ≡ seated_anew page.sitting → again.parser ≡ page.parser → LeavesLook d again desk scene
+      → PressesLook d old desk scene
+  turned_back old new page again desk scene does is store sitting parser (leaves after shown handed) =
+      turns again after shown (record {
+        store = subst (TurnsStore d old.looker old.page.store) (sym (store ∙ ap (λ (p : HostPage). p.store) is)) does.0;
+        sitting = sitting ∙ ap (λ (p : HostPage). seated_anew p.sitting) is ∙ ap seated_anew does.1;
+        parser = parser ∙ ap (λ (p : HostPage). p.parser) is ∙ does.2;
+      }) handed

@@ -5,12 +5,12 @@ ghost use Rattle.store_documents.specs.HostText.{imported};
 ghost use Rattle.desk_page.specs.Calls.{AnswersAsk, AnswersBegin, AnswersBring, AnswersBringMore, AnswersGive, AnswersLoad, AnswersLook, AnswersPress};
 ghost use Rattle.desk_page.specs.Calls.{IsNoFile, has_left, looks_of, made_by, made_numbered, pointer_number};
 ghost use Rattle.desk_page.specs.Giving.{selected_text};
-ghost use Rattle.desk_page.specs.Statuses.{no_room, not_there, status_of_error};
+ghost use Rattle.desk_page.specs.Statuses.{not_there, status_of_error};
 
 use crate::disk::RecordedDisk;
 use crate::loading::loaded_with;
 use crate::looks::{Desk, look_at};
-use crate::scene::{HostPage, Scene, begun, brought, settled};
+use crate::scene::{Scene, begun, brought, settled};
 use crate::status::{
     DONE, GONE, NO_DOCUMENT, NO_MEMORY, NO_NAME, NO_PAST, NO_ROOM, status_of, status_of_unfit,
 };
@@ -147,11 +147,7 @@ impl Kept {
             return GONE;
         };
         match look_at(alloc, desk.page()) {
-            Ok((desk, Some(scene))) => self.keep(desk, scene),
-            Ok((desk, None)) => {
-                self.desk = Some(desk);
-                NO_PAST
-            }
+            Ok((desk, scene)) => self.keep_or_leave(desk, scene, NO_PAST),
             Err(error) => status_of(error),
         }
     }
@@ -175,7 +171,7 @@ impl Kept {
             return GONE;
         };
         match brought(alloc, desk.page(), documents.as_slice()) {
-            Ok((page, scene)) => self.keep_or_leave(page, scene),
+            Ok((page, scene)) => self.keep_or_leave(Desk::Present(page), scene, NO_ROOM),
             Err(error) => status_of(error),
         }
     }
@@ -269,22 +265,22 @@ impl Kept {
         DONE
     }
 
-    /// Keeps a page after documents were brought, with what is handed of it, or were turned down.
-    fn keep_or_leave(&mut self, page: HostPage, scene: Option<Scene>) -> u32
-        ensures desk { self.new.desk ≡ Some (Desk.Present page) }
+    /// Keeps what is shown, with what is handed of it, or with this status where nothing is.
+    fn keep_or_leave(&mut self, desk: Desk, scene: Option<Scene>, status: u32) -> u32
+        ensures desk { self.new.desk ≡ Some desk }
         ensures handed { IfSome scene (λ s. (self.new.scene ≡ s) × (result ≡ 0)) }
-        ensures left { scene ≡ None → (self.new.scene ≡ self.old.scene) × (result ≡ no_room) }
+        ensures left { scene ≡ None → (self.new.scene ≡ self.old.scene) × (result ≡ status) }
         ensures text { self.new.text ≡ self.old.text }
         ensures coming { self.new.coming ≡ self.old.coming }
         ensures loaded { self.new.loaded ≡ self.old.loaded }
     {
-        self.desk = Some(Desk::Present(page));
+        self.desk = Some(desk);
         match scene {
             Some(scene) => {
                 self.scene = scene;
                 DONE
             }
-            None => NO_ROOM,
+            None => status,
         }
     }
 
@@ -311,7 +307,7 @@ impl Kept {
         ensures { result ≡ looks_of self.now.desk }
     {
         match &self.desk {
-            Some(Desk::Past(looking)) => if looking.looker.seeks() { 2 } else { 1 },
+            Some(Desk::Past(looking)) => looking.looks(),
             _ => 0,
         }
     }

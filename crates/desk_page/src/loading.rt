@@ -1,21 +1,24 @@
 //! The disk whose sectors the host has, which it hands over some at a time.
-ghost use Rattle.std.specs.Prelude.{◌≡◌, ◌+◌, ◌*◌, ◌-◌, ◌<◌, ◌≤◌, length, IfOk, OnOk};
+ghost use Rattle.std.specs.Prelude.{◌≡◌, ◌+◌, ◌*◌, ◌-◌, ◌<◌, ◌≤◌, ◌^◌, length, IfOk, OnOk};
 ghost use Rattle.sector_disk.specs.Trail.{now, written};
 ghost use Rattle.desk_page.specs.Loading.{HasLoaded, disk_to_load, sector_of, whole_sectors};
 ghost use Rattle.desk_page.specs.Recording.{blank_recording, trail_since};
-ghost use Rattle.host_stores.specs.declared.TheConstants.{PAST_SECTORS};
+ghost use Rattle.desk_page.specs.declared.loading.TheConstants.{DISK_SECTORS};
 
 use crate::disk::RecordedDisk;
 use desk_journal::NotingDisk;
-use host_stores::PAST_SECTORS;
-use sector_disk::{Disk, NoMemory, Sector};
+use sector_disk::{Disk, FILE_SECTORS, NoMemory, Sector};
 use std::alloc::Global;
+
+/// How many sectors the disk has, as many as `host_stores` gives a file with a past: those of a store, two that are for pairs of
+/// disks, and 40 parts.
+pub const DISK_SECTORS: u32 = FILE_SECTORS + 2 + 1_310_720;
 
 /// A disk of zeros, with room for a store and a past behind it. `NoMemory`: there was no memory for it.
 pub(crate) fn blank_disk(alloc: Global) -> Result<RecordedDisk, NoMemory>
-    ensures { IfOk result (λ d. d ≡ blank_recording PAST_SECTORS) }
+    ensures { IfOk result (λ d. d ≡ blank_recording DISK_SECTORS) }
 {
-    RecordedDisk::new(alloc, PAST_SECTORS)
+    RecordedDisk::new(alloc, DISK_SECTORS)
 }
 
 /// The disk on which sectors were loaded, or one of zeros where none were, on which those from `first` on become these bytes.
@@ -73,6 +76,7 @@ fn sectors_in(bytes: &[u8], first: u32, sectors: u32) -> u32
 /// Writes one sector of the bytes to the disk, which forgets the call. `NoMemory`: there was no memory for it.
 fn load(disk: &mut RecordedDisk, first: u32, n: u32, bytes: &[u8]) -> Result<(), NoMemory>
     requires room { first + n < disk.old.size }
+    requires numbered { first + n < 2 ^ 32 }
     requires there { 1024 * n + 1024 ≤ length bytes.now }
     ensures size { disk.new.size ≡ disk.old.size }
     ensures written { OnOk result (now (trail_since disk.new)

@@ -1,5 +1,6 @@
 //! A page whose past is shown, and what a call does to it.
-ghost use Rattle.std.specs.Prelude.{◌≡◌, false, option_map, IfErr, IfOk, OnOk};
+ghost use Rattle.std.specs.Prelude.{◌≡◌, false, if◌then◌else◌, is_some, option_map, IfErr, IfOk, OnOk};
+ghost use Rattle.screen_drawing.specs.Drawn.{drawing_of};
 ghost use Rattle.desk_page.specs.Giving.{given_text, selected_text};
 ghost use Rattle.desk_page.specs.Looks.{HandsOutLook, IsNotPressedAt, IsOfLook, LeavesLook, LooksAtDesk};
 ghost use Rattle.desk_page.specs.Looks.{LooksAtPast, ComesOfPresses, PressesDesk, PressesLook, page_of, seated_anew, shown_desktop};
@@ -144,21 +145,32 @@ fn seen(alloc: Global, looker: &mut Looker) -> Result<Scene, Error>
     ensures errors { IfErr result IsOfMemory }
 {
     let mut screen = Screen::new();
-    if let Err(error) = looker.screen(alloc, &mut screen) {
-        return Err(of_look(error));
-    }
+    let Ok(()) = looker.screen(alloc, &mut screen) else {
+        return Err(Error::NoMemory);
+    };
     let line = looker.line(alloc)?;
     let rings = looker.take_ring();
-    let mut drawing = Vec::new(alloc);
-    if draw(&mut drawing, screen.rows()).is_err() {
-        return Err(Error::NoMemory);
-    }
+    let drawing = drawn(alloc, &screen)?;
     Ok(Scene {
         drawing,
         line,
         calls: Vec::new(alloc),
         rings,
     })
+}
+
+/// The drawing of a screen.
+///
+/// Error: `NoMemory`.
+fn drawn(alloc: Global, screen: &Screen) -> Result<Vec<u8>, Error>
+    ensures drawn { IfOk result (λ drawing. drawing.items ≡ drawing_of screen.now) }
+    ensures errors { IfErr result IsOfMemory }
+{
+    let mut drawing = Vec::new(alloc);
+    match draw(&mut drawing, screen.rows()) {
+        Ok(()) => Ok(drawing),
+        Err(_) => Err(Error::NoMemory),
+    }
 }
 
 /// Does what is pressed by these bytes and a quiet while, up to a press by which the person leaves the past. What is pressed
@@ -193,12 +205,14 @@ fn looked_on(alloc: Global, looking: Looking) -> Shown
     ensures errors { IfErr result IsOfMemory }
 {
     let mut looking = looking;
-    if let Err(error) = looking.looker.go_on(alloc, &mut looking.page.store) {
-        return Err(of_look(error));
+    match looking.looker.go_on(alloc, &mut looking.page.store) {
+        Err(error) => Err(of_look(error)),
+        Ok(_) => {
+            looking.page.store.shows_what_crashes_leave();
+            let scene = seen(alloc, &mut looking.looker)?;
+            Ok((Desk::Past(looking), scene))
+        }
     }
-    looking.page.store.shows_what_crashes_leave();
-    let scene = seen(alloc, &mut looking.looker)?;
-    Ok((Desk::Past(looking), scene))
 }
 
 /// The page at its present is handed to the host.
@@ -228,6 +242,13 @@ fn seated_again(page: HostPage) -> HostPage
 }
 
 impl Looking {
+    /// 1, and 2 while it is sought for a word.
+    pub(crate) fn looks(&self) -> u32
+        ensures { result ≡ (if is_some self.now.looker.seeks then 2 else 1) }
+    {
+        if self.looker.seeks() { 2 } else { 1 }
+    }
+
     /// The page.
     fn into_page(self) -> HostPage
         ensures { result ≡ self.page }

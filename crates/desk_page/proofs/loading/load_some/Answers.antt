@@ -1,6 +1,6 @@
-use Rattle.std.proofs.Common.{◌≡◌, ◌∙◌, refl, subst, ℕ, arith}
+use Rattle.std.proofs.Common.{◌≡◌, ◌∙◌, ap, refl, subst, ℕ, arith}
 use Rattle.sector_disk.specs.Trail.{now}
-use Rattle.desk_page.specs.Loading.{ReadsWith}
+use Rattle.desk_page.specs.Loading.{ReadsWith, whole_sectors}
 use Rattle.desk_page.specs.Recording.{trail_since}
 use Rattle.desk_page.proofs.Loaded.{has_loaded, none_yet, one_more}
 use Rattle.desk_page.proofs.loading.load_some.Goals as goal
@@ -21,5 +21,5 @@ returns-in-Ok c =
     has_loaded c.args.bytes.now c.args.first c.args.disk.now c.loop-n.disk c.sync.new.self c.forget.new.self
     c.loop-n.invariant.0
     (subst (λ (n : ℕ). ReadsWith c.args.bytes.now c.args.first n (now (trail_since c.args.disk.now)).reads
-    (now (trail_since c.loop-n.disk)).reads) (end ∙ c.sectors_in-n-end.ensures.count) c.loop-n.invariant.1)
+    (now (trail_since c.loop-n.disk)).reads) (end ∙ c.sectors_in-n-end.ensures.count ∙ ap (whole_sectors c.args.bytes.now c.args.first) c.sectors.ensures) c.loop-n.invariant.1)
     c.in-Ok.ensures.recorded c.forget.ensures

@@ -30,7 +30,7 @@ returns-in-Ok-brought-clause-answers c =
       c.as_slice.ensures.value ∙ all.2
           ∙ ap (λ v. v.items ++ (c.args.name.now, all.0) ∷ []) c.replace-coming.ensures.value,
     )
-    (sym c.take.ensures.value ∙ c.in-Some.is) c.in-Ok-brought.ensures.done c.keep_or_leave.ensures.desk
+    (sym c.take.ensures.value ∙ c.in-Some.is) (rw c.page.ensures at c.in-Ok-brought.ensures.done) c.keep_or_leave.ensures.desk
     c.keep_or_leave.ensures.text c.keep_or_leave.ensures.handed
     (λ is. (
       tells_none c.args.self.now c.keep_or_leave.new.self _ (c.keep_or_leave.ensures.left is).0
@@ -41,7 +41,7 @@ returns-in-Ok-brought-clause-answers c =
 pub returns-clause-answers : goal.returns-clause-answers
 returns-clause-answers c =
     not_brought ghosts c.args.name.now c.args.file.now c.in-Some.desk c.args.self.now _ c.in-Err-brought.error
-    c.status_of.result (sym c.take.ensures.value ∙ c.in-Some.is) c.in-Err-brought.ensures.failed
+    c.status_of.result (sym c.take.ensures.value ∙ c.in-Some.is) (rw c.page.ensures at c.in-Err-brought.ensures.failed)
     (record {
       desk = c.take.ensures.after;
       text = refl;

@@ -11,6 +11,6 @@ returns-in-Nothing-clause-does c =
 
 pub returns-in-Stays-clause-does : goal.returns-in-Stays-clause-does
 returns-in-Stays-clause-does c =
-    let first = (rw c.in-Stays.is at c.in_ok-press-in-Two.ensures.does) in
+    let first = (rw c.in-Stays.is at c.in_ok-doing-in-Two.ensures.does) in
     IfOk-weaker c.press-in-Stays.result _ _ (λ doing does.
     comes_behind ghosts doing c.args.self.now _ _ first does) c.press-in-Stays.ensures.does
