@@ -16,7 +16,7 @@ from browsers import FILE, TOP, browsers, room
 
 COUNT = int(sys.argv[1]) if len(sys.argv) > 1 else 1000
 SEED = int(sys.argv[2]) if len(sys.argv) > 2 else 0
-BATCH, SECTOR, SECTORS = 25, 1024, 15621
+BATCH, SECTOR, SECTORS = 25, 1024, 65536
 LOADER = importlib.machinery.SourceFileLoader('hostile_stores', f'{TOP}/tests/random/hostile')
 STORES = importlib.util.module_from_spec(importlib.util.spec_from_loader('hostile_stores', LOADER))
 sys.dont_write_bytecode = True
@@ -30,7 +30,10 @@ BEGIN = '''(async () => {
         const held = place(new Uint8Array(8)), to = m.page_room(BigInt(1 << 22));
         const copied = kind => Number(to + m.page_copy(held, kind, to, BigInt(1 << 22)));
         const made = kind => { const end = copied(kind); return memory().slice(Number(to), end); };
-        const at = place(sectors), status = m.page_begin(held, at, BigInt(sectors.length));
+        const at = place(sectors);
+        m.page_start(held);
+        if (sectors.length) m.page_load(held, 0, at, BigInt(sectors.length));
+        const status = m.page_begin(held, 1);
         m.page_give_back(at);
         const press = text => {
             const bytes = Uint8Array.from(text, c => c.charCodeAt(0)), there = place(bytes);
@@ -38,7 +41,7 @@ BEGIN = '''(async () => {
             m.page_give_back(there);
             return now;
         };
-        return { status, made, press };
+        return { status, made, press, look: () => m.page_look(held) };
     };
     window.store = (all, calls) => {
         for (let at = 0; at < calls.length;) {
@@ -49,10 +52,10 @@ BEGIN = '''(async () => {
     return true;
 })()'''
 MADE = '''(async () => {
-    const desk = await window.desk(new Uint8Array(0)), all = new Uint8Array(15621 * 1024), out = [];
+    const desk = await window.desk(new Uint8Array(0)), all = new Uint8Array(65536 * 1024), out = [];
     window.store(all, desk.made(2));
     for (const press of %s) { desk.press(press); window.store(all, desk.made(2)); }
-    for (let n = 0; n < 15621; n++) {
+    for (let n = 0; n < 65536; n++) {
         const sector = all.subarray(1024 * n, 1024 * n + 1024);
         if (sector.some(Boolean)) out.push([n, btoa(String.fromCharCode(...sector))]);
     }
@@ -79,7 +82,7 @@ TRY = '''(async () => {
             if (!status) {
                 is_good = good(text(desk.made(0)));
                 for (const press of presses) {
-                    if (status = desk.press(press)) break;
+                    if (status = press === 'look' ? desk.look() % 10 : desk.press(press)) break;
                     is_good &&= good(text(desk.made(0)));
                 }
             }
@@ -95,7 +98,7 @@ PRESSES = ['\x1b[<1;52;2M\x1b[<1;52;2m', 'Hello World\r', MARKUP, '\x13', '\x1b[
 def presses(chance):
     mouse = lambda: '\x1b[<{0};{1};{2}M\x1b[<{0};{1};{2}m'.format(
         chance.choice([0, 1, 1, 2]), chance.randint(1, 80), chance.randint(1, 32))
-    return [chance.choice([mouse(), mouse(), mouse(), 'x', MARKUP, '\x1a', '\x13', '\x1b[<65;9;9M']) for _ in range(8)]
+    return [chance.choice([mouse(), mouse(), mouse(), 'x', MARKUP, '\x1a', '\x13', '\x1b[<65;9;9M', 'look', '\x1b[D', '\x1b[5~', '\r', '\x1b']) for _ in range(8)]
 
 
 def templates(page):
@@ -104,7 +107,7 @@ def templates(page):
     for version in (1, 2):
         with gzip.open(f'{TOP}/tests/lib/old_stores/version_{version}.gz') as file:
             olds.append(file.read())
-    sectors = [{n: old[n * SECTOR:n * SECTOR + SECTOR] for n in range(SECTORS)} for old in olds]
+    sectors = [{n: old[n * SECTOR:n * SECTOR + SECTOR] for n in range(15621)} for old in olds]
     olds = [{n: data for n, data in old.items() if any(data)} for old in sectors]
     return [made, olds[0], made, olds[1]]
 

@@ -49,16 +49,16 @@ BYTES = '''window.handed.arrayBuffer().then(buffer => {
     return JSON.stringify([bytes.length, out]);
 })'''
 PUT = '''navigator.storage.getDirectory().then(async folder => {
-    const all = new Uint8Array(15621 * 1024);
-    for (const [n, bytes] of %s) all.set(Uint8Array.from(atob(bytes), c => c.charCodeAt(0)), 1024 * n);
+    const all = new Uint8Array(15621 * 1024), sectors = %s.filter(([n]) => n < 15621);
+    for (const [n, bytes] of sectors) all.set(Uint8Array.from(atob(bytes), c => c.charCodeAt(0)), 1024 * n);
     const file = await (await folder.getFileHandle('desk', { create: true })).createWritable();
     await file.write(all);
     await file.close();
     return true;
 })'''
 OPEN = '''(() => {
-    const all = new Uint8Array(15621 * 1024);
-    for (const [n, bytes] of %s) all.set(Uint8Array.from(atob(bytes), c => c.charCodeAt(0)), 1024 * n);
+    const sectors = %s, all = new Uint8Array(1024 * (sectors.at(-1)[0] + 1));
+    for (const [n, bytes] of sectors) all.set(Uint8Array.from(atob(bytes), c => c.charCodeAt(0)), 1024 * n);
     const input = document.getElementById('load'), files = new DataTransfer();
     files.items.add(new File([all], 'backup.disk'));
     input.files = files.files;
@@ -399,7 +399,7 @@ def ways(kind):
     page.js('void (window.handed = null)')
     click_on(page, 'save-bytes')
     page.until('Boolean(window.handed)')
-    check(kind, 'ways', 'and the bytes can be saved', page.js('window.handed.size') == SIZE)
+    check(kind, 'ways', 'and the bytes can be saved', page.js('window.handed.size') > SIZE)
     page.js("document.getElementById('keys').focus()")
     page.tab()
     check(kind, 'ways', 'and Tab leads to the ways out', page.js('document.activeElement.id') == 'again',
@@ -662,14 +662,15 @@ def typing_of(kind):
 
 ITEMS = {'copying': copying, 'importing': importing, 'note': note, 'files': files, 'earlier': earlier, 'ways': ways, 'causes': causes,
          'sentences': sentences, 'errors': errors, 'policy': policy, 'typing': typing_of}
-kinds = browsers()
-if not kinds:
-    sys.exit(print('no browser here: skipped'))
-for one in kinds:
-    for name in sys.argv[1:] or ITEMS:
-        try:
-            ITEMS[name](one)
-        except (TimeoutError, LookupError, RuntimeError, EOFError) as error:
-            check(one, name, 'the item was tried to its end', False, str(error)[:300])
-print(len(WRONG), 'wrong')
-sys.exit(bool(WRONG))
+if __name__ == '__main__':
+    kinds = browsers()
+    if not kinds:
+        sys.exit(print('no browser here: skipped'))
+    for one in kinds:
+        for name in sys.argv[1:] or ITEMS:
+            try:
+                ITEMS[name](one)
+            except (TimeoutError, LookupError, RuntimeError, EOFError) as error:
+                check(one, name, 'the item was tried to its end', False, str(error)[:300])
+    print(len(WRONG), 'wrong')
+    sys.exit(bool(WRONG))

@@ -27,6 +27,7 @@ function heard({ data }) {
     if (data.failed) { tell({ kind: data.kind || state.kind }); fail(data.failed); }
     asked.get(data.number)?.(data);
     asked.delete(data.number);
+    if (data.looks === 2 && !asked.size) ask('press', { press: spelled('') });  // it is sought on, until a key is pressed
     return null;
 }
 function stop() {                                         // whatever it does just now

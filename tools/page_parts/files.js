@@ -1,5 +1,5 @@
 // ---- Documents in and out. Several files come in together: all of them, or none.
-const LONGEST = 262144, LONGEST_FILE = 2 * LONGEST, STORE_FILE = 15621 * 1024;  // characters, and bytes
+const LONGEST = 262144, LONGEST_FILE = 2 * LONGEST, STORE_FILE = 2 ** 31;  // characters, and bytes
 const LONGEST_NAME = 31;
 function nameOf(file) {                                   // a document's name that is like the file's
     const letters = file.replace(/[^A-Za-z0-9.]/g, '').replace(/^\.+/, '');
@@ -19,10 +19,10 @@ function distinctNames(files) {                           // one for each file, 
         return name;
     });
 }
-async function bytesOf(file, most) {                      // an Error where they can't be had, or are too many
+async function bytesOf(file, most, part = file) {         // an Error where they can't be had, or are too many
     if (file.size > most) throw Error(`“${file.name}” has ${file.size.toLocaleString('en')} bytes: ${wordsOf(7)}`);
     try {
-        return new Uint8Array(await file.arrayBuffer());
+        return new Uint8Array(await part.arrayBuffer());
     } catch {
         throw Error(`“${file.name}” can't be read: a folder, or a file that is gone.`);
     }
@@ -54,6 +54,7 @@ async function bringIn(files) {                           // what can't be read 
     if (!files.length) return;
     try {
         if (!isOpen()) throw Error('The desktop is not open');
+        for (let tries = 3; state.looks && tries; tries--) await send(PLAIN.Escape);  // the past, and a word that is asked for
         await importFiles([...files]);
     } catch (error) {
         tell({ said: `${wordsOf(error)} Nothing was imported.` });
@@ -77,11 +78,11 @@ async function giveOut() {
 
 // ---- The whole desktop: saved, opened from a file, begun anew.
 async function save() {
-    const { bytes } = await ask('save');
-    if (bytes?.some(Boolean)) {
-        download(bytes, 'my.disk');
+    const { file, failed } = await ask('save');
+    if (file) {
+        download(file, 'my.disk');
         state.changed = false;
-    } else if (bytes) tell({ said: 'There are no bytes to save.' });
+    } else if (!failed) tell({ said: 'There are no bytes to save.' });
 }
 async function replace(request, words, done) {
     const answer = await ask(request, words);
@@ -92,8 +93,8 @@ async function replace(request, words, done) {
 async function load(file) {
     const asks = `Put the desktop of “${file.name}” in the place of this one? Save this one first if you want it.`;
     try {
-        const bytes = await bytesOf(file, STORE_FILE);
-        if (confirm(asks)) await replace('load', { bytes }, `This is the desktop of “${file.name}”.`);
+        await bytesOf(file, STORE_FILE, file.slice(0, 1));
+        if (confirm(asks)) await replace('load', { file }, `This is the desktop of “${file.name}”.`);
     } catch (error) {
         tell({ said: `${wordsOf(error)} Nothing was changed.` });
     }

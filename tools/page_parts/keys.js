@@ -5,7 +5,7 @@ const LETTERS = {
     ArrowUp: 'A', ArrowDown: 'B', ArrowRight: 'C', ArrowLeft: 'D', End: 'F', Home: 'H', F1: 'P', F2: 'Q', F3: 'R', F4: 'S',
 };
 const NUMBERS = { Delete: 3, PageUp: 5, PageDown: 6, F5: 15, F6: 17, F7: 18, F8: 19, F9: 20, F10: 21, F11: 23 };
-const MEANT = new Set('abefghkoqrstuwyz[');                 // letters that mean something with Ctrl; C, X and V come as events
+const MEANT = new Set('abefghkopqrstuwyz[');                 // letters that mean something with Ctrl; C, X and V come as events
 const MAC = /^(Mac|iP)/.test(navigator.platform);
 function control(letter) {                                // the byte of a letter with Ctrl
     return String.fromCharCode(letter.toUpperCase().charCodeAt(0) & 31);
@@ -46,17 +46,26 @@ function modifiers({ metaKey, isComposing, shiftKey, altKey }) {
 keys.addEventListener('keydown', event => {
     if (!isOpen()) return;                                // Tab leads to the ways out
     const bytes = pressed(event);
-    if (event.key === 'Tab' && event.shiftKey) by('bar').querySelector('[data-key]').focus();  // Shift-Tab leaves the screen
+    if (event.key === 'Tab' && event.shiftKey) bar().querySelector('[data-key]').focus();  // Shift-Tab leaves the screen
+    else if (bytes === control('p') && !state.looks) look();
     else if (bytes === control('o') || bytes === spell('F8', 0)) by('typed').click();
     else if (bytes.length === 1 && bytes > '~') type(bytes);
     else if (bytes) send(bytes);
     else return;
     event.preventDefault();
 });
-for (const key of document.querySelectorAll('#bar [data-key]')) {
+for (const key of document.querySelectorAll('[data-key]')) {
     key.onclick = () => { send(spell(key.dataset.key, +key.dataset.held || 0)); keys.focus(); };
 }
 by('keyboard').onclick = () => keys.focus();
+
+// ---- The past is shown from its present on, until a key leaves it.
+const bar = () => by(state.looks ? 'past-bar' : 'bar');
+async function look() {
+    const { refused } = await ask('past');
+    if (refused) tell({ said: wordsOf(refused) });
+}
+by('past').onclick = () => { look(); keys.focus(); };
 
 // ---- Text goes to the desktop as a paste does, in ASCII: what isn't becomes what is nearest, as by `desk import --ascii`.
 const LIKE = {
@@ -143,7 +152,7 @@ async function copyLater(letter) {
 }
 function goOn(text, letter) {
     if (text) copied = text;
-    return send(control(letter));
+    return state.looks ? null : send(control(letter));    // of the past it is the clipboard alone that gets it
 }
 keys.addEventListener('copy', event => copy(event, 'c'));
 keys.addEventListener('cut', event => copy(event, 'x'));

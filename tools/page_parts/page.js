@@ -29,8 +29,8 @@ async function welcome() {                                // a new desktop opens
     await send(`\x1b[200~${greeting()}\x1b[201~`);
     state.changed = false;
 }
-async function opened({ kind, why, isNew, said = '' }) {
-    tell({ kind, why, said, failed: '', left: false });
+async function opened({ kind, why, pastless, isNew, said = '' }) {
+    tell({ kind, why, pastless, said, failed: '', left: false });
     performance.mark('opened');
     await lookWhetherPersisted();
     if (isNew) await welcome();

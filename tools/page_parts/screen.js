@@ -43,6 +43,7 @@ function show(scene) {
     lastRead = setTimeout(tellReaders, 150);              // a reader of the screen has time
     if (scene.rings || scene.status) ring();
     if (scene.left) tell({ left: true });
+    if (scene.looks !== state.looks) tell({ looks: scene.looks });
     requestAnimationFrame(() => { follow(); if (by('command')) underline(pointed); });
 }
 let follows = false, followed = '';                       // whether the window follows the caret, and where that was last

@@ -3,6 +3,8 @@ const state = {
     kind: '',                                             // opening is '', waiting, file, table, memory, cleared
     persisted: false,                                     // whether the browser has promised to keep it
     why: '',                                              // why it is in memory
+    pastless: '',                                         // why no past is kept, where none is
+    looks: 0,                                             // whether the past is shown: 2 while it is sought for a word
     changed: false,                                       // whether anything was done that no saved copy has
     said: '',                                             // what came of the last request
     failed: '',                                           // why the sitting is over
@@ -16,7 +18,7 @@ const WORDS = {
     4: 'This store takes no more: its epochs are used up.', 5: 'The page has to open the desktop again.',
     6: 'A document\'s name is a letter, and then letters, digits and periods: 31 characters at most.',
     7: 'Only a plain text can be a document: ASCII, and at most 262,144 characters.',
-    8: 'There is no document of that name.', 9: 'The desktop has no room for that.',
+    8: 'There is no document of that name.', 9: 'The desktop has no room for that.', 10: 'This desktop keeps no past.',
 };
 const UNREAD = [2, 3, 4];
 function wordsOf(error) {
@@ -26,8 +28,8 @@ const COPY = '“Save the desktop” gives you a copy.';
 const KEPT = {
     '': 'The desktop is being opened …',
     waiting: 'This desktop is open in another tab. It opens here when that one is closed.',
-    file: 'Kept in this browser: each key is on the disk before you see it.',
-    table: 'Kept in this browser, in a database of this page: each key is on the disk before you see it.',
+    file: 'Kept in this browser with its past: each key is on the disk before you see it.',
+    table: 'Kept in this browser with its past, in a database of this page: each key is on the disk before you see it.',
     memory: `In memory alone, gone with this tab. ${COPY}`,
     cleared: `The data of this site were cleared: what you see is in this tab alone. ${COPY}`,
 };
@@ -47,7 +49,8 @@ function kept() {
     if (!isKept()) return KEPT[state.kind] + (state.why ? ` (${wordsOf(state.why)})` : '');
     const until = state.persisted ? 'It stays until you clear the data of this site.'
         : `The browser may drop it for want of room; a private window does when it closes or the machine fails. ${COPY}`;
-    return `${KEPT[state.kind]} ${until}`;
+    const without = state.pastless ? ` No past is kept in this sitting: ${wordsOf(state.pastless)}` : '';
+    return `${KEPT[state.kind]}${without} ${until}`;
 }
 function leaving() {
     return isKept() ? 'You have left. What you saw is kept; sit down again when you like.'
@@ -68,6 +71,7 @@ function tell(change) {
     by('ways').hidden = !isOver();
     document.body.classList.toggle('ended', isOver());
     document.body.classList.toggle('waits', state.kind === 'waiting');
+    document.body.classList.toggle('past', state.looks > 0);
     for (const way of document.querySelectorAll('#ways .after-failure')) way.hidden = !state.failed;
     by('plug').disabled = !isKept() || isOver();
     document.body.dataset.failed = state.failed;

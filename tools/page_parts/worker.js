@@ -3,18 +3,18 @@
 const DRAWING = 0, LINE = 1, CALLS = 2, TEXT = 3;         // what the module hands out
 const ENDS = [1, 2, 3, 4, 5];                             // statuses after which nothing is kept; status.js has the words
 const NO_ROOM = 9;                                        // the status where documents don't fit, one or all of them
-const none = new Uint8Array(0);
 const text = bytes => new TextDecoder().decode(bytes), spelled = words => new TextEncoder().encode(words);
 const told = error => error?.message || error?.name || error;
 
 // ---- The module over one store. A place in its memory is a number of 64 bits; bytes go in and out as copies.
 class Desk {
-    static async of(code, sectors) {                      // with those of a store; where there are none, with a new one
+    static async of(code, sectors, past = 1) {            // with those of a store; where there are none, with a new one
         const desk = new Desk();
         desk.module = (await WebAssembly.instantiate(code, {})).exports;
-        const next = desk.place(new Uint8Array(8));
-        desk.held = next;
-        desk.call('page_begin', sectors);
+        desk.held = desk.place(new Uint8Array(8));
+        desk.call('page_start');
+        for (const [first, bytes] of sectors.runs()) desk.call('page_load', first, bytes);
+        desk.call('page_begin', past);
         return desk;
     }
     memory() {
@@ -26,9 +26,13 @@ class Desk {
         this.memory().set(bytes, Number(at));
         return at;
     }
-    call(name, ...parts) {                                // its status
-        const places = parts.map(part => this.place(part));
-        const status = this.module[name](this.held, ...places.flatMap((at, i) => [at, BigInt(parts[i].length)]));
+    call(name, ...parts) {                                // its status; of numbers, and of bytes with their length
+        const places = [], words = parts.flatMap(part => {
+            if (typeof part === 'number') return [part];
+            places.push(this.place(part));
+            return [places.at(-1), BigInt(part.length)];
+        });
+        const status = this.module[name](this.held, ...words);
         places.forEach(at => this.module.page_give_back(at));
         if (ENDS.includes(status)) throw status; else return status;
     }
@@ -43,48 +47,62 @@ class Desk {
         return this.call('page_copied') ? '' : text(this.made(TEXT));
     }
     scene(status) {
-        const { page_rings: rings, page_leaves: leaves, page_pointer: pointer } = this.module, held = this.held;
+        const { page_rings: rings, page_leaves: leaves, page_looks: looks, page_pointer: pointer } = this.module;
+        const held = this.held;
         return {
             svg: text(this.made(DRAWING)), line: text(this.made(LINE)), selected: this.selected(), status,
-            rings: rings(held), left: leaves(held), pointer: pointer(held),
+            rings: rings(held), left: leaves(held), looks: looks(held), pointer: pointer(held),
         };
     }
 }
 
 // ---- What the page asks for, and what it is answered.
-let code, desk, medium;
-function used(bytes) {                                    // the sectors up to the last one that isn't all zeros
-    let last = bytes.length;
-    while (last > 0 && bytes[last - 1] === 0) last--;
-    return bytes.slice(0, Math.ceil(last / SECTOR) * SECTOR);
-}
+let code, desk, medium, pastless = '';                    // and why no past is kept, where none is
 async function done(status) {                             // the scene, after the calls that led to it
     await repeat(desk.made(CALLS), medium);               // durable: before the scene is shown
     return desk.scene(status);
 }
-async function newDesk() {                                // and what its disk has, which goes on the medium as a whole
-    const fresh = await Desk.of(code, none), disk = memoryMedium();
+async function newDesk(past) {                            // which goes on the medium as a whole
+    const fresh = await Desk.of(code, new Sectors(), past), disk = memoryMedium();
     await repeat(fresh.made(CALLS), disk);
-    return [fresh, used(disk.load())];
+    await medium.make(disk.load());
+    desk = fresh;
+}
+async function makeDesk() {                               // with a past, if the medium has room for one
+    try {
+        await newDesk(1);
+        pastless = '';
+    } catch (error) {
+        await newDesk(0);
+        pastless = told(error);
+    }
+}
+async function take(found) {                              // a desk of what is on the medium. Its past goes on or begins there
+    pastless = '';
+    try {
+        await repeat(found.made(CALLS), medium);          // durable: before the first scene
+        desk = found;
+    } catch (error) {                                     // a browser without room for that: the store alone goes on
+        pastless = told(error);
+        desk = await Desk.of(code, await medium.load(), 0);
+    }
 }
 async function openDesk() {
-    const sectors = used(await medium.load());
-    if (sectors.length) {
-        desk = await Desk.of(code, sectors);
+    const sectors = await medium.load();
+    if (!sectors.isEmpty()) {
+        await take(await Desk.of(code, sectors));
         return false;
     }
-    const [fresh, bytes] = await newDesk();
     try {
-        await medium.make(bytes);
+        await makeDesk();
     } catch (error) {                                     // a browser without room
         medium = memoryMedium(`The browser took no store: ${told(error)}`);
-        medium.make(bytes);
+        await makeDesk();
     }
-    desk = fresh;
     return true;
 }
 function opening(isNew) {
-    return { ...desk.scene(0), kind: medium.kind || 'memory', why: told(medium.why), isNew };
+    return { ...desk.scene(0), kind: medium.kind || 'memory', why: told(medium.why), pastless, isNew };
 }
 async function takeMedium(store) {
     try {
@@ -100,16 +118,39 @@ async function isThere() {                                // where it was cleare
     return there;
 }
 async function replaced(sectors) {                        // this one in the place of the store, or everything as before
-    if (!sectors.length || sectors.length > SIZE) return { refused: 2 };
+    if (sectors.isEmpty()) return { refused: 2 };
+    let next;
     try {
-        const next = await Desk.of(code, sectors);
+        next = await Desk.of(code, sectors);
         await medium.make(sectors);
-        desk = next;
+    } catch (error) {
+        return { refused: told(error) };
+    }
+    await take(next);
+    over = false;
+    return opening(false);
+}
+async function anew() {
+    try {
+        await makeDesk();
     } catch (error) {
         return { refused: told(error) };
     }
     over = false;
     return opening(false);
+}
+async function loaded(file) {
+    let sectors;
+    try {
+        sectors = await sectorsOf(file);
+    } catch (error) {
+        return { refused: told(error) };
+    }
+    return replaced(sectors);
+}
+async function saved() {
+    const sectors = await medium.load();
+    return { file: sectors.isEmpty() ? null : sectors.file() };
 }
 const ASKED = {
     async open({ store, module }) {
@@ -125,6 +166,10 @@ const ASKED = {
     },
     reopen: async () => opening(await openDesk()),
     press: ({ press }) => done(desk.call('page_press', press)),
+    past() {                                              // it is shown from now on
+        const refused = desk.call('page_look');
+        return refused ? { refused } : done(0);
+    },
     there: ({ names }) => ({ there: names.filter(name => desk.call('page_give', spelled(name)) === 0) }),
     async bring({ documents }) {                          // all of them, or none where one is refused
         for (const [i, { name, bytes }] of documents.entries()) {
@@ -139,9 +184,9 @@ const ASKED = {
         return refused ? { refused } : { bytes: desk.made(TEXT) };
     },
     selected: () => ({ selected: desk.selected() }),
-    save: async () => ({ bytes: await medium.load() }),
-    load: ({ bytes }) => replaced(used(bytes)),
-    anew: async () => replaced((await newDesk())[1]),
+    save: saved,
+    load: ({ file }) => loaded(file),
+    anew,
     look: async () => ({ there: await isThere() }),
 };
 const AFTER_THE_END = ['save', 'load', 'anew', 'reopen'];  // what can be asked when the sitting is over

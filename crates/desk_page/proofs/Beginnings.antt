@@ -18,7 +18,7 @@ use Rattle.viewer_tracks.specs.declared.display.TheConstants.{COLUMNS}
 use Rattle.desk_sitting.specs.Sittings.{new_sitting}
 use Rattle.desk_page.specs.declared.page.TheConstants.{HEIGHT}
 use Rattle.desk_page.specs.Recording.{Recording, trail_since}
-use Rattle.desk_page.specs.Turns.{HostPage, Begins}
+use Rattle.desk_page.specs.Turns.{HostPage, IsMade}
 use Rattle.desk_page.specs.contracts.disk.RecordedDiskDisk.TheImpl.{ghosts}
 use Rattle.desk_page.proofs.Reopened.{shows_the_same}
 
@@ -40,18 +40,14 @@ module _ {D : Type 0} (d : Ghosts D) (law : ShowingLaw) (disk made : D) (store :
       ∙ ap (λ (e : Desktop). steps e furnishing) (is_empty empty within opened honest)
 
 -- A page that was closed, and begun again over the same disk, stands before the new store that was made there.
-pub begins_new : (law : ShowingLaw) (bytes : List ℕ) (page after : HostPage) (disk : Recording) → bytes ≡ []
+pub is_made : (law : ShowingLaw) (page after : HostPage) (disk : Recording)
     → page.store.desktop ≡ steps empty_desktop furnishing → IsDurable ghosts page.store → disk ≡ page.store.disk
     → disk.told ≡ [] → IsOpened ghosts disk after.store → IsOnlyRead ghosts disk after.store.disk
-    → after.sitting ≡ new_sitting HEIGHT COLUMNS Greeting true → after.parser ≡ at_rest → Begins ghosts bytes after
-begins_new law bytes page after disk none made durable same told opened read sitting parser = record {
-  made = λ _. shows_the_same ghosts law disk page.store after.store (ap (λ (d : Recording). d.size) same)
+    → after.sitting ≡ new_sitting HEIGHT COLUMNS Greeting true → after.parser ≡ at_rest → IsMade ghosts after
+is_made law page after disk made durable same told opened read sitting parser = record {
+  desktop = shows_the_same ghosts law disk page.store after.store (ap (λ (d : Recording). d.size) same)
       (ap (λ (d : Recording). now (trail_since d)) same) tt tt durable opened ∙ made;
-  whole = λ _. (read.unwritten tt).kept 0 (omega arith) ∙ ap (λ calls. replayed calls zero_moment) told;
-  disk = disk;
-  loaded = λ some. absurd (some none);
-  opened = λ some. absurd (some none);
-  read = λ some. absurd (some none);
+  whole = (read.unwritten tt).kept 0 (omega arith) ∙ ap (λ calls. replayed calls zero_moment) told;
   durable = opened.durable;
   sitting = sitting;
   parser = parser;

@@ -8,3 +8,6 @@ pub mod Beginnings
 pub mod Turning
 pub mod Loaded
 pub mod Keeping
+pub mod Begun
+pub mod Looked
+pub mod Known

@@ -1,28 +1,37 @@
--- A disk that is filled with the bytes of a host, sector after sector.
-use Rattle.std.proofs.Common.{◌≡◌, ◌∙◌, ◌+◌, ◌-◌, ◌*◌, ◌==◌, ℕ, List, take, drop, slice_range, ap, sym, arith, nat_lt, if◌then◌else◌}
+-- A disk on which the bytes of a host are loaded, sector after sector.
+use Rattle.std.proofs.Common.{◌≡◌, ◌∙◌, ◌+◌, ◌-◌, ◌*◌, ◌==◌, ℕ, List, Bool, true, false, take, drop, slice_range, ap, refl, sym, arith, nat_lt, if◌then◌else◌}
 use Rattle.std.proofs.lemmas.Bool.Decides.{nat_tests}
 use Rattle.sector_disk.specs.declared.call.DiskCall.TheVariants.{Write, Sync}
-use Rattle.sector_disk.specs.Trail.{Moment, now, written, after_sync}
-use Rattle.sector_disk.specs.Memory.{zeros}
-use Rattle.sector_disk.specs.declared.file.TheConstants.{FILE_SECTORS}
-use Rattle.desk_page.specs.Recording.{Recording, blank_recording, recorded, forgotten, trail_since}
+use Rattle.sector_disk.specs.Trail.{Content, Moment, now, written, after_sync}
+use Rattle.desk_page.specs.Recording.{Recording, recorded, forgotten, trail_since}
 use Rattle.desk_page.proofs.Recorded.{forgotten_now, now_more}
-use Rattle.desk_page.specs.Loading.{HasLoaded, ReadsAs, sector_of, whole_sectors}
+use Rattle.desk_page.specs.Loading.{HasLoaded, ReadsWith, sector_of, whole_sectors}
 
-pub none_yet : (bytes : List ℕ) (disk : Recording) → disk ≡ blank_recording FILE_SECTORS → ReadsAs bytes 0 disk
-none_yet bytes disk is k = ap (λ d. (now (trail_since d)).reads k) is ∙ sym (first k)
+pub none_yet : (bytes : List ℕ) (first : ℕ) (before : Content) → ReadsWith bytes first 0 before before
+none_yet bytes first before k = same k
   where
-    first : (k : ℕ) → (if nat_lt k 0 then sector_of bytes k else zeros) ≡ zeros
-    first k = grind (arith, nat_tests)
+    same : (k : ℕ) → before k ≡ (if nat_lt k first then before k
+        else if nat_lt k (first + 0) then sector_of bytes (k - first) else before k)
+    same k = grind (arith, nat_tests)
 
-pub one_more : (bytes : List ℕ) (n : ℕ) (old new : Recording) → ReadsAs bytes n old
-    → now (trail_since new) ≡ written (now (trail_since old)) n (sector_of bytes n)
-    → ReadsAs bytes (n + 1) new
-one_more bytes n old new was is k = ap (λ (m : Moment). m.reads k) is
-    ∙ ap (λ l. if k == n then sector_of bytes n else l) (was k) ∙ same k
+-- the n-th sector of the bytes stands in sector first + n
+at_offset : (bytes : List ℕ) (first n k : ℕ) (other : List ℕ) (is : Bool) → (is ≡ true → k ≡ first + n)
+    → (if is then sector_of bytes n else other) ≡ (if is then sector_of bytes (k - first) else other)
+at_offset bytes first n k other true here =
+    let e : n ≡ k - first = omega (arith, here refl) in ap (sector_of bytes) e
+at_offset bytes first n k other false here = refl
+
+pub one_more : (bytes : List ℕ) (first n : ℕ) (before : Content) (old new : Recording)
+    → ReadsWith bytes first n before (now (trail_since old)).reads
+    → now (trail_since new) ≡ written (now (trail_since old)) (first + n) (sector_of bytes n)
+    → ReadsWith bytes first (n + 1) before (now (trail_since new)).reads
+one_more bytes first n before old new was is k = ap (λ (m : Moment). m.reads k) is
+    ∙ ap (λ l. if k == first + n then sector_of bytes n else l) (was k)
+    ∙ at_offset bytes first n k _ (k == first + n) (λ here. grind (arith, here, nat_tests)) ∙ same k
   where
-    same : (k : ℕ) → (if k == n then sector_of bytes n else (if nat_lt k n then sector_of bytes k else zeros))
-        ≡ (if nat_lt k (n + 1) then sector_of bytes k else zeros)
+    same : (k : ℕ) → (if k == first + n then sector_of bytes (k - first) else (if nat_lt k first then before k
+        else if nat_lt k (first + n) then sector_of bytes (k - first) else before k))
+        ≡ (if nat_lt k first then before k else if nat_lt k (first + (n + 1)) then sector_of bytes (k - first) else before k)
     same k = grind (arith, nat_tests)
 
 -- a call that was recorded, and then forgotten
@@ -32,9 +41,10 @@ pub is_written : (n : ℕ) (sector : List ℕ) (old mid new : Recording) → mid
 is_written n sector old mid new is forgets =
     forgotten_now mid new forgets ∙ now_more old mid (Write n sector) is
 
-pub has_loaded : (bytes : List ℕ) (old mid new : Recording) → old.size ≡ FILE_SECTORS
-    → ReadsAs bytes (whole_sectors bytes) old → mid ≡ recorded Sync old → new ≡ forgotten mid → HasLoaded bytes new
-has_loaded bytes old mid new size reads is forgets = record {
+pub has_loaded : (bytes : List ℕ) (first : ℕ) (begun old mid new : Recording) → old.size ≡ begun.size
+    → ReadsWith bytes first (whole_sectors bytes first begun.size) (now (trail_since begun)).reads
+    (now (trail_since old)).reads → mid ≡ recorded Sync old → new ≡ forgotten mid → HasLoaded bytes first begun new
+has_loaded bytes first begun old mid new size reads is forgets = record {
   size = ap (λ d. d.size) forgets ∙ ap (λ d. d.size) is ∙ size;
   reads = λ k. ap (λ (m : Moment). m.reads k) moment ∙ reads k;
   settled = λ k. ap (λ (m : Moment). m.pending k) moment;

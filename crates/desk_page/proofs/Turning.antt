@@ -24,11 +24,10 @@ use Rattle.desk_page.specs.Recording.{Recording}
 use Rattle.desk_page.specs.Spelling.{spelling_of_calls}
 use Rattle.desk_page.specs.Hearing.{Hears, heard_of}
 use Rattle.desk_page.specs.Lines.{page_line, page_shown}
-use Rattle.desk_page.specs.Loading.{HasLoaded}
 use Rattle.desk_page.specs.declared.scene.Scene.{Scene}
 use Rattle.desk_page.specs.contracts.disk.RecordedDiskDisk.TheImpl.{ghosts}
 use Rattle.desk_page.specs.declared.page.TheConstants.{HEIGHT}
-use Rattle.desk_page.specs.Turns.{HostPage, AreTravelled, Begins, IsHanded, IsNotBegun, IsNotPressed, IsToldAll}
+use Rattle.desk_page.specs.Turns.{HostPage, AreTravelled, IsHanded, IsMadeOrFound, IsNotBegun, IsNotPressed, IsToldAll}
 use Rattle.desk_page.specs.Turns.{IsUnbrought, IsWithheld, OfTravels, Presses, damaged, faulty, foreign, starved}
 
 -- ---- why a page isn't handed out
@@ -59,47 +58,36 @@ unbrought page error why reopen worn = elim why [
   | inr (inr (inr is)) ↦ inr (is, worn is)
 ]
 
--- bytes that were loaded are found to be no store
-pub is_not_begun : (bytes : List ℕ) (disk : Recording) (error : Error) → bytes ≢ [] → HasLoaded bytes disk
-    → IsNoStore ghosts disk error → OfOpen error → IsNotBegun ghosts bytes error
-is_not_begun bytes disk error some loaded none why = elim why [
-  | inl (inl is) ↦ subst (IsNotBegun ghosts bytes) (sym is) starved
-  | inl (inr (inl is)) ↦ subst (IsNotBegun ghosts bytes) (sym is) faulty
-  | inl (inr (inr is)) ↦ subst (IsNotBegun ghosts bytes) (sym is) (foreign disk some loaded (none.foreign is tt))
-  | inr damage ↦ subst (IsNotBegun ghosts bytes) (sym damage.1)
-      (damaged disk damage.0 some loaded (none.damaged damage.0 damage.1 tt))
+-- what was loaded is found to be no store
+pub is_not_begun : (disk : Recording) (error : Error) → IsNoStore ghosts disk error → OfOpen error
+    → IsNotBegun ghosts (Some disk) error
+is_not_begun disk error none why = elim why [
+  | inl (inl is) ↦ subst (IsNotBegun ghosts (Some disk)) (sym is) starved
+  | inl (inr (inl is)) ↦ subst (IsNotBegun ghosts (Some disk)) (sym is) faulty
+  | inl (inr (inr is)) ↦ subst (IsNotBegun ghosts (Some disk)) (sym is) (foreign disk refl (none.foreign is tt))
+  | inr damage ↦ subst (IsNotBegun ghosts (Some disk)) (sym damage.1)
+      (damaged disk damage.0 refl (none.damaged damage.0 damage.1 tt))
 ]
 
-pub not_begun_of : (bytes : List ℕ) (disk : Recording) → bytes ≢ [] → HasLoaded bytes disk
-    → (result : Result HostPage Error) → IfErr result (IsNoStore ghosts disk) → IfErr result OfOpen
-    → IfErr result (IsNotBegun ghosts bytes)
-not_begun_of bytes disk some loaded (Ok page) none why = none
-not_begun_of bytes disk some loaded (Err error) none why = is_not_begun bytes disk error some loaded none why
-
--- there are bytes
-pub some_bytes : (bytes : List ℕ) (empty : Bool) → empty ≡ (length bytes == 0) → empty ≡ false → bytes ≢ []
-some_bytes bytes empty is filled none =
-    true≢false (sym (ap (λ (l : List ℕ). length l == 0) none) ∙ sym is ∙ filled)
+pub not_begun_of : (disk : Recording) (result : Result HostPage Error) → IfErr result (IsNoStore ghosts disk)
+    → IfErr result OfOpen → IfErr result (IsNotBegun ghosts (Some disk))
+not_begun_of disk (Ok page) none why = none
+not_begun_of disk (Err error) none why = is_not_begun disk error none why
 
 -- a page before the store that was loaded
-pub begins_loaded : (bytes : List ℕ) (disk : Recording) → bytes ≢ [] → HasLoaded bytes disk
-    → (result : Result HostPage Error) → IfOk result (λ page. IsOpened ghosts disk page.store)
+pub found_of : (disk : Recording) (result : Result HostPage Error) → IfOk result (λ page. IsOpened ghosts disk page.store)
     → IfOk result (λ page. IsOnlyRead ghosts disk page.store.disk)
     → IfOk result (λ page. page.sitting ≡ new_sitting HEIGHT COLUMNS Greeting true)
-    → IfOk result (λ page. page.parser ≡ at_rest) → IfOk result (Begins ghosts bytes)
-begins_loaded bytes disk some loaded (Ok page) opened read sitting parser = record {
-  made = λ none. absurd (some none);
-  whole = λ none. absurd (some none);
-  disk = disk;
-  loaded = λ _. loaded;
-  opened = λ _. opened;
-  read = λ _. read;
+    → IfOk result (λ page. page.parser ≡ at_rest) → IfOk result (IsMadeOrFound ghosts (Some disk))
+found_of disk (Ok page) opened read sitting parser = record {
+  opened = opened;
+  read = read;
   durable = opened.durable;
   sitting = sitting;
   parser = parser;
   usable = opened.usable;
 }
-begins_loaded bytes disk some loaded (Err error) none read sitting parser = none
+found_of disk (Err error) none read sitting parser = none
 
 -- something is asked for
 pub asked_for : {T : Type 0} (asked : Option T) (none : Bool) → is_some asked ≡ not none → none ≡ false

@@ -7,7 +7,7 @@ use Rattle.desktop_definitions.specs.Viewers.{newest, selected}
 use Rattle.desk_journal.specs.Device.{IsOnlyRead}
 use Rattle.desk_journal.specs.Session.{session_of}
 use Rattle.store_documents.specs.HostText.{exported}
-use Rattle.desk_page.specs.declared.page.Page.{Page}
+use Rattle.desk_journal.specs.View.{StoreView}
 
 -- characters as a file of the host's: without their looks, and each CR is LF
 abbrev pub given_out : Option (Text ℕ) → Option (List ℕ)
@@ -22,10 +22,8 @@ given_text name desktop = given_out (file_of desktop name)
 abbrev pub selected_text : Desktop → Option (List ℕ)
 selected_text desktop = given_out (option_map (selected desktop) (newest desktop))
 
--- Somebody looks at a page: nothing is written, and it is as it was.
-pub record LooksAtPage {D : Type 0} (d : Ghosts D) (old new : Page D) : Type 0 where
-  pub session : d.honest old.store.disk → session_of new.store ≡ session_of old.store
-  pub disk : IsOnlyRead d old.store.disk new.store.disk
-  pub usable : new.store.must_reopen ≡ old.store.must_reopen
-  pub sitting : new.sitting ≡ old.sitting
-  pub parser : new.parser ≡ old.parser
+-- Somebody looks at a store: nothing is written, and it is as it was.
+pub record LooksAtStore {D : Type 0} (d : Ghosts D) (old new : StoreView D) : Type 0 where
+  pub session : d.honest old.disk → session_of new ≡ session_of old
+  pub disk : IsOnlyRead d old.disk new.disk
+  pub usable : new.must_reopen ≡ old.must_reopen

@@ -2,16 +2,17 @@
 ghost use Rattle.std.specs.Prelude.{◌≡◌, ◌≢◌, ◌≤◌, ◌++◌, ◌∷◌, [], ℕ, List, length, take, drop, min, IfOk, IfErr, IfSome};
 ghost use Rattle.std.specs.Prelude.{Some, None, Ok};
 ghost use Rattle.store_documents.specs.HostText.{imported};
-ghost use Rattle.desk_page.specs.Calls.{AnswersAsk, AnswersBegin, AnswersBring, AnswersBringMore, AnswersGive, AnswersPress};
-ghost use Rattle.desk_page.specs.Calls.{IsNoFile, has_left, made_by, made_numbered, pointer_number};
+ghost use Rattle.desk_page.specs.Calls.{AnswersAsk, AnswersBegin, AnswersBring, AnswersBringMore, AnswersGive, AnswersLoad, AnswersLook, AnswersPress};
+ghost use Rattle.desk_page.specs.Calls.{IsNoFile, has_left, looks_of, made_by, made_numbered, pointer_number};
 ghost use Rattle.desk_page.specs.Giving.{selected_text};
-ghost use Rattle.desk_page.specs.Statuses.{no_room, not_there, status_of_error};
+ghost use Rattle.desk_page.specs.Statuses.{not_there, status_of_error};
 
 use crate::disk::RecordedDisk;
-use crate::documents::{give, selected};
-use crate::scene::{HostPage, Scene, begun, brought, pressed, settled};
+use crate::loading::loaded_with;
+use crate::looks::{Desk, look_at};
+use crate::scene::{Scene, begun, brought, settled};
 use crate::status::{
-    DONE, GONE, NO_DOCUMENT, NO_MEMORY, NO_NAME, NO_ROOM, status_of, status_of_unfit,
+    DONE, GONE, NO_DOCUMENT, NO_MEMORY, NO_NAME, NO_PAST, NO_ROOM, status_of, status_of_unfit,
 };
 use desk_journal::Error;
 use document_filing::Document;
@@ -22,15 +23,17 @@ use std::mem::replace;
 use store_documents::document;
 use viewer_tracks::COLUMNS;
 
-/// What is kept: the page, unless a call has failed, and what the last call made.
+/// What is kept: what is shown, unless a call has failed, and what the last call made.
 #[derive(Drop)]
 pub struct Kept {
-    pub page: Option<HostPage>,
+    pub desk: Option<Desk>,
     pub scene: Scene,
     /// The text that was asked for last.
     pub text: Vec<u8>,
     /// Documents that are brought with the next one.
     pub coming: Vec<Document>,
+    /// The disk of the sectors that were loaded, before there is a page.
+    pub loaded: Option<RecordedDisk>,
 }
 
 /// Which of the things is meant that a call made.
@@ -60,11 +63,13 @@ impl Made {
 impl Kept {
     /// Nothing yet.
     pub fn new(alloc: Global) -> Kept
-        ensures page { result.page ≡ None }
+        ensures desk { result.desk ≡ None }
         ensures coming { result.coming.items ≡ [] }
+        ensures loaded { result.loaded ≡ None }
+        ensures untold { result.scene.calls.items ≡ [] }
     {
         Kept {
-            page: None,
+            desk: None,
             scene: Scene {
                 drawing: Vec::new(alloc),
                 line: Vec::new(alloc),
@@ -73,49 +78,88 @@ impl Kept {
             },
             text: Vec::new(alloc),
             coming: Vec::new(alloc),
+            loaded: None,
         }
     }
 
-    /// Opens the store that these bytes are, or makes a new one where there are none.
-    pub fn begin(&mut self, alloc: Global, bytes: &[u8]) -> u32
-        ensures answers { AnswersBegin ⟦<RecordedDisk as Disk>⟧ bytes.now self.old self.new result }
+    /// Loads the sectors from `first` on, which are these bytes, a sector after another. The others are zeros, unless they were
+    /// loaded before. After want of memory nothing is loaded.
+    pub fn load(&mut self, alloc: Global, first: u32, bytes: &[u8]) -> u32
+        ensures answers { AnswersLoad first bytes.now self.old self.new result }
+        ensures untold { self.new.scene.calls.items ≡ [] }
+        ensures coming { self.new.coming ≡ self.old.coming }
+    {
+        self.scene.calls.clear();
+        match loaded_with(alloc, self.loaded.take(), first, bytes) {
+            Ok(disk) => {
+                self.loaded = Some(disk);
+                DONE
+            }
+            Err(_) => NO_MEMORY,
+        }
+    }
+
+    /// Opens the store on the disk that was loaded, or makes a new one where none was. Where it is to keep a past, that goes on
+    /// or begins.
+    pub fn begin(&mut self, alloc: Global, past: bool) -> u32
+        ensures answers { AnswersBegin ⟦<RecordedDisk as Disk>⟧ past self.old self.new result }
         ensures untold { result ≢ 0 → self.new.scene.calls.items ≡ [] }
         ensures coming { self.new.coming ≡ self.old.coming }
         ensures few { result ≤ 5 }
     {
         self.scene.calls.clear();
-        let page = match begun(alloc, bytes) {
+        let page = match begun(alloc, self.loaded.take(), past) {
             Ok(page) => page,
             Err(error) => return status_of(error),
         };
         match settled(alloc, page) {
-            Ok((page, scene)) => self.keep(page, scene),
+            Ok((page, scene)) => self.keep(Desk::Present(page), scene),
             Err(error) => status_of(error),
         }
     }
 
-    /// Does what is pressed by these bytes of a terminal.
+    /// Does what is pressed by these bytes of a terminal, at the page, or at its past where that is shown.
     pub fn press(&mut self, alloc: Global, bytes: &[u8]) -> u32
         ensures answers { AnswersPress ⟦<RecordedDisk as Disk>⟧ bytes.now self.old self.new result }
         ensures untold { result ≢ 0 → self.new.scene.calls.items ≡ [] }
         ensures coming { self.new.coming ≡ self.old.coming }
+        ensures loaded { self.new.loaded ≡ self.old.loaded }
     {
         self.scene.calls.clear();
-        let Some(page) = self.page.take() else {
+        let Some(desk) = self.desk.take() else {
             return GONE;
         };
-        match pressed(alloc, page, bytes) {
-            Ok((page, scene)) => self.keep(page, scene),
+        match desk.press(alloc, bytes) {
+            Ok((desk, scene)) => self.keep(desk, scene),
             Err(error) => status_of(error),
         }
     }
 
-    /// Makes the document of that name of a file of the host's, together with those that are kept.
+    /// Shows the past of the page, from its present on. Where its store keeps none that can be read, the page is shown.
+    pub fn look(&mut self, alloc: Global) -> u32
+        ensures answers { AnswersLook ⟦<RecordedDisk as Disk>⟧ self.old self.new result }
+        ensures untold { self.new.scene.calls.items ≡ [] }
+        ensures coming { self.new.coming ≡ self.old.coming }
+        ensures loaded { self.new.loaded ≡ self.old.loaded }
+    {
+        self.scene.calls.clear();
+        let Some(desk) = self.desk.take() else {
+            return GONE;
+        };
+        match look_at(alloc, desk.page()) {
+            Ok((desk, scene)) => self.keep_or_leave(desk, scene, NO_PAST),
+            Err(error) => status_of(error),
+        }
+    }
+
+    /// Makes the document of that name of a file of the host's, together with those that are kept. The page is shown then, and
+    /// no past, unless the name or the file is refused.
     pub fn bring(&mut self, alloc: Global, name: &[u8], file: &[u8]) -> u32
         ensures answers { AnswersBring ⟦<RecordedDisk as Disk>⟧ name.now file.now self.old self.new
             result }
         ensures untold { result ≢ 0 → self.new.scene.calls.items ≡ [] }
         ensures coming { self.new.coming.items ≡ [] }
+        ensures loaded { self.new.loaded ≡ self.old.loaded }
     {
         self.scene.calls.clear(); // also where it is refused
         let coming = replace(&mut self.coming, Vec::new(alloc));
@@ -123,11 +167,11 @@ impl Kept {
             Ok(documents) => documents,
             Err(status) => return status,
         };
-        let Some(page) = self.page.take() else {
+        let Some(desk) = self.desk.take() else {
             return GONE;
         };
-        match brought(alloc, page, documents.as_slice()) {
-            Ok((page, scene)) => self.keep_or_leave(page, scene),
+        match brought(alloc, desk.page(), documents.as_slice()) {
+            Ok((page, scene)) => self.keep_or_leave(Desk::Present(page), scene, NO_ROOM),
             Err(error) => status_of(error),
         }
     }
@@ -137,6 +181,7 @@ impl Kept {
     pub fn bring_more(&mut self, alloc: Global, name: &[u8], file: &[u8]) -> u32
         ensures answers { AnswersBringMore name.now file.now self.old self.new result }
         ensures untold { self.new.scene.calls.items ≡ [] }
+        ensures loaded { self.new.loaded ≡ self.old.loaded }
     {
         self.scene.calls.clear();
         let coming = replace(&mut self.coming, Vec::new(alloc));
@@ -149,35 +194,37 @@ impl Kept {
         }
     }
 
-    /// Asks for the text of the document of that name.
+    /// Asks for the text of the document of that name, as it is or was at what is shown.
     pub fn give(&mut self, alloc: Global, name: &[u8]) -> u32
         ensures answers { AnswersGive ⟦<RecordedDisk as Disk>⟧ name.now self.old self.new result }
         ensures untold { self.new.scene.calls.items ≡ [] }
         ensures coming { self.new.coming ≡ self.old.coming }
+        ensures loaded { self.new.loaded ≡ self.old.loaded }
     {
         self.scene.calls.clear();
         let Some(name) = Name::new(name) else {
             return NO_NAME;
         };
-        let Some(page) = &mut self.page else {
+        let Some(desk) = &mut self.desk else {
             return GONE;
         };
-        let found = give(alloc, page, &name);
+        let found = desk.give(alloc, &name);
         self.tell(found)
     }
 
-    /// Asks for what is selected.
+    /// Asks for what is selected in what is shown.
     pub fn copied(&mut self, alloc: Global) -> u32
         ensures answers { AnswersAsk ⟦<RecordedDisk as Disk>⟧ selected_text self.old self.new
             result }
         ensures untold { self.new.scene.calls.items ≡ [] }
         ensures coming { self.new.coming ≡ self.old.coming }
+        ensures loaded { self.new.loaded ≡ self.old.loaded }
     {
         self.scene.calls.clear();
-        let Some(page) = &mut self.page else {
+        let Some(desk) = &mut self.desk else {
             return GONE;
         };
-        let found = selected(alloc, page);
+        let found = desk.selected(alloc);
         self.tell(found)
     }
 
@@ -189,9 +236,10 @@ impl Kept {
             → (self.new.text ≡ self.old.text) × (result ≡ not_there) }
         ensures failed { IfErr found (λ error.
             (self.new.text ≡ self.old.text) × (result ≡ status_of_error error)) }
-        ensures page { self.new.page ≡ self.old.page }
+        ensures desk { self.new.desk ≡ self.old.desk }
         ensures scene { self.new.scene ≡ self.old.scene }
         ensures coming { self.new.coming ≡ self.old.coming }
+        ensures loaded { self.new.loaded ≡ self.old.loaded }
     {
         match found {
             Ok(Some(text)) => {
@@ -203,34 +251,36 @@ impl Kept {
         }
     }
 
-    /// Keeps a page and what is handed of it.
-    fn keep(&mut self, page: HostPage, scene: Scene) -> u32
+    /// Keeps what is shown, and what is handed of it.
+    fn keep(&mut self, desk: Desk, scene: Scene) -> u32
         ensures done { result ≡ 0 }
-        ensures page { self.new.page ≡ Some page }
+        ensures desk { self.new.desk ≡ Some desk }
         ensures scene { self.new.scene ≡ scene }
         ensures text { self.new.text ≡ self.old.text }
         ensures coming { self.new.coming ≡ self.old.coming }
+        ensures loaded { self.new.loaded ≡ self.old.loaded }
     {
-        self.page = Some(page);
+        self.desk = Some(desk);
         self.scene = scene;
         DONE
     }
 
-    /// Keeps a page after documents were brought, with what is handed of it, or were turned down.
-    fn keep_or_leave(&mut self, page: HostPage, scene: Option<Scene>) -> u32
-        ensures page { self.new.page ≡ Some page }
+    /// Keeps what is shown, with what is handed of it, or with this status where nothing is.
+    fn keep_or_leave(&mut self, desk: Desk, scene: Option<Scene>, status: u32) -> u32
+        ensures desk { self.new.desk ≡ Some desk }
         ensures handed { IfSome scene (λ s. (self.new.scene ≡ s) × (result ≡ 0)) }
-        ensures left { scene ≡ None → (self.new.scene ≡ self.old.scene) × (result ≡ no_room) }
+        ensures left { scene ≡ None → (self.new.scene ≡ self.old.scene) × (result ≡ status) }
         ensures text { self.new.text ≡ self.old.text }
         ensures coming { self.new.coming ≡ self.old.coming }
+        ensures loaded { self.new.loaded ≡ self.old.loaded }
     {
-        self.page = Some(page);
+        self.desk = Some(desk);
         match scene {
             Some(scene) => {
                 self.scene = scene;
                 DONE
             }
-            None => NO_ROOM,
+            None => status,
         }
     }
 
@@ -243,20 +293,31 @@ impl Kept {
 
     /// Whether the person has left.
     pub fn leaves(&self) -> bool
-        ensures { result ≡ has_left self.now.page }
+        ensures { result ≡ has_left self.now.desk }
     {
-        match &self.page {
-            Some(page) => page.sitting.leaves,
-            None => false,
+        match &self.desk {
+            Some(Desk::Present(page)) => page.sitting.leaves,
+            _ => false,
+        }
+    }
+
+    /// What is shown: 0 is the page, 1 its past, and 2 its past while that is sought for a word, which goes on with the next
+    /// presses, if there are any or not.
+    pub fn looks(&self) -> u32
+        ensures { result ≡ looks_of self.now.desk }
+    {
+        match &self.desk {
+            Some(Desk::Past(looking)) => looking.looks(),
+            _ => 0,
         }
     }
 
     /// Where a pointer is shown that keys move, by the number of its cell: 1 at the lower left, and one more for each
     /// cell to the right of it and in the rows above. 0 where none is shown.
     pub fn pointer(&self) -> u32
-        ensures { result ≡ pointer_number self.now.page }
+        ensures { result ≡ pointer_number self.now.desk }
     {
-        let Some(page) = &self.page else {
+        let Some(Desk::Present(page)) = &self.desk else {
             return 0;
         };
         match page.sitting.hand.pointer() {

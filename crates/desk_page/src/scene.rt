@@ -1,23 +1,24 @@
 //! What a host is handed of a page, and what a call does to a page.
-ghost use Rattle.std.specs.Prelude.{◌≡◌, ℕ, [], is_none, true, false, IfOk, IfErr, IfSome, IsErrOf, IsOk, OnOk};
+ghost use Rattle.std.specs.Prelude.{◌≡◌, ℕ, is_none, true, false, IfOk, IfErr, IsErrOf, IsOk, OnOk};
 ghost use Rattle.desk_journal.specs.View.{IsDurable};
 ghost use Rattle.desk_sitting.specs.declared.serving.TheConstants.{MOST_TURNS};
 ghost use Rattle.desk_page.specs.Spelling.{spelling_of_calls};
-ghost use Rattle.desk_page.specs.Turns.{AreTravelled, Begins, BringsOrTurnsDown, Presses, IsToldAll, IsHanded, IsNotBegun};
-ghost use Rattle.desk_page.specs.Turns.{IsUnbrought, IsNotPressed, IsWithheld, OfTravels};
+ghost use Rattle.desk_page.specs.Turns.{AreTravelled, Begins, BringsOrTurnsDown, KeepsFrom, Presses, IsMade, IsMadeOrFound, IsToldAll, IsHanded, IsNotBegun};
+ghost use Rattle.desk_page.specs.Turns.{IsOfMemory, IsUnbrought, IsNotPressed, IsWithheld, OfTravels};
 
 use crate::disk::RecordedDisk;
 use crate::documents::bring;
 use crate::heard::{hear, hearing};
-use crate::loading::disk_of;
+use crate::loading::blank_disk;
 use crate::page::{Page, begin, begin_new, close, show};
 use desk_journal::{Error, Store};
+use desk_past::go_on;
 use desk_sitting::{MOST_TURNS, Sitting, travel};
 use desktop_definitions::Reply;
 use document_filing::Document;
-use sector_disk::{Disk, FILE_SECTORS};
+use sector_disk::Disk;
 use std::alloc::Global;
-use store_layout::showing_law;
+use store_layout::{LAST_EPOCH, showing_law};
 
 /// A page over the disk whose calls the host repeats.
 pub type HostPage = Page<RecordedDisk>;
@@ -35,44 +36,74 @@ pub struct Scene {
 /// A page and what the host is handed of it.
 pub(crate) type Turn = Result<(HostPage, Scene), Error>;
 
-/// A page before the store that these bytes are, a sector after another, or before a new one where there are none.
+/// A page before the store on a disk that was loaded, or before a new one where none was. Where it is to keep a past, that goes
+/// on or begins.
 ///
-/// Errors: those of `begin`; `NoMemory`, where a new one can't be made.
-pub(crate) fn begun(alloc: Global, bytes: &[u8]) -> Result<HostPage, Error>
-    ensures begun { IfOk result (Begins ⟦<RecordedDisk as Disk>⟧ bytes.now) }
-    ensures refused { IfErr result (IsNotBegun ⟦<RecordedDisk as Disk>⟧ bytes.now) }
+/// Errors: those of `begin` and of `go_on`; `NoMemory`, where a new one can't be made.
+pub(crate) fn begun(
+    alloc: Global,
+    loaded: Option<RecordedDisk>,
+    past: bool,
+) -> Result<HostPage, Error>
+    ensures begun { IfOk result (Begins ⟦<RecordedDisk as Disk>⟧ past loaded) }
+    ensures refused { IfErr result (IsNotBegun ⟦<RecordedDisk as Disk>⟧ loaded) }
 {
-    if bytes.is_empty() {
-        return match made(alloc, bytes) {
-            Some(page) => Ok(page),
-            None => Err(Error::NoMemory),
-        };
-    }
-    let Ok(disk) = disk_of(alloc, bytes) else {
-        return Err(Error::NoMemory);
-    };
-    begin(alloc, disk)
+    let page = found_or_made(alloc, loaded)?;
+    if past { keeping(alloc, page) } else { Ok(page) }
 }
 
-/// A page before a new store, for no bytes, over a disk that has all of its calls to tell. None: there was no memory for it.
-fn made(alloc: Global, bytes: &[u8]) -> Option<HostPage>
-    requires { bytes.now ≡ [] }
-    ensures { IfSome result (Begins ⟦<RecordedDisk as Disk>⟧ bytes.now) }
+/// A page before the store on a disk that was loaded, or before a new one where none was.
+///
+/// Errors: those of `begin` and `made`.
+fn found_or_made(alloc: Global, loaded: Option<RecordedDisk>) -> Result<HostPage, Error>
+    ensures is { IfOk result (IsMadeOrFound ⟦<RecordedDisk as Disk>⟧ loaded) }
+    ensures usable { IfOk result (λ page. page.store.must_reopen ≡ false) }
+    ensures refused { IfErr result (IsNotBegun ⟦<RecordedDisk as Disk>⟧ loaded) }
+{
+    match loaded {
+        None => made(alloc),
+        Some(disk) => begin(alloc, disk),
+    }
+}
+
+/// The same page, whose store keeps a past from now on, unless its epochs are used up.
+///
+/// Errors: those of `go_on`.
+fn keeping(alloc: Global, page: HostPage) -> Result<HostPage, Error>
+    requires { page.store.must_reopen ≡ false }
+    ensures kept { IfOk result (KeepsFrom ⟦<RecordedDisk as Disk>⟧ page) }
+    ensures refused { IfErr result IsOfMemory }
+{
+    let mut page = page;
+    let info = page.store.info()?;
+    if info.epoch == LAST_EPOCH {
+        return Ok(page);
+    }
+    let _outset = go_on(alloc, &mut page.store, true)?;
+    Ok(page)
+}
+
+/// A page before a new store, over a disk that has all of its calls to tell.
+///
+/// Error: `NoMemory`.
+fn made(alloc: Global) -> Result<HostPage, Error>
+    ensures made { IfOk result (IsMade ⟦<RecordedDisk as Disk>⟧) }
+    ensures refused { IfErr result (λ error. error ≡ Error.NoMemory) }
 {
     showing_law();
-    let Ok(disk) = RecordedDisk::new(alloc, FILE_SECTORS) else {
-        return None;
+    let Ok(disk) = blank_disk(alloc) else {
+        return Err(Error::NoMemory);
     };
     let Ok(page) = begin_new(alloc, disk) else {
-        return None;
+        return Err(Error::NoMemory);
     };
     let disk = close(page);
     if !disk.is_whole() {
-        return None;
+        return Err(Error::NoMemory);
     }
     match begin(alloc, disk) {
-        Ok(page) => Some(page),
-        Err(_) => None,
+        Ok(page) => Ok(page),
+        Err(_) => Err(Error::NoMemory),
     }
 }
 
@@ -193,7 +224,7 @@ fn told(alloc: Global, page: HostPage) -> Result<(HostPage, Vec<u8>), Error>
 /// Whether the store needn't be opened again: what it shows is then what every crash leaves.
 ///
 /// Error: `MustReopen`.
-fn usable(store: &Store<RecordedDisk>) -> Result<(), Error>
+pub(crate) fn usable(store: &Store<RecordedDisk>) -> Result<(), Error>
     ensures usable { IsOk result → store.now.must_reopen ≡ false }
     ensures durable { IsOk result → IsDurable ⟦<RecordedDisk as Disk>⟧ store.now }
     ensures reopen { IfErr result (λ error. (error ≡ Error.MustReopen)

@@ -35,6 +35,9 @@ pub const NO_DOCUMENT: u32 = 8;
 /// The desktop has no room for the document, or has as many files as there may be.
 pub const NO_ROOM: u32 = 9;
 
+/// The store keeps no past that can be read.
+pub const NO_PAST: u32 = 10;
+
 /// The status of an error.
 pub(crate) fn status_of(error: Error) -> u32
     ensures status { result ≡ status_of_error error }

@@ -3,35 +3,95 @@
 //! is 0.
 ghost use Rattle.std.specs.Prelude.{◌≡◌, ◌≢◌, ◌≤◌, ◌++◌, [], length, take, drop, min};
 ghost use Rattle.desk_page.specs.Owning.{IsThere};
-ghost use Rattle.page_exports.specs.Exports.{HasBegunPage, HasBrought, HasBroughtMore, HasCopied, HasGiven, HasPressed};
-ghost use Rattle.page_exports.specs.Exports.{coming_of, handed, rings_of, leaves_of, pointer_told};
+ghost use Rattle.page_exports.specs.Exports.{HasBegunPage, HasBrought, HasBroughtMore, HasCopied, HasGiven, HasLoadedSome};
+ghost use Rattle.page_exports.specs.Exports.{HasLooked, HasPressed, HasStarted};
+ghost use Rattle.page_exports.specs.Exports.{coming_of, handed, loaded_of, rings_of, leaves_of, looks_told, pointer_told};
 
-use desk_page::{Held, Kept, Made, NO_MEMORY, RecordedDisk, put, take};
+use desk_page::{DONE, Held, Kept, Made, NO_MEMORY, RecordedDisk, put, take};
 use sector_disk::Disk;
 use std::alloc::Global;
 
-/// Begins: opens the store that these bytes are, a sector after another, or makes a new one where there are none, and
-/// keeps its page. The place must be zeros. The status is 0, or one of 1 to 5, after which no page is kept; only where it
-/// is `NO_MEMORY` there may be nothing at the place.
+/// Makes what is kept, with nothing in it. The place must be zeros. `NO_MEMORY`: there is nothing at the place.
 #[unsafe(no_mangle)]
-pub extern "C" fn page_begin(alloc: Global, held: &mut Held, bytes: &[u8]) -> u32
-    ensures begun { HasBegunPage ⟦<RecordedDisk as Disk>⟧ bytes.now held.old.kept held.new.kept result }
-    ensures there { result ≢ 1 → IsThere held.new.kept }
-    ensures few { result ≤ 5 }
+pub extern "C" fn page_start(alloc: Global, held: &mut Held) -> u32
+    ensures started { HasStarted held.old.kept held.new.kept result }
 {
-    let mut kept = Kept::new(alloc);
-    let status = kept.begin(alloc, bytes);
-    match Box::new(alloc, kept) {
+    match Box::new(alloc, Kept::new(alloc)) {
         Ok(boxed) => {
             put(held, boxed);
-            status
+            DONE
         }
         Err(_) => NO_MEMORY,
     }
 }
 
+/// Loads the sectors from `first` on, which are these bytes, a sector after another, before the page begins. The others are
+/// zeros, unless they were loaded before. After another status than 0 nothing is loaded.
+#[unsafe(no_mangle)]
+pub extern "C" fn page_load(alloc: Global, held: &mut Held, first: u32, bytes: &[u8]) -> u32
+    requires { IsThere held.old.kept }
+    ensures there { IsThere held.new.kept }
+    ensures loaded { HasLoadedSome first bytes.now held.old.kept held.new.kept result }
+    ensures untold { handed 2 held.new.kept ≡ [] }
+    ensures coming { coming_of held.new.kept ≡ coming_of held.old.kept }
+{
+    let mut kept = take(alloc, held);
+    let status = kept.load(alloc, first, bytes);
+    put(held, kept);
+    status
+}
+
+/// Begins: opens the store whose sectors were loaded, or makes a new one where none were, and keeps its page. With 1 for
+/// `past` that keeps a past, which goes on or begins. The status is 0, or one of 1 to 5, after which no page is kept.
+#[unsafe(no_mangle)]
+pub extern "C" fn page_begin(alloc: Global, held: &mut Held, past: u32) -> u32
+    requires { IsThere held.old.kept }
+    ensures there { IsThere held.new.kept }
+    ensures begun { HasBegunPage ⟦<RecordedDisk as Disk>⟧ past held.old.kept held.new.kept result }
+    ensures untold { result ≢ 0 → handed 2 held.new.kept ≡ [] }
+    ensures coming { coming_of held.new.kept ≡ coming_of held.old.kept }
+    ensures few { result ≤ 5 }
+{
+    let mut kept = take(alloc, held);
+    let status = kept.begin(alloc, past == 1);
+    put(held, kept);
+    status
+}
+
+/// Shows the past of the page, from its present on: until the person leaves it, what is pressed means another moment of it,
+/// and a drawing is that of a moment. Where the store keeps none that can be read the page stays as it is.
+#[unsafe(no_mangle)]
+pub extern "C" fn page_look(alloc: Global, held: &mut Held) -> u32
+    requires { IsThere held.old.kept }
+    ensures there { IsThere held.new.kept }
+    ensures looked { HasLooked ⟦<RecordedDisk as Disk>⟧ held.old.kept held.new.kept result }
+    ensures untold { handed 2 held.new.kept ≡ [] }
+    ensures coming { coming_of held.new.kept ≡ coming_of held.old.kept }
+    ensures loaded { loaded_of held.new.kept ≡ loaded_of held.old.kept }
+{
+    let mut kept = take(alloc, held);
+    let status = kept.look(alloc);
+    put(held, kept);
+    status
+}
+
+/// What is shown: 0 is the page, 1 its past, and 2 its past while that is sought for a word, which goes on with the next
+/// `page_press`, of no bytes too.
+#[unsafe(no_mangle)]
+pub extern "C" fn page_looks(alloc: Global, held: &mut Held) -> u32
+    requires { IsThere held.old.kept }
+    ensures same { held.new.kept ≡ held.old.kept }
+    ensures looks { result ≡ looks_told held.old.kept }
+{
+    let kept = take(alloc, held);
+    let looks = kept.looks();
+    put(held, kept);
+    looks
+}
+
 /// Does what is pressed by these bytes of a terminal, and a quiet while; then takes back or does again what they ask
-/// for. What is handed is the desktop after all this. After another status than 0 no page is kept.
+/// for. What is handed is the desktop after all this. Where the past is shown, they are pressed there, up to the one by which
+/// the person leaves it. After another status than 0 no page is kept.
 #[unsafe(no_mangle)]
 pub extern "C" fn page_press(alloc: Global, held: &mut Held, bytes: &[u8]) -> u32
     requires { IsThere held.old.kept }
@@ -40,6 +100,7 @@ pub extern "C" fn page_press(alloc: Global, held: &mut Held, bytes: &[u8]) -> u3
         result }
     ensures untold { result ≢ 0 → handed 2 held.new.kept ≡ [] }
     ensures coming { coming_of held.new.kept ≡ coming_of held.old.kept }
+    ensures loaded { loaded_of held.new.kept ≡ loaded_of held.old.kept }
 {
     let mut kept = take(alloc, held);
     let status = kept.press(alloc, bytes);
@@ -58,6 +119,7 @@ pub extern "C" fn page_bring(alloc: Global, held: &mut Held, name: &[u8], file: 
         held.new.kept result }
     ensures untold { result ≢ 0 → handed 2 held.new.kept ≡ [] }
     ensures coming { coming_of held.new.kept ≡ [] }
+    ensures loaded { loaded_of held.new.kept ≡ loaded_of held.old.kept }
 {
     let mut kept = take(alloc, held);
     let status = kept.bring(alloc, name, file);
@@ -73,6 +135,7 @@ pub extern "C" fn page_bring_more(alloc: Global, held: &mut Held, name: &[u8], f
     ensures there { IsThere held.new.kept }
     ensures more { HasBroughtMore name.now file.now held.old.kept held.new.kept result }
     ensures untold { handed 2 held.new.kept ≡ [] }
+    ensures loaded { loaded_of held.new.kept ≡ loaded_of held.old.kept }
 {
     let mut kept = take(alloc, held);
     let status = kept.bring_more(alloc, name, file);
@@ -89,6 +152,7 @@ pub extern "C" fn page_give(alloc: Global, held: &mut Held, name: &[u8]) -> u32
     ensures given { HasGiven ⟦<RecordedDisk as Disk>⟧ name.now held.old.kept held.new.kept result }
     ensures untold { handed 2 held.new.kept ≡ [] }
     ensures coming { coming_of held.new.kept ≡ coming_of held.old.kept }
+    ensures loaded { loaded_of held.new.kept ≡ loaded_of held.old.kept }
 {
     let mut kept = take(alloc, held);
     let status = kept.give(alloc, name);
@@ -104,6 +168,7 @@ pub extern "C" fn page_copied(alloc: Global, held: &mut Held) -> u32
     ensures copied { HasCopied ⟦<RecordedDisk as Disk>⟧ held.old.kept held.new.kept result }
     ensures untold { handed 2 held.new.kept ≡ [] }
     ensures coming { coming_of held.new.kept ≡ coming_of held.old.kept }
+    ensures loaded { loaded_of held.new.kept ≡ loaded_of held.old.kept }
 {
     let mut kept = take(alloc, held);
     let status = kept.copied(alloc);

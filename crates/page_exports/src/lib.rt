@@ -1,5 +1,5 @@
 //! The desktop for a page of a browser, as functions that a host calls. What is kept between calls is owned by a `Held`, a
-//! place that the host lends to each call: it has to be zeros at first, and is filled by `page_begin`.
+//! place that the host lends to each call: it has to be zeros at first, and is filled by `page_start`.
 //!
 //! What a call makes is kept, and copied out by `page_copy`: the drawing of the desktop, the line below it, and the calls
 //! of the disk. A host that repeats these calls on a medium of its own, each after the one before, has on it at each

@@ -1,5 +1,5 @@
 //! A person before a past: which moment they see, and what a press does to that.
-ghost use Rattle.std.specs.Prelude.{◌≡◌, false, true, IfOk, IfSome, OnOk};
+ghost use Rattle.std.specs.Prelude.{◌≡◌, false, is_some, true, IfOk, IfSome, OnOk};
 ghost use Rattle.desktop_definitions.specs.Shown.{shown_screen};
 ghost use Rattle.desk_past.specs.Reading.{IsOnlyReadFrom};
 ghost use Rattle.past_moments.specs.Moments.{AreMomentsOf};
@@ -164,7 +164,9 @@ impl Looker {
     }
 
     /// Whether it is sought for a word, and so to be gone on.
-    pub fn seeks(&self) -> bool {
+    pub fn seeks(&self) -> bool
+        ensures { result ≡ is_some self.now.seeks }
+    {
         self.seeks.is_some()
     }
 

@@ -1,4 +1,4 @@
-use Rattle.std.proofs.Common.{◌∙◌, ap, ℕ, List}
+use Rattle.std.proofs.Common.{◌∙◌, ◌+◌, ap, ℕ, List}
 use Rattle.sector_disk.specs.Trail.{now, written}
 use Rattle.desk_page.specs.Recording.{trail_since}
 use Rattle.desk_page.proofs.Loaded.{is_written, sector_is}
@@ -6,7 +6,7 @@ use Rattle.desk_page.proofs.loading.load.Goals as goal
 
 pub returns-in-Ok-clause-written : goal.returns-in-Ok-clause-written
 returns-in-Ok-clause-written c =
-    is_written c.args.n _ c.args.disk.now c.write-result.new.self c.forget.new.self c.in-Ok.ensures.recorded
-    c.forget.ensures
-    ∙ ap (λ (s : List ℕ). written (now (trail_since c.args.disk.now)) c.args.n s)
+    is_written (c.args.first + c.args.n) _ c.args.disk.now c.write-result.new.self c.forget.new.self
+    c.in-Ok.ensures.recorded c.forget.ensures
+    ∙ ap (λ (s : List ℕ). written (now (trail_since c.args.disk.now)) (c.args.first + c.args.n) s)
     (sector_is c.args.bytes.now _ c.args.n c.copy_from_slice.ensures.after)

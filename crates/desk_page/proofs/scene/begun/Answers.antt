@@ -1,21 +1,25 @@
-use Rattle.desk_page.specs.Turns.{starved}
-use Rattle.desk_page.proofs.Turning.{begins_loaded, not_begun_of, some_bytes}
+use Rattle.std.proofs.Common.{refl, sym, ◌∙◌}
+use Rattle.std.proofs.lemmas.Bool.{true≢false, false≢true}
+use Rattle.std.proofs.lemmas.Result.{IfOk-weaker}
+use Rattle.desk_page.specs.contracts.disk.RecordedDiskDisk.TheImpl.{ghosts}
+use Rattle.desk_page.proofs.Begun.{not_begun_so}
 use Rattle.desk_page.proofs.scene.begun.Goals as goal
 
-pub returns-in-None-clause-refused : goal.returns-in-None-clause-refused
-returns-in-None-clause-refused c = starved
+pub returns-then-past-clause-begun : goal.returns-then-past-clause-begun
+returns-then-past-clause-begun c = IfOk-weaker c.keeping.result _ _ (λ page keeps. record {
+  first = c.in_ok-page.page;
+  is = c.in_ok-page.ensures.is;
+  keeps = λ _. keeps;
+  stays = λ none. absurd (true≢false (sym c.if-past.true ∙ none));
+}) c.keeping.ensures.kept
 
-pub returns-in_default-clause-refused : goal.returns-in_default-clause-refused
-returns-in_default-clause-refused c = starved
+pub returns-then-past-clause-refused : goal.returns-then-past-clause-refused
+returns-then-past-clause-refused c = not_begun_so ghosts c.args.loaded c.keeping.result c.keeping.ensures.refused
 
-pub returns-clause-begun : goal.returns-clause-begun
-returns-clause-begun c =
-    begins_loaded c.args.bytes.now c.in-Ok.disk
-    (some_bytes c.args.bytes.now c.is_empty.result c.is_empty.ensures c.if-is_empty.false) c.in-Ok.ensures
-    c.begin.result c.begin.ensures.opened c.begin.ensures.disk c.begin.ensures.sitting c.begin.ensures.parser
-
-pub returns-clause-refused : goal.returns-clause-refused
-returns-clause-refused c =
-    not_begun_of c.args.bytes.now c.in-Ok.disk
-    (some_bytes c.args.bytes.now c.is_empty.result c.is_empty.ensures c.if-is_empty.false) c.in-Ok.ensures
-    c.begin.result c.begin.ensures.no_store c.begin.ensures.errors
+pub returns-else-past-clause-begun : goal.returns-else-past-clause-begun
+returns-else-past-clause-begun c = record {
+  first = c.in_ok-page.page;
+  is = c.in_ok-page.ensures.is;
+  keeps = λ some. absurd (false≢true (sym c.if-past.false ∙ some));
+  stays = λ _. refl;
+}

@@ -8,7 +8,7 @@ returns-in-Ok-clause-answers c =
     more all.0 all.1
     (all.2 ∙ ap (λ v. v.items ++ (c.args.name.now, all.0) ∷ []) c.replace-coming.ensures.value)
     (record {
-      page = refl;
+      desk = refl;
       text = refl;
       untold = record { calls = c.clear.ensures.items; drawing = refl; line = refl; rings = refl };
     })
@@ -18,7 +18,7 @@ returns-in-Err-clause-answers c =
     none_kept c.in-Err.status c.in-Err.ensures.refused
     (ap (λ v. v.items) c.replace-coming.ensures.after ∙ c.new.ensures.items)
     (record {
-      page = refl;
+      desk = refl;
       text = refl;
       untold = record { calls = c.clear.ensures.items; drawing = refl; line = refl; rings = refl };
     })

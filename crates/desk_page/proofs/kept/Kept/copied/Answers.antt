@@ -1,5 +1,4 @@
 use Rattle.std.proofs.Common.{refl}
-use Rattle.std.proofs.lemmas.Result.{IfOk-weaker}
 use Rattle.desk_page.specs.Calls.{nothing_kept}
 use Rattle.desk_page.specs.Giving.{selected_text}
 use Rattle.desk_page.specs.contracts.disk.RecordedDiskDisk.TheImpl.{ghosts}
@@ -8,7 +7,7 @@ use Rattle.desk_page.proofs.kept.Kept.copied.Goals as goal
 
 pub returns-in_default-clause-answers : goal.returns-in_default-clause-answers
 returns-in_default-clause-answers c = nothing_kept c.in_default.is (record {
-  page = refl;
+  desk = refl;
   text = refl;
   untold = record { calls = c.clear.ensures.items; drawing = refl; line = refl; rings = refl };
 })
@@ -18,12 +17,12 @@ returns-clause-answers c =
     is_asked ghosts c.selected-found.result c.tell.new.self.text (λ bytes. bytes.items) selected_text c.args.self.now
     c.tell.new.self c.tell.result
     (record {
-      before = c.in-Some.page;
+      before = c.in-Some.desk;
       was = c.in-Some.is;
-      after = c.selected-found.new.page;
+      after = c.selected-found.new.self;
       looks = c.selected-found.ensures.looked;
-      kept = c.tell.ensures.page;
+      kept = c.tell.ensures.desk;
       untold = tells_none c.args.self.now c.tell.new.self _ c.tell.ensures.scene c.clear.ensures.items refl refl refl;
     })
-    refl (IfOk-weaker c.selected-found.result _ _ (λ text told. told tt) c.selected-found.ensures.given)
+    refl c.selected-found.ensures.given
     c.selected-found.ensures.errors c.tell.ensures.given c.tell.ensures.missing c.tell.ensures.failed

@@ -6,25 +6,25 @@ use Rattle.desk_page.proofs.kept.Kept.press.Goals as goal
 
 pub returns-in_default-clause-answers : goal.returns-in_default-clause-answers
 returns-in_default-clause-answers c =
-    let gone : c.args.self.now.page ≡ None = sym c.take.ensures.value ∙ c.in_default.is in
+    let gone : c.args.self.now.desk ≡ None = sym c.take.ensures.value ∙ c.in_default.is in
     no_page gone (record {
-      page = c.take.ensures.after ∙ sym gone;
+      desk = c.take.ensures.after ∙ sym gone;
       text = refl;
       untold = record { calls = c.clear.ensures.items; drawing = refl; line = refl; rings = refl };
     })
 
 pub returns-in-Ok-clause-answers : goal.returns-in-Ok-clause-answers
 returns-in-Ok-clause-answers c =
-    is_pressed ghosts c.args.bytes.now c.in-Some.page c.in-Ok.page c.in-Ok.scene c.args.self.now c.keep.new.self
-    c.keep.result (sym c.take.ensures.value ∙ c.in-Some.is) c.in-Ok.ensures.done c.keep.ensures.page c.keep.ensures.scene
+    is_pressed ghosts c.args.bytes.now c.in-Some.desk c.in-Ok.desk c.in-Ok.scene c.args.self.now c.keep.new.self
+    c.keep.result (sym c.take.ensures.value ∙ c.in-Some.is) c.in-Ok.ensures.done c.keep.ensures.desk c.keep.ensures.scene
     c.keep.ensures.text c.keep.ensures.done
 
 pub returns-in-Err-clause-answers : goal.returns-in-Err-clause-answers
 returns-in-Err-clause-answers c =
-    not_pressed ghosts c.args.bytes.now c.in-Some.page c.args.self.now _ c.in-Err.error c.status_of.result
+    not_pressed ghosts c.args.bytes.now c.in-Some.desk c.args.self.now _ c.in-Err.error c.status_of.result
     (sym c.take.ensures.value ∙ c.in-Some.is) c.in-Err.ensures.failed
     (record {
-      page = c.take.ensures.after;
+      desk = c.take.ensures.after;
       text = refl;
       untold = record { calls = c.clear.ensures.items; drawing = refl; line = refl; rings = refl };
     })

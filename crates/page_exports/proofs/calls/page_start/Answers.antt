@@ -1,0 +1,17 @@
+use Rattle.std.proofs.Common.{◌∙◌, Some, ap, refl}
+use Rattle.desk_page.specs.declared.kept.Kept.{Kept}
+use Rattle.page_exports.specs.Exports.{fresh, no_room}
+use Rattle.page_exports.proofs.calls.page_start.Goals as goal
+
+pub returns-in-Ok : goal.returns-in-Ok
+returns-in-Ok c = fresh c.new.result
+    (record {
+      desk = c.new.ensures.desk;
+      coming = c.new.ensures.coming;
+      loaded = c.new.ensures.loaded;
+      untold = c.new.ensures.untold;
+    })
+    (c.put.ensures ∙ ap (λ (kept : Kept). Some kept) c.in-Ok.ensures.ok)
+
+pub returns : goal.returns
+returns c = no_room refl
