@@ -80,6 +80,12 @@ impl Pane {
         self.asks = true;
     }
 
+    /// The terminal is asked for its size behind the next scene, where that is to be: so something is heard then, also where
+    /// nobody presses a key.
+    pub fn ask_where(&mut self, asks: bool) {
+        self.asks = self.asks || asks;
+    }
+
     /// Other rows come into sight, or the columns of a side.
     pub fn move_by(&mut self, page: Page) {
         self.sight = moved(page, self.sight);

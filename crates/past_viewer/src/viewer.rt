@@ -353,6 +353,7 @@ impl Viewer {
         self.due = self.due || self.looker.seeks();
         let comes = self.looker.go_on(alloc, store)?;
         self.pane.follow_where(comes);
+        self.pane.ask_where(self.looker.seeks());
         Ok(Doing::Stays)
     }
 
