@@ -2,6 +2,7 @@ use Rattle.std.proofs.Common.{◌≡◌, ◌∙◌, None, refl, subst, sym}
 use Rattle.desk_page.specs.Calls.{no_desk}
 use Rattle.desk_page.specs.Looks.{LooksAtPast}
 use Rattle.desk_page.specs.Turns.{IsWithheld}
+use Rattle.desk_page.specs.declared.kept.Kept.{Kept}
 use Rattle.desk_page.specs.contracts.disk.RecordedDiskDisk.TheImpl.{ghosts}
 use Rattle.desk_page.proofs.Keeping.{is_looked, look_tells_none, not_looked, tells_none}
 use Rattle.desk_page.proofs.kept.Kept.look.Goals as goal
@@ -41,5 +42,7 @@ returns-in-Err-clause-answers c =
 
 pub returns-in-Ok-clause-untold : goal.returns-in-Ok-clause-untold
 returns-in-Ok-clause-untold c =
-    look_tells_none ghosts c.page.result c.in-Ok.desk c.in-Ok.scene (record c.args.self.now { scene = record c.args.self.now.scene { calls = c.clear.new.self } })
-    _ _ c.in-Ok.ensures.looks c.clear.ensures.items c.keep_or_leave.ensures.handed c.keep_or_leave.ensures.left
+    let cleared : Kept = record c.args.self.now { scene = record c.args.self.now.scene { calls = c.clear.new.self } } in
+    look_tells_none ghosts c.page.result c.in-Ok.desk c.in-Ok.scene cleared c.keep_or_leave.new.self
+    c.keep_or_leave.result c.in-Ok.ensures.looks c.clear.ensures.items c.keep_or_leave.ensures.handed
+    c.keep_or_leave.ensures.left
