@@ -183,6 +183,11 @@ counted_part {wanted} {bytes} {indices} from few are =
     long : few ≡ from + few - from
     long = omega arith
 
+-- among no index none is counted
+pub none_among : (p : ℕ → Bool) (indices : List ℕ) → length indices ≡ 0 → 0 ≡ count_by p indices
+none_among p [] none = refl
+none_among p (index ∷ indices) none = absurd cc
+
 pub are_few : {wanted : ℕ} {bytes indices : List ℕ} → AreIndices wanted bytes indices → AreFew indices
 are_few {wanted} {bytes} {indices} are = record {
   all = let h = no_more wanted 0 bytes in

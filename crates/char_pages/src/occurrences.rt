@@ -84,7 +84,8 @@ fn is_between(from: u32, to: u32, index: u16) -> bool
     if index < from { false } else { index < to }
 }
 
-/// How many of the indices are between these.
+/// How many of the indices are between these. It is compiled apart, so that a count among no index stays short.
+#[inline(never)]
 fn count_between(indices: &[u16], from: u32, to: u32) -> u32
     requires { length indices.now < 2 ^ 32 }
     ensures { result ≡ count_by (is_between from to) indices.now }
@@ -115,11 +116,16 @@ impl Occurrences {
         ensures count { IfSome result (λ found. (c : Content) (base : ℕ) → AreFound c base self.now
             → IsCountIn (c (base + n)) part found) }
         ensures most { IfSome result (λ found. found ≤ part.few) }
+        ensures below { IfSome result (λ found. (many : ℕ) → AreKnownBelow many self.now
+            → n < many) }
     {
         if part.wanted != self.wanted {
             return None;
         }
         let indices = self.known_of(n)?;
+        if indices.is_empty() {
+            return Some(0);
+        }
         Some(count_between(indices, part.at, part.at + part.few))
     }
 
@@ -128,6 +134,8 @@ impl Occurrences {
         ensures found { IfSome result (λ indices. (c : Content) (base : ℕ)
             → AreFound c base self.now → AreIndices self.now.wanted (c (base + n)) indices.now) }
         ensures few { IfSome result (λ indices. AreFew indices.now) }
+        ensures below { IfSome result (λ indices. (many : ℕ) → AreKnownBelow many self.now
+            → n < many) }
     {
         match self.known.get(place_of(n))? {
             Some(counted) if counted.number == n => Some(counted.indices.as_slice()),

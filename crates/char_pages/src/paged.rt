@@ -59,6 +59,10 @@ impl<'a, D: Disk> CharSource for Paged<'a, D> {
         self.pages.count_over(self.disk, offset, most, wanted)
     }
 
+    fn known_from(&self, offset: u32, few: u32, wanted: u8) -> Option<u32> {
+        self.pages.known_over(offset, few, wanted)
+    }
+
     fn len(&self) -> u32 {
         self.pages.len()
     }

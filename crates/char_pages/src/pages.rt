@@ -70,7 +70,7 @@ fn drop_front(bytes: &mut Vec<u8>, n: usize)
 }
 
 impl Pages {
-    ghost use Rattle.std.specs.Prelude.{◌-◌, ◌<◌, ◌++◌, [], get_or, IfOk, OnOk, OnErr, false};
+    ghost use Rattle.std.specs.Prelude.{◌-◌, ◌<◌, ◌++◌, [], get_or, IfOk, IfSome, OnOk, OnErr, false};
     ghost use Rattle.sector_disk.specs.Trail.{Content, now};
     ghost use Rattle.char_pages.specs.Cached.{IsCountIn};
     ghost use Rattle.char_pages.specs.Ground.{OnlyLooked};
@@ -213,6 +213,23 @@ impl Pages {
         let few = most.min(SECTOR_BYTES - at);
         let found = self.count_in_sector(disk, offset / SECTOR_BYTES, Part { at, few, wanted })?;
         Ok((few, found))
+    }
+
+    /// How many of so many characters from an offset on are the wanted byte, where they stand in one sector on the disk
+    /// of which that is known.
+    pub(crate) fn known_over(&self, offset: u32, few: u32, wanted: u8) -> Option<u32>
+        requires { 0 < few }
+        ensures { IfSome result (λ found. (c : Content)
+            → IsCountedFrom (IsTrueOf c self.now) (paged_characters c self.now) offset few wanted
+            (few, found)) }
+    {
+        let at = offset % SECTOR_BYTES;
+        if few > SECTOR_BYTES - at {
+            return None;
+        }
+        let n = (offset / SECTOR_BYTES) as usize;
+        let found = self.occurrences.count(n, Part { at, few, wanted })?;
+        Some(found)
     }
 
     /// How often the wanted byte occurs in a part of the n-th of the sectors on the disk. `Fault`: the disk failed.

@@ -1,9 +1,10 @@
 -- Bytes that are counted among characters that stand together in the source.
 use Rattle.std.specs.Prelude.{ℕ, zero, suc, ◌≡◌, ◌+◌, ◌-◌, ◌<◌, ◌≤◌, ◌==◌, List, ◌∷◌}
-use Rattle.std.specs.Prelude.{◌++◌, length, take, drop, map, count_by, slice_index, slice_range}
+use Rattle.std.specs.Prelude.{Bool, [], cond, ◌++◌, length, take, drop, map, count_by, slice_index, slice_range}
 use Rattle.std.proofs.Common.{refl, sym, ap, ◌∙◌, arith, subst}
 use Rattle.std.proofs.lemmas.List.{take-map, drop-map, map-append, take-append-le}
 use Rattle.std.proofs.lemmas.List.Elements.{All-drop}
+use Rattle.std.proofs.lemmas.List.Sums.{sum_by-append}
 use Rattle.std.proofs.Math.Seq.{drop-cons}
 use Rattle.char_file.specs.Source.{IsCountedFrom}
 use Rattle.piece_ring.specs.declared.piece.Look.{Look}
@@ -12,7 +13,7 @@ use Rattle.piece_ring.specs.Flat.{run, characters_of}
 use Rattle.piece_ring.proofs.Lengths.{length-run}
 use Rattle.piece_ring.specs.Text.{Text, AreWithin}
 use Rattle.readers_scanners.specs.Reading.{bytes_of_text, contents, IsCounted, IsReading}
-use Rattle.readers_scanners.proofs.Upcoming.{enough, point}
+use Rattle.readers_scanners.proofs.Upcoming.{drop_more, enough, point}
 
 pub bytes-append : (characters : List ℕ) (a b : Text ℕ)
     → bytes_of_text characters (a ++ b) ≡ bytes_of_text characters a ++ bytes_of_text characters b
@@ -30,6 +31,25 @@ run_bytes characters off (suc n) look within =
     (let fewer : suc off + n - suc off ≡ n = omega arith in fewer)
     ∙ ap (take (suc n)) (sym (drop-cons characters off 0 (omega (arith, within))))
     ∙ ap (λ k. take k (drop off characters)) (let all : suc n ≡ off + suc n - off = omega arith in all)
+
+take_on : {X : Type 0} → (xs : List X) (a n : ℕ) → take (a + n) xs ≡ take a xs ++ take n (drop a xs)
+take_on xs zero n = ap (λ k. take k xs) (let e : 0 + n ≡ n = omega arith in e)
+take_on [] (suc a) zero = ap (λ k. take k []) (let e : suc a + 0 ≡ suc a = omega arith in e)
+take_on [] (suc a) (suc n) = ap (λ k. take k []) (let e : suc a + suc n ≡ suc (a + suc n) = omega arith in e)
+take_on (x ∷ xs) (suc a) n =
+    ap (λ k. take k (x ∷ xs)) (let e : suc a + n ≡ suc (a + n) = omega arith in e) ∙ ap (λ l. x ∷ l) (take_on xs a n)
+
+-- those of a stretch more
+pub counts_on : (test : ℕ → Bool) (bs : List ℕ) (org p n : ℕ) → org ≤ p
+    → count_by test (slice_range bs org (p + n))
+    ≡ count_by test (slice_range bs org p) + count_by test (slice_range bs p (p + n))
+counts_on test bs org p n from =
+    ap (λ k. count_by test (take k (drop org bs))) (let e : p + n - org ≡ p - org + n = omega (arith, from) in e)
+    ∙ ap (count_by test) (take_on (drop org bs) (p - org) n)
+    ∙ sum_by-append (λ b. cond (test b) 1 0) (take (p - org) (drop org bs)) (take n (drop (p - org) (drop org bs)))
+    ∙ (λ k. count_by test (slice_range bs org p) + count_by test (take ((let e : n ≡ p + n - p = omega arith in e) k)
+    ((sym (drop_more bs org (p - org))
+    ∙ ap (λ j. drop j bs) (let o : org + (p - org) ≡ p = omega (arith, from) in o)) k)))
 
 -- the first n of those that stand together
 pub run_front : (off n k : ℕ) (look : Look) → n ≤ k → take n (run off k look) ≡ run off n look

@@ -97,6 +97,8 @@ impl Filling {
         ensures limit { self.new.limit ≡ self.old.limit }
         ensures some { 0 < length bytes.now → 0 < result }
         ensures within { result ≤ length bytes.now }
+        ensures whole { self.old.used + length bytes.now ≤ SECTOR_BYTES
+            → result ≡ length bytes.now }
         ensures taken { (c : Content) (before : List ℕ)
             → (self.old.used ≡ SECTOR_BYTES → self.old.full + 1 ≡ self.old.limit)
             → HasTaken c self.old before → HasTaken c self.new (before ++ take result bytes.now) }
@@ -111,9 +113,29 @@ impl Filling {
         count
     }
 
-    /// Takes the bytes, those that fit the sectors, and writes each sector that is full when a byte after it comes.
-    /// `Fault`: the disk failed in this call, and what was taken is no longer said.
+    /// Takes the bytes, those that fit the sectors, and writes each sector that is full when a byte after it comes. Where
+    /// they all fit the buffer, they are copied there, and nothing else is done. `Fault`: the disk failed in this call,
+    /// and what was taken is no longer said.
     pub fn put_over<D: Disk>(&mut self, disk: &mut D, bytes: &[u8]) -> Result<(), Fault>
+        requires { first_sector self.old + most_sectors self.old ≤ D.size disk.old }
+        ensures kept { IsConfined D.size D.honest D.trail (SectorsOf self.old) disk.old disk.new }
+        ensures cause { CountsFault result (D.failures disk.old) (D.failures disk.new) }
+        ensures from { first_sector self.new ≡ first_sector self.old }
+        ensures limit { most_sectors self.new ≡ most_sectors self.old }
+        ensures taken { OnOk result (D.honest disk.old → (before : List ℕ)
+            → HasTaken (now (D.trail disk.old)).reads self.old before
+            → HasTaken (now (D.trail disk.new)).reads self.new (before ++ bytes.now)) }
+    {
+        if bytes.is_empty() || bytes.len() > SECTOR_BYTES as usize - self.used {
+            return self.put_beyond(disk, bytes);
+        }
+        self.take_some(bytes);
+        Ok(())
+    }
+
+    /// The same of bytes that may not fit the buffer. It is compiled apart, so that few bytes are copied where they come.
+    #[inline(never)]
+    fn put_beyond<D: Disk>(&mut self, disk: &mut D, bytes: &[u8]) -> Result<(), Fault>
         requires { first_sector self.old + most_sectors self.old ≤ D.size disk.old }
         ensures kept { IsConfined D.size D.honest D.trail (SectorsOf self.old) disk.old disk.new }
         ensures cause { CountsFault result (D.failures disk.old) (D.failures disk.new) }

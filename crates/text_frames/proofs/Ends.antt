@@ -1,36 +1,22 @@
 -- Ends of lines, counted stretch after stretch.
-use Rattle.std.specs.Prelude.{◌≡◌, ℕ, zero, suc, ◌+◌, ◌-◌, ◌<◌, ◌≤◌, cond, Option, None, IfSome, List, [], ◌∷◌, ◌++◌, take, drop}
+use Rattle.std.specs.Prelude.{◌≡◌, ℕ, ◌+◌, ◌-◌, ◌<◌, ◌≤◌, cond, Option, None, IfSome, List}
 use Rattle.std.specs.Prelude.{Bool, true, false, Some, count_by, slice_range}
 use Rattle.std.proofs.Common.{refl, sym, ap, ◌∙◌, inl, inr, arith}
 use Rattle.std.proofs.lemmas.Bool.Decides.{eqb_tells}
-use Rattle.std.proofs.lemmas.List.Sums.{sum_by-append}
 use Rattle.char_file.specs.Source.{OnlyReads}
-use Rattle.char_file.proofs.Reading.{read_on}
+use Rattle.char_file.proofs.Reading.{no_read, read_on}
 use Rattle.piece_ring.specs.Text.{Text}
-use Rattle.readers_scanners.specs.Reading.{bytes_of_text, Reading, IsCounted}
+use Rattle.readers_scanners.specs.Reading.{bytes_of_text, Reading, IsPassedOver}
 use Rattle.readers_scanners.proofs.Walking.{IsAt}
-use Rattle.readers_scanners.proofs.Upcoming.{drop_more}
+use Rattle.readers_scanners.proofs.Counting.{counts_on}
 use Rattle.event_bytes.specs.Bytes.{carriage_return}
 use Rattle.text_frames.specs.Lines.{is_return, ends_between}
 use Rattle.text_frames.specs.Reading.{IsRowBelow}
 
-take_on : {X : Type 0} → (xs : List X) (a n : ℕ) → take (a + n) xs ≡ take a xs ++ take n (drop a xs)
-take_on xs zero n = ap (λ k. take k xs) (let e : 0 + n ≡ n = omega arith in e)
-take_on [] (suc a) zero = ap (λ k. take k []) (let e : suc a + 0 ≡ suc a = omega arith in e)
-take_on [] (suc a) (suc n) = ap (λ k. take k []) (let e : suc a + suc n ≡ suc (a + suc n) = omega arith in e)
-take_on (x ∷ xs) (suc a) n =
-    ap (λ k. take k (x ∷ xs)) (let e : suc a + n ≡ suc (a + n) = omega arith in e) ∙ ap (λ l. x ∷ l) (take_on xs a n)
-
 -- those of a stretch more
 pub ends_on : (bs : List ℕ) (org p n : ℕ) → org ≤ p
     → ends_between bs org (p + n) ≡ ends_between bs org p + count_by is_return (slice_range bs p (p + n))
-ends_on bs org p n from =
-    ap (λ k. count_by is_return (take k (drop org bs))) (let e : p + n - org ≡ p - org + n = omega (arith, from) in e)
-    ∙ ap (count_by is_return) (take_on (drop org bs) (p - org) n)
-    ∙ sum_by-append (λ b. cond (is_return b) 1 0) (take (p - org) (drop org bs)) (take n (drop (p - org) (drop org bs)))
-    ∙ (λ k. ends_between bs org p + count_by is_return (take ((let e : n ≡ p + n - p = omega arith in e) k)
-    ((sym (drop_more bs org (p - org))
-    ∙ ap (λ j. drop j bs) (let o : org + (p - org) ≡ p = omega (arith, from) in o)) k)))
+ends_on bs org p n from = counts_on is_return bs org p n from
 
 -- lines that are left to end, after a byte
 module _ (left left' : ℕ) (some : 0 < left) where
@@ -92,13 +78,27 @@ module _ {S : Type 0} (characters : S → List ℕ) (failures : S → ℕ) (hone
   }
 
   -- and the lines that end there
-  pub ends_by : (org limit n count ends new p : ℕ) → org ≤ at
-      → IsCounted (honest now) (characters now) reader carriage_return limit (n, count) → p ≡ at + n
+  pub ends_by : (org n count ends new p : ℕ) → org ≤ at
+      → (honest now → count
+      ≡ ends_between (bytes_of_text (characters now) reader.text) reader.position (reader.position + n))
+      → p ≡ at + n
       → (honest start → ends ≡ ends_between (bytes_of_text (characters start) text) org at) → new ≡ ends + count
       → honest start → new ≡ ends_between (bytes_of_text (characters start) text) org p
-  ends_by org limit n count ends new p from counted e so_far sum h =
+  ends_by org n count ends new p from counted e so_far sum h =
       let here : count ≡ count_by is_return (slice_range (bytes_of_text (characters start) text) at (at + n)) =
-      counted.exact (is.reads.still h)
+      counted (is.reads.still h)
       ∙ (λ k. count_by is_return (slice_range (bytes_of_text (is.reads.same h k) (is.same k)) (is.place k) (is.place k + n))) in
       sum ∙ (λ k. so_far h k + here k) ∙ sym (ends_on (bytes_of_text (characters start) text) org at n from)
       ∙ ap (ends_between (bytes_of_text (characters start) text) org) (sym e)
+
+  -- what was passed with no read
+  module _ (ground_self : (s : S) → same_ground s s) (next : Reading) (bound limit n count : ℕ)
+      (passed : IsPassedOver (honest now) (characters now) reader next carriage_return bound limit (n, count)) where
+    pub past_known : (p : ℕ) → p ≡ at + n → IsAt characters failures honest same_ground start now text next p
+    past_known p e = onward_by now next n p passed.moves e passed.same
+        (no_read characters failures honest same_ground ground_self now) refl
+
+    pub ends_known : (org ends new p : ℕ) → org ≤ at → p ≡ at + n
+        → (honest start → ends ≡ ends_between (bytes_of_text (characters start) text) org at) → new ≡ ends + count
+        → honest start → new ≡ ends_between (bytes_of_text (characters start) text) org p
+    ends_known org ends new p from e = ends_by org n count ends new p from passed.exact e

@@ -1,6 +1,8 @@
 //! Where lines start, read from a position backwards, and how many end on the way to one.
 ghost use Rattle.std.specs.Prelude.{◌≡◌, ◌+◌, ◌-◌, ◌<◌, ◌≤◌, nat_lt, length, IfOk, IfSome, MatchOption, OnOk};
 ghost use Rattle.std.specs.Prelude.{if◌then◌else◌};
+ghost use Rattle.event_bytes.specs.Bytes.{carriage_return};
+ghost use Rattle.readers_scanners.specs.Reading.{IsPassedOver};
 ghost use Rattle.readers_scanners.specs.Words.{ReadsOrFails, flat, AreWithin, bytes_of_text};
 ghost use Rattle.text_frames.specs.Walks.{CanWalk};
 ghost use Rattle.text_frames.specs.Lines.{line_start, line_above, ends_between, is_return};
@@ -100,23 +102,41 @@ pub(crate) fn ends_between<S: CharSource>(
     let mut ends = 0;
     let mut left = pos - org;
     while left > 0 {
+        let most = left.min(STRETCH);
+        let (count, found) = reader.count(CARRIAGE_RETURN, most, source)?;
+        ends += found;
+        left -= count;
         if ends >= h as u32 {
             return Ok(ends);
         }
-        let (count, found) = reader.count(CARRIAGE_RETURN, left.min(STRETCH), source)?;
-        ends += found;
-        left -= count;
+        let wanted = h as u32 - ends;
+        let (next, known, of_them) = pass_known(reader, count < most, wanted, left, source);
+        reader = next;
+        ends += of_them;
+        left -= known;
     }
     Ok(ends)
 }
 
-/// A place before the beginning of a row.
-#[derive(Clone, Copy, Debug, PartialEq, Eq)]
-struct Nearer {
-    /// Its position.
-    pos: u32,
-    /// How many rows below it the row is.
-    rows: u32,
+/// Passes characters of which it is known how many lines end there, where the stretch before was shorter than it could
+/// be: behind it other pieces come, or another sector. Within a long stretch that would only cost time.
+fn pass_known<'a, S: CharSource>(
+    reader: Reader<'a>,
+    was_short: bool,
+    fewer: u32,
+    most: u32,
+    source: &S,
+) -> (Reader<'a>, u32, u32)
+    requires some { 0 < fewer }
+    requires within { reader.position ≤ length reader.text }
+    requires offsets { AreWithin (length (S.characters source.now)) reader.text }
+    ensures { IsPassedOver (S.honest source.now) (S.characters source.now) reader.entry result.0
+        carriage_return fewer most (result.1, result.2) }
+{
+    if was_short {
+        return reader.pass_known(CARRIAGE_RETURN, fewer, most, source);
+    }
+    (reader, 0, 0)
 }
 
 /// Where the row begins that is so many rows below that of the position `from`. None where the text ends before. The
@@ -137,72 +157,110 @@ pub(crate) fn row_below<S: CharSource>(
         × (p ≤ length (flat text.now)))) }
     ensures source { ReadsOrFails S.CharSource result source.old source.new }
 {
-    let Some(long) = stretch_below(text, from, rows, ROW_STRETCH, source)? else {
-        return Ok(None);
-    };
-    let Some(short) = stretch_below(text, long.pos, long.rows, SHORT_STRETCH, source)? else {
-        return Ok(None);
-    };
-    let begin = row_within(text, short.pos, short.rows, source)?;
+    let reader = Reader::open(text, from);
+    let (long, rest) = stretch_below(text, reader, rows, source)?;
+    let (short, last) = stretch_within(text, long, rest, source)?;
+    let begin = row_within(text, short, last, source)?;
     Ok(begin)
 }
 
-/// The stretch of at most `most` characters in which the row begins that is so many rows below that of the position
-/// `from`: where it starts. None where the text ends before. `Fault`: the source failed in this call.
-fn stretch_below<S: CharSource>(
-    text: &Text,
-    from: u32,
+/// A reader on the way to the row that is so many rows below that of the first reader, with how many rows below it the
+/// row is: it begins in the next stretch, or the text ends before. Where it is known how many lines end, the stretches
+/// are passed without a read. `Fault`: the source failed in this call.
+fn stretch_below<'a, S: CharSource>(
+    text: &'a Text,
+    first: Reader<'a>,
     rows: u32,
-    most: u32,
     source: &mut S,
-) -> Result<Option<Nearer>, Fault>
-    requires walk { CanWalk (S.characters source.old) (flat text.now) from
-        (length (flat text.now)) }
+) -> Result<(Reader<'a>, u32), Fault>
+    requires text { first.text ≡ flat text.now }
+    requires offsets { AreWithin (length (S.characters source.old)) (flat text.now) }
     requires some { 0 < rows }
-    requires most { 0 < most }
-    ensures leads { IfOk result (λ found. S.honest source.old → IfSome found (λ near.
-        ends_between (bytes_of_text (S.characters source.old) (flat text.now)) from near.pos
-        + near.rows
-        ≡ rows)) }
-    ensures range { IfOk result (λ found. IfSome found (λ near.
-        IsNearer (length (flat text.now)) from rows near.pos near.rows)) }
+    ensures leads { IfOk result (λ near. S.honest source.old
+        → ends_between (bytes_of_text (S.characters source.old) (flat text.now))
+        first.entry.position near.0.position + near.1 ≡ rows) }
+    ensures range { IfOk result (λ near. IsNearer (length (flat text.now)) first.entry.position rows
+        near.0.position near.1) }
+    ensures text { IfOk result (λ near. near.0.text ≡ flat text.now) }
     ensures source { ReadsOrFails S.CharSource result source.old source.new }
 {
-    let mut reader = Reader::open(text, from);
+    let from = first.pos();
+    let mut reader = first;
     let mut ends = 0;
     let len = text.len();
     let mut left = len - from;
     while left > 0 {
-        let (count, found) = reader.count(CARRIAGE_RETURN, left.min(most), source)?;
-        if ends + found >= rows {
-            return Ok(Some(Nearer {
-                pos: len - left,
-                rows: rows - ends,
-            }));
+        let most = left.min(ROW_STRETCH);
+        let (count, found) = reader.pass_fewer(CARRIAGE_RETURN, rows - ends, most, source)?;
+        if count == 0 {
+            return Ok((reader, rows - ends));
+        }
+        ends += found;
+        left -= count;
+        let wanted = rows - ends;
+        let (next, known, of_them) = pass_known(reader, count < most, wanted, left, source);
+        reader = next;
+        ends += of_them;
+        left -= known;
+    }
+    Ok((reader, rows - ends))
+}
+
+/// The same by short stretches.
+fn stretch_within<'a, S: CharSource>(
+    text: &'a Text,
+    first: Reader<'a>,
+    rows: u32,
+    source: &mut S,
+) -> Result<(Reader<'a>, u32), Fault>
+    requires text { first.text ≡ flat text.now }
+    requires offsets { AreWithin (length (S.characters source.old)) (flat text.now) }
+    requires some { 0 < rows }
+    ensures leads { IfOk result (λ near. S.honest source.old
+        → ends_between (bytes_of_text (S.characters source.old) (flat text.now))
+        first.entry.position near.0.position + near.1 ≡ rows) }
+    ensures range { IfOk result (λ near. IsNearer (length (flat text.now)) first.entry.position rows
+        near.0.position near.1) }
+    ensures text { IfOk result (λ near. near.0.text ≡ flat text.now) }
+    ensures source { ReadsOrFails S.CharSource result source.old source.new }
+{
+    let from = first.pos();
+    let mut reader = first;
+    let mut ends = 0;
+    let len = text.len();
+    let mut left = len - from;
+    while left > 0 {
+        let most = left.min(SHORT_STRETCH);
+        let (count, found) = reader.pass_fewer(CARRIAGE_RETURN, rows - ends, most, source)?;
+        if count == 0 {
+            return Ok((reader, rows - ends));
         }
         ends += found;
         left -= count;
     }
-    Ok(None)
+    Ok((reader, rows - ends))
 }
 
-/// The same, read byte by byte.
-fn row_within<S: CharSource>(
-    text: &Text,
-    from: u32,
+/// Where the row begins that is so many rows below that of the reader, read byte by byte. None where the text ends
+/// before. `Fault`: the source failed in this call.
+fn row_within<'a, S: CharSource>(
+    text: &'a Text,
+    first: Reader<'a>,
     rows: u32,
     source: &mut S,
 ) -> Result<Option<u32>, Fault>
-    requires walk { CanWalk (S.characters source.old) (flat text.now) from
-        (length (flat text.now)) }
+    requires text { first.text ≡ flat text.now }
+    requires offsets { AreWithin (length (S.characters source.old)) (flat text.now) }
     requires some { 0 < rows }
     ensures begins { IfOk result (λ found. S.honest source.old → IfSome found
-        (IsRowBelow (bytes_of_text (S.characters source.old) (flat text.now)) from rows)) }
-    ensures range { IfOk result (λ found. IfSome found (λ p. (from + rows ≤ p)
+        (IsRowBelow (bytes_of_text (S.characters source.old) (flat text.now)) first.entry.position
+        rows)) }
+    ensures range { IfOk result (λ found. IfSome found (λ p. (first.entry.position + rows ≤ p)
         × (p ≤ length (flat text.now)))) }
     ensures source { ReadsOrFails S.CharSource result source.old source.new }
 {
-    let mut reader = Reader::open(text, from);
+    let from = first.pos();
+    let mut reader = first;
     let mut left = rows;
     let len = text.len();
     for at in from..len {

@@ -1,8 +1,7 @@
 use Rattle.std.proofs.Common.{ap, arith}
-use Rattle.piece_ring.specs.Flat.{flat}
 use Rattle.readers_scanners.specs.Reading.{Reading}
 use Rattle.readers_scanners.proofs.Counting.{few_end, counted_here}
-use Rattle.readers_scanners.proofs.Upcoming.{standing, some_here, enough, moves_on}
+use Rattle.readers_scanners.proofs.Upcoming.{standing, some_here, enough}
 use Rattle.readers_scanners.proofs.reader.Reader.count.Goals as goal
 
 pub count_from-requires-clause-some : goal.count_from-requires-clause-some

@@ -2,7 +2,7 @@ use Rattle.std.proofs.Common.{◌≡◌, ◌≤◌, ◌-◌, ◌++◌, take, len
 use Rattle.sector_disk.specs.Trail.{now}
 use Rattle.sector_disk.specs.Confined.{IsConfined}
 use Rattle.store_layout.specs.Filling.{first_sector, most_sectors, SectorsOf, HasTaken}
-use Rattle.store_layout.proofs.filling.Filling.put_over.Given as goal
+use Rattle.store_layout.proofs.filling.Filling.put_beyond.Given as goal
 
 abbrev pub invariant-loop-at : goal.invariant-loop-at
 invariant-loop-at g l =
