@@ -16,6 +16,6 @@ loop-left-preserved g c =
       low = omega (arith, low);
       few = omega (arith, few, less, least, most);
       so_far = ends_by s.characters s.failures s.honest s.same_ground laws.ground_through _ _ _ _ _ before.way
-          c.args.org _ c.in_ok-count.count c.in_ok-count.found c.loop-left.ends _ _ (omega (arith, low, order))
-          read.counted on before.so_far refl;
+          c.args.org c.in_ok-count.count c.in_ok-count.found c.loop-left.ends _ _ (omega (arith, low, order))
+          read.counted.exact on before.so_far refl;
     }
