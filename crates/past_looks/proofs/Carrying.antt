@@ -11,9 +11,11 @@ use Rattle.desk_journal.specs.View.{StoreView}
 use Rattle.desk_past.specs.Reading.{IsOnlyReadFrom, IsQuiet}
 use Rattle.desk_past.specs.Turning.{TurnsTo}
 use Rattle.desk_past.proofs.StillReads.{still_none}
-use Rattle.past_moments.specs.Moments.{AreMomentsOf, IsDesktopAt, IsLastOf, IsToldOf}
+use Rattle.past_moments.specs.Moments.{IsDesktopAt, IsLastOf}
+use Rattle.all_moments.specs.Parts.{AreAllMomentsOf, IsDesktopThen, IsToldThen}
 use Rattle.past_moments.specs.declared.moments.Look.{Look}
-use Rattle.past_moments.proofs.Carried.{last_on, moment_on, moments_on, told_on}
+use Rattle.past_moments.proofs.Carried.{last_on}
+use Rattle.all_moments.proofs.Backward.{all_on, desktop_on, words_on}
 use Rattle.past_moments.proofs.Telling.{last_is}
 use Rattle.past_looks.specs.Looking.{ComesOfPress, IsAlike, IsLookerOf, IsSameLook, IsSeenAt, ComesBackTo, KeepsUntouched, SaysBelow}
 use Rattle.past_looks.specs.Looking.{StaysOrTurns, below_of, desktop_before, is_of_mouse, looker_line, untouched_of}
@@ -53,7 +55,7 @@ kept_still v is = record {
 
 module _ {D : Type 0} (d : Ghosts D) where
   says_what : {store : StoreView D} (k : ℕ) (asked : Option (List ℕ)) (to : Option ℕ) (said : Said)
-      (last : ℕ) (led : List ℕ) → IsLastOf d last store → IsToldOf d k led store
+      (last : ℕ) (led : List ℕ) → IsLastOf d last store → IsToldThen d k led store
       → SaysBelow d k store (below_of asked to (moment_line k last (said_words said led)))
   says_what k (Some word) to said last led is_last is_led = asks word
   says_what k None (Some to) said last led is_last is_led = seeks to
@@ -61,8 +63,8 @@ module _ {D : Type 0} (d : Ghosts D) where
 
   pub line_says : {store : StoreView D} (looker : Looker) → IsLookerOf d looker store
       → SaysBelow d looker.shown store (looker_line looker)
-  line_says looker is = says_what looker.shown looker.hand.asked looker.seeks looker.said looker.moments.extent.last
-      looker.look.words.items (last_is d looker.moments.extent is.moments.extent) is.words
+  line_says looker is = says_what looker.shown looker.hand.asked looker.seeks looker.said looker.moments.in_use.extent.last
+      looker.look.words.items (last_is d looker.moments.in_use.extent is.moments.known.in_use.extent) is.words
 
   moment_same : {v v' : Looker} → IsSameLook v v' → untouched_of v' ≡ untouched_of v
   moment_same same = λ i. desktop_before (same.look i).shown.desktop (same.untouched i)
@@ -70,20 +72,20 @@ module _ {D : Type 0} (d : Ghosts D) where
   -- the same moment, of the same past
   pub looker_same : {store : StoreView D} {v v' : Looker} → IsSameLook v v' → IsLookerOf d v store → IsLookerOf d v' store
   looker_same {store = store} same is = record {
-    moments = subst (λ m. AreMomentsOf d m store) (sym same.moments) is.moments;
+    moments = subst (λ m. AreAllMomentsOf d m store) (sym same.moments) is.moments;
     look = subst (λ (x : ℕ × Look). IsSeenAt d x.0 store x.1.shown.desktop) (λ i. (sym same.shown i, sym same.look i)) is.look;
-    moment = subst (λ (x : ℕ × Desktop). IsDesktopAt d x.0 x.1 store)
+    moment = subst (λ (x : ℕ × Desktop). IsDesktopThen d x.0 x.1 store)
         (λ i. (sym same.shown i, sym (moment_same same) i)) is.moment;
-    words = subst (λ (x : ℕ × Look). IsToldOf d x.0 x.1.words.items store) (λ i. (sym same.shown i, sym same.look i)) is.words;
+    words = subst (λ (x : ℕ × Look). IsToldThen d x.0 x.1.words.items store) (λ i. (sym same.shown i, sym same.look i)) is.words;
   }
 
   -- what is seen of it was worked out anew
   pub looker_alike : {store : StoreView D} (v v' : Looker) → IsAlike v v' → IsLookerOf d v store → IsLookerOf d v' store
   looker_alike {store = store} v v' alike is = record {
-    moments = subst (λ m. AreMomentsOf d m store) (sym alike.moments) is.moments;
+    moments = subst (λ m. AreAllMomentsOf d m store) (sym alike.moments) is.moments;
     look = subst (λ (x : ℕ × Desktop). IsSeenAt d x.0 store x.1) (λ i. (sym alike.shown i, sym alike.desktop i)) is.look;
-    moment = subst (λ (x : ℕ × Desktop). IsDesktopAt d x.0 x.1 store) (λ i. (sym alike.shown i, sym alike.moment i)) is.moment;
-    words = subst (λ (x : ℕ × List ℕ). IsToldOf d x.0 x.1 store)
+    moment = subst (λ (x : ℕ × Desktop). IsDesktopThen d x.0 x.1 store) (λ i. (sym alike.shown i, sym alike.moment i)) is.moment;
+    words = subst (λ (x : ℕ × List ℕ). IsToldThen d x.0 x.1 store)
         (λ i. (sym alike.shown i, sym (ap (λ w. w.items) alike.words) i)) is.words;
   }
 
@@ -108,12 +110,12 @@ module _ {D : Type 0} (d : Ghosts D) where
       let before = looker_alike {store = store} v mid kept.alike is in
       let at : untouched_of v' ≡ untouched_of v =
       (λ i. desktop_before v'.look.shown.desktop (untouched i)) ∙ kept.kept v'.look.shown.desktop in record {
-        moments = subst (λ m. AreMomentsOf d m store) (sym moments) before.moments;
+        moments = subst (λ m. AreAllMomentsOf d m store) (sym moments) before.moments;
         look = subst (λ (x : ℕ × Desktop). IsSeenAt d x.0 store x.1) (λ i. (sym shown i, sym led i))
             (pointed before.look event of);
-        moment = subst (λ (x : ℕ × Desktop). IsDesktopAt d x.0 x.1 store)
+        moment = subst (λ (x : ℕ × Desktop). IsDesktopThen d x.0 x.1 store)
             (λ i. (sym (shown ∙ kept.alike.shown) i, sym at i)) is.moment;
-        words = subst (λ (x : ℕ × List ℕ). IsToldOf d x.0 x.1 store)
+        words = subst (λ (x : ℕ × List ℕ). IsToldThen d x.0 x.1 store)
             (λ i. (sym shown i, sym (ap (λ w. w.items) words) i)) before.words;
       }
 
@@ -130,33 +132,33 @@ module _ {D : Type 0} (d : Ghosts D) where
   module _ {old mid : StoreView D} (still : IsOnlyReadFrom d old mid) (usable : old.must_reopen ≡ false)
       (quiet : d.honest old.disk → IsQuiet d old) where
     pub seen_on : {k : ℕ} {desktop : Desktop} → IsSeenAt d k old desktop → IsSeenAt d k mid desktop
-    seen_on {k = k} {desktop = desktop} (plain was) = plain (moment_on d still usable quiet k desktop was)
+    seen_on {k = k} {desktop = desktop} (plain was) = plain (desktop_on d still usable quiet k desktop was)
     seen_on (pointed first event of) = pointed (seen_on first) event of
 
     pub below_on : {k : ℕ} {line : List ℕ} → SaysBelow d k old line → SaysBelow d k mid line
     below_on (asks word) = asks word
     below_on (seeks to) = seeks to
     below_on {k = k} (says said last led is_last is_led) = says said last led
-        (last_on d still usable quiet last is_last) (told_on d still usable quiet k led is_led)
+        (last_on d still usable quiet last is_last) (words_on d still usable quiet k led is_led)
 
     pub looker_on : (looker : Looker) → IsLookerOf d looker old → IsLookerOf d looker mid
     looker_on looker is = record {
-      moments = moments_on d still usable quiet looker.moments is.moments;
+      moments = all_on d still usable quiet looker.moments is.moments;
       look = seen_on is.look;
-      moment = moment_on d still usable quiet looker.shown (untouched_of looker) is.moment;
-      words = told_on d still usable quiet looker.shown looker.look.words.items is.words;
+      moment = desktop_on d still usable quiet looker.shown (untouched_of looker) is.moment;
+      words = words_on d still usable quiet looker.shown looker.look.words.items is.words;
     }
 
     -- and more is known of the past than before
-    pub looker_moved : (v v' : Looker) → (AreMomentsOf d v.moments old → AreMomentsOf d v'.moments mid) → v'.shown ≡ v.shown
+    pub looker_moved : (v v' : Looker) → (AreAllMomentsOf d v.moments old → AreAllMomentsOf d v'.moments mid) → v'.shown ≡ v.shown
         → v'.look ≡ v.look → v'.untouched ≡ v.untouched → IsLookerOf d v old → IsLookerOf d v' mid
     looker_moved v v' are shown look untouched is =
         let on = looker_on v is in
         let at : untouched_of v' ≡ untouched_of v = λ i. desktop_before (look i).shown.desktop (untouched i) in record {
           moments = are is.moments;
           look = subst (λ (x : ℕ × Look). IsSeenAt d x.0 mid x.1.shown.desktop) (λ i. (sym shown i, sym look i)) on.look;
-          moment = subst (λ (x : ℕ × Desktop). IsDesktopAt d x.0 x.1 mid) (λ i. (sym shown i, sym at i)) on.moment;
-          words = subst (λ (x : ℕ × Look). IsToldOf d x.0 x.1.words.items mid) (λ i. (sym shown i, sym look i)) on.words;
+          moment = subst (λ (x : ℕ × Desktop). IsDesktopThen d x.0 x.1 mid) (λ i. (sym shown i, sym at i)) on.moment;
+          words = subst (λ (x : ℕ × Look). IsToldThen d x.0 x.1.words.items mid) (λ i. (sym shown i, sym look i)) on.words;
         }
 
   pub stays_read : {old new : StoreView D} {k : ℕ} → IsOnlyReadFrom d old new → StaysOrTurns d k old new

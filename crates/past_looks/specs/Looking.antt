@@ -11,7 +11,8 @@ use Rattle.desk_journal.specs.Turning.{LeavesThisOrThat}
 use Rattle.desk_journal.specs.View.{StoreView}
 use Rattle.desk_past.specs.Reading.{IsOnlyReadFrom}
 use Rattle.desk_past.specs.Turning.{ComesToMoment, TurnsTo}
-use Rattle.past_moments.specs.Moments.{AreMomentsOf, IsLastOf, IsDesktopAt, IsToldOf}
+use Rattle.past_moments.specs.Moments.{IsDesktopAt, IsLastOf}
+use Rattle.all_moments.specs.Parts.{AreAllMomentsOf, IsDesktopThen, IsToldThen}
 use Rattle.past_looks.specs.Words.{asked_line, moment_line, said_words, seeking_line}
 use Rattle.past_looks.specs.declared.looker.Doing.{Doing}
 use Rattle.past_looks.specs.declared.looker.Doing.TheVariants.{Stays, Leaves, Turned}
@@ -26,7 +27,7 @@ below_of None None line = line
 
 abbrev pub looker_line : Looker → List ℕ
 looker_line looker = below_of looker.hand.asked looker.seeks (moment_line looker.shown
-    looker.moments.extent.last (said_words looker.said looker.look.words.items))
+    looker.moments.in_use.extent.last (said_words looker.said looker.look.words.items))
 
 -- the same is shown, of the same past
 pub record IsSameLook (looker looker' : Looker) : Type 0 where
@@ -65,16 +66,16 @@ module _ {D : Type 0} (d : Ghosts D) where
   -- This is seen of its moment k: the desktop of that moment, or what comes of it where the mouse does something there, in
   -- memory alone.
   pub data IsSeenAt (k : ℕ) (store : StoreView D) : Desktop → Type 0 where
-    plain : {desktop : Desktop} → IsDesktopAt d k desktop store → IsSeenAt k store desktop
+    plain : {desktop : Desktop} → IsDesktopThen d k desktop store → IsSeenAt k store desktop
     pointed : {desktop : Desktop} → IsSeenAt k store desktop → (event : Event)
         → is_of_mouse event ≡ true → IsSeenAt k store (step desktop event).desktop
 
   -- what a person is shown is seen of a moment of the past, as far as that is kept, and what led to it
   pub record IsLookerOf (looker : Looker) (store : StoreView D) : Type 0 where
-    pub moments : AreMomentsOf d looker.moments store
+    pub moments : AreAllMomentsOf d looker.moments store
     pub look : IsSeenAt looker.shown store looker.look.shown.desktop
-    pub moment : IsDesktopAt d looker.shown (untouched_of looker) store
-    pub words : IsToldOf d looker.shown looker.look.words.items store
+    pub moment : IsDesktopThen d looker.shown (untouched_of looker) store
+    pub words : IsToldThen d looker.shown looker.look.words.items store
 
   -- The line below asks for a word; or it says up to which moment that is sought; or that moment k is shown, of as many as
   -- there are, and what led to it, or something else that is to be said.
@@ -82,7 +83,7 @@ module _ {D : Type 0} (d : Ghosts D) where
     asks : (word : List ℕ) → SaysBelow k store (asked_line word)
     seeks : (to : ℕ) → SaysBelow k store (seeking_line to)
     says : (said : Said) (last : ℕ) (led : List ℕ) → IsLastOf d last store
-        → IsToldOf d k led store → SaysBelow k store (moment_line k last (said_words said led))
+        → IsToldThen d k led store → SaysBelow k store (moment_line k last (said_words said led))
 
   -- ---- what becomes of the store
 

@@ -2,18 +2,19 @@
 ghost use Rattle.std.specs.Prelude.{◌≡◌, false, is_some, true, IfOk, IfSome, OnOk};
 ghost use Rattle.desktop_definitions.specs.Shown.{shown_screen};
 ghost use Rattle.desk_past.specs.Reading.{IsOnlyReadFrom};
-ghost use Rattle.past_moments.specs.Moments.{AreMomentsOf};
+ghost use Rattle.all_moments.specs.Parts.{AreAllMomentsOf, IsNearest};
 ghost use Rattle.past_looks.specs.Looking.{ComesOfPress, IsAlike, IsLookerOf, IsSameLook, ComesBackTo, KeepsUntouched, StaysOrTurns};
 ghost use Rattle.past_looks.specs.Looking.{is_of_mouse, looker_line, untouched_of};
 ghost use Rattle.past_looks.specs.Words.{said_words};
 
 use crate::hand::{PAGE_EVENTS, ViewHand, Way, Wish};
 use crate::words::{asked_line, moment_line, seeking_line};
+use all_moments::AllMoments;
 use desk_journal::{Error, Store, Wish as Lines};
 use desk_past::{copy_of, turn_to};
 use desktop_definitions::Reply;
 use event_bytes::Event;
-use past_moments::{Look, Moments, Sought, of_memory};
+use past_moments::{Look, Sought, of_memory};
 use screen_cells::Screen;
 use sector_disk::{Disk, MemoryDisk};
 use std::alloc::{AllocError, Global};
@@ -39,6 +40,8 @@ pub enum Said {
     NoWord,
     /// That the past has no room for a turn.
     NoRoom,
+    /// That a turn leads to no moment of a former part.
+    Former,
     /// That the moment can't be worked out.
     Unread,
 }
@@ -57,7 +60,7 @@ pub enum Doing {
 /// A person before a past.
 #[derive(Drop)]
 pub struct Looker {
-    pub moments: Moments,
+    pub moments: AllMoments,
     hand: ViewHand,
     /// The moment that is shown, which one is to be shown, and the former in memory, behind what the mouse has done there.
     pub shown: u64,
@@ -75,14 +78,14 @@ pub struct Looker {
 impl Looker {
     /// A person to whom the present is shown. None where the past of the store can't be read, or it keeps none.
     ///
-    /// Errors: those of `Moments::of` and `Moments::look`.
+    /// Errors: those of `AllMoments::of` and `AllMoments::look`.
     pub fn of<D: Disk>(alloc: Global, store: &mut Store<D>) -> Result<Option<Looker>, Error>
         requires { store.old.must_reopen ≡ false }
         ensures is { IfOk result (λ found. IfSome found (λ looker.
             IsLookerOf D.Disk looker store.new)) }
         ensures still { IsOnlyReadFrom D.Disk store.old store.new }
     {
-        let Some(moments) = Moments::of(alloc, store)? else {
+        let Some(moments) = AllMoments::of(alloc, store)? else {
             return Ok(None);
         };
         Looker::with_look(alloc, store, moments)
@@ -90,19 +93,19 @@ impl Looker {
 
     /// The same, where these are its moments.
     ///
-    /// Errors: those of `Moments::look`.
+    /// Errors: those of `AllMoments::look`.
     fn with_look<D: Disk>(
         alloc: Global,
         store: &mut Store<D>,
-        moments: Moments,
+        moments: AllMoments,
     ) -> Result<Option<Looker>, Error>
         requires { store.old.must_reopen ≡ false }
         ensures is { IfOk result (λ found. IfSome found (λ looker.
-            AreMomentsOf D.Disk moments store.old → IsLookerOf D.Disk looker store.new)) }
+            AreAllMomentsOf D.Disk moments store.old → IsLookerOf D.Disk looker store.new)) }
         ensures still { IsOnlyReadFrom D.Disk store.old store.new }
     {
         let mut moments = moments;
-        let last = moments.extent.last;
+        let last = moments.last();
         match moments.look(alloc, store, last) {
             Err(error) => Err(error),
             Ok(None) => Ok(None),
@@ -142,7 +145,7 @@ impl Looker {
             return seeking_line(alloc, k);
         }
         let words = words_of(self.said, self.look.words.as_slice());
-        moment_line(alloc, self.shown, self.moments.extent.last, words)
+        moment_line(alloc, self.shown, self.moments.last(), words)
     }
 
     /// It rings, where that is to be, and the line below says what led to the moment.
@@ -177,7 +180,7 @@ impl Looker {
 
     /// Whether the moment that is shown is the present.
     pub fn is_present(&self) -> bool {
-        self.shown >= self.moments.extent.last
+        self.shown >= self.moments.last()
     }
 
     /// Does what is pressed where this part of the display is in sight, up to that another moment comes into memory. Return
@@ -323,7 +326,7 @@ impl Looker {
 
     /// Another moment is wished. It rings where that is the same one.
     ///
-    /// Errors: those of `goal_of`.
+    /// Errors: those of `goal_of` and `nearest`.
     fn go<D: Disk>(&mut self, alloc: Global, store: &mut Store<D>, way: Way) -> Result<(), Error>
         requires { store.old.must_reopen ≡ false }
         ensures looker { OnOk result (IsLookerOf D.Disk self.old store.old
@@ -332,13 +335,14 @@ impl Looker {
         ensures still { IsOnlyReadFrom D.Disk store.old store.new }
     {
         let to = self.goal_of(alloc, store, way)?;
-        self.wish(to);
+        let nearest = self.nearest(alloc, store, to)?;
+        self.wish(nearest);
         Ok(())
     }
 
     /// The moment to which a way leads from the one that is wished. It may lie beyond the past.
     ///
-    /// Errors: those of `Moments::step_back`.
+    /// Errors: those of `AllMoments::step_back` and `AllMoments::first_of`.
     fn goal_of<D: Disk>(
         &mut self,
         alloc: Global,
@@ -355,16 +359,35 @@ impl Looker {
         match way {
             Way::StepBack => Ok(self.moments.step_back(alloc, store, self.wished)?),
             Way::StepForth => Ok(self.moments.step_forth(alloc, store, self.wished)?),
+            Way::First => Ok(self.moments.first_of(alloc, store, self.wished)?),
             way => Ok(leap(way, self.wished)),
         }
     }
 
-    /// That moment is wished, or the nearest one of the past.
+    /// The moment that is nearest to that one, of those that can be read.
+    ///
+    /// Errors: those of `AllMoments::nearest`.
+    fn nearest<D: Disk>(
+        &mut self,
+        alloc: Global,
+        store: &mut Store<D>,
+        to: u64,
+    ) -> Result<u64, Error>
+        requires { store.old.must_reopen ≡ false }
+        ensures nearest { IfOk result (λ at. IsNearest to at self.new.moments) }
+        ensures looker { OnOk result (IsLookerOf D.Disk self.old store.old
+            → IsLookerOf D.Disk self.new store.new) }
+        ensures shown { self.new.shown ≡ self.old.shown }
+        ensures still { IsOnlyReadFrom D.Disk store.old store.new }
+    {
+        store.shows_what_crashes_leave();
+        self.moments.nearest(alloc, store, to)
+    }
+
+    /// That moment is wished.
     fn wish(&mut self, to: u64)
         ensures same { IsSameLook self.old self.new }
     {
-        let extent = &self.moments.extent;
-        let to = to.max(extent.first).min(extent.last);
         if to == self.wished {
             self.rings = true;
         }
@@ -388,7 +411,7 @@ impl Looker {
 
     /// The moment that is wished comes into memory, where another one is there. Whether it has come.
     ///
-    /// Errors: those of `Moments::look`.
+    /// Errors: those of `AllMoments::look`.
     pub fn come<D: Disk>(&mut self, alloc: Global, store: &mut Store<D>) -> Result<bool, Error>
         requires { store.old.must_reopen ≡ false }
         ensures looker { OnOk result (IsLookerOf D.Disk self.old store.old
@@ -429,8 +452,6 @@ impl Looker {
     {
         if self.hand.sought().is_empty() {
             self.refuse(Said::NoWord);
-        } else if self.wished <= self.moments.extent.first {
-            self.refuse(Said::NotThere);
         } else {
             self.seeks = Some(self.wished);
         }
@@ -438,7 +459,7 @@ impl Looker {
 
     /// It is sought further, where that is to be, through a page.
     ///
-    /// Errors: those of `Moments::seek_page`.
+    /// Errors: those of `AllMoments::seek_page`.
     fn seek_on<D: Disk>(&mut self, alloc: Global, store: &mut Store<D>) -> Result<(), Error>
         requires { store.old.must_reopen ≡ false }
         ensures looker { OnOk result (IsLookerOf D.Disk self.old store.old
@@ -467,8 +488,8 @@ impl Looker {
     }
 
     /// Turns the store back to the moment that is shown, and the person goes back to that. Where it is the present nothing is
-    /// turned, where another moment is wished that is shown first, and where the past has no room for a turn the person looks
-    /// on.
+    /// turned, where another moment is wished that is shown first, and where it is one of a former part, or the past has no room
+    /// for a turn, the person looks on.
     ///
     /// Errors: those of `turn_back`.
     fn turn<D: Disk>(&mut self, alloc: Global, store: &mut Store<D>) -> Result<Doing, Error>
@@ -507,8 +528,8 @@ impl Looker {
         }
     }
 
-    /// Turns the store back to the moment that is shown. False where the past has no room for that: then it rings, and the
-    /// store is only read.
+    /// Turns the store back to the moment that is shown. False where that is one of a former part, or the past has no room for
+    /// it: then it rings, and the store is only read.
     ///
     /// Errors: those of `copy_of`, `Store::gathered` and `turn_to`.
     pub fn turn_back<D: Disk>(&mut self, alloc: Global, store: &mut Store<D>) -> Result<bool, Error>
@@ -525,6 +546,10 @@ impl Looker {
     {
         store.shows_what_crashes_leave();
         let shown = self.shown;
+        if self.moments.is_former(shown) {
+            self.refuse(Said::Former);
+            return Ok(false);
+        }
         let copy = self.moment(alloc)?;
         let to = of_memory(copy.gathered(alloc))?;
         if turn_to(alloc, store, shown, to)? {
@@ -576,6 +601,7 @@ fn words_of(said: Said, led: &[u8]) -> &[u8]
         Said::NotThere => b"that word didn't go from the screen before",
         Said::NoWord => b"type the word behind / first",
         Said::NoRoom => b"the past has no room for a turn",
+        Said::Former => b"Return reaches no former part, desk earlier does",
         Said::Unread => b"what was before can't be read",
     }
 }

@@ -270,7 +270,7 @@ impl Moments {
 
     /// Moment `k` in memory, and what led to it. None where a page is missing.
     ///
-    /// Errors: those of `at` and of `told_deed`.
+    /// Errors: those of `at` and of `look_led`.
     pub fn look<D: Disk>(
         &mut self,
         alloc: Global,
@@ -294,6 +294,33 @@ impl Moments {
         }
         if k == self.extent.last {
             return look_now(alloc, store);
+        }
+        self.look_led(alloc, store, k)
+    }
+
+    /// Moment `k` in memory, and the deed that led to it, also where that is the last one. None where a page is missing, or
+    /// where there is none.
+    ///
+    /// Errors: those of `at` and of `do_next`.
+    pub fn look_led<D: Disk>(
+        &mut self,
+        alloc: Global,
+        store: &mut Store<D>,
+        k: u64,
+    ) -> Result<Option<Look>, Error>
+        requires { store.old.must_reopen ≡ false }
+        ensures shown { IfOk result (λ found. IfSome found (λ look.
+            AreMomentsOf D.Disk self.old store.old
+            → IsDesktopAt D.Disk k look.shown.desktop store.new)) }
+        ensures words { IfOk result (λ found. IfSome found (λ look.
+            AreMomentsOf D.Disk self.old store.old
+            → IsDeedOf D.Disk k look.words.items store.new)) }
+        ensures are { OnOk result (AreMomentsOf D.Disk self.old store.old
+            → AreMomentsOf D.Disk self.new store.new) }
+        ensures still { IsOnlyReadFrom D.Disk store.old store.new }
+    {
+        if k == 0 {
+            return Ok(None);
         }
         let Some(mark) = self.at(alloc, store, k - 1)? else {
             return Ok(None);
@@ -419,7 +446,7 @@ impl Moments {
     /// Moment `k` in memory, with these words. None where a page is missing.
     ///
     /// Errors: those of `at`; `NoMemory`.
-    fn look_plain<D: Disk>(
+    pub fn look_plain<D: Disk>(
         &mut self,
         alloc: Global,
         store: &mut Store<D>,

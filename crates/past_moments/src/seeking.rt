@@ -1,5 +1,5 @@
 //! When a word went from the screen.
-ghost use Rattle.std.specs.Prelude.{◌≡◌, ◌⊎◌, ◌+◌, ◌-◌, ◌<◌, ◌≤◌, ◌&&◌, ℕ, Bool, if◌then◌else◌, false, true, not, length, take, Some, IfOk, OnOk};
+ghost use Rattle.std.specs.Prelude.{◌≡◌, ◌+◌, ◌-◌, ◌<◌, ◌≤◌, ◌&&◌, ℕ, Bool, if◌then◌else◌, false, true, not, length, take, Some, IfOk, OnOk};
 ghost use Rattle.desktop_definitions.specs.Step.{steps};
 ghost use Rattle.desk_past.specs.Reading.{IsOnlyReadFrom};
 ghost use Rattle.past_moments.specs.Moments.{AreMomentsOf, IsMarkOf};
@@ -141,16 +141,6 @@ fn sought_among(
     }
 }
 
-/// The same, and nowhere in place of a moment that isn't behind the oldest one.
-fn settled(sought: Sought, oldest: u64) -> Sought
-    ensures { (result ≡ sought) ⊎ (result ≡ Sought.Nowhere) }
-{
-    match sought {
-        Sought::Before(first) if first <= oldest => Sought::Nowhere,
-        sought => sought,
-    }
-}
-
 impl Moments {
     /// At which moment a word stood on the screen last, and not at the one behind it, of the moments from where a page begins,
     /// or the journal in use, up to moment `k`, but that one.
@@ -177,8 +167,7 @@ impl Moments {
         let Some(mark) = self.page_before(alloc, store, before)? else {
             return Ok(Sought::Nowhere);
         };
-        let sought = self.gone_from(alloc, store, mark, k, word)?;
-        Ok(settled(sought, self.extent.first))
+        self.gone_from(alloc, store, mark, k, word)
     }
 
     /// What became of a word from a mark up to moment `k`, by the page or the journal that begins there. Nowhere where that

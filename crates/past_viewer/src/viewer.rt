@@ -310,7 +310,7 @@ impl Viewer {
     {
         let copied = copied_of(alloc, &mut self.looker.look.shown)?;
         self.looker.copied(copied.clip.is_empty());
-        let last = self.looker.moments.extent.last;
+        let last = self.looker.moments.last();
         let line = moment_line(alloc, self.looker.shown, last, copied.words.as_slice())?;
         self.show_saying(
             alloc,

@@ -49,9 +49,9 @@ pub returns-clause-scenes : goal.returns-clause-scenes
 returns-clause-scenes g c = on_ok_weaker c.show_saying.result (λ shown is.
     let of = looker_same g.D.Disk c.copied.ensures.same
     (looker_read g.D.Disk c.args.self.now.looker _ refl refl c.copied_of.ensures.same refl refl is) in
-    shown of (says_copied g.D.Disk c.copied.new.self.shown c.copied.new.self.moments.extent.last
+    shown of (says_copied g.D.Disk c.copied.new.self.shown c.copied.new.self.moments.in_use.extent.last
     c.args.self.now.looker.look.shown.desktop _ _ _ _
-    (last_is g.D.Disk c.copied.new.self.moments.extent of.moments.extent)
+    (last_is g.D.Disk c.copied.new.self.moments.in_use.extent of.moments.known.in_use.extent)
     (ap (λ (look : Look). look.shown.desktop) c.copied.ensures.same.look ∙ c.copied_of.ensures.same)
     (c.as_slice-3.ensures.value ∙ c.in_ok-copied.ensures.clip)
     (c.as_slice.ensures.value ∙ c.in_ok-copied.ensures.words)

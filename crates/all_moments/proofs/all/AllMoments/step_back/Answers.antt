@@ -1,0 +1,21 @@
+use Rattle.std.proofs.lemmas.Result.{on_ok_weaker}
+use Rattle.desk_past.proofs.StillReads.{still_both}
+use Rattle.all_moments.proofs.AtHand.{all_now, all_stays}
+use Rattle.all_moments.proofs.Backward.{all_on}
+use Rattle.all_moments.proofs.all.AllMoments.step_back.Goals as goal
+
+pub returns-in-None-clause-are : goal.returns-in-None-clause-are
+returns-in-None-clause-are g c = on_ok_weaker c.step_back.result (λ are is.
+    let all = c.in_ok-come_to.ensures.are is in
+    let usable = c.come_to.ensures.still.usable in
+    all_now g.D.Disk c.step_back.new.store c.come_to.new.self c.step_back.new.self (are all.known.in_use)
+    (all_on g.D.Disk c.step_back.ensures.still usable (c.shows_what_crashes_leave.ensures.quiet usable) c.come_to.new.self all))
+    c.step_back.ensures.are
+
+pub returns-in-None-clause-still : goal.returns-in-None-clause-still
+returns-in-None-clause-still g c = still_both g.D.Disk c.come_to.ensures.still c.step_back.ensures.still
+
+pub returns-in-Some-clause-are : goal.returns-in-Some-clause-are
+returns-in-Some-clause-are g c = on_ok_weaker c.step_back-in-Some.result (λ stays is.
+    all_stays g.D.Disk c.come_to.new.store c.come_to.new.self c.in-Some.part c.step_back-in-Some.new.self c.in-Some.is stays
+    (c.in_ok-come_to.ensures.are is)) c.step_back-in-Some.ensures.stays
