@@ -25,7 +25,7 @@ use Rattle.desk_past.specs.Going.{ForgetsNone, IsDueOutset, IsOutsetOf}
 use Rattle.desk_past.specs.Writing.{LiesInOldest, WritesOnly}
 use Rattle.desk_past.specs.declared.going_on.Outset.{Outset}
 use Rattle.terminal_keyboard.specs.Presses.{at_rest, parser_after, presses_heard}
-use Rattle.desk_sitting.specs.declared.serving.TheConstants.{MOST_TURNS}
+use Rattle.desk_sitting.specs.declared.sitting.TheConstants.{MOST_TURNS}
 use Rattle.desk_sitting.specs.declared.sitting.Sitting.{Sitting}
 use Rattle.status_line.specs.declared.saying.Saying.TheVariants.{Greeting}
 use Rattle.desk_sitting.specs.Sittings.{new_sitting}

@@ -1,7 +1,7 @@
 //! What a host is handed of a page, and what a call does to a page.
 ghost use Rattle.std.specs.Prelude.{◌≡◌, ℕ, is_none, true, false, IfOk, IfErr, IsErrOf, IsOk, OnOk};
 ghost use Rattle.desk_journal.specs.View.{IsDurable};
-ghost use Rattle.desk_sitting.specs.declared.serving.TheConstants.{MOST_TURNS};
+ghost use Rattle.desk_sitting.specs.declared.sitting.TheConstants.{MOST_TURNS};
 ghost use Rattle.desk_page.specs.Spelling.{spelling_of_calls};
 ghost use Rattle.desk_page.specs.Turns.{AreTravelled, Begins, BringsOrTurnsDown, KeepsFrom, Presses, IsMade, IsMadeOrFound, IsToldAll, IsHanded, IsNotBegun};
 ghost use Rattle.desk_page.specs.Turns.{IsOfMemory, IsUnbrought, IsNotPressed, IsWithheld, OfTravels};
