@@ -7,7 +7,7 @@ use Rattle.sector_disk.specs.declared.disk.Disk.{Ghosts}
 use Rattle.desktop_definitions.specs.Desktop.{Desktop}
 use Rattle.desk_journal.specs.Errors.{Error}
 use Rattle.store_documents.specs.HostText.{imported}
-use Rattle.desk_page.specs.Recording.{Recording}
+use Rattle.page_disks.specs.Recording.{Recording}
 use Rattle.desk_page.specs.declared.kept.Kept.{Kept}
 use Rattle.desk_page.specs.declared.scene.Scene.{Scene}
 use Rattle.desk_page.specs.declared.looks.Desk.{Desk}

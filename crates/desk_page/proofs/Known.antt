@@ -10,7 +10,7 @@ use Rattle.desk_page.specs.Known.{IsCalled, KnowsShown, StaysKnown}
 use Rattle.desk_page.specs.Looks.{KnowsPast, LooksAtDesk, LooksAtPast, PressesDesk, PressesLook}
 use Rattle.desk_page.specs.Looks.LooksAtPast.{has_none, shows}
 use Rattle.desk_page.specs.Looks.PressesLook.{goes_back, looks_on, turns}
-use Rattle.desk_page.specs.Recording.{Recording}
+use Rattle.page_disks.specs.Recording.{Recording}
 use Rattle.desk_page.specs.Turns.{HostPage}
 use Rattle.desk_page.specs.declared.kept.Kept.{Kept}
 use Rattle.desk_page.specs.declared.looks.Desk.{Desk}

@@ -20,12 +20,12 @@ use Rattle.desk_sitting.specs.declared.serving.TheConstants.{MOST_TURNS}
 use Rattle.desk_sitting.specs.declared.sitting.Sitting.{Sitting}
 use Rattle.desk_sitting.specs.Sittings.{new_sitting}
 use Rattle.screen_drawing.specs.Drawn.{drawing_of}
-use Rattle.desk_page.specs.Recording.{Recording}
-use Rattle.desk_page.specs.Spelling.{spelling_of_calls}
+use Rattle.page_disks.specs.Recording.{Recording}
+use Rattle.page_disks.specs.Spelling.{spelling_of_calls}
 use Rattle.desk_page.specs.Hearing.{Hears, heard_of}
 use Rattle.desk_page.specs.Lines.{page_line, page_shown}
 use Rattle.desk_page.specs.declared.scene.Scene.{Scene}
-use Rattle.desk_page.specs.contracts.disk.RecordedDiskDisk.TheImpl.{ghosts}
+use Rattle.page_disks.specs.contracts.disk.RecordedDiskDisk.TheImpl.{ghosts}
 use Rattle.desk_page.specs.declared.page.TheConstants.{HEIGHT}
 use Rattle.desk_page.specs.Turns.{HostPage, AreTravelled, IsHanded, IsMadeOrFound, IsNotBegun, IsNotPressed, IsToldAll}
 use Rattle.desk_page.specs.Turns.{IsUnbrought, IsWithheld, OfTravels, Presses, damaged, faulty, foreign, starved}

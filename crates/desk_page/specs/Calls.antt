@@ -11,9 +11,9 @@ use Rattle.store_documents.specs.HostText.{imported}
 use Rattle.terminal_presses.specs.Pointers.{pointer_cell}
 use Rattle.viewer_tracks.specs.declared.display.TheConstants.{COLUMNS}
 use Rattle.desk_page.specs.Giving.{given_text}
-use Rattle.desk_page.specs.Loading.{HasLoaded, disk_to_load}
+use Rattle.page_disks.specs.Loading.{HasLoaded, disk_to_load}
 use Rattle.desk_page.specs.Looks.{IsNotPressedAt, IsOfLook, LooksAtDesk, LooksAtPast, PressesDesk, shown_desktop, page_of}
-use Rattle.desk_page.specs.Recording.{Recording}
+use Rattle.page_disks.specs.Recording.{Recording}
 use Rattle.desk_page.specs.declared.kept.Kept.{Kept}
 use Rattle.desk_page.specs.declared.kept.Made.{Made}
 use Rattle.desk_page.specs.declared.kept.Made.TheVariants.{Drawing, Line, Calls, Text}

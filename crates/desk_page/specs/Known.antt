@@ -5,7 +5,7 @@ use Rattle.desk_page.specs.Calls.{AnswersAsk, AnswersBegin, AnswersBring, Answer
 use Rattle.desk_page.specs.Calls.{AnswersLook, AnswersPress}
 use Rattle.desk_page.specs.Giving.{selected_text}
 use Rattle.desk_page.specs.Looks.{KnowsPast}
-use Rattle.desk_page.specs.Recording.{Recording}
+use Rattle.page_disks.specs.Recording.{Recording}
 use Rattle.desk_page.specs.declared.kept.Kept.{Kept}
 use Rattle.desk_page.specs.declared.looks.Desk.{Desk}
 use Rattle.desk_page.specs.declared.looks.Desk.TheVariants.{Past}

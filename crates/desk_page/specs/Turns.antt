@@ -32,8 +32,8 @@ use Rattle.desk_sitting.specs.Sittings.{new_sitting}
 use Rattle.desk_sitting.specs.Travels.{IsTravelled}
 use Rattle.desk_sitting.specs.TheDesk.{the_desk}
 use Rattle.screen_drawing.specs.Drawn.{drawing_of}
-use Rattle.desk_page.specs.Recording.{Recording, first_moment, forgotten}
-use Rattle.desk_page.specs.Spelling.{spelling_of_calls}
+use Rattle.page_disks.specs.Recording.{Recording, first_moment, forgotten}
+use Rattle.page_disks.specs.Spelling.{spelling_of_calls}
 use Rattle.desk_page.specs.declared.page.Page.{Page}
 use Rattle.viewer_tracks.specs.declared.display.TheConstants.{COLUMNS}
 use Rattle.desk_page.specs.declared.page.TheConstants.{HEIGHT}

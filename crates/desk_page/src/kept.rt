@@ -7,8 +7,6 @@ ghost use Rattle.desk_page.specs.Calls.{IsNoFile, has_left, looks_of, made_by, m
 ghost use Rattle.desk_page.specs.Giving.{selected_text};
 ghost use Rattle.desk_page.specs.Statuses.{not_there, status_of_error};
 
-use crate::disk::RecordedDisk;
-use crate::loading::loaded_with;
 use crate::looks::{Desk, look_at};
 use crate::scene::{Scene, begun, brought, settled};
 use crate::status::{
@@ -17,6 +15,7 @@ use crate::status::{
 use desk_journal::Error;
 use document_filing::Document;
 use event_bytes::Name;
+use page_disks::{RecordedDisk, loaded_with};
 use sector_disk::Disk;
 use std::alloc::Global;
 use std::mem::replace;

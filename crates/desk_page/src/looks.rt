@@ -6,7 +6,6 @@ ghost use Rattle.desk_page.specs.Looks.{HandsOutLook, IsNotPressedAt, IsOfLook, 
 ghost use Rattle.desk_page.specs.Looks.{LooksAtPast, ComesOfPresses, PressesDesk, PressesLook, page_of, seated_anew, shown_desktop};
 ghost use Rattle.desk_page.specs.Turns.{IsOfMemory, IsWithheld};
 
-use crate::disk::RecordedDisk;
 use crate::documents::{give, selected};
 use crate::heard::hearing;
 use crate::page::HEIGHT;
@@ -14,6 +13,7 @@ use crate::scene::{HostPage, Scene, pressed, settled, usable};
 use desk_journal::Error;
 use desk_sitting::{Saying, Sitting};
 use event_bytes::Name;
+use page_disks::RecordedDisk;
 use past_looks::{Doing, Looker};
 use screen_cells::Screen;
 use screen_drawing::draw;

@@ -7,7 +7,8 @@ ghost use Rattle.page_exports.specs.Exports.{HasBegunPage, HasBrought, HasBrough
 ghost use Rattle.page_exports.specs.Exports.{HasLooked, HasPressed, HasStarted};
 ghost use Rattle.page_exports.specs.Exports.{coming_of, handed, loaded_of, rings_of, leaves_of, looks_told, pointer_told};
 
-use desk_page::{DONE, Held, Kept, Made, NO_MEMORY, RecordedDisk, put, take};
+use desk_page::{DONE, Held, Kept, Made, NO_MEMORY, put, take};
+use page_disks::RecordedDisk;
 use sector_disk::Disk;
 use std::alloc::Global;
 
