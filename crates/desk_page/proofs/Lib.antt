@@ -6,4 +6,5 @@ pub mod Turning
 pub mod Keeping
 pub mod Begun
 pub mod Looked
+pub mod Forgotten
 pub mod Known

@@ -58,9 +58,9 @@ IsOfMemory error = (error ≡ NoMemory) ⊎ (error ≡ Fault)
 abbrev pub OfTravels : Error → Type 0
 OfTravels error = (error ≡ NoMemory) ⊎ (error ≡ Fault) ⊎ (error ≡ MustReopen)
 
--- why documents are neither brought nor refused
-abbrev pub IsUnbrought : HostPage → Error → Type 0
-IsUnbrought old error = IsWithheld old error ⊎ (error ≡ Worn) × IsLast old.store
+-- why a call stops that ends an epoch: so, or since no epoch comes behind the one in use
+abbrev pub IsStopped : HostPage → Error → Type 0
+IsStopped old error = IsWithheld old error ⊎ (error ≡ Worn) × IsLast old.store
 
 module _ (d : Ghosts Recording) where
   -- A host is handed the drawing of what the page shows, the line below it, and each call of its disk that it hasn't been

@@ -10,6 +10,7 @@
 
 mod apart;
 mod documents;
+mod forgetting;
 mod heard;
 mod held;
 mod kept;

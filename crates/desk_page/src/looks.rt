@@ -227,9 +227,9 @@ fn left(alloc: Global, page: HostPage) -> Shown
     Ok((Desk::Present(page), scene))
 }
 
-/// The page before a store that was turned: what was done and taken back before is known by its past alone. Whether lines are
-/// broken stays.
-fn seated_again(page: HostPage) -> HostPage
+/// The page before a store that was turned, or whose past was forgotten: what was done and taken back before is known by its past
+/// alone. Whether lines are broken stays.
+pub(crate) fn seated_again(page: HostPage) -> HostPage
     ensures store { result.store ≡ page.store }
     ensures sitting { result.sitting ≡ seated_anew page.sitting }
     ensures parser { result.parser ≡ page.parser }

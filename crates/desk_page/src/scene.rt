@@ -4,7 +4,7 @@ ghost use Rattle.desk_journal.specs.View.{IsDurable};
 ghost use Rattle.desk_sitting.specs.declared.serving.TheConstants.{MOST_TURNS};
 ghost use Rattle.page_disks.specs.Spelling.{spelling_of_calls};
 ghost use Rattle.desk_page.specs.Turns.{AreTravelled, Begins, BringsOrTurnsDown, KeepsFrom, Presses, IsMade, IsMadeOrFound, IsToldAll, IsHanded, IsNotBegun};
-ghost use Rattle.desk_page.specs.Turns.{IsOfMemory, IsUnbrought, IsNotPressed, IsWithheld, OfTravels};
+ghost use Rattle.desk_page.specs.Turns.{IsOfMemory, IsStopped, IsNotPressed, IsWithheld, OfTravels};
 
 use crate::documents::bring;
 use crate::heard::{hear, hearing};
@@ -163,7 +163,7 @@ pub(crate) fn brought(
 ) -> Result<(HostPage, Option<Scene>), Error>
     ensures done { IfOk result (λ both.
         BringsOrTurnsDown ⟦<RecordedDisk as Disk>⟧ documents.now page both.0 both.1) }
-    ensures failed { IfErr result (IsUnbrought page) }
+    ensures failed { IfErr result (IsStopped page) }
 {
     let mut page = page;
     match bring(alloc, &mut page, documents)? {
