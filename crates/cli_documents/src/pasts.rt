@@ -2,9 +2,9 @@
 ghost use Rattle.std.specs.Prelude.{◌≡◌, IfOk, IsSomeAnd, List, OnOk};
 ghost use Rattle.sector_disk.specs.Trail.{now};
 ghost use Rattle.desktop_definitions.specs.Desktop.{Desktop};
+ghost use Rattle.past_pages.specs.Reading.{IsOnlyReadFrom};
 ghost use Rattle.desk_past.specs.Deeds.{PastDeed};
 ghost use Rattle.desk_past.specs.Past.{Start};
-ghost use Rattle.desk_past.specs.Reading.{IsOnlyReadFrom};
 ghost use Rattle.former_stores.specs.Former.{IsFormer};
 ghost use Rattle.told_pasts.specs.Words.{told_lines};
 ghost use Rattle.cli_documents.specs.Stops.{IsOutOfReach};

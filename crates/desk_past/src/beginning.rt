@@ -4,7 +4,8 @@ ghost use Rattle.sector_disk.specs.Trail.{now};
 ghost use Rattle.store_layout.specs.declared.layout.TheConstants.{STORE_SECTORS};
 ghost use Rattle.store_slots.specs.Errors.{OfDesktop, OfLook};
 ghost use Rattle.desk_journal.specs.Checkpointing.{LeavesDesktop};
-ghost use Rattle.desk_past.specs.Beginning.{AreUncounted, ForgetsNoneBefore, HasCopies, HasStartRoom, IsAside, IsBegunNow, IsBegunOrAside, IsStarted, IsStoppedBy, SparesAllBut, SparesAround, SparesOthers};
+ghost use Rattle.past_pages.specs.Sectors.{HasCopies};
+ghost use Rattle.desk_past.specs.Beginning.{AreUncounted, ForgetsNoneBefore, HasStartRoom, IsAside, IsBegunNow, IsBegunOrAside, IsStarted, IsStoppedBy, SparesAllBut, SparesAround, SparesOthers};
 ghost use Rattle.desk_past.specs.Keeping.{UsesDevice};
 
 use crate::reading::events_before;

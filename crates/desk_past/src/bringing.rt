@@ -8,11 +8,12 @@ ghost use Rattle.desk_journal.specs.Behind.{FitBehind};
 ghost use Rattle.desk_journal.specs.Bringing.{LeavesAllOrNone};
 ghost use Rattle.desk_journal.specs.Posting.{AnswersMustReopen, IsLast, TurnsAway};
 ghost use Rattle.desk_journal.specs.Undoing.{IsLeft};
+ghost use Rattle.past_pages.specs.Page.{import_of};
+ghost use Rattle.past_pages.specs.Reading.{IsOnlyReadFrom};
 ghost use Rattle.desk_past.specs.Ahead.{IsAhead};
-ghost use Rattle.desk_past.specs.Bringing.{BringsOn, CanBring, IsBroughtIn, import_of};
+ghost use Rattle.desk_past.specs.Bringing.{BringsOn, CanBring, IsBroughtIn};
 ghost use Rattle.desk_past.specs.Deeds.{PastDeed};
 ghost use Rattle.desk_past.specs.Past.{KeepsAll, Start};
-ghost use Rattle.desk_past.specs.Reading.{IsOnlyReadFrom};
 ghost use Rattle.desk_past.specs.Writing.{AreAhead, UsesAhead};
 
 use crate::ahead::{Ahead, page_ahead};

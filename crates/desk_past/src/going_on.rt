@@ -7,12 +7,12 @@ ghost use Rattle.store_layout.specs.Meaning.{Standing};
 ghost use Rattle.desk_journal.specs.Checkpointing.{LeavesDesktop};
 ghost use Rattle.store_slots.specs.Errors.{OfDesktop};
 ghost use Rattle.desk_journal.specs.Undoing.{ShowsStanding};
+ghost use Rattle.past_pages.specs.Parts.{HasParts, IsPartBeside, part_count};
+ghost use Rattle.past_pages.specs.declared.parts.TheConstants.{LEAST_ROOM};
+ghost use Rattle.past_pages.specs.Reading.{IsOnlyReadFrom};
 ghost use Rattle.desk_past.specs.Beginning.{ForgetsNoneBefore, HasStartRoom, IsStoppedBy, SparesAround};
 ghost use Rattle.desk_past.specs.Going.{CanGoOn, ForgetsNone, IsDueOutset, IsOlderOf, IsOldest, IsOutsetIn, IsOutsetOf};
 ghost use Rattle.desk_past.specs.Going.{IsStartedSomewhere, IsWanted, slot_epoch, start_epoch};
-ghost use Rattle.desk_past.specs.Parts.{HasParts, IsPartBeside, part_count};
-ghost use Rattle.desk_past.specs.declared.parts.TheConstants.{LEAST_ROOM};
-ghost use Rattle.desk_past.specs.Reading.{IsOnlyReadFrom};
 ghost use Rattle.desk_past.specs.Writing.{LiesInOldest, WritesOnly};
 
 use crate::beginning::begin;

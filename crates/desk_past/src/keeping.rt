@@ -9,13 +9,13 @@ ghost use Rattle.store_slots.specs.Errors.{OfDesktop, OfLook, OfPost};
 ghost use Rattle.desk_journal.specs.Checkpointing.{IsRenewed, LeavesDesktop};
 ghost use Rattle.desk_journal.specs.Posting.{AnswersMustReopen, AnswersWorn, HasJournalRoom, IsAcknowledged, IsDueBefore, LeavesEither};
 ghost use Rattle.desk_journal.specs.Undoing.{OfUndo};
+ghost use Rattle.past_pages.specs.Reading.{IsOnlyReadFrom};
 ghost use Rattle.desk_past.specs.Beginning.{IsAside};
 ghost use Rattle.desk_past.specs.Deeds.{PastDeed};
 ghost use Rattle.desk_past.specs.Going.{ForgetsNone};
 ghost use Rattle.desk_past.specs.Keeping.{BeginsNext, CanTurn, ForgetsNoneDue, ForgetsNoneFrom, HasGoneBefore, HasGoneOver, HasKeptPost};
 ghost use Rattle.desk_past.specs.Keeping.{HasPageRoom, IsTurnDue, IsWayMade, KeepsAllBefore, KeepsAllWithin, KeepsPost, LeavesAllBefore, LeavesAllWithin};
 ghost use Rattle.desk_past.specs.Past.{HasNewPage, IsHeadTold, KeepsAll, KeepsOthers, LeavesAll, Start, UndoesSome};
-ghost use Rattle.desk_past.specs.Reading.{IsOnlyReadFrom};
 ghost use Rattle.desk_past.specs.Writing.{LiesInOldest, LiesUpTo, UsesAhead, UsesOnly, UsesParts};
 
 use crate::beginning::begin;

@@ -7,13 +7,14 @@ ghost use Rattle.desk_journal.specs.Behind.{FitBehind};
 ghost use Rattle.desk_journal.specs.Posting.{AnswersMustReopen};
 ghost use Rattle.desk_journal.specs.Turning.{LeavesThisOrThat};
 ghost use Rattle.desk_journal.specs.Undoing.{IsLeft};
+ghost use Rattle.past_pages.specs.Reading.{IsOnlyReadFrom};
+ghost use Rattle.past_pages.specs.Page.{turn_of};
 ghost use Rattle.desk_past.specs.Ahead.{IsAhead};
 ghost use Rattle.desk_past.specs.Errors.{OfMoment};
 ghost use Rattle.desk_past.specs.Going.{LiesInPart};
 ghost use Rattle.desk_past.specs.Past.{HasMoment};
-ghost use Rattle.desk_past.specs.Reading.{IsOnlyReadFrom};
 ghost use Rattle.desk_past.specs.Turning.{CanTurnTo, ComesToMoment, HasTurnedBack, PastOf, StaysUnturned, TurnsBack, TurnsTo};
-ghost use Rattle.desk_past.specs.Turning.{WasAt, turn_of};
+ghost use Rattle.desk_past.specs.Turning.{WasAt};
 ghost use Rattle.desk_past.specs.Writing.{AreAhead, UsesAhead};
 
 use crate::ahead::{Ahead, page_ahead};

@@ -4,10 +4,10 @@ use Rattle.sector_disk.specs.declared.disk.Disk.{Ghosts}
 use Rattle.event_bytes.specs.declared.event.Event.{Event}
 use Rattle.desk_journal.specs.Device.{IsOnlyRead, IsSameDevice}
 use Rattle.desk_journal.specs.View.{StoreView}
+use Rattle.past_pages.specs.Reading.{IsOnlyReadFrom}
+use Rattle.past_pages.proofs.StillReads.{nothing_written}
 use Rattle.desk_past.specs.Deeds.{all_posted, posted}
 use Rattle.desk_past.specs.Keeping.{KeepsOn}
-use Rattle.desk_past.specs.Reading.{IsOnlyReadFrom}
-use Rattle.desk_past.proofs.StillReads.{nothing_written}
 use Rattle.past_runs.specs.Calls.{DoesCall, FindsRoom, KeepsDeeds, LeavesPast, Past, PastCall, begins, brings, ends, looks, posts}
 use Rattle.past_runs.specs.Calls.{posts_over, takes_back, turns, turns_to, with_deeds}
 use Rattle.past_runs.specs.Calls.{TriesCall}

@@ -5,9 +5,9 @@ use Rattle.event_bytes.specs.declared.event.Event.{Event}
 use Rattle.desk_journal.specs.Device.{IsOnlyRead, IsSameDevice}
 use Rattle.desk_journal.specs.Errors.{Error}
 use Rattle.desk_journal.specs.View.{StoreView}
+use Rattle.past_pages.specs.Reading.{IsOnlyReadFrom}
 use Rattle.desk_past.specs.Deeds.{all_posted}
 use Rattle.desk_past.specs.Keeping.{HasKept, KeepsOn}
-use Rattle.desk_past.specs.Reading.{IsOnlyReadFrom}
 use Rattle.past_runs.specs.Calls.{FindsRoom, KeepsDeeds, LeavesPast, Past, PastCall, looks, posts, with_deeds}
 use Rattle.past_runs.specs.Runs.{FindRoom, IsPastRun, LeaveEach}
 

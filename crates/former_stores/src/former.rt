@@ -6,10 +6,11 @@ ghost use Rattle.desktop_definitions.specs.Desktop.{Desktop};
 ghost use Rattle.store_layout.specs.Meaning.{Standing};
 ghost use Rattle.store_slots.specs.Errors.{OfDesktop};
 ghost use Rattle.desk_journal.specs.Looking.{OnlyLooks};
+ghost use Rattle.past_pages.specs.Laying.{HasStoreRoom, IsBlankRoom};
+ghost use Rattle.past_pages.specs.Reading.{IsOnlyReadFrom};
 ghost use Rattle.desk_past.specs.Deeds.{PastDeed};
-ghost use Rattle.desk_past.specs.Laying.{HasStoreRoom};
 ghost use Rattle.desk_past.specs.Past.{Start};
-ghost use Rattle.desk_past.specs.Reading.{IsBlankRoom, IsOnlyReadFrom, ShowsNow};
+ghost use Rattle.desk_past.specs.Reading.{ShowsNow};
 ghost use Rattle.former_stores.specs.Former.{AreSectorsBefore, HasPartBefore, IsFormer, IsFormerStore, KeepsWhole, SaysOfStart};
 ghost use Rattle.former_stores.specs.Laying.{ArePlaced, StandsNone};
 

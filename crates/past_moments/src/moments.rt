@@ -2,8 +2,8 @@
 ghost use Rattle.std.specs.Prelude.{◌≡◌, ◌<◌, ◌≤◌, ◌-◌, ℕ, [], ◌∷◌, codes, false, true, length, slice_get, Ok, Some, IfErr, IfOk, IfSome, OnOk};
 ghost use Rattle.event_bytes.specs.declared.event.Event.{Event as AnEvent};
 ghost use Rattle.desktop_definitions.specs.Step.{step};
+ghost use Rattle.past_pages.specs.Reading.{IsOnlyReadFrom};
 ghost use Rattle.desk_past.specs.Deeds.{after_deeds, brought};
-ghost use Rattle.desk_past.specs.Reading.{IsOnlyReadFrom};
 ghost use Rattle.told_pasts.specs.Words.{event_line, import_line, turn_line};
 ghost use Rattle.past_moments.specs.Moments.{AreMomentsOf, IsDeedOf, IsExtentOf, IsLastOf, IsMarkOf, IsDesktopAt, IsPagePlace, IsSameMoment, IsToldOf};
 

@@ -1,7 +1,7 @@
 //! When a word went from the screen.
 ghost use Rattle.std.specs.Prelude.{◌≡◌, ◌⊎◌, ◌+◌, ◌-◌, ◌<◌, ◌≤◌, ◌&&◌, ℕ, Bool, if◌then◌else◌, false, true, not, length, take, Some, IfOk, OnOk};
 ghost use Rattle.desktop_definitions.specs.Step.{steps};
-ghost use Rattle.desk_past.specs.Reading.{IsOnlyReadFrom};
+ghost use Rattle.past_pages.specs.Reading.{IsOnlyReadFrom};
 ghost use Rattle.past_moments.specs.Moments.{AreMomentsOf, IsMarkOf};
 ghost use Rattle.past_moments.specs.Seeking.{IsBefore, IsLastGone, IsSoughtBy, IsSoughtOf, IsStandingAt, begins_with, has_word, is_on_screen, stands};
 

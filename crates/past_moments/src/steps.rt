@@ -1,6 +1,6 @@
 //! Where a step of a hand ends.
 ghost use Rattle.std.specs.Prelude.{◌≡◌, ◌-◌, ◌≤◌, false, IfOk, OnOk};
-ghost use Rattle.desk_past.specs.Reading.{IsOnlyReadFrom};
+ghost use Rattle.past_pages.specs.Reading.{IsOnlyReadFrom};
 ghost use Rattle.past_moments.specs.Moments.{AreMomentsOf};
 
 use crate::extent::{Extent, Place};
