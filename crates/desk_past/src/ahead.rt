@@ -14,10 +14,8 @@ ghost use Rattle.desk_past.specs.Deeds.{PastDeed};
 ghost use Rattle.desk_past.specs.Past.{KeepsAll, Start};
 ghost use Rattle.desk_past.specs.Writing.{AreAhead};
 
-use crate::page::{page_read, sectors_for};
-use crate::parts::part_at;
-use crate::sectors::zeros;
 use desk_journal::{Error, STORE_SECTORS, Store};
+use past_pages::{page_read, part_at, sectors_for, zeros};
 use sector_disk::{Disk, NoMemory, SECTOR_BYTES};
 use std::alloc::{AllocError, Global};
 use store_layout::{PastEnd, standing_law};

@@ -9,8 +9,8 @@ ghost use Rattle.desk_past.specs.Beginning.{AreUncounted, ForgetsNoneBefore, Has
 ghost use Rattle.desk_past.specs.Keeping.{UsesDevice};
 
 use crate::reading::events_before;
-use crate::sectors::{bytes_at, is_copied};
 use desk_journal::{Error, STORE_SECTORS, Store};
+use past_pages::{bytes_at, is_copied};
 use sector_disk::Disk;
 use std::alloc::Global;
 use store_layout::{PastEnd, standing_law};

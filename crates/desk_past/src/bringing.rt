@@ -17,9 +17,9 @@ ghost use Rattle.desk_past.specs.Past.{KeepsAll, Start};
 ghost use Rattle.desk_past.specs.Writing.{AreAhead, UsesAhead};
 
 use crate::ahead::{Ahead, page_ahead};
-use crate::page::import_page;
 use desk_journal::{Document, Error, Store};
 use desktop_definitions::Reply;
+use past_pages::import_page;
 use sector_disk::Disk;
 use std::alloc::Global;
 use store_layout::LAST_EPOCH;

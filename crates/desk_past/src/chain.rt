@@ -21,10 +21,9 @@ ghost use Rattle.desk_past.specs.Going.{LiesInPart, start_epoch};
 ghost use Rattle.desk_past.specs.Past.{KeepsAll, Start};
 
 use crate::again::empty_disk;
-use crate::parts::part_at;
 use crate::reading::{in_journal, in_pages};
-use crate::sectors::sector_at;
 use desk_journal::{Error, STORE_SECTORS, Store};
+use past_pages::{part_at, sector_at};
 use sector_disk::{Disk, MemoryDisk};
 use std::alloc::Global;
 use store_layout::{

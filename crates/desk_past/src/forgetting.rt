@@ -14,9 +14,8 @@ ghost use Rattle.desk_past.specs.Keeping.{UsesDevice};
 
 use crate::beginning::begin;
 use crate::going_on::oldest_base;
-use crate::parts::{PART_SECTORS, PARTS, has_parts, part_count};
-use crate::sectors::{is_blank, zeros};
 use desk_journal::{Error, STORE_SECTORS, Store};
+use past_pages::{PART_SECTORS, PARTS, has_parts, is_blank, part_count, zeros};
 use sector_disk::{Disk, SECTOR_BYTES};
 use std::alloc::Global;
 

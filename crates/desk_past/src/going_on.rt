@@ -16,9 +16,8 @@ ghost use Rattle.desk_past.specs.Going.{IsStartedSomewhere, IsWanted, slot_epoch
 ghost use Rattle.desk_past.specs.Writing.{LiesInOldest, WritesOnly};
 
 use crate::beginning::begin;
-use crate::parts::{LEAST_ROOM, goes_on_in, has_parts, part_at, part_base, part_count};
-use crate::sectors::sector_at;
 use desk_journal::{Error, STORE_SECTORS, Store};
+use past_pages::{LEAST_ROOM, goes_on_in, has_parts, part_at, part_base, part_count, sector_at};
 use sector_disk::Disk;
 use std::alloc::Global;
 use store_layout::{Head, LABEL, has_label, is_open_gate, slot_gate, slot_head, standing_law};

@@ -20,11 +20,10 @@ ghost use Rattle.desk_past.specs.Writing.{LiesInOldest, LiesUpTo, UsesAhead, Use
 
 use crate::beginning::begin;
 use crate::going_on::oldest_base;
-use crate::page::{page_read, sectors_for};
-use crate::parts::{LEAST_ROOM, has_parts, part_at};
 use desk_journal::{Error, STORE_SECTORS, Store};
 use desktop_definitions::Reply;
 use event_bytes::Event;
+use past_pages::{LEAST_ROOM, has_parts, page_read, part_at, sectors_for};
 use sector_disk::Disk;
 use std::alloc::Global;
 use store_layout::{JOURNAL_EVENTS, LAST_EPOCH, LAYOUT, PastEnd, standing_law};

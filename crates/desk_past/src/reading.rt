@@ -22,11 +22,10 @@ ghost use Rattle.desk_past.specs.Routes.{AreLegs, HasNoTurn};
 use crate::again::{
     back_to, brought, empty_disk, many_before, opened, posted, taken_back, told_in,
 };
-use crate::laying::lay;
-use crate::pages::{PageDeeds, page_at};
 use crate::routes::{Leg, legs_to};
 use desk_journal::{Error, STORE_SECTORS, Store};
 use event_bytes::Event;
+use past_pages::{PageDeeds, lay, page_at};
 use sector_disk::{Disk, MemoryDisk};
 use std::alloc::Global;
 use store_layout::{PastEnd, standing_law};

@@ -10,8 +10,8 @@ ghost use Rattle.desk_past.specs.Past.{HasPages, end_of_pages};
 ghost use Rattle.desk_past.specs.Past.{AreGood, AreTurns, Start, all_deeds, moment as moment_of};
 ghost use Rattle.desk_past.specs.Routes.{AreLegs, IsPassed, IsReached};
 
-use crate::pages::{PageKind, front_at};
 use desk_journal::{Error, Store};
+use past_pages::{PageKind, front_at};
 use sector_disk::Disk;
 use std::alloc::{AllocError, Global};
 

@@ -18,10 +18,9 @@ ghost use Rattle.desk_past.specs.Turning.{WasAt};
 ghost use Rattle.desk_past.specs.Writing.{AreAhead, UsesAhead};
 
 use crate::ahead::{Ahead, page_ahead};
-use crate::page::turn_page;
-use crate::parts::part_at;
 use crate::reading::moment;
 use desk_journal::{Error, GatheredDesktop, Store};
+use past_pages::{part_at, turn_page};
 use sector_disk::{Disk, MemoryDisk};
 use std::alloc::Global;
 use store_layout::LAST_EPOCH;

@@ -16,7 +16,7 @@ ghost use Rattle.former_stores.specs.Laying.{ArePlaced, StandsNone};
 
 use crate::laying::laid;
 use desk_journal::{Error, STORE_SECTORS, Store};
-use desk_past::part_at;
+use past_pages::part_at;
 use sector_disk::{Disk, MemoryDisk};
 use std::alloc::Global;
 use store_layout::standing_law;

@@ -9,8 +9,8 @@ ghost use Rattle.desk_past.specs.Reading.{many_deeds};
 ghost use Rattle.past_moments.specs.Moments.{IsExtentOf, IsPageOf, IsPagePlace};
 
 use desk_journal::{Error, STORE_SECTORS, Store};
-use desk_past::{PageDeeds, PageRead, page_in, part_at};
 use event_bytes::Event;
+use past_pages::{PageDeeds, PageRead, page_in, part_at};
 use sector_disk::Disk;
 use std::alloc::{AllocError, Global};
 use store_layout::{PastEnd, standing_law};

@@ -9,8 +9,9 @@ ghost use Rattle.past_moments.specs.Moments.{IsExtentOf, IsDesktopAt, IsPagePlac
 
 use crate::extent::{Extent, Place};
 use desk_journal::{Document, Error, Store};
-use desk_past::{PageDeeds, post_all};
+use desk_past::post_all;
 use event_bytes::Event;
+use past_pages::PageDeeds;
 use sector_disk::{Disk, MemoryDisk};
 use std::alloc::Global;
 

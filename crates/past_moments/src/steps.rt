@@ -6,8 +6,8 @@ ghost use Rattle.past_moments.specs.Moments.{AreMomentsOf};
 use crate::extent::{Extent, Place};
 use crate::moments::Moments;
 use desk_journal::{Error, Store};
-use desk_past::PageDeeds;
 use event_bytes::Event;
+use past_pages::PageDeeds;
 use sector_disk::Disk;
 use std::alloc::Global;
 

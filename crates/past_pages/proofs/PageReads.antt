@@ -21,7 +21,6 @@ use Rattle.past_pages.specs.Page.{page_body, page_bytes, page_count, page_kind, 
 use Rattle.past_pages.specs.Page.{AreDoable, AreDocuments, AreEvents, IsGoodPage}
 use Rattle.past_pages.proofs.StillReads.{page_there}
 
-
 pub joined : (a b c : List ℕ) → (a ++ b) ++ c ≡ a ++ (b ++ c)
 joined [] b c = refl
 joined (x ∷ a) b c = ap (λ r. x ∷ r) (joined a b c)

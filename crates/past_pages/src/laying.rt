@@ -106,12 +106,8 @@ fn lay_slot<D: Disk, E: Disk>(
 /// Lays the store that begins in sector `base` on another disk, which is in memory and reads zeros: it shows there what it
 /// shows. Of both slots what their heads name is copied, and all that stands before the images.
 ///
-/// Errors: those of `lay_some`.
-pub(crate) fn lay<D: Disk, E: Disk>(
-    store: &mut Store<D>,
-    base: u32,
-    disk: &mut E,
-) -> Result<(), Error>
+/// Errors: those of `Store::read_behind`; `NoMemory` where the other disk fails.
+pub fn lay<D: Disk, E: Disk>(store: &mut Store<D>, base: u32, disk: &mut E) -> Result<(), Error>
     requires usable { store.old.must_reopen ≡ false }
     requires there { HasStoreRoom (D.size store.old.disk) base }
     requires blank { IsBlankRoom E.Disk disk.old }

@@ -60,7 +60,7 @@ fn page_of(
 /// The page that the journal in use makes.
 ///
 /// Errors: those of `Store::journal`.
-pub fn journal_page<D: Disk>(alloc: Global, store: &mut Store<D>) -> Result<Vec<u8>, Error>
+fn journal_page<D: Disk>(alloc: Global, store: &mut Store<D>) -> Result<Vec<u8>, Error>
     ensures page { IfOk result (λ bytes. D.honest store.old.disk → (s : Standing)
         → ShowsStanding D.Disk store.old s → bytes.items ≡ page_bytes (journal_of s)) }
     ensures short { IfOk result (λ bytes. length bytes.items < 2 ^ 32) }
@@ -84,13 +84,10 @@ pub fn journal_page<D: Disk>(alloc: Global, store: &mut Store<D>) -> Result<Vec<
     )?)
 }
 
-/// The same, or none where the journal can't be read, over a disk that isn't honest.
+/// The page that the journal in use makes. None where the journal can't be read, over a disk that isn't honest.
 ///
-/// Errors: `MustReopen`; `NoMemory`; `Fault`.
-pub(crate) fn page_read<D: Disk>(
-    alloc: Global,
-    store: &mut Store<D>,
-) -> Result<Option<Vec<u8>>, Error>
+/// Errors: `MustReopen` where an earlier call failed, and only there; `Fault` where the disk fails; `NoMemory`.
+pub fn page_read<D: Disk>(alloc: Global, store: &mut Store<D>) -> Result<Option<Vec<u8>>, Error>
     ensures page { IfOk result (λ found. IfSome found (λ bytes. D.honest store.old.disk
         → (s : Standing) → ShowsStanding D.Disk store.old s
         → bytes.items ≡ page_bytes (journal_of s))) }
@@ -111,11 +108,10 @@ pub(crate) fn page_read<D: Disk>(
     }
 }
 
-/// The page of the documents of an import. None where a page has no room for them.
-pub(crate) fn import_page(
-    alloc: Global,
-    documents: &[Document],
-) -> Result<Option<Vec<u8>>, NoMemory>
+/// The bytes of the page of an import of these documents. None where a page has no room for them.
+///
+/// Error: `NoMemory` where there is no memory for it.
+pub fn import_page(alloc: Global, documents: &[Document]) -> Result<Option<Vec<u8>>, NoMemory>
     ensures page { IfOk result (λ found. IfSome found (λ bytes. bytes.items
         ≡ page_bytes (import_of documents.now))) }
     ensures good { IfOk result (λ found. IfSome found (λ bytes. IsGoodPage
@@ -130,8 +126,10 @@ pub(crate) fn import_page(
     Ok(Some(page))
 }
 
-/// The page of a turn to moment `k`.
-pub(crate) fn turn_page(alloc: Global, k: u64) -> Result<Vec<u8>, NoMemory>
+/// The bytes of the page of a turn to moment `k`.
+///
+/// Error: `NoMemory` where there is no memory for it.
+pub fn turn_page(alloc: Global, k: u64) -> Result<Vec<u8>, NoMemory>
     ensures { IfOk result (λ bytes. (to : Desktop) → bytes.items ≡ page_bytes (turn_of k to)) }
 {
     page_of(alloc, TURN_PAGE, LAYOUT, 1, &k.to_be_bytes())

@@ -160,7 +160,7 @@ fn kind_of(front: Front, bytes: &[u8]) -> Option<PageKind>
 /// before sector `end`.
 ///
 /// Errors: those of `Store::read_behind`; `NoMemory`.
-pub(crate) fn front_at<D: Disk>(
+pub fn front_at<D: Disk>(
     alloc: Global,
     store: &mut Store<D>,
     at: u32,
@@ -228,7 +228,7 @@ pub fn front_in<D: Disk>(
 /// The page in sector `at`. None where none stands there that ends before sector `end`.
 ///
 /// Errors: those of `Store::read_behind`; `NoMemory`.
-pub(crate) fn page_at<D: Disk>(
+pub fn page_at<D: Disk>(
     alloc: Global,
     store: &mut Store<D>,
     at: u32,

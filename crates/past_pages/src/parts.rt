@@ -12,6 +12,9 @@ pub const PARTS: u32 = STORE_SECTORS + 2;
 /// How many sectors a part has.
 pub const PART_SECTORS: u32 = 32_768;
 
+/// How many sectors a disk has that has room for a past: those of a store, two that are for pairs of disks, and 40 parts.
+pub const PAST_SECTORS: u32 = PARTS + 40 * PART_SECTORS;
+
 /// Into how many sectors of pages a part is filled, before the next one begins: so many are done once more in memory in a
 /// third of a second.
 pub const FULL_PART: u32 = 512;
@@ -27,7 +30,7 @@ pub struct Part {
 }
 
 /// How many parts a disk of so many sectors has.
-pub(crate) fn part_count(sectors: u32) -> u32
+pub fn part_count(sectors: u32) -> u32
     ensures value { result ≡ part_count sectors }
     ensures few { result ≤ 2 ^ 17 }
 {
@@ -35,14 +38,14 @@ pub(crate) fn part_count(sectors: u32) -> u32
 }
 
 /// Whether a disk of so many sectors has two parts at least.
-pub(crate) fn has_parts(sectors: u32) -> bool
+pub fn has_parts(sectors: u32) -> bool
     ensures { Decides result (HasParts sectors) }
 {
     sectors >= PARTS + 2 * PART_SECTORS
 }
 
-/// Where a part begins that a disk of so many sectors has.
-pub(crate) fn part_base(sectors: u32, place: u32) -> u32
+/// In which sector the part at this place begins, the first of which is 0, on a disk of so many sectors, which has it.
+pub fn part_base(sectors: u32, place: u32) -> u32
     requires { place < part_count sectors }
     ensures value { result ≡ part_base place }
     ensures is { IsPastPart sectors result (result + PART_SECTORS) }
@@ -51,7 +54,7 @@ pub(crate) fn part_base(sectors: u32, place: u32) -> u32
 }
 
 /// Whether pages go on in this sector of the part that begins in sector `base`.
-pub(crate) fn goes_on_in(base: u32, next: u32) -> bool
+pub fn goes_on_in(base: u32, next: u32) -> bool
     requires { base + PART_SECTORS < 2 ^ 32 }
     ensures { Decides result (GoesOnIn base (base + PART_SECTORS) next) }
 {

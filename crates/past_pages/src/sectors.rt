@@ -19,18 +19,20 @@ pub(crate) fn blank_sector() -> Sector {
     [0; SECTOR_BYTES as usize]
 }
 
-/// So many zeros.
-pub(crate) fn zeros(alloc: Global, count: usize) -> Result<Vec<u8>, AllocError>
+/// So many zeros, each a byte.
+///
+/// Error: `AllocError` where there is no memory for them.
+pub fn zeros(alloc: Global, count: usize) -> Result<Vec<u8>, AllocError>
     ensures { IfOk result (λ zeros. zeros.items ≡ replicate count 0) }
 {
     let zeros = vec![in alloc; 0; count]?;
     Ok(zeros)
 }
 
-/// What sector `n` of the store's disk holds.
+/// The bytes that sector `n` of the store's disk holds.
 ///
 /// Errors: those of `Store::read_behind`.
-pub(crate) fn sector_at<D: Disk>(store: &mut Store<D>, n: u32) -> Result<Sector, Error>
+pub fn sector_at<D: Disk>(store: &mut Store<D>, n: u32) -> Result<Sector, Error>
     requires { n < D.size store.old.disk }
     ensures bytes { IfOk result (λ bytes. D.honest store.old.disk
         → bytes ≡ (now (D.trail store.old.disk)).reads n) }
@@ -41,10 +43,10 @@ pub(crate) fn sector_at<D: Disk>(store: &mut Store<D>, n: u32) -> Result<Sector,
     Ok(sector)
 }
 
-/// The bytes of so many sectors, from `at` on.
+/// The bytes of so many sectors of the store's disk, from `at` on.
 ///
 /// Errors: those of `Store::read_behind`; `NoMemory`.
-pub(crate) fn bytes_at<D: Disk>(
+pub fn bytes_at<D: Disk>(
     alloc: Global,
     store: &mut Store<D>,
     at: u32,
@@ -80,10 +82,10 @@ pub(crate) fn is_zeros(sector: &Sector) -> bool
     zeros
 }
 
-/// Whether so many sectors, from `from` on, are the same as those `base` sectors further on.
+/// Whether so many sectors of the store's disk, from `from` on, are the same as those `base` sectors further on.
 ///
 /// Errors: those of `Store::read_behind`.
-pub(crate) fn is_copied<D: Disk>(
+pub fn is_copied<D: Disk>(
     store: &mut Store<D>,
     base: u32,
     from: u32,
@@ -130,10 +132,10 @@ fn are_alike<D: Disk>(store: &mut Store<D>, n: u32, other: u32) -> Result<bool, 
     Ok(copy == sector)
 }
 
-/// Whether so many sectors have zeros, from `from` on.
+/// Whether so many sectors of the store's disk hold nothing but zeros, from `from` on.
 ///
 /// Errors: those of `Store::read_behind`.
-pub(crate) fn is_blank<D: Disk>(store: &mut Store<D>, from: u32, count: u32) -> Result<bool, Error>
+pub fn is_blank<D: Disk>(store: &mut Store<D>, from: u32, count: u32) -> Result<bool, Error>
     requires usable { store.old.must_reopen ≡ false }
     requires numbered { from + count < 2 ^ 32 }
     requires there { from + count ≤ D.size store.old.disk }

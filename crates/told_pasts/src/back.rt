@@ -15,7 +15,8 @@ ghost use Rattle.told_pasts.specs.Stopping.{StopsAs};
 
 use crate::reach::{reach_of, sum_of};
 use desk_journal::{Error, Store};
-use desk_past::{PageDeeds, PageRead, any_moment, page_in};
+use desk_past::any_moment;
+use past_pages::{PageDeeds, PageRead, page_in};
 use sector_disk::{Disk, MemoryDisk};
 use std::alloc::Global;
 

@@ -10,7 +10,7 @@ ghost use Rattle.told_pasts.specs.Reaching.{IsReach};
 ghost use Rattle.told_pasts.specs.Stopping.{StopsAs};
 
 use desk_journal::{Error, STORE_SECTORS, Store};
-use desk_past::{Part, part_at};
+use past_pages::{Part, part_at};
 use sector_disk::Disk;
 use store_layout::standing_law;
 

@@ -13,8 +13,9 @@ use crate::line::Line;
 use crate::reach::Reach;
 use crate::telling::{add_import, add_lines, push_line};
 use desk_journal::{Document, Error, Store};
-use desk_past::{PageDeeds, PageRead, moment, page_in};
+use desk_past::moment;
 use event_bytes::Event;
+use past_pages::{PageDeeds, PageRead, page_in};
 use sector_disk::{Disk, MemoryDisk};
 use std::alloc::{AllocError, Global};
 
