@@ -8,7 +8,7 @@ use Rattle.desk_journal.specs.Checkpointing.{LeavesDesktop}
 use Rattle.desk_journal.specs.View.{StoreView, IsDurable}
 use Rattle.desk_past.specs.Beginning.{AreUncounted}
 use Rattle.desk_past.specs.Forgetting.{HasForgotten}
-use Rattle.desk_past.specs.Parts.{HasParts}
+use Rattle.past_pages.specs.Parts.{HasParts}
 use Rattle.page_disks.specs.Recording.{Recording}
 use Rattle.page_disks.specs.contracts.disk.RecordedDiskDisk.TheImpl.{ghosts}
 use Rattle.desk_page.specs.Forgetting.{Forgets, KeepsItsPast}

@@ -4,7 +4,7 @@ use Rattle.sector_disk.specs.declared.disk.Disk.{Ghosts}
 use Rattle.desk_journal.specs.Checkpointing.{LeavesDesktop}
 use Rattle.desk_past.specs.Beginning.{AreUncounted}
 use Rattle.desk_past.specs.Forgetting.{HasForgotten}
-use Rattle.desk_past.specs.Parts.{HasParts}
+use Rattle.past_pages.specs.Parts.{HasParts}
 use Rattle.page_disks.specs.Recording.{Recording}
 use Rattle.desk_page.specs.Looks.{seated_anew}
 use Rattle.desk_page.specs.Turns.{HostPage, IsHanded}

@@ -6,7 +6,7 @@ use Rattle.desktop_definitions.specs.Shown.{shown_screen}
 use Rattle.screen_drawing.specs.Drawn.{drawing_of}
 use Rattle.desk_journal.specs.Errors.{Error, Fault, NoMemory, MustReopen}
 use Rattle.desk_journal.specs.View.{StoreView, IsDurable}
-use Rattle.desk_past.specs.Reading.{IsOnlyReadFrom}
+use Rattle.past_pages.specs.Reading.{IsOnlyReadFrom}
 use Rattle.past_looks.specs.Looking.{IsAlike, IsLookerOf, ComesBackTo, StaysOrTurns, looker_line}
 use Rattle.past_looks.specs.declared.looker.Doing.{Doing}
 use Rattle.past_looks.specs.declared.looker.Doing.TheVariants.{Stays, Leaves, Turned}

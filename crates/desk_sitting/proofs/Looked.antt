@@ -9,7 +9,7 @@ use Rattle.desk_journal.specs.Errors.{Error}
 use Rattle.desk_journal.specs.Looking.{OnlyLooks}
 use Rattle.desk_journal.specs.Session.{Session, session_of}
 use Rattle.desk_journal.specs.View.{StoreView, IsDurable}
-use Rattle.desk_past.proofs.StillReads.{still_both, still_looked, still_none}
+use Rattle.past_pages.proofs.StillReads.{still_both, still_looked, still_none}
 use Rattle.desk_sitting.specs.Doing.{IsLookedAt}
 
 module _ {D : Type 0} (d : Ghosts D) where

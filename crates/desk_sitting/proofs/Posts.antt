@@ -5,8 +5,8 @@ use Rattle.event_bytes.specs.declared.event.Event.{Event}
 use Rattle.desk_journal.specs.Device.{IsOnlyRead, IsSameDevice}
 use Rattle.desk_journal.specs.View.{StoreView}
 use Rattle.desk_past.specs.Keeping.{KeepsOn}
-use Rattle.desk_past.specs.Reading.{IsOnlyReadFrom}
-use Rattle.desk_past.proofs.StillReads.{nothing_written}
+use Rattle.past_pages.specs.Reading.{IsOnlyReadFrom}
+use Rattle.past_pages.proofs.StillReads.{nothing_written}
 use Rattle.desk_sitting.specs.Pasts.{KeepsPosted, PostsOn, PostsUpTo}
 use Rattle.desk_sitting.specs.Pasts.{none, one_more, then_read}
 

@@ -16,10 +16,10 @@ use Rattle.desk_journal.specs.Looking.{OnlyLooks}
 use Rattle.desk_journal.specs.Undoing.{IsLeft, OfUndo}
 use Rattle.document_filing.specs.Bringing.{Documents, brought_in}
 use Rattle.desktop_definitions.specs.Step.{Outcome}
+use Rattle.past_pages.specs.Reading.{IsOnlyReadFrom}
+use Rattle.past_pages.proofs.StillReads.{read_twice, still_both, still_left, still_looked, still_none}
 use Rattle.desk_past.specs.Deeds.{PastDeed, all_posted, brought}
 use Rattle.desk_past.specs.Keeping.{UsesDevice}
-use Rattle.desk_past.specs.Reading.{IsOnlyReadFrom}
-use Rattle.desk_past.proofs.StillReads.{read_twice, still_both, still_left, still_looked, still_none}
 use Rattle.past_steps.specs.Steps.{IsBroughtAgain, IsSteppedBack, LeavesBroughtAgain, LeavesSteppedBack, TakesBack}
 use Rattle.past_steps.specs.Steps.{brings, goes_back as left_by, only_read, turned, unbegun, undone}
 use Rattle.desk_journal.specs.View.{StoreView, IsDurable}

@@ -6,7 +6,7 @@ use Rattle.desk_journal.specs.Device.{IsOnlyRead, IsSameDevice}
 use Rattle.desk_journal.specs.Errors.{Error}
 use Rattle.desk_journal.specs.View.{StoreView}
 use Rattle.desk_past.specs.Keeping.{HasKept, KeepsOn}
-use Rattle.desk_past.specs.Reading.{IsOnlyReadFrom}
+use Rattle.past_pages.specs.Reading.{IsOnlyReadFrom}
 
 module _ {D : Type 0} (d : Ghosts D) where
   -- An event was posted: of a past nothing is forgotten, and it goes on by the event.

@@ -10,8 +10,8 @@ use Rattle.desk_journal.specs.Device.{IsOnlyRead, IsSameDevice}
 use Rattle.desk_journal.specs.Errors.{Error, Fault}
 use Rattle.desk_journal.specs.Undoing.{IsLeft}
 use Rattle.desk_journal.specs.View.{StoreView, IsDurable}
+use Rattle.past_pages.specs.Reading.{IsOnlyReadFrom}
 use Rattle.desk_past.specs.Deeds.{PastDeed, all_posted, brought}
-use Rattle.desk_past.specs.Reading.{IsOnlyReadFrom}
 use Rattle.document_filing.specs.Bringing.{Documents}
 use Rattle.past_steps.specs.Steps.{IsBroughtAgain, IsSteppedBack, IsTurnedBack, LeavesBroughtAgain, LeavesSteppedBack}
 use Rattle.done_presses.specs.declared.again.StorePlace.{StorePlace}

@@ -2,7 +2,7 @@
 use Rattle.std.specs.Prelude.{◌≡◌, ◌+◌, ◌-◌, ◌*◌, ◌/◌, ℕ, List, [], take, drop, length, nat_lt, min, false, if◌then◌else◌, Option, Some, None}
 use Rattle.sector_disk.specs.declared.disk.TheConstants.{SECTOR_BYTES}
 use Rattle.sector_disk.specs.Trail.{Content, now}
-use Rattle.page_disks.specs.declared.loading.TheConstants.{DISK_SECTORS}
+use Rattle.past_pages.specs.declared.parts.TheConstants.{PAST_SECTORS}
 use Rattle.page_disks.specs.Recording.{Recording, blank_recording, trail_since}
 
 -- the bytes of the n-th sector of these
@@ -28,5 +28,5 @@ pub record HasLoaded (bytes : List ℕ) (first : ℕ) (old new : Recording) : Ty
 
 -- the disk on which sectors are loaded: the one on which some were, or one of zeros
 abbrev pub disk_to_load : Option Recording → Recording
-disk_to_load None = blank_recording DISK_SECTORS
+disk_to_load None = blank_recording PAST_SECTORS
 disk_to_load (Some disk) = disk

@@ -3,22 +3,19 @@ ghost use Rattle.std.specs.Prelude.{◌≡◌, ◌+◌, ◌*◌, ◌-◌, ◌<�
 ghost use Rattle.sector_disk.specs.Trail.{now, written};
 ghost use Rattle.page_disks.specs.Loading.{HasLoaded, disk_to_load, sector_of, whole_sectors};
 ghost use Rattle.page_disks.specs.Recording.{blank_recording, trail_since};
-ghost use Rattle.page_disks.specs.declared.loading.TheConstants.{DISK_SECTORS};
+ghost use Rattle.past_pages.specs.declared.parts.TheConstants.{PAST_SECTORS};
 
 use crate::disk::RecordedDisk;
 use desk_journal::NotingDisk;
-use sector_disk::{Disk, FILE_SECTORS, NoMemory, Sector};
+use past_pages::PAST_SECTORS;
+use sector_disk::{Disk, NoMemory, Sector};
 use std::alloc::Global;
-
-/// How many sectors the disk has, as many as `host_stores` gives a file with a past: those of a store, two that are for pairs of
-/// disks, and 40 parts.
-pub const DISK_SECTORS: u32 = FILE_SECTORS + 2 + 1_310_720;
 
 /// A disk of zeros, with room for a store and a past behind it. `NoMemory`: there was no memory for it.
 pub fn blank_disk(alloc: Global) -> Result<RecordedDisk, NoMemory>
-    ensures { IfOk result (λ d. d ≡ blank_recording DISK_SECTORS) }
+    ensures { IfOk result (λ d. d ≡ blank_recording PAST_SECTORS) }
 {
-    RecordedDisk::new(alloc, DISK_SECTORS)
+    RecordedDisk::new(alloc, PAST_SECTORS)
 }
 
 /// The disk on which sectors were loaded, or one of zeros where none were, on which those from `first` on become these bytes.

@@ -9,8 +9,8 @@ use Rattle.sector_disk.specs.declared.disk.Disk.{Ghosts}
 use Rattle.screen_drawing.specs.declared.scene.Scene.{Scene}
 use Rattle.desktop_definitions.specs.Shown.{shown_screen}
 use Rattle.desk_journal.specs.View.{StoreView}
-use Rattle.desk_past.specs.Reading.{IsOnlyReadFrom, IsQuiet}
-use Rattle.desk_past.proofs.StillReads.{read_twice, still_both, still_none}
+use Rattle.past_pages.specs.Reading.{IsOnlyReadFrom, IsQuiet}
+use Rattle.past_pages.proofs.StillReads.{read_twice, still_both, still_none}
 use Rattle.desktop_definitions.specs.Desktop.{Desktop}
 use Rattle.past_moments.specs.Moments.{IsLastOf}
 use Rattle.past_moments.proofs.Carried.{last_on}

@@ -17,7 +17,7 @@ use Rattle.desk_journal.specs.Device.{IsOnlyRead}
 use Rattle.desk_journal.specs.Errors.{Error, NoMemory}
 use Rattle.desk_journal.specs.Gathering.{GatheredView}
 use Rattle.desk_journal.specs.View.{StoreView}
-use Rattle.desk_past.specs.Reading.{IsOnlyReadFrom}
+use Rattle.past_pages.specs.Reading.{IsOnlyReadFrom}
 use Rattle.desk_past.specs.Turning.{ComesToMoment}
 use Rattle.past_moments.specs.Moments.{IsDesktopAt, IsLastOf}
 use Rattle.past_looks.specs.Looking.{IsLookerOf, IsSeenAt, ComesBackTo, LeavesMoment, SaysBelow}

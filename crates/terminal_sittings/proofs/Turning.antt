@@ -24,7 +24,7 @@ use Rattle.desk_journal.specs.Looking.{OnlyLooks}
 use Rattle.desk_journal.specs.Session.{Session, session_of}
 use Rattle.desk_journal.specs.View.{StoreView, IsDurable}
 use Rattle.desk_journal.proofs.Passing.{at_start}
-use Rattle.desk_past.proofs.StillReads.{still_both, still_looked, still_none}
+use Rattle.past_pages.proofs.StillReads.{still_both, still_looked, still_none}
 use Rattle.desk_sitting.specs.declared.sitting.Sitting.{Sitting}
 use Rattle.desk_sitting.specs.Doing.{Breaks, DoesPresses, OfPresses, seat_of}
 use Rattle.desk_sitting.specs.Sittings.{is_scene_due, looked}

@@ -12,7 +12,7 @@ use Rattle.desk_journal.specs.Device.{IsSameDevice}
 use Rattle.desk_journal.specs.Errors.{Error, NoMemory, Fault as DiskFault}
 use Rattle.desk_journal.specs.Session.{session_of}
 use Rattle.desk_journal.specs.View.{StoreView, IsDurable}
-use Rattle.desk_past.specs.Reading.{IsOnlyReadFrom}
+use Rattle.past_pages.specs.Reading.{IsOnlyReadFrom}
 use Rattle.screen_drawing.specs.declared.face.Face.{Face}
 use Rattle.terminal_keyboard.specs.declared.parser.Parser.{Parser}
 use Rattle.terminal_presses.specs.declared.press.Heard.{Heard}

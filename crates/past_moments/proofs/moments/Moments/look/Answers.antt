@@ -1,6 +1,6 @@
 use Rattle.std.proofs.Common.{arith, subst, sym}
 use Rattle.std.proofs.lemmas.Result.{on_ok_weaker}
-use Rattle.desk_past.proofs.StillReads.{still_both}
+use Rattle.past_pages.proofs.StillReads.{still_both}
 use Rattle.past_moments.specs.Moments.{IsLastOf}
 use Rattle.past_moments.proofs.Carried.{extent_on, moments_on, told_on}
 use Rattle.past_moments.proofs.Kept.{found_both, found_then, whatever}

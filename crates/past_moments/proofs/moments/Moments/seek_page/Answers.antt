@@ -1,5 +1,5 @@
 use Rattle.std.proofs.Common.{inl, inr, subst, sym}
-use Rattle.desk_past.proofs.StillReads.{still_both}
+use Rattle.past_pages.proofs.StillReads.{still_both}
 use Rattle.past_moments.specs.Seeking.{IsBefore, IsSoughtOf}
 use Rattle.past_moments.proofs.moments.Moments.seek_page.Goals as goal
 
