@@ -23,7 +23,7 @@ pub shows_still : {D : Type 0} (d : Ghosts D) (law : ShowingLaw) (old new : Stor
     → IsDurable d new → new.desktop ≡ old.desktop
 shows_still d law old new size honest leaves durable =
     let means : Means (d.size old.disk) old.desktop (now (d.trail new.disk)).reads =
-        leaves.each (d.trail new.disk).clock leaves.later (omega arith) (now (d.trail new.disk)).reads (λ n calm. refl) in
+    leaves.each (d.trail new.disk).clock leaves.later (omega arith) (now (d.trail new.disk)).reads (λ n calm. refl) in
     (law (d.size old.disk) (now (d.trail new.disk)).reads means.0.version means.0.epoch (length means.0.events) new.layout
     new.epoch new.events old.desktop new.desktop
     (record {
