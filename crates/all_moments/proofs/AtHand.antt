@@ -7,7 +7,7 @@ use Rattle.sector_disk.specs.contracts.memory.MemoryDiskDisk.TheImpl.{ghosts as 
 use Rattle.sector_disk.specs.declared.disk.Disk.{Ghosts}
 use Rattle.desktop_definitions.specs.Desktop.{Desktop}
 use Rattle.desk_journal.specs.View.{StoreView}
-use Rattle.desk_past.specs.Reading.{IsOnlyReadFrom, IsQuiet}
+use Rattle.past_pages.specs.Reading.{IsOnlyReadFrom, IsQuiet}
 use Rattle.desk_past.specs.Turning.{PastOf}
 use Rattle.former_stores.proofs.Kept.{whole_on}
 use Rattle.past_moments.proofs.Carried.{extent_on}
@@ -125,7 +125,7 @@ module _ {D : Type 0} (d : Ghosts D) (store : StoreView D) where
     sought_at_hand k word sought is =
         sought_former (length all.fronts.items) new.store hand_new.keeps (is hand_is.1.moments)
 
-    pub all_stays : AreAllMomentsOf d (record all { former = Some new; }) store
+    pub all_stays : AreAllMomentsOf d (record all { former = Some new }) store
     all_stays = record { known = record { in_use = are.known.in_use; fronts = are.known.fronts }; hand = (hand_is.0, hand_new); edge = are.edge }
 
   -- ---- the part in use
@@ -146,7 +146,7 @@ module _ {D : Type 0} (d : Ghosts D) (store : StoreView D) where
       omega (arith, first, same, low)) (subst (λ n. IsEdge d all.edge n store) no are.edge) is
 
   pub all_now : (all : AllMoments) (now : Moments) → AreMomentsOf d now store → AreAllMomentsOf d all store
-      → AreAllMomentsOf d (record all { in_use = now; }) store
+      → AreAllMomentsOf d (record all { in_use = now }) store
   all_now all now is are = record {
     known = record { in_use = is; fronts = are.known.fronts };
     hand = are.hand;

@@ -10,11 +10,11 @@ use Rattle.sector_disk.specs.declared.disk.Disk.{Ghosts}
 use Rattle.desktop_definitions.specs.Desktop.{Desktop}
 use Rattle.desk_journal.specs.View.{StoreView}
 use Rattle.desk_past.proofs.Before.{part_before, past_before}
-use Rattle.desk_past.proofs.StillReads.{still_reads}
+use Rattle.past_pages.proofs.StillReads.{still_reads}
 use Rattle.desk_past.specs.Deeds.{PastDeed}
 use Rattle.desk_past.specs.Going.{LiesInPart}
 use Rattle.desk_past.specs.Past.{Start}
-use Rattle.desk_past.specs.Reading.{IsOnlyReadFrom, IsQuiet}
+use Rattle.past_pages.specs.Reading.{IsOnlyReadFrom, IsQuiet}
 use Rattle.desk_past.specs.Turning.{PastOf}
 use Rattle.former_stores.specs.Former.{HasPartBefore, IsFormer, KeepsWhole}
 use Rattle.past_moments.proofs.Carried.{moment_on, moments_on, sought_on, told_on}
@@ -181,8 +181,7 @@ module _ {D : Type 0} (d : Ghosts D) {store : StoreView D} (n : ℕ) (behind : F
           let at = is.at past lies start deeds desktop (subst (λ m. IsPartBack (d.size store.disk)
           (now (d.trail store.disk)).reads past.start m start deeds desktop) same back) in
           let first = at.1 in
-          let last = made.last in
-          (
+          let last = made.last in (
             omega (arith, first, last),
             subst (λ b. HasPartBefore (d.size store.disk) b (now (d.trail store.disk)).reads) at.0 (has past.honest),
           )
@@ -247,6 +246,7 @@ module _ {D : Type 0} (d : Ghosts D) (store : StoreView D) where
       one_more : (fronts : List Front) (front : Front) → length (fronts ++ front ∷ []) ≡ suc (length fronts)
       one_more [] front = refl
       one_more (other ∷ fronts) front = ap suc (one_more fronts front)
+
       unlike : Unknown ≡ Absent → ⊥
       unlike is = absurd cc is
 

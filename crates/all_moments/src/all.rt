@@ -1,6 +1,6 @@
 //! The moments of a past over all its parts that stand.
 ghost use Rattle.std.specs.Prelude.{◌≡◌, ◌≢◌, ◌⊎◌, ◌+◌, ◌-◌, ◌<◌, ◌≤◌, false, length, suc, true, None, IfOk, IfSome, IsSomeAnd, OnOk};
-ghost use Rattle.desk_past.specs.Reading.{IsOnlyReadFrom};
+ghost use Rattle.past_pages.specs.Reading.{IsOnlyReadFrom};
 ghost use Rattle.past_moments.specs.Moments.{AreMomentsOf, IsDesktopAt};
 ghost use Rattle.past_moments.specs.Seeking.{IsBefore};
 ghost use Rattle.all_moments.specs.Parts.{AreAllMomentsOf, AreBehindHand, HasCome, IsDesktopThen, IsFormerPart, IsNearest, IsPartFront};
@@ -8,8 +8,8 @@ ghost use Rattle.all_moments.specs.Parts.{IsSoughtThen, IsToldThen, first_at_han
 
 use crate::part::{Edge, FormerPart, Front, part_before};
 use desk_journal::{Error, Store};
-use desk_past::PART_SECTORS;
 use past_moments::{Look, Moments, Sought};
+use past_pages::PART_SECTORS;
 use sector_disk::Disk;
 use std::alloc::{AllocError, Global};
 

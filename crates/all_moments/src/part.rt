@@ -1,6 +1,6 @@
 //! A part of a past that isn't in use, in memory.
 ghost use Rattle.std.specs.Prelude.{◌≡◌, ◌≢◌, ◌-◌, ◌≤◌, ℕ, false, suc, true, IfErr, IfOk, IfSome, OnOk};
-ghost use Rattle.desk_past.specs.Reading.{IsOnlyReadFrom};
+ghost use Rattle.past_pages.specs.Reading.{IsOnlyReadFrom};
 ghost use Rattle.past_moments.specs.Moments.{AreMomentsOf, IsDesktopAt};
 ghost use Rattle.past_moments.specs.Seeking.{IsBefore, IsSoughtOf};
 ghost use Rattle.all_moments.specs.Parts.{IsEdge, IsFormerPart, IsMadeOf, IsPartFront, IsToldWithin, StaysPart, oldest_words};
@@ -143,7 +143,8 @@ impl FormerPart {
         if k > self.moments.extent.first {
             return self.moments.look_led(alloc, &mut self.store, k);
         }
-        self.moments.look_plain(alloc, &mut self.store, k, edge.words())
+        self.moments
+            .look_plain(alloc, &mut self.store, k, edge.words())
     }
 
     /// The moment before the step of a hand that led to moment `k`.

@@ -2,7 +2,7 @@
 use Rattle.std.specs.Prelude.{◌≡◌, ◌<◌, ◌≤◌, ◌+◌, ◌*◌, ◌⊎◌, ℕ, List}
 use Rattle.sector_disk.specs.Trail.{Content}
 use Rattle.sector_disk.specs.declared.file.TheConstants.{FILE_SECTORS}
-use Rattle.desk_past.specs.declared.parts.TheConstants.{PARTS}
+use Rattle.past_pages.specs.declared.parts.TheConstants.{PARTS}
 
 -- what a copy has of the sectors before `end`: those of the store, and those where a past may stand. The two between them tell
 -- of a pair of disks, to which a copy doesn't belong

@@ -11,12 +11,12 @@ use crate::sentences::Stop;
 use crate::stores::{LockedStore, WHOLE, store_at};
 use cli_stores::Trouble;
 use desk_journal::{Error, Store};
-use desk_past::PARTS;
 use event_bytes::Event;
 use host_files::{
     HostFault, LockedFile, is_there, length_of, lock_new, remove, rename_new, sync_folder,
 };
-use host_stores::{FileDisk, PAST_SECTORS, opened as opened_on};
+use host_stores::{FileDisk, opened as opened_on};
+use past_pages::{PARTS, PAST_SECTORS};
 use sector_disk::{Disk, FILE_SECTORS, MemoryDisk, SECTOR_BYTES};
 
 /// Copies the store in a file, which is locked beside other programs that look, into a new file, and its past if that is to

@@ -5,7 +5,7 @@ ghost use Rattle.sector_disk.specs.Trail.{CountsFault, Nowhere, Only, now};
 ghost use Rattle.store_documents.specs.Copying.{FailsWithEither};
 ghost use Rattle.cli_copies.specs.Sectors.{HaveSameFrom, DiffersBetween, IsOfCopy, IsCopy, IsUnlike, WantsWrite};
 
-use desk_past::PARTS;
+use past_pages::PARTS;
 use sector_disk::{Disk, FILE_SECTORS, Fault, SECTOR_BYTES, Sector};
 use store_documents::{Watch, are_same, copy};
 

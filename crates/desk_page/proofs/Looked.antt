@@ -7,14 +7,14 @@ use Rattle.desktop_definitions.specs.Shown.{shown_screen}
 use Rattle.screen_drawing.specs.Drawn.{drawing_of}
 use Rattle.desk_journal.specs.Errors.{Error, NoMemory, Fault, MustReopen, OfLook}
 use Rattle.desk_journal.specs.View.{StoreView, IsDurable}
-use Rattle.desk_past.proofs.StillReads.{still_both, still_none}
+use Rattle.past_pages.proofs.StillReads.{still_both, still_none}
 use Rattle.past_moments.specs.declared.moments.Look.{Look}
 use Rattle.past_looks.specs.Looking.{ComesBackTo, ComesOfPress, IsAlike, IsLookerOf, IsSameLook, StaysOrTurns, desktop_before, looker_line}
 use Rattle.past_looks.specs.declared.looker.Doing.{Doing}
 use Rattle.past_looks.specs.declared.looker.Doing.TheVariants.{Stays, Leaves, Turned}
 use Rattle.past_looks.specs.declared.looker.Looker.{Looker}
 use Rattle.past_looks.proofs.Carrying.{looker_alike}
-use Rattle.desk_page.specs.Recording.{Recording}
+use Rattle.page_disks.specs.Recording.{Recording}
 use Rattle.desk_page.specs.declared.looks.Desk.{Desk}
 use Rattle.desk_page.specs.declared.looks.Desk.TheVariants.{Past}
 use Rattle.desk_page.specs.declared.looks.Looking.{Looking}

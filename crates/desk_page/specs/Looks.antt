@@ -6,7 +6,7 @@ use Rattle.desktop_definitions.specs.Shown.{shown_screen}
 use Rattle.screen_drawing.specs.Drawn.{drawing_of}
 use Rattle.desk_journal.specs.Errors.{Error, Fault, NoMemory, MustReopen}
 use Rattle.desk_journal.specs.View.{StoreView, IsDurable}
-use Rattle.desk_past.specs.Reading.{IsOnlyReadFrom}
+use Rattle.past_pages.specs.Reading.{IsOnlyReadFrom}
 use Rattle.past_looks.specs.Looking.{IsAlike, IsLookerOf, ComesBackTo, StaysOrTurns, looker_line}
 use Rattle.past_looks.specs.declared.looker.Doing.{Doing}
 use Rattle.past_looks.specs.declared.looker.Doing.TheVariants.{Stays, Leaves, Turned}
@@ -16,7 +16,7 @@ use Rattle.desk_sitting.specs.Sittings.{new_sitting}
 use Rattle.desk_sitting.specs.declared.sitting.Sitting.{Sitting}
 use Rattle.viewer_tracks.specs.declared.display.TheConstants.{COLUMNS}
 use Rattle.desk_page.specs.Giving.{LooksAtStore}
-use Rattle.desk_page.specs.Recording.{Recording}
+use Rattle.page_disks.specs.Recording.{Recording}
 use Rattle.desk_page.specs.declared.looks.Desk.{Desk}
 use Rattle.desk_page.specs.declared.looks.Desk.TheVariants.{Present, Past}
 use Rattle.desk_page.specs.declared.looks.Looking.{Looking}

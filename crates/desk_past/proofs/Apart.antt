@@ -2,9 +2,9 @@
 use Rattle.std.proofs.Common.{◌≡◌, ◌⊎◌, inl, inr, ◌+◌, ◌*◌, ◌/◌, ◌-◌, ◌^◌, ◌<◌, ◌≤◌, ℕ, refl, sym, ap, subst, arith}
 use Rattle.std.proofs.lemmas.Bool.{cases_lt}
 use Rattle.store_layout.specs.declared.layout.TheConstants.{STORE_SECTORS}
-use Rattle.desk_past.specs.declared.parts.TheConstants.{PARTS, PART_SECTORS}
+use Rattle.past_pages.specs.declared.parts.TheConstants.{PARTS, PART_SECTORS}
+use Rattle.past_pages.specs.Parts.{GoesOnIn, HasParts, IsPartBeside, IsPastPart, LiesBeside, part_base, part_count}
 use Rattle.desk_past.specs.Beginning.{HasStartRoom}
-use Rattle.desk_past.specs.Parts.{GoesOnIn, HasParts, IsPartBeside, IsPastPart, LiesBeside, part_base, part_count}
 
 -- ---- one part
 

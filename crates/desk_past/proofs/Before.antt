@@ -4,13 +4,13 @@ use Rattle.sector_disk.specs.declared.disk.Disk.{Ghosts}
 use Rattle.sector_disk.specs.Trail.{Content}
 use Rattle.desktop_definitions.specs.Desktop.{Desktop}
 use Rattle.desk_journal.specs.View.{StoreView}
+use Rattle.past_pages.specs.Parts.{IsPastPart}
+use Rattle.past_pages.specs.Reading.{IsOnlyReadFrom, IsQuiet}
+use Rattle.past_pages.proofs.StillReads.{still_reads}
 use Rattle.desk_past.specs.Deeds.{PastDeed}
 use Rattle.desk_past.specs.Going.{LiesInPart}
-use Rattle.desk_past.specs.Parts.{IsPastPart}
 use Rattle.desk_past.specs.Past.{HoldsPast, KeepsAll, Start}
-use Rattle.desk_past.specs.Reading.{IsOnlyReadFrom, IsQuiet}
 use Rattle.desk_past.specs.Turning.{PastOf}
-use Rattle.desk_past.proofs.StillReads.{still_reads}
 
 module _ {D : Type 0} (d : Ghosts D) {old mid : StoreView D} (still : IsOnlyReadFrom d old mid)
     (usable : old.must_reopen ≡ false) (quiet : d.honest old.disk → IsQuiet d old) where

@@ -20,15 +20,16 @@ use Rattle.desk_journal.specs.Checkpointing.{IsRenewed, LeavesDesktop}
 use Rattle.desk_journal.specs.Looking.{OnlyLooks}
 use Rattle.desk_journal.specs.Undoing.{IsLeft, ShowsStanding}
 use Rattle.desk_journal.specs.View.{StoreView, IsDurable}
+use Rattle.past_pages.specs.Laying.{StandsFrom}
+use Rattle.past_pages.specs.Reading.{IsOnlyReadFrom, IsQuiet}
+use Rattle.past_pages.proofs.StillReads.{resized}
 use Rattle.desk_past.specs.Beginning.{GoesOnFrom, IsApart, IsAside, SparesAllBut, SparesOthers, begun_at, copied_back}
 use Rattle.desk_past.specs.Deeds.{PastDeed, all_posted}
-use Rattle.desk_past.specs.Past.{HoldsPages, KeepsAll, Remembers, StandsFrom, Start, all_deeds}
-use Rattle.desk_past.specs.Reading.{IsOnlyReadFrom, IsQuiet}
+use Rattle.desk_past.specs.Past.{HoldsPages, KeepsAll, Remembers, Start, all_deeds}
 use Rattle.desk_past.proofs.Carrying.{both_leave, written_stays}
 use Rattle.desk_past.proofs.Moments.{many_posted}
 use Rattle.desk_past.proofs.Remembering.{remembers_on}
 use Rattle.desk_past.proofs.Sparing.{but_none, but_read, but_then, but_touched}
-use Rattle.desk_past.proofs.StillReads.{resized}
 
 pub same_both : {D : Type 0} (d : Ghosts D) {old mid new : D} → IsSameDevice d old mid → IsSameDevice d mid new
     → IsSameDevice d old new

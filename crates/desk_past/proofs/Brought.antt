@@ -17,15 +17,16 @@ use Rattle.store_layout.specs.Meaning.{Standing, Stands, desktop_of}
 use Rattle.store_slots.specs.Written.{anew_from}
 use Rattle.desk_journal.specs.Behind.{GoesToNextWith, LeavesNextWith, StaysBehind}
 use Rattle.desk_journal.specs.View.{StoreView}
-use Rattle.desk_past.specs.Reading.{IsQuiet}
+use Rattle.past_pages.specs.Reading.{IsQuiet}
+use Rattle.past_pages.specs.Page.{Page, page_bytes, page_sectors, IsGoodPage, journal_of}
+use Rattle.past_pages.proofs.PageReads.{page_long}
 use Rattle.desk_past.specs.Ahead.{CanAdd, IsAhead, padded, pages_added, two_pages}
 use Rattle.desk_past.specs.Deeds.{PastDeed, after_deed, after_deeds, all_posted}
-use Rattle.desk_past.specs.Page.{Page, HasPages, deeds_in, end_of_pages, page_bytes, page_sectors}
-use Rattle.desk_past.specs.Past.{AreGood, AreTurns, HoldsPages, IsGoodPage, IsTurn, KeepsAll, Remembers, Start}
-use Rattle.desk_past.specs.Past.{all_deeds, first_page, journal_of}
+use Rattle.desk_past.specs.Past.{HasPages, deeds_in, end_of_pages}
+use Rattle.desk_past.specs.Past.{AreGood, AreTurns, HoldsPages, IsTurn, KeepsAll, Remembers, Start}
+use Rattle.desk_past.specs.Past.{all_deeds, first_page}
 use Rattle.desk_past.proofs.Carrying.{both_leave, good_journal, written_kept}
 use Rattle.desk_past.proofs.Moments.{after_both, joined, many_posted, stepped_on}
-use Rattle.desk_past.proofs.PageReads.{page_long}
 use Rattle.desk_past.proofs.Remembering.{remembers_on}
 use Rattle.desk_past.proofs.Turns.{turns_both}
 

@@ -11,10 +11,9 @@ use Rattle.store_layout.specs.Meaning.{IsJournal, Standing, Stands}
 use Rattle.store_layout.proofs.StandingLaws.{journal_short}
 use Rattle.desk_journal.proofs.Aside.{stands_behind}
 use Rattle.event_bytes.specs.declared.event.Event.{Event}
-use Rattle.desk_past.specs.declared.page.TheConstants.{MOST_SPELLED}
-use Rattle.desk_past.specs.Page.{Page, HasPages, page_body, page_count, behind_length, end_of_pages, page_kind, number}
-use Rattle.desk_past.specs.Page.{page_bytes, page_sectors, page_version}
-use Rattle.desk_past.specs.Past.{AreEvents, AreGood, HoldsPast, HasStart, IsGoodPage, HoldsPages, Start, first_page, journal_of}
+use Rattle.past_pages.specs.Page.{Page, page_body, page_count, behind_length, page_kind, number}
+use Rattle.past_pages.specs.Page.{page_bytes, page_sectors, page_version, AreEvents, IsGoodPage, journal_of}
+use Rattle.desk_past.specs.Past.{HasPages, end_of_pages, AreGood, HoldsPast, HasStart, HoldsPages, Start, first_page}
 
 held_stays : (c c' : Content) (at : ℕ) (bytes : List ℕ)
     → ((k : ℕ) → k ≤ last_sector (length bytes) → c' (at + k) ≡ c (at + k))
@@ -127,24 +126,6 @@ journal_valid (e ∷ events) c slot k journal = (journal.2.valid, journal_valid 
 -- events are spelled in fewer bytes than their page has
 behind : (a b : List ℕ) → length b ≤ length (a ++ b)
 behind a b = omega (arith, length-append a b)
-
-pub page_short : (a b c e f bytes : List ℕ) → length a ≤ 4 → length b ≤ 4 → length c ≤ 4 → length e ≤ 4
-    → length f ≤ MOST_SPELLED → bytes ≡ a ++ (b ++ (c ++ (e ++ f))) → length bytes < 2 ^ 32
-page_short a b c e f bytes first second third fourth few is =
-    let long = ap length is in
-    omega (
-      arith,
-      long,
-      first,
-      second,
-      third,
-      fourth,
-      few,
-      length-append a (b ++ (c ++ (e ++ f))),
-      length-append b (c ++ (e ++ f)),
-      length-append c (e ++ f),
-      length-append e f,
-    )
 
 spelled_short : (p : Page) → length (page_body p) ≤ length (page_bytes p)
 spelled_short p =

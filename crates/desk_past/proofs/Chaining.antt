@@ -13,15 +13,16 @@ use Rattle.store_layout.specs.declared.head.PastEnd.{PastEnd}
 use Rattle.store_layout.specs.declared.layout.TheConstants.{LABEL, STORE_SECTORS}
 use Rattle.store_layout.specs.Layout.{head_of, is_label, is_open, slot_gate, slot_head}
 use Rattle.store_layout.specs.Meaning.{Standing}
+use Rattle.past_pages.specs.Page.{Page}
+use Rattle.past_pages.specs.Laying.{StandsFrom}
 use Rattle.desk_past.specs.Chain.{HasSpan, AreSpans, IsOlderThan, IsSpan, SaysOfSpan, WasIn, WasThen, newer, open_head, start_shows}
 use Rattle.desk_past.specs.declared.chain.Begun.{Begun}
 use Rattle.desk_past.specs.declared.chain.TheConstants.{NO_EPOCH}
 use Rattle.desk_past.specs.Deeds.{PastDeed}
 use Rattle.desk_past.specs.Going.{LiesInPart}
-use Rattle.desk_past.specs.Page.{Page}
-use Rattle.desk_past.specs.Past.{KeepsAll, StandsFrom, Start, all_deeds, moment}
-use Rattle.desk_journal.specs.View.{StoreView}
+use Rattle.desk_past.specs.Past.{KeepsAll, Start, all_deeds, moment}
 use Rattle.desk_past.proofs.Gone.{holds_told, start_stands, told_room}
+use Rattle.desk_journal.specs.View.{StoreView}
 
 -- ---- the head of a start
 

@@ -1,10 +1,8 @@
 -- Copies of sectors behind a store. `d` is what is known of a disk.
 use Rattle.std.proofs.Common.{◌≡◌, ◌⊎◌, inl, inr, ◌+◌, ◌-◌, ◌*◌, ◌/◌, ◌%◌, ◌<◌, ◌≤◌, ℕ, List, length, sym, ◌∙◌, ap, arith}
-use Rattle.std.proofs.Common.{true, false}
-use Rattle.std.specs.Prelude.{get_or, nat_eq}
-use Rattle.std.specs.Cmp.Lexicographic.{bytes_decides, pointwise}
+use Rattle.std.proofs.Common.{false}
+use Rattle.std.specs.Prelude.{get_or}
 use Rattle.std.proofs.lemmas.Bool.{cases_lt}
-use Rattle.std.proofs.lemmas.List.{ext_get_or}
 use Rattle.sector_disk.specs.declared.disk.Disk.{Ghosts}
 use Rattle.sector_disk.specs.declared.disk.TheConstants.{SECTOR_BYTES}
 use Rattle.sector_disk.specs.Stored.{HoldsBytes, last_sector, stored}
@@ -14,20 +12,9 @@ use Rattle.sector_disk.proofs.Touching.{at_last, read_is_an_image}
 use Rattle.store_layout.specs.declared.layout.TheConstants.{STORE_SECTORS}
 use Rattle.store_layout.specs.Filling.{InRange}
 use Rattle.desk_journal.specs.View.{StoreView}
-use Rattle.desk_past.specs.Beginning.{HasCopies, HoldsSame, SparesAllBut, SparesBut}
+use Rattle.past_pages.specs.Sectors.{HasCopies}
+use Rattle.desk_past.specs.Beginning.{SparesAllBut, SparesBut}
 use Rattle.desk_past.proofs.Sparing.{but_wider}
-
--- ---- sectors
-
--- sectors that hold the same bytes are equal
-pub equal_sectors : (xs ys : List ℕ) → length xs ≡ SECTOR_BYTES → length ys ≡ SECTOR_BYTES → HoldsSame xs ys
-    → pointwise nat_eq xs ys ≡ true
-equal_sectors xs ys left right same = (bytes_decides xs ys).1 (ext_get_or 0 xs ys (left ∙ sym right)
-    (λ j low. same j (omega (arith, low, left))))
-
-pub held_as : {xs ys a b : List ℕ} → xs ≡ a → ys ≡ b → HoldsSame a b → HoldsSame xs ys
-held_as left right same = λ j low.
-    ap (λ l. get_or l j 0) left ∙ same j low ∙ sym (ap (λ l. get_or l j 0) right)
 
 -- ---- copies
 

@@ -9,10 +9,10 @@ use Rattle.store_layout.specs.declared.head.Head.{Head}
 use Rattle.store_layout.specs.declared.head.PastEnd.{PastEnd}
 use Rattle.store_layout.specs.declared.layout.TheConstants.{LABEL}
 use Rattle.store_layout.specs.Layout.{head_of, is_label, is_open, slot_gate, slot_head}
+use Rattle.past_pages.specs.Page.{Page}
 use Rattle.desk_past.specs.Chain.{AreSpans, HasSpan, IsFirstOf, IsOlderThan, IsSpan, newer, open_head, start_shows}
 use Rattle.desk_past.specs.declared.chain.Begun.{Begun}
 use Rattle.desk_past.specs.Going.{slot_epoch, start_epoch}
-use Rattle.desk_past.specs.Page.{Page}
 use Rattle.desk_past.specs.Past.{Start}
 use Rattle.desk_past.proofs.Chaining.{SaysOfAll, newer_first, newer_second, open_at, shut_at}
 

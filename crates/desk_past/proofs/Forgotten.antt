@@ -17,16 +17,17 @@ use Rattle.store_slots.specs.Device.{IsSameDevice}
 use Rattle.desk_journal.proofs.Aside.{stands_behind}
 use Rattle.desk_journal.specs.Checkpointing.{LeavesDesktop}
 use Rattle.desk_journal.specs.View.{StoreView}
-use Rattle.desk_past.specs.Beginning.{HasBegun, HasCopies, SparesAllBut, begun_at}
-use Rattle.desk_past.specs.Forgetting.{AreBlank, AreBlankBeside, HasForgotten, IsBlank, SparesStart}
-use Rattle.desk_past.specs.Parts.{IsPastPart}
-use Rattle.desk_past.specs.declared.parts.TheConstants.{PART_SECTORS}
+use Rattle.past_pages.specs.Sectors.{HasCopies, AreBlank, IsBlank}
+use Rattle.past_pages.specs.Parts.{IsPastPart}
+use Rattle.past_pages.specs.declared.parts.TheConstants.{PART_SECTORS}
+use Rattle.past_pages.specs.Reading.{IsOnlyReadFrom, IsQuiet}
+use Rattle.past_pages.proofs.StillReads.{still_reads}
+use Rattle.desk_past.specs.Beginning.{HasBegun, SparesAllBut, begun_at}
+use Rattle.desk_past.specs.Forgetting.{AreBlankBeside, HasForgotten, SparesStart}
 use Rattle.desk_past.specs.Past.{HoldsPages, KeepsAll, Start}
 use Rattle.desk_past.proofs.Carrying.{written_stays}
 use Rattle.desk_past.proofs.Copied.{copies_as, spared_reads}
-use Rattle.desk_past.specs.Reading.{IsOnlyReadFrom, IsQuiet}
 use Rattle.desk_past.proofs.Remembering.{remembers_on}
-use Rattle.desk_past.proofs.StillReads.{still_reads}
 
 -- ---- zeros
 

@@ -15,22 +15,24 @@ use Rattle.store_slots.specs.declared.error.Error.TheVariants.{Fault}
 use Rattle.desk_journal.proofs.Aside.{stands_behind}
 use Rattle.desk_journal.specs.Looking.{OnlyLooks}
 use Rattle.desk_journal.specs.View.{StoreView}
+use Rattle.past_pages.specs.Parts.{IsPastPart}
+use Rattle.past_pages.specs.Laying.{StandsFrom}
+use Rattle.past_pages.specs.Reading.{IsQuiet}
+use Rattle.past_pages.specs.declared.parts.TheConstants.{PART_SECTORS}
+use Rattle.past_pages.proofs.StillReads.{resized}
 use Rattle.desk_past.specs.Beginning.{RemembersFormer, copied_back}
 use Rattle.desk_past.specs.Chain.{SpanStaysLaw}
 use Rattle.desk_past.specs.Deeds.{PastDeed}
 use Rattle.desk_past.specs.Going.{IsOldest}
-use Rattle.desk_past.specs.Parts.{IsPastPart}
-use Rattle.desk_past.specs.Past.{HoldsPages, Remembers, StandsFrom, Start}
-use Rattle.desk_past.specs.Reading.{IsQuiet, ShowsNow}
+use Rattle.desk_past.specs.Past.{HoldsPages, Remembers, Start}
+use Rattle.desk_past.specs.Reading.{ShowsNow}
 use Rattle.desk_past.specs.Writing.{FormerStaysLaw, HasFormerPast, LiesAhead}
-use Rattle.desk_past.specs.declared.parts.TheConstants.{PART_SECTORS}
 use Rattle.desk_past.proofs.Apart.{one_part, part_far, parts_apart}
 use Rattle.desk_past.proofs.Carrying.{written_stays}
 use Rattle.desk_past.proofs.InMemory.{error_calm, fails_none}
 use Rattle.desk_past.proofs.Remembering.{remembers_on}
 use Rattle.desk_past.proofs.Rooms.{behind_start}
 use Rattle.desk_past.proofs.Sparing.{read_shows}
-use Rattle.desk_past.proofs.StillReads.{resized}
 
 -- ---- what is copied back
 

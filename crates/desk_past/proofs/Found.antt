@@ -8,13 +8,13 @@ use Rattle.store_layout.specs.declared.layout.TheConstants.{LABEL, STORE_SECTORS
 use Rattle.store_layout.specs.Layout.{head_of, is_label, is_open, slot_gate, slot_head}
 use Rattle.store_layout.specs.Meaning.{Standing}
 use Rattle.desk_journal.specs.View.{StoreView}
+use Rattle.past_pages.specs.declared.parts.TheConstants.{LEAST_ROOM}
+use Rattle.past_pages.specs.Reading.{IsOnlyReadFrom, IsQuiet}
+use Rattle.past_pages.proofs.StillReads.{still_reads, still_shows}
 use Rattle.desk_past.specs.declared.going_on.Outset.{Outset}
 use Rattle.desk_past.specs.declared.going_on.Outset.TheVariants.{Absent, GoesOn, Begins}
-use Rattle.desk_past.specs.declared.parts.TheConstants.{LEAST_ROOM}
 use Rattle.desk_past.specs.Beginning.{AreUncounted}
 use Rattle.desk_past.specs.Going.{BeginsIn, BeginsNow, CanGoOn, IsDueOutset, IsInPart, IsOutsetIn, IsOutsetOf, IsStartedSomewhere, IsWanted, slot_epoch, start_epoch}
-use Rattle.desk_past.specs.Reading.{IsOnlyReadFrom, IsQuiet}
-use Rattle.desk_past.proofs.StillReads.{still_reads, still_shows}
 
 -- ---- epochs
 

@@ -8,12 +8,12 @@ use Rattle.store_layout.specs.declared.layout.TheConstants.{STORE_SECTORS}
 use Rattle.store_layout.specs.declared.head.PastEnd.{PastEnd}
 use Rattle.desk_journal.specs.Checkpointing.{LeavesDesktop}
 use Rattle.desk_journal.specs.View.{StoreView, IsDurable}
+use Rattle.past_pages.specs.Parts.{LiesBeside, IsPastPart}
+use Rattle.past_pages.specs.Reading.{IsOnlyReadFrom, IsQuiet}
 use Rattle.desk_past.specs.Beginning.{ForgetsNoneBefore, GoesOnFrom, IsApart, begun_at}
 use Rattle.desk_past.specs.Deeds.{PastDeed}
 use Rattle.desk_past.specs.Going.{BeginsIn, ForgetsNone, LiesInPart}
-use Rattle.desk_past.specs.Parts.{LiesBeside, IsPastPart}
 use Rattle.desk_past.specs.Past.{KeepsAll, Remembers, Start}
-use Rattle.desk_past.specs.Reading.{IsOnlyReadFrom, IsQuiet}
 use Rattle.desk_past.proofs.Begun.{aside_read, desktop_spared, desktop_then, spared_read}
 use Rattle.desk_past.proofs.Remembering.{apart_still, read_moments}
 use Rattle.desk_past.proofs.Rooms.{behind_start}

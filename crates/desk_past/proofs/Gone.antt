@@ -7,14 +7,17 @@ use Rattle.desktop_definitions.specs.Desktop.{Desktop}
 use Rattle.store_layout.specs.declared.head.PastEnd.{PastEnd}
 use Rattle.store_layout.specs.declared.layout.TheConstants.{STORE_SECTORS}
 use Rattle.desk_journal.specs.View.{StoreView}
+use Rattle.past_pages.specs.Page.{Page}
+use Rattle.past_pages.specs.Laying.{StandsFrom}
+use Rattle.past_pages.specs.Reading.{IsOnlyReadFrom, IsQuiet}
+use Rattle.past_pages.proofs.StillReads.{still_both, still_reads}
 use Rattle.desk_past.specs.Deeds.{PastDeed, after_deeds}
-use Rattle.desk_past.specs.Page.{Page, HasPages, end_of_pages}
-use Rattle.desk_past.specs.Past.{AreGood, AreTurns, HasStart, HoldsPages, Remembers, StandsFrom, Start, all_deeds, first_page, moment}
-use Rattle.desk_past.specs.Reading.{HoldsTold, IsLed, IsOnlyReadFrom, IsQuiet}
+use Rattle.desk_past.specs.Past.{HasPages, end_of_pages}
+use Rattle.desk_past.specs.Past.{AreGood, AreTurns, HasStart, HoldsPages, Remembers, Start, all_deeds, first_page, moment}
+use Rattle.desk_past.specs.Reading.{HoldsTold, IsLed}
 use Rattle.desk_past.specs.Routes.{AreLegs}
 use Rattle.desk_past.specs.declared.routes.Leg.{Leg}
 use Rattle.desk_past.proofs.Carrying.{end_above}
-use Rattle.desk_past.proofs.StillReads.{still_both, still_reads}
 
 -- ---- what the head in use tells
 

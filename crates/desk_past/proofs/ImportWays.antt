@@ -23,17 +23,18 @@ use Rattle.desk_journal.specs.Posting.{AnswersMustReopen, IsLast, TurnsAway}
 use Rattle.desk_journal.specs.Undoing.{IsLeft}
 use Rattle.desk_journal.specs.declared.store.Info.{Info}
 use Rattle.desk_journal.specs.View.{StoreView, IsDurable}
+use Rattle.past_pages.specs.Page.{import_of}
+use Rattle.past_pages.specs.Reading.{IsOnlyReadFrom, IsQuiet}
+use Rattle.past_pages.proofs.StillReads.{read_twice}
+use Rattle.past_pages.proofs.Told.{ok_of}
 use Rattle.desk_past.specs.Ahead.{IsAhead}
-use Rattle.desk_past.specs.Bringing.{BringsOn, CanBring, IsBroughtIn, import_of}
+use Rattle.desk_past.specs.Bringing.{BringsOn, CanBring, IsBroughtIn}
 use Rattle.desk_past.specs.Deeds.{PastDeed, brought}
 use Rattle.desk_past.specs.Keeping.{CanTurn}
 use Rattle.desk_past.specs.Past.{KeepsAll, Start}
-use Rattle.desk_past.specs.Reading.{IsOnlyReadFrom, IsQuiet}
 use Rattle.desk_past.proofs.Begun.{desktop_spared, spared_read}
 use Rattle.desk_past.proofs.OverPages.{keeps_over, moments_over}
 use Rattle.desk_past.proofs.Remembering.{read_keeps, read_moments}
-use Rattle.desk_past.proofs.StillReads.{read_twice}
-use Rattle.desk_past.proofs.Told.{ok_of}
 
 -- two facts of what was returned
 pub both_ok : {T E : Type 0} (answer : Result T E) {P Q R : T → Type 0} → IfOk answer P → IfOk answer Q

@@ -1,7 +1,6 @@
 -- Errors of what is worked out in memory, and the failures that are counted then.
-use Rattle.std.proofs.Common.{◌≡◌, ◌∙◌, ◌<◌, ℕ, inl, inr, Result, Ok, Err, refl, sym, ap, subst, true, false}
-use Rattle.std.specs.Prelude.{Bool, IfErr, OnOk, is_err, replicate}
-use Rattle.std.proofs.lemmas.Bool.{false≢true}
+use Rattle.std.proofs.Common.{◌≡◌, ◌∙◌, ℕ, inl, inr, Result, Ok, Err, refl, sym, ap, subst, true, false}
+use Rattle.std.specs.Prelude.{IfErr, OnOk, replicate}
 use Rattle.std.proofs.lemmas.Result.{IfErr-at_err}
 use Rattle.sector_disk.specs.declared.disk.Disk.{Ghosts}
 use Rattle.sector_disk.specs.declared.disk.TheConstants.{SECTOR_BYTES}
@@ -14,14 +13,12 @@ use Rattle.store_slots.specs.declared.error.Error.{Error}
 use Rattle.store_slots.specs.declared.error.Error.TheVariants.{Damaged, Fault, MustReopen, NoMemory, NotAStore}
 use Rattle.store_slots.specs.Errors.{OfDesktop, OfLook, OfOpen, OfPost}
 use Rattle.store_slots.proofs.TakingBack.{stops_there}
-use Rattle.store_slots.specs.Device.{IsOnlyRead}
 use Rattle.store_layout.proofs.Bits.{true_or_false}
 use Rattle.desk_journal.specs.Looking.{OnlyLooks}
 use Rattle.desk_journal.specs.Undoing.{IsLeft, OfUndo}
 use Rattle.desk_journal.specs.View.{StoreView}
+use Rattle.past_pages.proofs.Failing.{calm_answer, error_from, looks_closed, looks_none, read_none}
 use Rattle.desk_past.specs.Keeping.{UsesDevice}
-use Rattle.desk_past.specs.Reading.{IsOnlyReadFrom}
-use Rattle.desk_past.proofs.StillReads.{nothing_written}
 use Rattle.desk_past.specs.Errors.{OfDoing, OfFound, OfGoingBack, OfLaying, OfMoment, OfSteps, in_memory}
 
 -- a sector that was never written
@@ -124,57 +121,13 @@ laying_no_reopen e (inr (inr (n, is))) reopen = let wrong : ⊥ = cc (is, reopen
 
 -- ---- failures that are counted
 
--- an answer whose errors are none of the device
-pub calm_answer : {T : Type 0} (answer : Result T Error) {P Q : Error → Type 0} {old new : ℕ} → IfErr answer P
-    → ((e : Error) → P e → Q e) → ((e : Error) → P e → e ≡ Fault → ⊥) → new ≡ old → FailsAs Fault Q answer old new
-calm_answer (Ok x) errors wider never same = record {
-  rose = λ fault. let wrong : ⊥ = cc fault in absurd wrong;
-  calm = λ fine. same;
-  errors = tt;
-}
-calm_answer (Err e) errors wider never same = record {
-  rose = λ fault. absurd (never e errors (cc fault));
-  calm = λ fine. same;
-  errors = wider e errors;
-}
-
--- an answer behind what counted none
-pub failing_on : {T : Type 0} {answer : Result T Error} {P Q : Error → Type 0} {old mid new : ℕ}
-    → FailsAs Fault P answer mid new → ((e : Error) → P e → Q e) → mid ≡ old → FailsAs Fault Q answer old new
-failing_on {answer = Ok x} {new = new} fails wider same = record {
-  rose = λ fault. subst (λ n. n < new) same (fails.rose fault);
-  calm = λ fine. fails.calm fine ∙ same;
-  errors = tt;
-}
-failing_on {answer = Err e} {new = new} fails wider same = record {
-  rose = λ fault. subst (λ n. n < new) same (fails.rose fault);
-  calm = λ fine. fails.calm fine ∙ same;
-  errors = wider e fails.errors;
-}
-
--- an error that is passed on
-pub error_on : {T U : Type 0} {result : Result U Error} {e : Error} {P Q : Error → Type 0} {old mid new : ℕ}
-    → FailsAs {T = T} Fault P (Err e) mid new → ((x : Error) → P x → Q x) → mid ≡ old → result ≡ Err e
-    → FailsAs Fault Q result old new
-error_on {U = U} {e = e} {Q = Q} {old = old} {new = new} fails wider same is =
-    subst (λ r. FailsAs Fault Q r old new) (sym is) (record {
-      rose = λ fault. subst (λ n. n < new) same (fails.rose (cc fault));
-      calm = λ fine. fails.calm (λ fault. fine (cc fault)) ∙ same;
-      errors = wider e fails.errors;
-    })
-
--- and one that is none of the device
+-- an error that is none of the device, passed on
 pub error_calm : {U : Type 0} {result : Result U Error} {e : Error} {P Q : Error → Type 0} {old new : ℕ} → P e
     → ((x : Error) → P x → Q x) → ((x : Error) → P x → x ≡ Fault → ⊥) → new ≡ old → result ≡ Err e
     → FailsAs Fault Q result old new
 error_calm {e = e} {P = P} {Q = Q} {old = old} {new = new} has wider never same is =
     subst (λ r. FailsAs Fault Q r old new) (sym is)
     (calm_answer (Err e) {P = P} has wider never same)
-
--- what returned Ok counted none
-pub none_failed : {T : Type 0} {x : T} {P : Error → Type 0} {old new : ℕ} → FailsAs {T = T} Fault P (Ok x) old new
-    → new ≡ old
-none_failed fails = fails.calm (λ fault. let wrong : ⊥ = cc fault in wrong)
 
 -- what counted none
 pub fails_none : {T : Type 0} {x : T} {Q : Error → Type 0} {old new : ℕ} → new ≡ old → FailsAs {T = T} Fault Q (Ok x) old new
@@ -185,12 +138,6 @@ fails_none same = record {
 }
 
 -- ---- exits at which an error is passed on
-
-pub error_from : {T U : Type 0} {answer : Result T Error} {result : Result U Error} {e : Error} {P Q : Error → Type 0}
-    {old mid new : ℕ} → FailsAs Fault P answer mid new → ((x : Error) → P x → Q x) → mid ≡ old → answer ≡ Err e
-    → result ≡ Err e → FailsAs Fault Q result old new
-error_from {P = P} {mid = mid} {new = new} fails wider same failed is =
-    error_on (subst (λ r. FailsAs Fault P r mid new) failed fails) wider same is
 
 pub calm_from : {T U : Type 0} {answer : Result T Error} {result : Result U Error} {e : Error} {P Q : Error → Type 0}
     {old new : ℕ} → IfErr answer P → ((x : Error) → P x → Q x) → ((x : Error) → P x → x ≡ Fault → ⊥) → new ≡ old
@@ -216,35 +163,10 @@ steps_of_look e (inl is) usable = inl is
 steps_of_look e (inr (inl is)) usable = inr (inl is)
 steps_of_look e (inr (inr is)) usable = absurd (usable is)
 
-look_of_reads : (e : Error) → OfDesktop e → OfLook e
-look_of_reads e (inl is) = inl is
-look_of_reads e (inr is) = inr (inl is)
-
 pub never_reopened : {T : Type 0} (answer : Result T Error) → IfErr answer OfLaying → answer ≡ Err MustReopen → ⊥
 never_reopened answer errors is = laying_no_reopen MustReopen (IfErr-at_err OfLaying is errors) refl
 
-reads_no_reopen : (e : Error) → OfDesktop e → e ≡ MustReopen → ⊥
-reads_no_reopen e (inl is) reopen = let wrong : ⊥ = cc (is, reopen) in wrong
-reads_no_reopen e (inr is) reopen = let wrong : ⊥ = cc (is, reopen) in wrong
-
-never_closed : {T : Type 0} (answer : Result T Error) → IfErr answer OfDesktop → answer ≡ Err MustReopen → ⊥
-never_closed answer errors is = reads_no_reopen MustReopen (IfErr-at_err OfDesktop is errors) refl
-
--- whether a store is in use, as an answer tells
-pub closed_of : {X : Type 0} (must : Bool) (answer : Result X Error) {y : X} → (must ≡ false → answer ≡ Ok y)
-    → is_err answer ≡ true → must ≡ true
-closed_of must answer value err = elim (true_or_false must) [
-  | inl is ↦ is
-  | inr is ↦ absurd (false≢true (sym (ap is_err (value is)) ∙ err))
-]
-
 module _ {D : Type 0} (d : Ghosts D) where
-  pub read_none : (disk : D) → IsOnlyRead d disk disk
-  read_none disk = record {
-    device = record { as_large = refl; still = λ h. h; already = λ h. h };
-    unwritten = λ honest. nothing_written (d.trail disk);
-  }
-
   pub left_none : (store : StoreView D) → IsLeft d store store
   left_none store = record {
     desktop = λ honest. refl;
@@ -252,7 +174,7 @@ module _ {D : Type 0} (d : Ghosts D) where
     layout = refl;
     epoch = refl;
     events = refl;
-    disk = read_none store.disk;
+    disk = read_none d store.disk;
   }
 
   pub left_looked : {T : Type 0} {result : Result T Error} {old new : StoreView D} → OnlyLooks d result old new
@@ -266,41 +188,12 @@ module _ {D : Type 0} (d : Ghosts D) where
     disk = look.disk;
   }
 
-  -- a look that finds that the store must be opened again, and one that reads nothing
-  pub looks_closed : {T : Type 0} (store : StoreView D) → store.must_reopen ≡ true
-      → OnlyLooks {T = T} d (Err MustReopen) store store
-  looks_closed store must = record {
-    desktop = λ honest. refl;
-    kept = refl;
-    layout = refl;
-    epoch = refl;
-    events = refl;
-    usable = refl;
-    disk = read_none store.disk;
-    reopen = (λ is. must, λ is. refl);
-    faults = calm_answer (Err MustReopen) {P = λ e. e ≡ MustReopen} refl (λ e is. inr (inr is))
-        (λ e is fault. let wrong : ⊥ = cc (is, fault) in wrong) refl;
-  }
-
-  pub looks_none : {T : Type 0} (x : T) (store : StoreView D) → store.must_reopen ≡ false → OnlyLooks d (Ok x) store store
-  looks_none x store usable = record {
-    desktop = λ honest. refl;
-    kept = refl;
-    layout = refl;
-    epoch = refl;
-    events = refl;
-    usable = refl;
-    disk = read_none store.disk;
-    reopen = (λ is. let wrong : ⊥ = cc is in absurd wrong, λ is. absurd (false≢true (sym usable ∙ is)));
-    faults = record { rose = λ fault. let wrong : ⊥ = cc fault in absurd wrong; calm = λ fine. refl; errors = tt };
-  }
-
   -- an undo that finds that the store must be opened again
   pub undo_refused : {T U : Type 0} {told : Result U Error} {x : U} {e : Error} {answer : Result T Error}
       (store : StoreView D) → (store.must_reopen ≡ false → told ≡ Ok x) → (store.must_reopen ≡ true → told ≡ Err MustReopen)
       → told ≡ Err e → answer ≡ Err e → UsesDevice d OfUndo answer store store
   undo_refused {T = T} {e = e} {answer = answer} store value closed failed is = elim (true_or_false store.must_reopen) [
-    | inl must ↦ let looks = looks_closed {T = T} store must in
+    | inl must ↦ let looks = looks_closed d {T = T} store must in
         let e_is : e ≡ MustReopen = cc (failed, closed must) in record {
           same = looks.disk.device;
           faults = error_from looks.faults (λ e look. inl look) refl refl (is ∙ ap (λ x. Err x) e_is);
@@ -311,21 +204,5 @@ module _ {D : Type 0} (d : Ghosts D) where
   -- one that takes nothing back
   pub undo_none : {T : Type 0} (x : T) (store : StoreView D) → store.must_reopen ≡ false
       → UsesDevice d OfUndo (Ok x) store store
-  undo_none x store usable = let looks = looks_none x store usable in
+  undo_none x store usable = let looks = looks_none d x store usable in
       record { same = looks.disk.device; faults = fails_none refl }
-
-  -- pages that were read of a store in use
-  pub looks_read : {T : Type 0} (answer : Result T Error) {old new : StoreView D} → old.must_reopen ≡ false
-      → IsOnlyReadFrom d old new → FailsAs Fault OfDesktop answer (d.failures old.disk) (d.failures new.disk)
-      → OnlyLooks d answer old new
-  looks_read answer usable still faults = record {
-    desktop = still.left.desktop;
-    kept = still.left.kept;
-    layout = still.left.layout;
-    epoch = still.left.epoch;
-    events = still.left.events;
-    usable = still.usable ∙ sym usable;
-    disk = still.left.disk;
-    reopen = (λ is. absurd (never_closed answer faults.errors is), λ is. absurd (false≢true (sym usable ∙ is)));
-    faults = failing_on faults look_of_reads refl;
-  }

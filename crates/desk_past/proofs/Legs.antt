@@ -12,13 +12,15 @@ use Rattle.sector_disk.specs.Trail.{Content}
 use Rattle.event_bytes.specs.declared.event.Event.{Event}
 use Rattle.desktop_definitions.specs.Desktop.{Desktop}
 use Rattle.document_filing.specs.Bringing.{Documents}
+use Rattle.past_pages.specs.Page.{Page, of_events, of_import, of_turn, page_sectors}
+use Rattle.past_pages.specs.Reading.{HasPage, IsKindOf, kind_count}
+use Rattle.past_pages.specs.declared.pages.PageKind.{PageKind}
+use Rattle.past_pages.specs.declared.pages.PageKind.TheVariants as which
 use Rattle.desk_past.specs.Deeds.{PastDeed, after_deeds, all_posted, brought, posted, turned}
-use Rattle.desk_past.specs.Page.{Page, of_events, of_import, of_turn, HasPages, deeds_in, end_of_pages, page_sectors}
+use Rattle.desk_past.specs.Past.{HasPages, deeds_in, end_of_pages}
 use Rattle.desk_past.specs.Past.{AreGood, AreTurns, HasMoment, IsTurn, Start, all_deeds, moment}
-use Rattle.desk_past.specs.Reading.{HasPage, IsKindOf, IsLed, kind_count}
+use Rattle.desk_past.specs.Reading.{IsLed}
 use Rattle.desk_past.specs.Routes.{AreLegs, HasNoTurn, IsLeg, IsPassed, IsReached, leg_from}
-use Rattle.desk_past.specs.declared.pages.PageKind.{PageKind}
-use Rattle.desk_past.specs.declared.pages.PageKind.TheVariants as which
 use Rattle.desk_past.specs.declared.routes.Leg.{Leg}
 use Rattle.desk_past.proofs.Carrying.{end_above}
 use Rattle.desk_past.proofs.Moments.{after_both, joined, many_posted, nil_right}

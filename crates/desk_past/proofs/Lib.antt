@@ -5,12 +5,9 @@ pub mod Turns
 pub mod Remembering
 pub mod Undoing
 pub mod OnePast
-pub mod StillReads
 pub mod Looks
 pub mod Before
 pub mod InMemory
-pub mod PageReads
-pub mod DocumentReads
 pub mod Brought
 pub mod OverPages
 pub mod ImportWays
@@ -19,7 +16,6 @@ pub mod TurnedBack
 pub mod Stepping
 pub mod Legs
 pub mod Opened
-pub mod Laid
 pub mod Sparing
 pub mod Copied
 pub mod Begun

@@ -7,8 +7,8 @@ use Rattle.desk_journal.specs.Errors.{Error, NoMemory}
 use Rattle.desk_journal.specs.Looking.{OnlyLooks}
 use Rattle.desk_journal.specs.Undoing.{IsLeft}
 use Rattle.desk_journal.specs.View.{StoreView}
-use Rattle.desk_past.specs.Reading.{IsOnlyReadFrom}
-use Rattle.desk_past.proofs.StillReads.{read_twice}
+use Rattle.past_pages.specs.Reading.{IsOnlyReadFrom}
+use Rattle.past_pages.proofs.StillReads.{read_twice}
 
 -- what isn't true is false
 never_true : (b : Bool) → (b ≡ true → ⊥) → b ≡ false

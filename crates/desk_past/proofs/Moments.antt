@@ -9,9 +9,9 @@ use Rattle.sector_disk.specs.Trail.{Content}
 use Rattle.store_layout.specs.declared.layout.TheConstants.{LAYOUT}
 use Rattle.store_layout.specs.Meaning.{Standing}
 use Rattle.store_slots.proofs.Recording.{in_newest}
+use Rattle.past_pages.specs.Page.{Page}
 use Rattle.desk_past.specs.Deeds.{PastDeed, posted, after_deeds, after_deed, all_posted}
-use Rattle.desk_past.specs.Page.{Page, deeds_in}
-use Rattle.desk_past.specs.Past.{Remembers, Start, all_deeds, moment}
+use Rattle.desk_past.specs.Past.{deeds_in, Remembers, Start, all_deeds, moment}
 
 pub joined : (a b c : List PastDeed) → (a ++ b) ++ c ≡ a ++ (b ++ c)
 joined [] b c = refl

@@ -1,40 +1,32 @@
 -- A content has one past at most.
-use Rattle.std.proofs.Common.{◌≡◌, Bool, true, false, inl, inr, ◌+◌, ◌≤◌, ◌<◌, ◌^◌, ℕ, List, [], ◌∷◌, ◌++◌, length}
+use Rattle.std.proofs.Common.{◌≡◌, inl, inr, ◌+◌, ◌≤◌, ◌<◌, ◌^◌, ℕ, List, [], ◌∷◌, ◌++◌, length}
 use Rattle.std.proofs.Common.{take, drop, refl, sym}
 use Rattle.std.proofs.Common.{◌∙◌, ap, subst, arith}
 use Rattle.std.specs.Int.{w32, w64, from_be_bytes, to_be_bytes}
-use Rattle.std.specs.Prelude.{IsTrue, ◌&&◌}
-use Rattle.std.proofs.lemmas.Bool.{cases_lt, leb-true}
+use Rattle.std.proofs.lemmas.Bool.{cases_lt}
 use Rattle.std.proofs.lemmas.Nat.{from_be_bytes-to_be_bytes_4, from_be_bytes-to_be_bytes_8}
 use Rattle.sector_disk.specs.Stored.{HoldsBytes}
 use Rattle.sector_disk.specs.Trail.{Content}
 use Rattle.sector_disk.proofs.StoredLaws.{stored_held, take-stored}
 use Rattle.event_bytes.specs.declared.event.Event.{Event}
-use Rattle.event_bytes.specs.Bytes.{is_name}
 use Rattle.event_bytes.specs.Spelling.{BeginsWithEvent, spelling}
 use Rattle.document_filing.specs.Bringing.{Documents}
 use Rattle.store_layout.specs.Finding.{StandingLaw}
 use Rattle.store_slots.specs.Bodies.{spellings}
+use Rattle.past_pages.specs.Page.{Page, of_events, of_import, of_turn, page_count, behind_length}
+use Rattle.past_pages.specs.Page.{document_spelling, document_spellings, page_kind, page_bytes, page_sectors}
+use Rattle.past_pages.specs.Page.{AreDocuments, AreEvents, IsGoodPage}
+use Rattle.past_pages.proofs.PageReads.{dropped_bytes, joined, small_kind}
+use Rattle.past_pages.proofs.DocumentReads.{short_name}
 use Rattle.desk_past.specs.Deeds.{PastDeed, all_posted}
-use Rattle.desk_past.specs.Page.{Page, of_events, of_import, of_turn, HasPages, page_count, behind_length, deeds_in}
-use Rattle.desk_past.specs.Page.{document_spelling, document_spellings, end_of_pages, page_kind, page_bytes}
-use Rattle.desk_past.specs.Page.{page_sectors}
+use Rattle.desk_past.specs.Past.{HasPages, deeds_in, end_of_pages, AreGood, AreTurns, IsTurn, OnePastLaw, Start}
+use Rattle.desk_past.specs.Past.{all_deeds, first_page, moment}
 use Rattle.desk_past.proofs.Carrying.{end_above}
 use Rattle.store_layout.specs.Meaning.{desktop_of}
-use Rattle.desk_past.specs.Past.{AreDocuments, AreEvents, AreGood, AreTurns, IsGoodPage, IsTurn, OnePastLaw, Start}
-use Rattle.desk_past.specs.Past.{all_deeds, first_page, moment}
 use Rattle.std.proofs.lemmas.List.{take-append-drop}
 
 abbrev pub BeginLaw : Type 0
 BeginLaw = (bytes : List ℕ) (e f : Event) → BeginsWithEvent bytes e → BeginsWithEvent bytes f → e ≡ f
-
-joined : (a b c : List ℕ) → (a ++ b) ++ c ≡ a ++ (b ++ c)
-joined [] b c = refl
-joined (x ∷ a) b c = ap (λ r. x ∷ r) (joined a b c)
-
-pub dropped_bytes : (a b : List ℕ) → drop (length a) (a ++ b) ≡ b
-dropped_bytes [] b = refl
-dropped_bytes (x ∷ a) b = dropped_bytes a b
 
 pub taken_bytes : (a b : List ℕ) → take (length a) (a ++ b) ≡ a
 taken_bytes [] b = refl
@@ -72,14 +64,6 @@ counted_same a a' rest rest' short short' same =
           ∙ dropped_bytes a' rest',
     )
 
--- a name is short
-first_of : (a b : Bool) → a && b ≡ true → a ≡ true
-first_of true b h = refl
-first_of false b h = absurd cc
-
-pub short_name : (name : List ℕ) → IsTrue (is_name name) → length name < 2 ^ 32
-short_name name is = let few = leb-true (length name) 31 (first_of _ _ is) in omega (arith, few)
-
 -- documents of which the bytes begin alike, as many of both, are the same
 documents_same : (documents documents' : Documents) (rest : List ℕ) → AreDocuments documents → AreDocuments documents'
     → length documents ≡ length documents' → document_spellings documents' ≡ document_spellings documents ++ rest
@@ -98,11 +82,6 @@ documents_same (e ∷ l) (e' ∷ l') rest valid valid' long same =
     λ i. (sym first.0 i, sym second.0 i) ∷ documents_same l l' rest valid.1 valid'.1 (omega (arith, long)) second.1 i
 
 -- ---- pages of which the bytes begin alike are the same
-
-pub small_kind : (p : Page) → page_kind p < 2 ^ 32
-small_kind (of_events version events) = omega arith
-small_kind (of_import version documents) = omega arith
-small_kind (of_turn version k to) = omega arith
 
 same_kind : (p p' : Page) (rest : List ℕ) → page_bytes p' ≡ page_bytes p ++ rest → page_kind p ≡ page_kind p'
 same_kind p p' rest same =

@@ -18,13 +18,13 @@ use Rattle.desk_journal.proofs.Aside.{stands_behind}
 use Rattle.desk_journal.specs.Opening.{IsOpened}
 use Rattle.desk_journal.specs.Undoing.{IsTakenBack, ShowsStanding}
 use Rattle.desk_journal.specs.View.{StoreView, IsDurable}
+use Rattle.past_pages.specs.Laying.{StandsFrom}
+use Rattle.past_pages.proofs.StillReads.{resized}
+use Rattle.past_pages.proofs.Told.{shown_as}
 use Rattle.desk_past.specs.Deeds.{PastDeed, after_deeds}
-use Rattle.desk_past.specs.Page.{HasPages, end_of_pages}
-use Rattle.desk_past.specs.Past.{KeepsAll, StandsFrom, Start, all_deeds, first_page}
+use Rattle.desk_past.specs.Past.{HasPages, end_of_pages, KeepsAll, Start, all_deeds, first_page}
 use Rattle.desk_past.specs.Reading.{ShowsNow}
-use Rattle.desk_past.proofs.StillReads.{resized}
 use Rattle.desk_past.proofs.Carrying.{end_above}
-use Rattle.desk_past.proofs.Told.{shown_as}
 use Rattle.desk_past.proofs.Undoing.{rest_within}
 
 pub some_then : {X : Type 0} {P Q : X → Type 0} (o : Option X) → IsSomeAnd o P → ((x : X) → P x → Q x) → IsSomeAnd o Q

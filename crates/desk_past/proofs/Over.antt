@@ -19,17 +19,17 @@ use Rattle.desk_journal.specs.Checkpointing.{IsRenewed}
 use Rattle.desk_journal.specs.Posting.{HasJournalRoom, IsDueBefore}
 use Rattle.desk_journal.specs.Undoing.{ShowsStanding}
 use Rattle.desk_journal.specs.View.{StoreView}
+use Rattle.past_pages.specs.Page.{Page}
+use Rattle.past_pages.specs.Parts.{IsPastPart, LiesBeside}
+use Rattle.past_pages.specs.Reading.{IsOnlyReadFrom, IsQuiet}
 use Rattle.desk_past.specs.Beginning.{AreUncounted, GoesOnBy, GoesOnFrom, HasBegun, IsApart, IsAside, IsBegunOrAside, RemembersFormer}
 use Rattle.desk_past.specs.Beginning.{begun_at}
 use Rattle.desk_past.specs.Chain.{AreSpans, SpansOf, WasInSpans, WasThen}
 use Rattle.desk_past.specs.declared.chain.TheConstants.{NO_EPOCH}
-use Rattle.desk_past.specs.Page.{Page}
 use Rattle.desk_past.specs.Deeds.{PastDeed, posted}
 use Rattle.desk_past.specs.Going.{LiesInPart}
 use Rattle.desk_past.specs.Keeping.{CanGoOver, CanTurn, HasBegunBehind, IsTurned, IsUnturned, IsWayMade}
-use Rattle.desk_past.specs.Parts.{IsPastPart, LiesBeside}
 use Rattle.desk_past.specs.Past.{KeepsAll, Remembers, Start}
-use Rattle.desk_past.specs.Reading.{IsOnlyReadFrom, IsQuiet}
 use Rattle.desk_past.proofs.Begun.{aside_both, aside_read, renewed_aside}
 use Rattle.desk_past.proofs.Carrying.{both_leave}
 use Rattle.desk_past.proofs.Former.{former_within}

@@ -7,11 +7,11 @@ use Rattle.desktop_definitions.specs.Desktop.{Desktop}
 use Rattle.store_layout.specs.declared.head.PastEnd.{PastEnd}
 use Rattle.desk_journal.specs.Behind.{GoesToNextWith, LeavesNextWith, StaysBehind}
 use Rattle.desk_journal.specs.View.{StoreView}
+use Rattle.past_pages.specs.Page.{Page}
+use Rattle.past_pages.specs.Reading.{IsOnlyReadFrom, IsQuiet}
 use Rattle.desk_past.specs.Ahead.{IsAhead}
 use Rattle.desk_past.specs.Deeds.{PastDeed, after_deed}
-use Rattle.desk_past.specs.Page.{Page, deeds_in}
-use Rattle.desk_past.specs.Past.{IsTurn, KeepsAll, Remembers, Start}
-use Rattle.desk_past.specs.Reading.{IsOnlyReadFrom, IsQuiet}
+use Rattle.desk_past.specs.Past.{deeds_in, IsTurn, KeepsAll, Remembers, Start}
 use Rattle.desk_past.proofs.Brought.{done_from, done_keeps, done_moments}
 use Rattle.desk_past.proofs.Remembering.{ahead_still, read_moments}
 

@@ -19,13 +19,13 @@ use Rattle.desk_journal.specs.Behind.{IsWrittenBehind, KeepsStanding, LeavesPost
 use Rattle.desk_journal.specs.Posting.{HasJournalRoom}
 use Rattle.desk_journal.specs.Undoing.{ShowsStanding}
 use Rattle.desk_journal.specs.View.{StoreView}
+use Rattle.past_pages.specs.Page.{Page, page_bytes, page_sectors, journal_of}
+use Rattle.past_pages.specs.Reading.{IsQuiet}
 use Rattle.desk_past.specs.Beginning.{IsApart}
 use Rattle.desk_past.specs.Ahead.{IsAhead}
-use Rattle.desk_past.specs.Page.{Page, page_bytes, page_sectors}
 use Rattle.desk_past.specs.Keeping.{HasPageRoom}
 use Rattle.desk_past.specs.Past.{HasNewPage, HoldsPast, IsHeadTold, HoldsPages, KeepsAll, LeavesAll, Remembers, Start, all_deeds}
-use Rattle.desk_past.specs.Past.{first_page, journal_of}
-use Rattle.desk_past.specs.Reading.{IsQuiet}
+use Rattle.desk_past.specs.Past.{first_page}
 use Rattle.desk_past.proofs.Carrying.{both_leave, end_on, good_journal, good_on, past_of, written_front, written_kept, written_on}
 use Rattle.desk_past.specs.Deeds.{PastDeed, posted, after_deeds, all_posted}
 use Rattle.desk_past.proofs.Moments.{deeds_on, joined, many_posted, posted_both, stepped_on}

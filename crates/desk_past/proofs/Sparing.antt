@@ -17,13 +17,13 @@ use Rattle.store_slots.specs.declared.error.Error.{Error}
 use Rattle.desk_journal.specs.Behind.{StaysBehind}
 use Rattle.desk_journal.specs.Undoing.{ShowsStanding}
 use Rattle.desk_journal.specs.View.{StoreView}
+use Rattle.past_pages.specs.Parts.{IsPastPart}
+use Rattle.past_pages.specs.Reading.{IsOnlyReadFrom, IsQuiet}
+use Rattle.past_pages.proofs.StillReads.{nothing_written, still_reads}
 use Rattle.desk_past.specs.Beginning.{SparesAround, SparesBut}
 use Rattle.desk_past.specs.Going.{IsOldest}
-use Rattle.desk_past.specs.Parts.{IsPastPart}
 use Rattle.desk_past.specs.Keeping.{UsesDevice}
-use Rattle.desk_past.specs.Reading.{IsOnlyReadFrom, IsQuiet}
 use Rattle.desk_past.specs.Writing.{LiesInOldest, LiesUpTo, LiesAhead, UsesOnly, WritesOnly}
-use Rattle.desk_past.proofs.StillReads.{nothing_written, still_reads}
 
 module _ {D : Type 0} (d : Ghosts D) (area : ℕ → Type 0) where
   pub but_none : {store : StoreView D} → (store.must_reopen ≡ false → d.honest store.disk → IsQuiet d store)

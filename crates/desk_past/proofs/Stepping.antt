@@ -15,13 +15,15 @@ use Rattle.document_filing.specs.Bringing.{Documents}
 use Rattle.desk_journal.specs.Bringing.{AreBrought}
 use Rattle.desk_journal.specs.Undoing.{IsLedOn}
 use Rattle.desk_journal.specs.View.{StoreView}
+use Rattle.past_pages.specs.Page.{Page, of_events, of_import, of_turn, page_sectors}
+use Rattle.past_pages.specs.Reading.{HasPage, IsRead}
+use Rattle.past_pages.specs.declared.pages.PageDeeds.{PageDeeds}
+use Rattle.past_pages.specs.declared.pages.PageDeeds.TheVariants.{Events, Import, Turn}
 use Rattle.desk_past.specs.Deeds.{PastDeed, after_deeds, all_posted, brought, posted, turned}
-use Rattle.desk_past.specs.Page.{Page, of_events, of_import, of_turn, HasPages, deeds_in, end_of_pages, page_sectors}
+use Rattle.desk_past.specs.Past.{HasPages, deeds_in, end_of_pages}
 use Rattle.desk_past.specs.Past.{AreGood, HasMoment, Remembers, Start, all_deeds, moment}
-use Rattle.desk_past.specs.Reading.{HasPage, IsLed, IsRead, many_deeds}
-use Rattle.desk_past.specs.declared.pages.PageDeeds.{PageDeeds}
+use Rattle.desk_past.specs.Reading.{IsLed, many_deeds}
 use Rattle.desk_past.specs.Routes.{HasNoTurn}
-use Rattle.desk_past.specs.declared.pages.PageDeeds.TheVariants.{Events, Import, Turn}
 use Rattle.desk_past.proofs.Carrying.{end_above}
 use Rattle.desk_past.proofs.Moments.{after_both, after_posted, joined, many_posted, posted_first, stepped_on}
 

@@ -21,11 +21,11 @@ use Rattle.desk_journal.specs.Gathering.{GatheredView}
 use Rattle.desk_journal.specs.Posting.{AnswersMustReopen, IsLast, TurnsAway}
 use Rattle.desk_journal.specs.Turning.{IsTurnedTo, LeavesThisOrThat}
 use Rattle.desk_journal.specs.View.{StoreView, IsDurable}
+use Rattle.past_pages.specs.Page.{IsGoodPage, turn_of}
+use Rattle.past_pages.specs.Reading.{IsOnlyReadFrom, IsQuiet}
 use Rattle.desk_past.specs.Ahead.{IsAhead}
 use Rattle.desk_past.specs.Deeds.{turned}
-use Rattle.desk_past.specs.Past.{IsGoodPage}
-use Rattle.desk_past.specs.Reading.{IsOnlyReadFrom, IsQuiet}
-use Rattle.desk_past.specs.Turning.{HasTurnedTo, PastOf, TurnsTo, turn_of}
+use Rattle.desk_past.specs.Turning.{HasTurnedTo, PastOf, TurnsTo}
 use Rattle.desk_past.proofs.Begun.{desktop_spared, spared_read}
 use Rattle.desk_past.proofs.OverPages.{keeps_over, moments_over}
 use Rattle.desk_past.proofs.Remembering.{read_moments}

@@ -14,20 +14,20 @@ use Rattle.desk_journal.specs.Gathering.{GatheredView}
 use Rattle.desk_journal.specs.Looking.{OnlyLooks}
 use Rattle.desk_journal.specs.Undoing.{IsLeft}
 use Rattle.desk_journal.specs.View.{StoreView}
+use Rattle.past_pages.specs.Parts.{IsPastPart}
+use Rattle.past_pages.specs.Page.{Page, turn_of}
+use Rattle.past_pages.specs.Reading.{IsOnlyReadFrom, IsQuiet}
+use Rattle.past_pages.proofs.StillReads.{read_twice}
 use Rattle.desk_past.specs.Ahead.{CanAdd}
 use Rattle.desk_past.specs.Deeds.{PastDeed, turned}
 use Rattle.desk_past.specs.Errors.{OfMoment}
 use Rattle.desk_past.specs.Going.{LiesInPart}
-use Rattle.desk_past.specs.Parts.{IsPastPart}
-use Rattle.desk_past.specs.Page.{Page}
 use Rattle.desk_past.specs.Past.{KeepsAll, Start}
-use Rattle.desk_past.specs.Reading.{IsOnlyReadFrom, IsQuiet}
 use Rattle.desk_past.specs.Turning.{CanTurnTo, ComesToMoment, HasTurnedBack, HasTurnedTo, KeepsTurned, LeavesTurned}
-use Rattle.desk_past.specs.Turning.{PastOf, StaysUnturned, TurnsBack, TurnsTo, WasAt, turn_of}
+use Rattle.desk_past.specs.Turning.{PastOf, StaysUnturned, TurnsBack, TurnsTo, WasAt}
 use Rattle.desk_past.proofs.OverPages.{LeavesDone}
 use Rattle.desk_past.proofs.Remembering.{read_keeps, read_moments}
 use Rattle.desk_past.proofs.Rooms.{behind_start}
-use Rattle.desk_past.proofs.StillReads.{read_twice}
 
 -- ---- looks
 

@@ -1,8 +1,8 @@
 -- Turns of a past: each leads to what the desktop was at a moment before it.
 use Rattle.std.proofs.Common.{◌≡◌, List, [], ◌∷◌, ◌++◌, refl, sym, ◌∙◌, ap, subst}
+use Rattle.past_pages.specs.Page.{Page}
 use Rattle.desk_past.specs.Deeds.{PastDeed}
-use Rattle.desk_past.specs.Page.{Page, deeds_in}
-use Rattle.desk_past.specs.Past.{AreTurns, IsTurn, Start, all_deeds}
+use Rattle.desk_past.specs.Past.{deeds_in, AreTurns, IsTurn, Start, all_deeds}
 use Rattle.desk_past.proofs.Moments.{joined, nil_right}
 
 -- a page behind these deeds

@@ -15,11 +15,11 @@ use Rattle.store_slots.specs.Beside.{IsRest, within, across}
 use Rattle.store_slots.specs.Device.{StaysWithin}
 use Rattle.desk_journal.specs.Undoing.{IsTakenBack, LeavesUndone}
 use Rattle.desk_journal.specs.View.{StoreView, IsDurable}
+use Rattle.past_pages.proofs.Told.{shown_as}
 use Rattle.desk_past.specs.Past.{HoldsPages, KeepsAll, Remembers, Start, all_deeds}
 use Rattle.desk_past.proofs.Carrying.{both_leave, past_of, written_kept}
 use Rattle.desk_past.specs.Deeds.{PastDeed, all_posted}
 use Rattle.desk_past.proofs.Moments.{joined, posted_both}
-use Rattle.desk_past.proofs.Told.{shown_as}
 
 -- no more than there are in the journal in use: they are its last ones
 pub rest_within : {c : Content} (events : List Event) (s rest : Standing) → length events ≤ length s.events

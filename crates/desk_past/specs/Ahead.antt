@@ -7,10 +7,10 @@ use Rattle.store_layout.specs.declared.layout.TheConstants.{LAST_EPOCH}
 use Rattle.store_layout.specs.Meaning.{Standing}
 use Rattle.store_layout.specs.declared.head.PastEnd.{PastEnd}
 use Rattle.desk_journal.specs.View.{StoreView}
+use Rattle.past_pages.specs.Parts.{IsPastPart}
+use Rattle.past_pages.specs.Page.{Page, page_bytes, page_sectors, IsGoodPage, journal_of}
 use Rattle.desk_past.specs.Deeds.{PastDeed}
-use Rattle.desk_past.specs.Parts.{IsPastPart}
-use Rattle.desk_past.specs.Page.{Page, end_of_pages, page_bytes, page_sectors}
-use Rattle.desk_past.specs.Past.{IsGoodPage, KeepsAll, Start, journal_of}
+use Rattle.desk_past.specs.Past.{end_of_pages, KeepsAll, Start}
 
 -- bytes, and zeros behind them up to the end of so many sectors
 abbrev pub padded : ℕ → List ℕ → List ℕ

@@ -1,8 +1,7 @@
 -- A past that begins, behind another one or none. `d` is what is known of a disk.
 use Rattle.std.specs.Prelude.{◌≡◌, ◌⊎◌, ◌+◌, ◌<◌, ◌≤◌, ◌^◌, ◌∷◌, ℕ, [], List, Bool, false, true, length, nat_lt, if◌then◌else◌}
-use Rattle.std.specs.Prelude.{Result, IsErrOf, get_or}
+use Rattle.std.specs.Prelude.{Result, IsErrOf}
 use Rattle.sector_disk.specs.declared.disk.Disk.{Ghosts}
-use Rattle.sector_disk.specs.declared.disk.TheConstants.{SECTOR_BYTES}
 use Rattle.sector_disk.specs.Faults.{FailsAs}
 use Rattle.sector_disk.specs.Trail.{Content, now, LeavesOnly}
 use Rattle.event_bytes.specs.declared.event.Event.{Event}
@@ -18,6 +17,7 @@ use Rattle.desk_journal.specs.Checkpointing.{IsRenewed}
 use Rattle.desk_journal.specs.Device.{IsSameDevice}
 use Rattle.desk_journal.specs.Undoing.{ShowsStanding}
 use Rattle.desk_journal.specs.View.{StoreView}
+use Rattle.past_pages.specs.Sectors.{HasCopies}
 use Rattle.desk_past.specs.Deeds.{PastDeed, posted}
 use Rattle.desk_past.specs.Past.{KeepsAll, Remembers, Start}
 
@@ -50,14 +50,6 @@ SparesOthers d base old new = SparesAllBut d base STORE_SECTORS old new
 abbrev pub SparesAround : {D : Type 0} → Ghosts D → ℕ → StoreView D → StoreView D → Type 0
 SparesAround d base old new = SparesBut d
     (λ n. (n < STORE_SECTORS) ⊎ InRange base STORE_SECTORS n) old new
-
--- two sectors hold the same bytes
-abbrev pub HoldsSame : List ℕ → List ℕ → Type 0
-HoldsSame bytes bytes' = (j : ℕ) → j < SECTOR_BYTES → get_or bytes j 0 ≡ get_or bytes' j 0
-
--- The content has copies of so many sectors of another one, from this one on, each `base` sectors further on.
-abbrev pub HasCopies : ℕ → ℕ → ℕ → Content → Content → Type 0
-HasCopies base from count was c = (n : ℕ) → InRange from count n → HoldsSame (c (base + n)) (was n)
 
 -- Something was written behind a store, or nothing. It is in use, and shows what it showed, by the same journal.
 pub record IsAside {D : Type 0} (d : Ghosts D) (old new : StoreView D) : Type 0 where

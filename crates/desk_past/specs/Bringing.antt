@@ -1,28 +1,17 @@
 -- Documents that come into a store with a past. `d` is what is known of a disk.
-use Rattle.std.specs.Prelude.{◌≡◌, ◌⊎◌, ◌≤◌, ◌++◌, ◌∷◌, [], ℕ, List, length}
+use Rattle.std.specs.Prelude.{◌≡◌, ◌⊎◌, ◌++◌, ◌∷◌, [], ℕ, List}
 use Rattle.sector_disk.specs.declared.disk.Disk.{Ghosts}
 use Rattle.sector_disk.specs.Trail.{LeavesOnly}
 use Rattle.desktop_definitions.specs.Desktop.{Desktop}
 use Rattle.desktop_definitions.specs.declared.reply.Reply.{Reply}
 use Rattle.desktop_definitions.specs.declared.reply.Reply.TheVariants.{Done, No}
 use Rattle.document_filing.specs.Bringing.{Documents, brought_in}
-use Rattle.store_layout.specs.declared.layout.TheConstants.{LAYOUT}
 use Rattle.desk_journal.specs.Bringing.{AreBrought}
 use Rattle.desk_journal.specs.View.{StoreView}
+use Rattle.past_pages.specs.Page.{import_of}
 use Rattle.desk_past.specs.Deeds.{PastDeed, brought}
 use Rattle.desk_past.specs.Ahead.{CanAdd}
-use Rattle.desk_past.specs.Page.{Page, document_spellings, of_import}
 use Rattle.desk_past.specs.Past.{KeepsAll, Remembers, Start}
-use Rattle.desk_past.specs.declared.page.TheConstants.{MOST_SPELLED}
-
--- the page of an import
-abbrev pub import_of : Documents → Page
-import_of documents = of_import LAYOUT documents
-
--- a page has room for these documents
-pub record FitPage (documents : Documents) : Type 0 where
-  pub few : length documents ≤ MOST_SPELLED
-  pub short : length (document_spellings documents) ≤ MOST_SPELLED
 
 module _ {D : Type 0} (d : Ghosts D) where
   -- the past has room for the page of these documents

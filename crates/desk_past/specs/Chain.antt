@@ -10,10 +10,10 @@ use Rattle.store_layout.specs.declared.head.Head.{Head}
 use Rattle.store_layout.specs.Layout.{head_of, is_open, slot_gate, slot_head}
 use Rattle.store_layout.specs.Meaning.{Standing}
 use Rattle.desk_journal.specs.View.{StoreView}
+use Rattle.past_pages.specs.Page.{Page}
+use Rattle.past_pages.specs.Parts.{IsPastPart}
 use Rattle.desk_past.specs.Deeds.{PastDeed}
 use Rattle.desk_past.specs.Going.{IsOldest, LiesInPart, start_epoch}
-use Rattle.desk_past.specs.Page.{Page}
-use Rattle.desk_past.specs.Parts.{IsPastPart}
 use Rattle.desk_past.specs.Past.{HasMoment, KeepsAll, Start, all_deeds, moment}
 use Rattle.desk_past.specs.Reading.{HoldsTold, start_at}
 use Rattle.desk_past.specs.Writing.{LiesAhead, LiesInOldest, WritesOnly}

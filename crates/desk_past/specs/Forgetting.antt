@@ -1,22 +1,14 @@
 -- A past that is forgotten. `d` is what is known of a disk.
-use Rattle.std.specs.Prelude.{◌≡◌, ◌⊎◌, ◌<◌, ◌≤◌, ℕ, List, false, get_or}
+use Rattle.std.specs.Prelude.{◌≡◌, ◌⊎◌, ◌<◌, ◌≤◌, ℕ, false}
 use Rattle.sector_disk.specs.declared.disk.Disk.{Ghosts}
-use Rattle.sector_disk.specs.declared.disk.TheConstants.{SECTOR_BYTES}
 use Rattle.sector_disk.specs.Trail.{Content, now, LeavesOnly}
 use Rattle.store_layout.specs.declared.layout.TheConstants.{STORE_SECTORS}
 use Rattle.store_layout.specs.Filling.{InRange}
 use Rattle.desk_journal.specs.View.{StoreView}
-use Rattle.desk_past.specs.declared.parts.TheConstants.{PARTS}
+use Rattle.past_pages.specs.declared.parts.TheConstants.{PARTS}
+use Rattle.past_pages.specs.Parts.{IsPastPart, parts_end}
+use Rattle.past_pages.specs.Sectors.{IsBlank}
 use Rattle.desk_past.specs.Beginning.{HasBegun}
-use Rattle.desk_past.specs.Parts.{IsPastPart, parts_end}
-
--- the sector has zeros
-abbrev pub IsBlank : List ℕ → Type 0
-IsBlank bytes = (j : ℕ) → j < SECTOR_BYTES → get_or bytes j 0 ≡ 0
-
--- so many sectors have zeros, from this one on
-abbrev pub AreBlank : ℕ → ℕ → Content → Type 0
-AreBlank from count c = (n : ℕ) → InRange from count n → IsBlank (c n)
 
 -- All sectors of all parts have zeros, but those of a start from this sector on.
 abbrev pub AreBlankBeside : ℕ → ℕ → Content → Type 0

@@ -8,14 +8,14 @@ use Rattle.store_layout.specs.Layout.{head_of, is_label, is_open, slot_gate, slo
 use Rattle.store_layout.specs.Meaning.{Standing}
 use Rattle.desk_journal.specs.Undoing.{ShowsStanding}
 use Rattle.desk_journal.specs.View.{StoreView}
+use Rattle.past_pages.specs.Parts.{GoesOnIn, HasParts, IsPartBeside, IsPastPart, part_base}
+use Rattle.past_pages.specs.Reading.{IsOnlyReadFrom}
+use Rattle.past_pages.specs.declared.parts.TheConstants.{LEAST_ROOM, PART_SECTORS}
 use Rattle.desk_past.specs.Beginning.{AreUncounted, GoesOnFrom, begun_at}
 use Rattle.desk_past.specs.Deeds.{PastDeed}
-use Rattle.desk_past.specs.Parts.{GoesOnIn, HasParts, IsPartBeside, IsPastPart, part_base}
 use Rattle.desk_past.specs.Past.{KeepsAll, Remembers, Start}
-use Rattle.desk_past.specs.Reading.{IsOnlyReadFrom}
 use Rattle.desk_past.specs.declared.going_on.Outset.{Outset}
 use Rattle.desk_past.specs.declared.going_on.Outset.TheVariants.{Absent, GoesOn, Begins}
-use Rattle.desk_past.specs.declared.parts.TheConstants.{LEAST_ROOM, PART_SECTORS}
 
 -- ---- what stands behind a store
 

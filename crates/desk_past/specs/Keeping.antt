@@ -12,13 +12,13 @@ use Rattle.store_slots.specs.declared.error.Error.TheVariants.{Fault}
 use Rattle.desk_journal.specs.Device.{IsSameDevice}
 use Rattle.desk_journal.specs.Posting.{HasJournalRoom, IsDueBefore}
 use Rattle.desk_journal.specs.View.{StoreView}
+use Rattle.past_pages.specs.Parts.{HasParts, IsPastPart}
+use Rattle.past_pages.specs.Page.{page_sectors, journal_of}
+use Rattle.past_pages.specs.declared.parts.TheConstants.{LEAST_ROOM}
 use Rattle.desk_past.specs.Beginning.{GoesOnBy, GoesOnFrom, RemembersFormer, begun_at}
 use Rattle.desk_past.specs.Deeds.{PastDeed, posted}
 use Rattle.desk_past.specs.Going.{LiesInPart}
-use Rattle.desk_past.specs.Parts.{HasParts, IsPastPart}
-use Rattle.desk_past.specs.Page.{page_sectors}
-use Rattle.desk_past.specs.Past.{KeepsAll, LeavesAll, Remembers, Start, journal_of}
-use Rattle.desk_past.specs.declared.parts.TheConstants.{LEAST_ROOM}
+use Rattle.desk_past.specs.Past.{KeepsAll, LeavesAll, Remembers, Start}
 
 -- a store in use, whose epoch isn't the last one
 abbrev pub CanTurn : {D : Type 0} → StoreView D → Type 0

@@ -1,13 +1,10 @@
 pub mod Deeds
-pub mod Page
 pub mod Past
 pub mod Reading
-pub mod Laying
 pub mod Errors
 pub mod Beginning
 pub mod Going
 pub mod Forgetting
-pub mod Parts
 pub mod Keeping
 pub mod Writing
 pub mod Chain

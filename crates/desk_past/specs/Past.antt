@@ -1,21 +1,18 @@
 -- The past of a store: a start, and behind it the pages up to the sector that the head of the slot in use names.
-use Rattle.std.specs.Prelude.{◌≡◌, ◌⊎◌, ◌<◌, ◌≤◌, ◌^◌, ℕ, ◌+◌, ◌-◌, List, [], ◌∷◌, ◌++◌, length, take, false, IsTrue}
-use Rattle.std.specs.List.{list_all}
+use Rattle.std.specs.Prelude.{◌≡◌, ◌⊎◌, ◌<◌, ◌≤◌, ◌^◌, ℕ, ◌+◌, ◌-◌, List, [], ◌∷◌, ◌++◌, length, take, false}
 use Rattle.sector_disk.specs.Trail.{Content, now, LeavesOnly}
 use Rattle.sector_disk.specs.Stored.{HoldsBytes}
 use Rattle.sector_disk.specs.declared.disk.Disk.{Ghosts}
 use Rattle.event_bytes.specs.declared.event.Event.{Event}
-use Rattle.event_bytes.specs.Bytes.{is_name, is_text_byte}
-use Rattle.event_bytes.specs.Spelling.{IsEvent}
 use Rattle.desktop_definitions.specs.Desktop.{Desktop}
-use Rattle.document_filing.specs.Bringing.{Documents}
 use Rattle.store_layout.specs.declared.head.PastEnd.{PastEnd}
 use Rattle.store_layout.specs.declared.layout.TheConstants.{LAYOUT, STORE_SECTORS}
 use Rattle.store_layout.specs.Meaning.{Standing, Stands, desktop_of}
 use Rattle.desk_journal.specs.View.{StoreView}
-use Rattle.desk_past.specs.Deeds.{PastDeed, after_deeds, all_posted}
-use Rattle.desk_past.specs.Page.{Page, of_events, of_import, of_turn, HasPages, deeds_in, end_of_pages}
-use Rattle.desk_past.specs.Page.{page_body, page_bytes, page_count, page_sectors, page_version}
+use Rattle.past_pages.specs.Page.{Page, of_events, of_import, of_turn, IsGoodPage, journal_of}
+use Rattle.past_pages.specs.Page.{page_bytes, page_sectors}
+use Rattle.past_pages.specs.Laying.{StandsFrom}
+use Rattle.desk_past.specs.Deeds.{PastDeed, after_deeds, all_posted, brought, turned}
 
 -- Where a past begins: this desktop, before which so many deeds came. It stands as a store of its own from sector
 -- `base` on, and the first page right behind that.
@@ -27,10 +24,6 @@ pub record Start : Type 0 where
 abbrev pub first_page : Start → ℕ
 first_page start = start.base + STORE_SECTORS
 
--- from this sector on the content has a store that shows this
-abbrev pub StandsFrom : Content → ℕ → Standing → Type 0
-StandsFrom c base t = Stands STORE_SECTORS (λ n. c (base + n)) t
-
 -- the content has the start
 pub record HasStart (c : Content) (start : Start) : Type 0 where
   pub standing : Standing
@@ -38,9 +31,25 @@ pub record HasStart (c : Content) (start : Start) : Type 0 where
   pub is : desktop_of standing ≡ start.desktop
   pub counted : standing.past.before + length standing.events ≡ start.before
 
--- and the pages behind it
+-- from this sector on the pages stand, each from the beginning of a sector
+abbrev pub HasPages : Content → ℕ → List Page → Type 0
+HasPages c at [] = Unit {0}
+HasPages c at (p ∷ pages) = HoldsBytes c at (page_bytes p) × HasPages c (at + page_sectors p) pages
+
+-- the sector behind the last of them
+abbrev pub end_of_pages : ℕ → List Page → ℕ
+end_of_pages at [] = at
+end_of_pages at (p ∷ pages) = end_of_pages (at + page_sectors p) pages
+
+-- the start, and the pages behind it
 abbrev pub HoldsPages : Content → Start → List Page → Type 0
 HoldsPages c start pages = HasStart c start × HasPages c (first_page start) pages
+
+-- what a page says was done
+abbrev pub deeds_in : Page → List PastDeed
+deeds_in (of_events version events) = all_posted events
+deeds_in (of_import version documents) = brought documents ∷ []
+deeds_in (of_turn version k to) = turned to ∷ []
 
 -- all that some pages say was done, in order
 abbrev pub all_deeds : List Page → List PastDeed
@@ -60,35 +69,7 @@ pub record HasMoment (start : Start) (deeds : List PastDeed) (k : ℕ) : Type 0 
 
 -- ---- which pages count
 
--- each of these events can be spelled
-abbrev pub AreEvents : List Event → Type 0
-AreEvents [] = Unit {0}
-AreEvents (event ∷ events) = IsEvent event × AreEvents events
-
--- a document that can come, and can be spelled
-pub record IsDocument (document : List ℕ × List ℕ) : Type 0 where
-  pub name : IsTrue (is_name document.0)
-  pub bytes : IsTrue (list_all is_text_byte document.1)
-  pub short : length document.1 < 2 ^ 32
-
-abbrev pub AreDocuments : Documents → Type 0
-AreDocuments [] = Unit {0}
-AreDocuments (document ∷ documents) = IsDocument document × AreDocuments documents
-
--- what it says can be done
-abbrev pub AreDoable : Page → Type 0
-AreDoable (of_events version events) = AreEvents events
-AreDoable (of_import version documents) = AreDocuments documents
-AreDoable (of_turn version k to) = k < 2 ^ 64
-
--- A page that can be spelled, whose events are stepped as a post steps them, and whose documents are brought as an import
--- brings them.
-pub record IsGoodPage (p : Page) : Type 0 where
-  pub newest : page_version p ≡ LAYOUT
-  pub few : page_count p < 2 ^ 32
-  pub short : length (page_body p) < 2 ^ 32
-  pub valid : AreDoable p
-
+-- each of these pages can be read
 abbrev pub AreGood : List Page → Type 0
 AreGood [] = Unit {0}
 AreGood (p ∷ pages) = IsGoodPage p × AreGood pages
@@ -118,10 +99,6 @@ pub record HoldsPast (size : ℕ) (start : Start) (s : Standing) (pages : List P
   pub room : s.past.next ≤ size
   pub counted : start.before + length (all_deeds pages) ≡ s.past.before
   pub leads : after_deeds start.desktop (all_deeds pages) ≡ s.start
-
--- the journal in use is the last page of the past
-abbrev pub journal_of : Standing → Page
-journal_of s = of_events s.version s.events
 
 -- The content has a past from this start: these are all its deeds up to the present, and this is the desktop that it
 -- shows.

@@ -2,9 +2,9 @@
 use Rattle.std.specs.Prelude.{◌≡◌, ◌≤◌, ℕ, List, [], ◌∷◌, ◌++◌, length, take, Option, None, Some}
 use Rattle.sector_disk.specs.Trail.{Content}
 use Rattle.desktop_definitions.specs.Desktop.{Desktop}
+use Rattle.past_pages.specs.Page.{Page, of_events, of_import, of_turn}
 use Rattle.desk_past.specs.Deeds.{PastDeed, after_deeds, posted, brought, turned}
-use Rattle.desk_past.specs.Page.{Page, of_events, of_import, of_turn, HasPages, end_of_pages}
-use Rattle.desk_past.specs.Past.{AreGood, Start, all_deeds, moment}
+use Rattle.desk_past.specs.Past.{HasPages, end_of_pages, AreGood, Start, all_deeds, moment}
 use Rattle.desk_past.specs.declared.routes.Leg.{Leg}
 
 -- none of these deeds is a turn

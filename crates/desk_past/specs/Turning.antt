@@ -3,20 +3,15 @@ use Rattle.std.specs.Prelude.{◌≡◌, ◌⊎◌, ◌++◌, ◌∷◌, [], ℕ
 use Rattle.sector_disk.specs.declared.disk.Disk.{Ghosts}
 use Rattle.sector_disk.specs.Trail.{LeavesOnly}
 use Rattle.desktop_definitions.specs.Desktop.{Desktop}
-use Rattle.store_layout.specs.declared.layout.TheConstants.{LAYOUT}
 use Rattle.desk_journal.specs.Gathering.{GatheredView}
 use Rattle.desk_journal.specs.Turning.{IsTurnedTo}
 use Rattle.desk_journal.specs.View.{StoreView}
+use Rattle.past_pages.specs.Reading.{IsOnlyReadFrom}
+use Rattle.past_pages.specs.Page.{turn_of}
 use Rattle.desk_past.specs.Ahead.{CanAdd}
 use Rattle.desk_past.specs.Deeds.{PastDeed, turned}
 use Rattle.desk_past.specs.Going.{LiesInPart}
-use Rattle.desk_past.specs.Page.{Page, of_turn}
 use Rattle.desk_past.specs.Past.{HasMoment, KeepsAll, Remembers, Start, moment}
-use Rattle.desk_past.specs.Reading.{IsOnlyReadFrom}
-
--- the page of a turn to moment k, with what the desktop was then
-abbrev pub turn_of : ℕ → Desktop → Page
-turn_of k to = of_turn LAYOUT k to
 
 module _ {D : Type 0} (d : Ghosts D) where
   -- a past that the store keeps

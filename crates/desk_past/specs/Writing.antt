@@ -12,10 +12,10 @@ use Rattle.store_slots.specs.declared.error.Error.TheVariants.{Fault}
 use Rattle.desk_journal.specs.Device.{IsSameDevice}
 use Rattle.desk_journal.specs.Undoing.{ShowsStanding}
 use Rattle.desk_journal.specs.View.{StoreView}
+use Rattle.past_pages.specs.Parts.{IsPastPart}
 use Rattle.desk_past.specs.Beginning.{RemembersFormer, SparesBut}
 use Rattle.desk_past.specs.Deeds.{PastDeed}
 use Rattle.desk_past.specs.Going.{IsInPart, IsOldest, LiesInPart}
-use Rattle.desk_past.specs.Parts.{IsPastPart}
 use Rattle.desk_past.specs.Past.{KeepsAll, Start}
 
 -- a sector before this end, and from the one on in which pages go on

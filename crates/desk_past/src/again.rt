@@ -11,8 +11,10 @@ ghost use Rattle.desk_journal.specs.Device.{IsSameDevice};
 ghost use Rattle.desk_journal.specs.Opening.{IsNoStore, IsOpened};
 ghost use Rattle.desk_journal.specs.Posting.{IsAcknowledged};
 ghost use Rattle.desk_journal.specs.Undoing.{IsTakenBack, ShowsStanding};
+ghost use Rattle.past_pages.specs.Reading.{IsOnlyReadFrom};
+ghost use Rattle.past_pages.specs.Laying.{ReadsZeros};
 ghost use Rattle.desk_past.specs.Errors.{OfDoing, OfFound, in_memory};
-ghost use Rattle.desk_past.specs.Reading.{IsOnlyReadFrom, ReadsZeros, ShowsNow};
+ghost use Rattle.desk_past.specs.Reading.{ShowsNow};
 
 use crate::reading::events_before;
 use desk_journal::{Document, Error, STORE_SECTORS, Store};

@@ -7,17 +7,15 @@ ghost use Rattle.store_layout.specs.declared.layout.TheConstants.{STORE_SECTORS}
 ghost use Rattle.store_slots.specs.Errors.{OfDesktop};
 ghost use Rattle.desktop_definitions.specs.Desktop.{Desktop};
 ghost use Rattle.desk_journal.specs.Behind.{FitBehind};
+ghost use Rattle.past_pages.specs.Page.{Page, page_bytes, IsGoodPage};
+ghost use Rattle.past_pages.specs.Reading.{IsOnlyReadFrom};
 ghost use Rattle.desk_past.specs.Ahead.{CanAdd, IsAhead, padded};
 ghost use Rattle.desk_past.specs.Deeds.{PastDeed};
-ghost use Rattle.desk_past.specs.Page.{Page, page_bytes};
-ghost use Rattle.desk_past.specs.Past.{IsGoodPage, KeepsAll, Start};
-ghost use Rattle.desk_past.specs.Reading.{IsOnlyReadFrom};
+ghost use Rattle.desk_past.specs.Past.{KeepsAll, Start};
 ghost use Rattle.desk_past.specs.Writing.{AreAhead};
 
-use crate::page::{page_read, sectors_for};
-use crate::parts::part_at;
-use crate::sectors::zeros;
 use desk_journal::{Error, STORE_SECTORS, Store};
+use past_pages::{page_read, part_at, sectors_for, zeros};
 use sector_disk::{Disk, NoMemory, SECTOR_BYTES};
 use std::alloc::{AllocError, Global};
 use store_layout::{PastEnd, standing_law};

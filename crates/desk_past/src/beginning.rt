@@ -4,12 +4,13 @@ ghost use Rattle.sector_disk.specs.Trail.{now};
 ghost use Rattle.store_layout.specs.declared.layout.TheConstants.{STORE_SECTORS};
 ghost use Rattle.store_slots.specs.Errors.{OfDesktop, OfLook};
 ghost use Rattle.desk_journal.specs.Checkpointing.{LeavesDesktop};
-ghost use Rattle.desk_past.specs.Beginning.{AreUncounted, ForgetsNoneBefore, HasCopies, HasStartRoom, IsAside, IsBegunNow, IsBegunOrAside, IsStarted, IsStoppedBy, SparesAllBut, SparesAround, SparesOthers};
+ghost use Rattle.past_pages.specs.Sectors.{HasCopies};
+ghost use Rattle.desk_past.specs.Beginning.{AreUncounted, ForgetsNoneBefore, HasStartRoom, IsAside, IsBegunNow, IsBegunOrAside, IsStarted, IsStoppedBy, SparesAllBut, SparesAround, SparesOthers};
 ghost use Rattle.desk_past.specs.Keeping.{UsesDevice};
 
 use crate::reading::events_before;
-use crate::sectors::{bytes_at, is_copied};
 use desk_journal::{Error, STORE_SECTORS, Store};
+use past_pages::{bytes_at, is_copied};
 use sector_disk::Disk;
 use std::alloc::Global;
 use store_layout::{PastEnd, standing_law};

@@ -8,6 +8,9 @@ ghost use Rattle.store_layout.specs.Meaning.{Standing};
 ghost use Rattle.store_slots.specs.Errors.{OfDesktop};
 ghost use Rattle.desk_journal.specs.Looking.{OnlyLooks};
 ghost use Rattle.desk_journal.specs.Undoing.{IsLeft};
+ghost use Rattle.past_pages.specs.Page.{Page};
+ghost use Rattle.past_pages.specs.Laying.{StandsFrom};
+ghost use Rattle.past_pages.specs.Reading.{IsOnlyReadFrom};
 ghost use Rattle.desk_past.specs.Beginning.{HasStartRoom};
 ghost use Rattle.desk_past.specs.Chain.{AreSpans, HasSpan, IsFirstOf, IsFirstOfSpans, IsFoundAt, IsFoundSpan, IsOlderThan, IsSpan};
 ghost use Rattle.desk_past.specs.Chain.{SaysOfSpan, SpansOf, WasInSpans, WasThen, newer, open_head, start_shows};
@@ -15,15 +18,12 @@ ghost use Rattle.desk_past.specs.declared.chain.TheConstants.{NO_EPOCH};
 ghost use Rattle.desk_past.specs.Deeds.{PastDeed};
 ghost use Rattle.desk_past.specs.Errors.{OfMoment, OfSteps};
 ghost use Rattle.desk_past.specs.Going.{LiesInPart, start_epoch};
-ghost use Rattle.desk_past.specs.Page.{Page};
-ghost use Rattle.desk_past.specs.Past.{KeepsAll, StandsFrom, Start};
-ghost use Rattle.desk_past.specs.Reading.{IsOnlyReadFrom};
+ghost use Rattle.desk_past.specs.Past.{KeepsAll, Start};
 
 use crate::again::empty_disk;
-use crate::parts::part_at;
 use crate::reading::{in_journal, in_pages};
-use crate::sectors::sector_at;
 use desk_journal::{Error, STORE_SECTORS, Store};
+use past_pages::{part_at, sector_at};
 use sector_disk::{Disk, MemoryDisk};
 use std::alloc::Global;
 use store_layout::{

@@ -5,17 +5,17 @@ ghost use Rattle.sector_disk.specs.Trail.{now};
 ghost use Rattle.store_layout.specs.declared.layout.TheConstants.{STORE_SECTORS};
 ghost use Rattle.store_slots.specs.Errors.{OfDesktop};
 ghost use Rattle.desk_journal.specs.Checkpointing.{LeavesDesktop};
+ghost use Rattle.past_pages.specs.Sectors.{AreBlank};
+ghost use Rattle.past_pages.specs.Parts.{HasParts, IsPastPart, parts_end};
+ghost use Rattle.past_pages.specs.declared.parts.TheConstants.{PARTS, PART_SECTORS};
 ghost use Rattle.desk_past.specs.Beginning.{AreUncounted, HasStartRoom, IsAside, IsStoppedBy, SparesAllBut};
-ghost use Rattle.desk_past.specs.Forgetting.{AreBlank, AreBlankBeside, HasForgotten, SparesStart};
-ghost use Rattle.desk_past.specs.Parts.{HasParts, IsPastPart, parts_end};
+ghost use Rattle.desk_past.specs.Forgetting.{AreBlankBeside, HasForgotten, SparesStart};
 ghost use Rattle.desk_past.specs.Keeping.{UsesDevice};
-ghost use Rattle.desk_past.specs.declared.parts.TheConstants.{PARTS, PART_SECTORS};
 
 use crate::beginning::begin;
 use crate::going_on::oldest_base;
-use crate::parts::{PART_SECTORS, PARTS, has_parts, part_count};
-use crate::sectors::{is_blank, zeros};
 use desk_journal::{Error, STORE_SECTORS, Store};
+use past_pages::{PART_SECTORS, PARTS, has_parts, is_blank, part_count, zeros};
 use sector_disk::{Disk, SECTOR_BYTES};
 use std::alloc::Global;
 

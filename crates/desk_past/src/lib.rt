@@ -1,4 +1,4 @@
-//! A past behind a store: the events of all epochs, and the documents of all imports, in pages.
+//! A past behind a store: the events of all epochs, and the documents of all imports, in pages (`past_pages`).
 //!
 //! The journal of an epoch becomes a page when the epoch ends: it is written and settled, and then a checkpoint begins
 //! the next one, whose head names the sector behind that page. An import or a turn ends its epoch too, by a page of its
@@ -12,18 +12,12 @@ mod ahead;
 mod beginning;
 mod bringing;
 mod chain;
-mod documents;
 mod forgetting;
 mod going_on;
 mod keeping;
 mod laws;
-mod laying;
-mod page;
-mod pages;
-mod parts;
 mod reading;
 mod routes;
-mod sectors;
 mod turning;
 
 pub use beginning::begin;
@@ -33,8 +27,5 @@ pub use forgetting::forget;
 pub use going_on::{Outset, go_on};
 pub use keeping::{end_epoch, post, undo};
 pub use laws::{former_stays_law, one_past_law, present_law, span_stays_law};
-pub use page::{EVENTS_PAGE, IMPORT_PAGE, PAGE_FRONT, TURN_PAGE};
-pub use pages::{PageDeeds, PageFront, PageKind, PageRead, front_in, page_in};
-pub use parts::{FULL_PART, LEAST_ROOM, PART_SECTORS, PARTS, Part, part_at};
 pub use reading::{copy_of, moment, post_all, start_of};
 pub use turning::{turn, turn_to};

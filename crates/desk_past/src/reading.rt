@@ -9,21 +9,23 @@ ghost use Rattle.store_layout.specs.Meaning.{Standing};
 ghost use Rattle.store_slots.specs.Errors.{OfLook};
 ghost use Rattle.desk_journal.specs.Device.{IsOnlyRead};
 ghost use Rattle.desk_journal.specs.Undoing.{IsLedOn, IsLeft, ShowsStanding};
+ghost use Rattle.past_pages.specs.Page.{Page};
+ghost use Rattle.past_pages.specs.Laying.{StandsFrom, IsBlankRoom};
+ghost use Rattle.past_pages.specs.Reading.{IsOnlyReadFrom, IsRead};
 ghost use Rattle.desk_past.specs.Deeds.{PastDeed};
 ghost use Rattle.desk_past.specs.Errors.{OfDoing, OfGoingBack, OfLaying, OfMoment, OfSteps};
-ghost use Rattle.desk_past.specs.Page.{Page, HasPages, deeds_in, end_of_pages};
-ghost use Rattle.desk_past.specs.Past.{AreGood, HasMoment, HasStart, KeepsAll, StandsFrom, Start, all_deeds, moment as moment_of};
-ghost use Rattle.desk_past.specs.Reading.{HoldsTold, IsBlankRoom, IsLed, IsOnlyReadFrom, IsRead, ShowsNow, many_deeds, start_at};
+ghost use Rattle.desk_past.specs.Past.{HasPages, deeds_in, end_of_pages};
+ghost use Rattle.desk_past.specs.Past.{AreGood, HasMoment, HasStart, KeepsAll, Start, all_deeds, moment as moment_of};
+ghost use Rattle.desk_past.specs.Reading.{HoldsTold, IsLed, ShowsNow, many_deeds, start_at};
 ghost use Rattle.desk_past.specs.Routes.{AreLegs, HasNoTurn};
 
 use crate::again::{
     back_to, brought, empty_disk, many_before, opened, posted, taken_back, told_in,
 };
-use crate::laying::lay;
-use crate::pages::{PageDeeds, page_at};
 use crate::routes::{Leg, legs_to};
 use desk_journal::{Error, STORE_SECTORS, Store};
 use event_bytes::Event;
+use past_pages::{PageDeeds, lay, page_at};
 use sector_disk::{Disk, MemoryDisk};
 use std::alloc::Global;
 use store_layout::{PastEnd, standing_law};

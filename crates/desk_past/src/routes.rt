@@ -3,14 +3,15 @@ ghost use Rattle.std.specs.Prelude.{◌≡◌, ◌+◌, ◌≤◌, ◌<◌, ◌+
 ghost use Rattle.sector_disk.specs.Faults.{FailsAs};
 ghost use Rattle.sector_disk.specs.Trail.{now};
 ghost use Rattle.store_slots.specs.Errors.{OfDesktop};
+ghost use Rattle.past_pages.specs.Page.{Page};
+ghost use Rattle.past_pages.specs.Reading.{IsKindOf, IsOnlyReadFrom};
 ghost use Rattle.desk_past.specs.Deeds.{PastDeed, after_deeds};
-ghost use Rattle.desk_past.specs.Page.{Page, HasPages, end_of_pages};
+ghost use Rattle.desk_past.specs.Past.{HasPages, end_of_pages};
 ghost use Rattle.desk_past.specs.Past.{AreGood, AreTurns, Start, all_deeds, moment as moment_of};
-ghost use Rattle.desk_past.specs.Reading.{IsKindOf, IsOnlyReadFrom};
 ghost use Rattle.desk_past.specs.Routes.{AreLegs, IsPassed, IsReached};
 
-use crate::pages::{PageKind, front_at};
 use desk_journal::{Error, Store};
+use past_pages::{PageKind, front_at};
 use sector_disk::Disk;
 use std::alloc::{AllocError, Global};
 

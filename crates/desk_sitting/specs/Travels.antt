@@ -10,8 +10,8 @@ use Rattle.desk_journal.specs.Device.{IsOnlyRead, IsSameDevice}
 use Rattle.desk_journal.specs.Errors.{Error, Fault}
 use Rattle.desk_journal.specs.Undoing.{IsLeft}
 use Rattle.desk_journal.specs.View.{StoreView, IsDurable}
+use Rattle.past_pages.specs.Reading.{IsOnlyReadFrom}
 use Rattle.desk_past.specs.Deeds.{PastDeed, all_posted, brought}
-use Rattle.desk_past.specs.Reading.{IsOnlyReadFrom}
 use Rattle.document_filing.specs.Bringing.{Documents}
 use Rattle.past_steps.specs.Steps.{IsBroughtAgain, IsSteppedBack, IsTurnedBack, LeavesBroughtAgain, LeavesSteppedBack}
 use Rattle.done_presses.specs.declared.again.StorePlace.{StorePlace}
@@ -160,13 +160,6 @@ module _ {D : Type 0} (d : Ghosts D) where
         → ComesBack s s' old new
     not_taken : (told : Option (List Event)) → IsLeft d old new
         → s' ≡ refused NotBack (settled (recalled told s)) → ComesBack s s' old new
-
-  -- A step back that leads to a later epoch is a turn, over which a past goes on.
-  abbrev pub LaterStepsAreTurns : Type 0
-  LaterStepsAreTurns = (count : ℕ) (deeds : List PastDeed) (old new : StoreView D)
-      → IsSteppedBack d count deeds old new → is_turn (store_place old) (store_place new) ≡ true
-      → (between : StoreView D) × IsOnlyReadFrom d old between
-      × IsTurnedBack d count deeds between new
 
 module _ (desk : Desk) {D : Type 0} (d : Ghosts D) where
   -- What was asked for beside the presses is done. Where nothing was known of that, a past may have told.

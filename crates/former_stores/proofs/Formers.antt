@@ -10,17 +10,18 @@ use Rattle.store_layout.specs.Finding.{StandingLaw}
 use Rattle.store_layout.specs.Meaning.{Standing}
 use Rattle.desk_journal.proofs.Aside.{stands_behind}
 use Rattle.desk_journal.specs.View.{StoreView}
+use Rattle.past_pages.specs.Parts.{GoesOnIn, IsPastPart}
+use Rattle.past_pages.specs.Laying.{StandsFrom}
+use Rattle.past_pages.proofs.StillReads.{resized}
 use Rattle.desk_past.specs.Beginning.{copied_back}
 use Rattle.desk_past.specs.Deeds.{PastDeed}
-use Rattle.desk_past.specs.Parts.{GoesOnIn, IsPastPart}
-use Rattle.desk_past.specs.Past.{KeepsAll, StandsFrom, Start, first_page}
+use Rattle.desk_past.specs.Past.{KeepsAll, Start, first_page}
 use Rattle.desk_past.specs.Reading.{ShowsNow}
 use Rattle.desk_past.specs.Writing.{HasFormerPast}
 use Rattle.desk_past.proofs.Apart.{one_part, part_as_large, part_far}
 use Rattle.desk_past.proofs.Carrying.{end_above, written_stays}
 use Rattle.desk_past.proofs.Former.{former_pages, former_start}
 use Rattle.desk_past.proofs.Remembering.{remembers_on}
-use Rattle.desk_past.proofs.StillReads.{resized}
 use Rattle.former_stores.specs.declared.former.Stretch.{Stretch}
 use Rattle.former_stores.specs.declared.former.Told.{Told}
 use Rattle.former_stores.specs.Former.{AreSectorsBefore, HasPartBefore, IsFormer, IsFormerStore, KeepsWhole, SaysOfStart}

@@ -4,11 +4,11 @@ use Rattle.sector_disk.specs.declared.disk.Disk.{Ghosts}
 use Rattle.sector_disk.specs.Trail.{Content}
 use Rattle.desktop_definitions.specs.Desktop.{Desktop}
 use Rattle.desk_journal.specs.View.{StoreView}
+use Rattle.past_pages.specs.Parts.{IsPastPart}
+use Rattle.past_pages.specs.Reading.{IsOnlyReadFrom, IsQuiet}
+use Rattle.past_pages.proofs.StillReads.{still_reads}
 use Rattle.desk_past.specs.Deeds.{PastDeed}
-use Rattle.desk_past.specs.Parts.{IsPastPart}
 use Rattle.desk_past.specs.Past.{HoldsPast, KeepsAll, Start}
-use Rattle.desk_past.specs.Reading.{IsOnlyReadFrom, IsQuiet}
-use Rattle.desk_past.proofs.StillReads.{still_reads}
 use Rattle.former_stores.specs.Former.{KeepsWhole}
 
 pub whole_on : {E : Type 0} (e : Ghosts E) {old mid : StoreView E} → IsOnlyReadFrom e old mid → e.honest old.disk

@@ -17,9 +17,9 @@ use Rattle.store_slots.specs.Errors.{OfOpen}
 use Rattle.desk_journal.proofs.Aside.{stands_behind}
 use Rattle.desk_journal.specs.Opening.{IsOpened}
 use Rattle.desk_journal.specs.View.{StoreView}
-use Rattle.desk_past.specs.Past.{StandsFrom}
+use Rattle.past_pages.specs.Laying.{StandsFrom}
+use Rattle.past_pages.proofs.StillReads.{resized}
 use Rattle.desk_past.proofs.Opened.{opened_shows}
-use Rattle.desk_past.proofs.StillReads.{resized}
 use Rattle.former_stores.specs.Laying.{IsCopiedTo, IsLaid}
 
 -- ---- what was found

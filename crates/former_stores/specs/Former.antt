@@ -6,10 +6,11 @@ use Rattle.desktop_definitions.specs.Desktop.{Desktop}
 use Rattle.store_layout.specs.declared.layout.TheConstants.{STORE_SECTORS}
 use Rattle.store_layout.specs.Meaning.{Standing}
 use Rattle.desk_journal.specs.View.{StoreView}
+use Rattle.past_pages.specs.Parts.{GoesOnIn, IsPastPart}
+use Rattle.past_pages.specs.Laying.{StandsFrom}
 use Rattle.desk_past.specs.Deeds.{PastDeed}
 use Rattle.desk_past.specs.Going.{LiesInPart}
-use Rattle.desk_past.specs.Parts.{GoesOnIn, IsPastPart}
-use Rattle.desk_past.specs.Past.{KeepsAll, StandsFrom, Start}
+use Rattle.desk_past.specs.Past.{KeepsAll, Start}
 use Rattle.desk_past.specs.Reading.{ShowsNow}
 use Rattle.desk_past.specs.Writing.{HasFormerPast}
 use Rattle.former_stores.specs.declared.former.Stretch.{Stretch}

@@ -7,7 +7,7 @@ use Rattle.store_layout.specs.declared.layout.TheConstants.{STORE_SECTORS}
 use Rattle.store_layout.specs.Filling.{InRange}
 use Rattle.store_layout.specs.Meaning.{Standing}
 use Rattle.desk_journal.specs.View.{StoreView}
-use Rattle.desk_past.specs.Past.{StandsFrom}
+use Rattle.past_pages.specs.Laying.{StandsFrom}
 use Rattle.desk_past.specs.Reading.{ShowsNow}
 
 -- a disk has so many sectors from this one on, and they read as zeros

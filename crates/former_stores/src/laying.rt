@@ -10,9 +10,9 @@ ghost use Rattle.store_slots.specs.Errors.{OfDesktop, OfOpen};
 ghost use Rattle.desk_journal.specs.Device.{IsSameDevice};
 ghost use Rattle.desk_journal.specs.Looking.{OnlyLooks};
 ghost use Rattle.desk_journal.specs.Opening.{IsNoStore, IsOpened};
+ghost use Rattle.past_pages.specs.Laying.{HasStoreRoom, IsBlankRoom};
+ghost use Rattle.past_pages.specs.Reading.{IsOnlyReadFrom};
 ghost use Rattle.desk_past.specs.Errors.{IsNoStart};
-ghost use Rattle.desk_past.specs.Laying.{HasStoreRoom};
-ghost use Rattle.desk_past.specs.Reading.{IsBlankRoom, IsOnlyReadFrom};
 ghost use Rattle.former_stores.specs.Laying.{ArePlaced, IsBlankFrom, IsCopiedTo, IsLaid, StandsNone};
 
 use desk_journal::{Error, STORE_SECTORS, Store};

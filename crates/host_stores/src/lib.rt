@@ -13,19 +13,17 @@ ghost use Rattle.store_layout.specs.declared.layout.TheConstants.{LAYOUT, STORE_
 ghost use Rattle.desk_journal.specs.Errors.{OfFormat, OfOpen};
 ghost use Rattle.desk_journal.specs.Opening.{IsOpened, IsNoStore};
 ghost use Rattle.host_stores.specs.Found.{IsFoundIn, IsFoundOn, IsNoneIn, IsNoneOn, IsScreenOf};
-ghost use Rattle.host_stores.specs.declared.TheConstants.{PAST_SECTORS};
+ghost use Rattle.past_pages.specs.declared.parts.TheConstants.{PAST_SECTORS};
 ghost use Rattle.twin_disk.specs.Flags.{IsNameless, ShowsFlag, pair_name, says_alone, says_closed};
 
 pub use desk_journal::{Error, Store};
 use host_files::{HostFault, LockedFile, empty};
+use past_pages::PAST_SECTORS;
 use screen_cells::Screen;
 use sector_disk::{FILE_SECTORS, HostFile};
 pub use sector_disk::{Disk, FileDisk, MemoryDisk};
 use store_layout::showing_law;
 use twin_disk::{flag_at, has_name, leave_twin};
-
-/// How many sectors a disk has that has room for a past: those of a store, two that are for pairs of disks, and 40 parts.
-pub const PAST_SECTORS: u32 = FILE_SECTORS + 2 + 1_310_720;
 
 /// The store on a disk. A disk that is refused is left as it is: it isn't formatted.
 ///

@@ -8,9 +8,9 @@ use Rattle.desktop_definitions.specs.Step.{step}
 use Rattle.event_bytes.specs.declared.event.Event.{Event}
 use Rattle.desk_journal.specs.Turning.{LeavesThisOrThat}
 use Rattle.desk_journal.specs.View.{StoreView}
-use Rattle.desk_past.specs.Reading.{IsOnlyReadFrom, IsQuiet}
+use Rattle.past_pages.specs.Reading.{IsOnlyReadFrom, IsQuiet}
+use Rattle.past_pages.proofs.StillReads.{still_none}
 use Rattle.desk_past.specs.Turning.{TurnsTo}
-use Rattle.desk_past.proofs.StillReads.{still_none}
 use Rattle.past_moments.specs.Moments.{IsDesktopAt, IsLastOf}
 use Rattle.all_moments.specs.Parts.{AreAllMomentsOf, IsDesktopThen, IsToldThen}
 use Rattle.past_moments.specs.declared.moments.Look.{Look}

@@ -9,7 +9,7 @@ use Rattle.desk_journal.specs.Device.{IsOnlyRead}
 use Rattle.desk_journal.specs.Gathering.{GatheredView}
 use Rattle.desk_journal.specs.Turning.{LeavesThisOrThat}
 use Rattle.desk_journal.specs.View.{StoreView}
-use Rattle.desk_past.specs.Reading.{IsOnlyReadFrom}
+use Rattle.past_pages.specs.Reading.{IsOnlyReadFrom}
 use Rattle.desk_past.specs.Turning.{ComesToMoment, TurnsTo}
 use Rattle.past_moments.specs.Moments.{IsDesktopAt, IsLastOf}
 use Rattle.all_moments.specs.Parts.{AreAllMomentsOf, IsDesktopThen, IsToldThen}

@@ -1,7 +1,7 @@
 //! A person before a past: which moment they see, and what a press does to that.
 ghost use Rattle.std.specs.Prelude.{◌≡◌, false, is_some, true, IfOk, IfSome, OnOk};
 ghost use Rattle.desktop_definitions.specs.Shown.{shown_screen};
-ghost use Rattle.desk_past.specs.Reading.{IsOnlyReadFrom};
+ghost use Rattle.past_pages.specs.Reading.{IsOnlyReadFrom};
 ghost use Rattle.all_moments.specs.Parts.{AreAllMomentsOf, IsNearest};
 ghost use Rattle.past_looks.specs.Looking.{ComesOfPress, IsAlike, IsLookerOf, IsSameLook, ComesBackTo, KeepsUntouched, StaysOrTurns};
 ghost use Rattle.past_looks.specs.Looking.{is_of_mouse, looker_line, untouched_of};

@@ -8,16 +8,15 @@ use Rattle.sector_disk.specs.declared.disk.Disk.{Ghosts}
 use Rattle.sector_disk.specs.Trail.{Content}
 use Rattle.desktop_definitions.specs.Desktop.{Desktop}
 use Rattle.desk_journal.specs.View.{StoreView}
+use Rattle.past_pages.specs.Parts.{IsPastPart}
+use Rattle.past_pages.specs.Reading.{IsOnlyReadFrom, IsQuiet}
+use Rattle.past_pages.proofs.StillReads.{still_reads}
+use Rattle.past_pages.specs.declared.pages.PageDeeds.{PageDeeds}
 use Rattle.desk_past.specs.Deeds.{PastDeed}
 use Rattle.desk_past.specs.Going.{LiesInPart}
-use Rattle.desk_past.specs.Parts.{IsPastPart}
 use Rattle.desk_past.specs.Past.{HoldsPast, KeepsAll, Start}
-use Rattle.desk_past.specs.Reading.{IsOnlyReadFrom}
 use Rattle.desk_past.specs.Turning.{PastOf}
-use Rattle.desk_past.specs.Reading.{IsQuiet}
 use Rattle.desk_past.proofs.Before.{part_before, past_before}
-use Rattle.desk_past.proofs.StillReads.{still_reads}
-use Rattle.desk_past.specs.declared.pages.PageDeeds.{PageDeeds}
 use Rattle.past_moments.specs.Moments.{AreMarksOf, AreMomentsOf, IsDeedOf, IsExtentOf, IsLastOf, IsMarkOf, IsToldOf, IsDesktopAt, IsPageOf, IsPagePlace, IsSameMoment}
 use Rattle.past_moments.specs.Seeking.{IsSoughtOf, IsStandingAt}
 use Rattle.past_moments.specs.declared.extent.Extent.{Extent}

@@ -9,11 +9,12 @@ use Rattle.store_layout.specs.Meaning.{Standing}
 use Rattle.store_layout.specs.declared.head.PastEnd.{PastEnd}
 use Rattle.store_slots.specs.Beside.{IsHistory, alone, behind}
 use Rattle.desk_journal.specs.View.{StoreView}
-use Rattle.desk_past.specs.Page.{Page, HasPages, deeds_in, end_of_pages, page_sectors}
-use Rattle.desk_past.specs.Past.{AreGood, all_deeds, first_page}
+use Rattle.past_pages.specs.Page.{Page, page_sectors}
+use Rattle.past_pages.specs.Reading.{HasPage, IsRead}
+use Rattle.past_pages.specs.declared.pages.PageDeeds.{PageDeeds}
+use Rattle.desk_past.specs.Past.{HasPages, deeds_in, end_of_pages, AreGood, all_deeds, first_page}
 use Rattle.desk_past.specs.Turning.{PastOf}
-use Rattle.desk_past.specs.Reading.{HasPage, IsRead, many_deeds}
-use Rattle.desk_past.specs.declared.pages.PageDeeds.{PageDeeds}
+use Rattle.desk_past.specs.Reading.{many_deeds}
 use Rattle.desk_past.proofs.Carrying.{end_above}
 use Rattle.desk_past.proofs.Stepping.{read_many}
 use Rattle.past_moments.specs.Moments.{IsExtentIn}

@@ -7,14 +7,14 @@ use Rattle.event_bytes.specs.declared.event.Event.{Event}
 use Rattle.document_filing.specs.Bringing.{Documents}
 use Rattle.desktop_definitions.specs.Desktop.{Desktop}
 use Rattle.desk_journal.specs.View.{StoreView}
+use Rattle.past_pages.specs.Page.{of_events, of_import, of_turn, Page}
+use Rattle.past_pages.specs.Reading.{IsRead}
+use Rattle.past_pages.specs.declared.pages.PageDeeds.{PageDeeds}
+use Rattle.past_pages.specs.declared.pages.PageDeeds.TheVariants.{Events, Import, Turn}
 use Rattle.desk_past.specs.Deeds.{PastDeed, after_deed, after_deeds, all_posted, brought, posted, turned}
-use Rattle.desk_past.specs.Page.{of_events, of_import, of_turn, Page, deeds_in}
-use Rattle.desk_past.specs.Past.{all_deeds, moment}
-use Rattle.desk_past.specs.Reading.{IsRead}
+use Rattle.desk_past.specs.Past.{deeds_in, all_deeds, moment}
 use Rattle.desk_past.specs.Going.{LiesInPart}
 use Rattle.desk_past.specs.Turning.{PastOf}
-use Rattle.desk_past.specs.declared.pages.PageDeeds.{PageDeeds}
-use Rattle.desk_past.specs.declared.pages.PageDeeds.TheVariants.{Events, Import, Turn}
 use Rattle.desk_past.proofs.Moments.{after_both, joined, many_posted}
 use Rattle.told_pasts.specs.Words.{deed_line, turn_line}
 use Rattle.past_moments.specs.Moments.{IsDeedOf, IsDesktopAt, IsExtentOf, IsLastOf, IsPageIn, IsPageOf, IsPlaceIn, IsPagePlace, IsToldOf}

@@ -8,13 +8,15 @@ use Rattle.sector_disk.specs.Trail.{Content, now}
 use Rattle.desktop_definitions.specs.Desktop.{Desktop}
 use Rattle.desktop_definitions.specs.Step.{steps}
 use Rattle.desk_journal.specs.View.{StoreView}
+use Rattle.past_pages.specs.Page.{Page, of_events, of_import, of_turn, page_sectors}
+use Rattle.past_pages.specs.Reading.{HasPage, IsRead}
+use Rattle.past_pages.specs.declared.pages.PageDeeds.{PageDeeds}
+use Rattle.past_pages.specs.declared.pages.PageDeeds.TheVariants.{Turn}
 use Rattle.desk_past.specs.Deeds.{PastDeed, after_deeds, all_posted}
-use Rattle.desk_past.specs.Page.{Page, of_events, of_import, of_turn, HasPages, deeds_in, end_of_pages, page_sectors}
+use Rattle.desk_past.specs.Past.{HasPages, deeds_in, end_of_pages}
 use Rattle.desk_past.specs.Past.{AreGood, AreTurns, HasMoment, IsTurn, Start, all_deeds, first_page, moment}
-use Rattle.desk_past.specs.Reading.{HasPage, IsRead, many_deeds}
+use Rattle.desk_past.specs.Reading.{many_deeds}
 use Rattle.desk_past.specs.Turning.{PastOf}
-use Rattle.desk_past.specs.declared.pages.PageDeeds.{PageDeeds}
-use Rattle.desk_past.specs.declared.pages.PageDeeds.TheVariants.{Turn}
 use Rattle.desk_past.proofs.Carrying.{end_above}
 use Rattle.desk_past.proofs.Legs.{deeds_of_both}
 use Rattle.desk_past.proofs.Moments.{after_both, after_posted, joined, many_posted, nil_right, posted_first}

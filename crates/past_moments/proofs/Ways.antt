@@ -8,11 +8,12 @@ use Rattle.desktop_definitions.specs.Step.{steps}
 use Rattle.store_layout.specs.declared.layout.TheConstants.{STORE_SECTORS}
 use Rattle.desk_journal.specs.View.{StoreView}
 use Rattle.document_filing.specs.Bringing.{Documents}
+use Rattle.past_pages.specs.Page.{Page, of_events, of_import, of_turn}
+use Rattle.past_pages.specs.Reading.{IsRead}
+use Rattle.past_pages.specs.declared.pages.PageDeeds.{PageDeeds}
+use Rattle.past_pages.specs.declared.pages.PageDeeds.TheVariants.{Events, Import, Turn}
 use Rattle.desk_past.specs.Deeds.{after_deeds, brought}
-use Rattle.desk_past.specs.Page.{Page, of_events, of_import, of_turn, deeds_in}
-use Rattle.desk_past.specs.Reading.{IsRead}
-use Rattle.desk_past.specs.declared.pages.PageDeeds.{PageDeeds}
-use Rattle.desk_past.specs.declared.pages.PageDeeds.TheVariants.{Events, Import, Turn}
+use Rattle.desk_past.specs.Past.{deeds_in}
 use Rattle.desk_past.proofs.Moments.{after_posted, many_posted, posted_first}
 use Rattle.past_moments.specs.Moments.{IsExtentOf, IsDesktopAt, IsMarkOf, IsPageOf, IsPagePlace, IsSameMoment, leg_behind}
 use Rattle.past_moments.specs.declared.extent.Extent.{Extent}

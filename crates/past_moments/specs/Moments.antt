@@ -5,13 +5,13 @@ use Rattle.desktop_definitions.specs.Desktop.{Desktop}
 use Rattle.store_slots.specs.declared.error.Error.{Error}
 use Rattle.store_slots.specs.declared.error.Error.TheVariants.{Fault, NoMemory}
 use Rattle.desk_journal.specs.View.{StoreView}
+use Rattle.past_pages.specs.Page.{Page, page_sectors}
+use Rattle.past_pages.specs.Reading.{IsRead}
+use Rattle.past_pages.specs.declared.pages.PageDeeds.{PageDeeds}
+use Rattle.past_pages.specs.declared.pages.PageDeeds.TheVariants.{Turn}
 use Rattle.desk_past.specs.Going.{LiesInPart}
-use Rattle.desk_past.specs.Page.{Page, deeds_in, end_of_pages, page_sectors}
-use Rattle.desk_past.specs.Past.{all_deeds, first_page, moment}
-use Rattle.desk_past.specs.Reading.{IsRead}
+use Rattle.desk_past.specs.Past.{deeds_in, end_of_pages, all_deeds, first_page, moment}
 use Rattle.desk_past.specs.Turning.{PastOf, WasAt}
-use Rattle.desk_past.specs.declared.pages.PageDeeds.{PageDeeds}
-use Rattle.desk_past.specs.declared.pages.PageDeeds.TheVariants.{Turn}
 use Rattle.past_moments.specs.Words.{led_words, told_at}
 use Rattle.past_moments.specs.declared.extent.Extent.{Extent}
 use Rattle.past_moments.specs.declared.extent.Place.{Place}

@@ -2,14 +2,15 @@
 ghost use Rattle.std.specs.Prelude.{◌≡◌, ◌+◌, ◌-◌, ◌<◌, ◌≤◌, ◌^◌, List, drop, false, true, length, IfOk, IfSome, OnOk};
 ghost use Rattle.sector_disk.specs.Trail.{now};
 ghost use Rattle.store_layout.specs.declared.layout.TheConstants.{STORE_SECTORS};
-ghost use Rattle.desk_past.specs.Page.{Page, HasPages, end_of_pages};
-ghost use Rattle.desk_past.specs.Past.{AreGood, all_deeds};
-ghost use Rattle.desk_past.specs.Reading.{IsOnlyReadFrom, many_deeds};
+ghost use Rattle.past_pages.specs.Page.{Page};
+ghost use Rattle.past_pages.specs.Reading.{IsOnlyReadFrom};
+ghost use Rattle.desk_past.specs.Past.{HasPages, end_of_pages, AreGood, all_deeds};
+ghost use Rattle.desk_past.specs.Reading.{many_deeds};
 ghost use Rattle.past_moments.specs.Moments.{IsExtentOf, IsPageOf, IsPagePlace};
 
 use desk_journal::{Error, STORE_SECTORS, Store};
-use desk_past::{PageDeeds, PageRead, page_in, part_at};
 use event_bytes::Event;
+use past_pages::{PageDeeds, PageRead, page_in, part_at};
 use sector_disk::Disk;
 use std::alloc::{AllocError, Global};
 use store_layout::{PastEnd, standing_law};

@@ -1,15 +1,17 @@
 //! The deeds of pages, done once more in memory.
 ghost use Rattle.std.specs.Prelude.{◌≡◌, ◌+◌, ◌≤◌, [], ◌∷◌, length, take, false, true, Err, MatchResult, Ok, IfOk, IfSome, OnOk};
 ghost use Rattle.desktop_definitions.specs.Step.{steps};
+ghost use Rattle.past_pages.specs.Page.{Page};
+ghost use Rattle.past_pages.specs.Reading.{IsOnlyReadFrom, IsRead};
 ghost use Rattle.desk_past.specs.Deeds.{after_deeds, brought};
-ghost use Rattle.desk_past.specs.Page.{Page, deeds_in};
-ghost use Rattle.desk_past.specs.Reading.{IsOnlyReadFrom, IsRead};
+ghost use Rattle.desk_past.specs.Past.{deeds_in};
 ghost use Rattle.past_moments.specs.Moments.{IsExtentOf, IsDesktopAt, IsPagePlace, IsSameMoment, leg_behind, of_memory};
 
 use crate::extent::{Extent, Place};
 use desk_journal::{Document, Error, Store};
-use desk_past::{PageDeeds, post_all};
+use desk_past::post_all;
 use event_bytes::Event;
+use past_pages::PageDeeds;
 use sector_disk::{Disk, MemoryDisk};
 use std::alloc::Global;
 

@@ -2,8 +2,8 @@
 ghost use Rattle.std.specs.Prelude.{◌≡◌, ◌<◌, ◌≤◌, ◌-◌, ℕ, [], ◌∷◌, codes, false, true, length, slice_get, Ok, Some, IfErr, IfOk, IfSome, OnOk};
 ghost use Rattle.event_bytes.specs.declared.event.Event.{Event as AnEvent};
 ghost use Rattle.desktop_definitions.specs.Step.{step};
+ghost use Rattle.past_pages.specs.Reading.{IsOnlyReadFrom};
 ghost use Rattle.desk_past.specs.Deeds.{after_deeds, brought};
-ghost use Rattle.desk_past.specs.Reading.{IsOnlyReadFrom};
 ghost use Rattle.told_pasts.specs.Words.{event_line, import_line, turn_line};
 ghost use Rattle.past_moments.specs.Moments.{AreMomentsOf, IsDeedOf, IsExtentOf, IsLastOf, IsMarkOf, IsDesktopAt, IsPagePlace, IsSameMoment, IsToldOf};
 
@@ -12,8 +12,9 @@ use crate::legs::{bring, do_all, do_part, last_leg, of_memory};
 use crate::marks::{Mark, Marks};
 use crate::words::import_words;
 use desk_journal::{Document, Error, Store};
-use desk_past::{PageDeeds, copy_of, moment, present_law};
+use desk_past::{copy_of, moment, present_law};
 use event_bytes::Event;
+use past_pages::PageDeeds;
 use sector_disk::{Disk, MemoryDisk};
 use std::alloc::Global;
 use store_layout::standing_law;

@@ -1,7 +1,7 @@
 //! When a word went from the screen.
 ghost use Rattle.std.specs.Prelude.{◌≡◌, ◌+◌, ◌-◌, ◌<◌, ◌≤◌, ◌&&◌, ℕ, Bool, if◌then◌else◌, false, true, not, length, take, Some, IfOk, OnOk};
 ghost use Rattle.desktop_definitions.specs.Step.{steps};
-ghost use Rattle.desk_past.specs.Reading.{IsOnlyReadFrom};
+ghost use Rattle.past_pages.specs.Reading.{IsOnlyReadFrom};
 ghost use Rattle.past_moments.specs.Moments.{AreMomentsOf, IsMarkOf};
 ghost use Rattle.past_moments.specs.Seeking.{IsBefore, IsLastGone, IsSoughtBy, IsSoughtOf, IsStandingAt, begins_with, has_word, is_on_screen, stands};
 
@@ -9,8 +9,9 @@ use crate::legs::of_memory;
 use crate::marks::Mark;
 use crate::moments::Moments;
 use desk_journal::{Error, Store};
-use desk_past::{PageDeeds, post_all};
+use desk_past::post_all;
 use event_bytes::Event;
+use past_pages::PageDeeds;
 use screen_cells::{Cell, Screen};
 use sector_disk::{Disk, MemoryDisk};
 use std::alloc::Global;

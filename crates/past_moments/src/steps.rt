@@ -1,13 +1,13 @@
 //! Where a step of a hand ends.
 ghost use Rattle.std.specs.Prelude.{◌≡◌, ◌-◌, ◌≤◌, false, IfOk, OnOk};
-ghost use Rattle.desk_past.specs.Reading.{IsOnlyReadFrom};
+ghost use Rattle.past_pages.specs.Reading.{IsOnlyReadFrom};
 ghost use Rattle.past_moments.specs.Moments.{AreMomentsOf};
 
 use crate::extent::{Extent, Place};
 use crate::moments::Moments;
 use desk_journal::{Error, Store};
-use desk_past::PageDeeds;
 use event_bytes::Event;
+use past_pages::PageDeeds;
 use sector_disk::Disk;
 use std::alloc::Global;
 

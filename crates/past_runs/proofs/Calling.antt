@@ -8,11 +8,11 @@ use Rattle.sector_disk.proofs.Touching.{at_last, read_is_an_image, weakened}
 use Rattle.desktop_definitions.specs.Desktop.{Desktop}
 use Rattle.desk_journal.specs.Device.{IsSameDevice}
 use Rattle.desk_journal.specs.View.{StoreView}
+use Rattle.past_pages.specs.Reading.{IsQuiet}
 use Rattle.desk_past.specs.Deeds.{PastDeed, after_deeds, brought, posted, turned}
 use Rattle.desk_past.specs.Past.{KeepsAll, Remembers, Start}
 use Rattle.desk_past.specs.Turning.{PastOf}
 use Rattle.desk_past.proofs.Moments.{the_present}
-use Rattle.desk_past.specs.Reading.{IsQuiet}
 use Rattle.past_runs.specs.Calls.{Asks, HasDone, RemembersPast, KeepsAmid, KeepsDeeds, LeadsPast, LeavesPast, Past, PastCall, begins}
 use Rattle.past_runs.specs.Calls.{begun_behind, brings, ends, looks, posts, posts_over, present, takes_back, turns, turns_to, was_then, with_deeds}
 

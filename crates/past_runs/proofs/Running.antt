@@ -3,7 +3,7 @@ use Rattle.std.proofs.Common.{List, [], ◌∷◌, ◌++◌, refl, sym, subst}
 use Rattle.sector_disk.specs.declared.disk.Disk.{Ghosts}
 use Rattle.sector_disk.specs.Trail.{Leaves, now}
 use Rattle.desk_journal.specs.View.{StoreView}
-use Rattle.desk_past.specs.Reading.{IsQuiet}
+use Rattle.past_pages.specs.Reading.{IsQuiet}
 use Rattle.past_runs.specs.Calls.{DoesCall, RemembersPast, KeepsDeeds, Past, PastCall}
 use Rattle.past_runs.specs.Runs.{FindRoom, IsPastRun, KeepsLed, LeaveEach, PastRunsCompose, PastRunsCut, PastRunsLaw}
 use Rattle.past_runs.proofs.Calling.{led_by, left_amid}

@@ -10,13 +10,13 @@ use Rattle.document_filing.specs.Bringing.{Documents}
 use Rattle.desk_journal.specs.Device.{IsOnlyRead, IsSameDevice}
 use Rattle.desk_journal.specs.Posting.{IsDueBefore}
 use Rattle.desk_journal.specs.View.{StoreView}
+use Rattle.past_pages.specs.Reading.{IsOnlyReadFrom, IsQuiet}
 use Rattle.desk_past.specs.Beginning.{BeginsBehind, ForgetsNoneBefore, HasBegun, IsApart, RemembersFormer, begun_at}
 use Rattle.desk_past.specs.Bringing.{BringsOn, CanBring, IsBroughtIn}
 use Rattle.desk_past.specs.Deeds.{PastDeed, after_deeds, all_posted, brought, posted, turned}
 use Rattle.desk_past.specs.Going.{LiesInPart}
 use Rattle.desk_past.specs.Keeping.{CanGoOver, CanKeep, HasKept, HasKeptOver, KeepsOn, KeepsOver}
 use Rattle.desk_past.specs.Past.{HasMoment, KeepsAll, KeepsOthers, LeavesAll, Remembers, Start, UndoesSome, moment}
-use Rattle.desk_past.specs.Reading.{IsOnlyReadFrom, IsQuiet}
 use Rattle.desk_past.specs.Turning.{HasTurnedBack, HasTurnedTo, TurnsBack, TurnsTo}
 use Rattle.desk_past.specs.Writing.{HasFormerPast}
 

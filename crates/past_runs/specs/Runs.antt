@@ -3,8 +3,8 @@ use Rattle.std.specs.Prelude.{◌≡◌, ◌∷◌, ◌++◌, [], ℕ, List}
 use Rattle.sector_disk.specs.declared.disk.Disk.{Ghosts}
 use Rattle.sector_disk.specs.Trail.{Leaves, LeavesOnly, now}
 use Rattle.desk_journal.specs.View.{StoreView}
+use Rattle.past_pages.specs.Reading.{IsQuiet}
 use Rattle.desk_past.specs.Going.{LiesInPart}
-use Rattle.desk_past.specs.Reading.{IsQuiet}
 use Rattle.desk_past.specs.Writing.{LiesAhead, WritesOnly}
 use Rattle.past_runs.specs.Calls.{DoesCall, FindsRoom, HasPastBefore, RemembersPast, HasThen, KeepsDeeds, LeadsPast, LeavesPast, Past, PastCall}
 use Rattle.past_runs.specs.Calls.{TriesCall, begins, posts_over, takes_back, was_then}

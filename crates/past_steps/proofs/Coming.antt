@@ -14,11 +14,12 @@ use Rattle.desk_journal.specs.Errors.{Error, MustReopen, OfLook}
 use Rattle.desk_journal.specs.Looking.{OnlyLooks}
 use Rattle.desk_journal.specs.Posting.{IsLast}
 use Rattle.desk_journal.specs.View.{StoreView}
+use Rattle.past_pages.specs.Reading.{IsOnlyReadFrom}
+use Rattle.past_pages.proofs.Failing.{none_failed}
 use Rattle.desk_past.specs.Bringing.{BringsOn, IsBroughtIn}
 use Rattle.desk_past.specs.Keeping.{UsesDevice}
-use Rattle.desk_past.specs.Reading.{IsOnlyReadFrom}
 use Rattle.desk_past.proofs.Begun.{same_both}
-use Rattle.desk_past.proofs.InMemory.{fails_none, none_failed}
+use Rattle.desk_past.proofs.InMemory.{fails_none}
 use Rattle.desk_past.proofs.Looks.{left_twice, only_read}
 use Rattle.past_steps.specs.Steps.{IsBroughtAgain, LeavesBroughtAgain, brings}
 

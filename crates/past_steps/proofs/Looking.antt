@@ -6,8 +6,8 @@ use Rattle.store_layout.specs.declared.layout.TheConstants.{STORE_SECTORS}
 use Rattle.store_layout.specs.Meaning.{Standing}
 use Rattle.desk_journal.specs.Undoing.{ShowsStanding}
 use Rattle.desk_journal.specs.View.{StoreView}
-use Rattle.desk_past.specs.declared.parts.Part.{Part}
-use Rattle.desk_past.specs.Parts.{IsPastPart}
+use Rattle.past_pages.specs.declared.parts.Part.{Part}
+use Rattle.past_pages.specs.Parts.{IsPastPart}
 use Rattle.desk_past.proofs.Opened.{start_room}
 use Rattle.past_steps.specs.Steps.{IsPartInUse}
 

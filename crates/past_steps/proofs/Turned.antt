@@ -19,18 +19,19 @@ use Rattle.desk_journal.specs.Posting.{AnswersMustReopen}
 use Rattle.desk_journal.specs.Turning.{LeavesThisOrThat}
 use Rattle.desk_journal.specs.Undoing.{IsLedOn, IsLeft, LeavesUndone, OfUndo}
 use Rattle.desk_journal.specs.View.{StoreView}
+use Rattle.past_pages.specs.Reading.{IsOnlyReadFrom, IsQuiet}
+use Rattle.past_pages.proofs.Failing.{error_from, failing_on, looks_closed, none_failed}
+use Rattle.past_pages.proofs.StillReads.{still_both}
 use Rattle.desk_past.specs.Deeds.{PastDeed, after_deeds, all_posted, brought}
 use Rattle.desk_past.specs.Going.{LiesInPart}
 use Rattle.desk_past.specs.Keeping.{UsesDevice}
 use Rattle.desk_past.specs.Past.{HasMoment, KeepsAll, Start, moment}
-use Rattle.desk_past.specs.Reading.{IsOnlyReadFrom, IsQuiet}
 use Rattle.desk_past.specs.Turning.{ComesToMoment, KeepsTurned, LeavesTurned, PastOf, TurnsTo, WasAt}
 use Rattle.desk_past.proofs.Before.{part_before, past_before}
 use Rattle.desk_past.proofs.Begun.{same_both}
-use Rattle.desk_past.proofs.InMemory.{error_from, failing_on, fails_none, looks_closed, none_failed}
+use Rattle.desk_past.proofs.InMemory.{fails_none}
 use Rattle.desk_past.proofs.Looks.{left_twice, only_read}
 use Rattle.desk_past.proofs.Moments.{after_posted, many_posted}
-use Rattle.desk_past.proofs.StillReads.{still_both}
 use Rattle.past_steps.specs.Steps.{BreaksOff, IsPartInUse, IsMomentOf, IsSteppedBack, IsTurnedBack, LeavesSteppedBack}
 use Rattle.past_steps.specs.Steps.{LeavesBack, LeavesTurnedBack, TakesBack, goes_back, turned, turns, undoes, undone}
 use Rattle.past_steps.specs.Steps.{step_deeds, only_read as nothing_done}

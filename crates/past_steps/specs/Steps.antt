@@ -12,9 +12,9 @@ use Rattle.desk_journal.specs.Device.{IsOnlyRead}
 use Rattle.desk_journal.specs.Errors.{Error, Fault, MustReopen, OfLook}
 use Rattle.desk_journal.specs.Undoing.{IsLeft, IsTakenBack, LeavesUndone}
 use Rattle.desk_journal.specs.View.{StoreView, IsDurable}
+use Rattle.past_pages.specs.Reading.{IsOnlyReadFrom}
 use Rattle.desk_past.specs.Bringing.{BringsOn, IsBroughtIn}
 use Rattle.desk_past.specs.Deeds.{PastDeed, after_deeds, all_posted, brought}
-use Rattle.desk_past.specs.Reading.{IsOnlyReadFrom}
 use Rattle.desk_past.specs.Going.{LiesInPart}
 use Rattle.desk_past.specs.Turning.{HasTurnedBack, PastOf, TurnsBack, WasAt}
 use Rattle.past_steps.specs.declared.steps.Step.{Step}

@@ -2,8 +2,8 @@
 ghost use Rattle.std.specs.Prelude.{◌≡◌, ◌≤◌, false, length, IfErr, IfNone, IfOk, IfSome, OnOk};
 ghost use Rattle.store_slots.specs.Errors.{OfDesktop};
 ghost use Rattle.desk_journal.specs.Looking.{OnlyLooks};
+ghost use Rattle.past_pages.specs.Reading.{IsOnlyReadFrom};
 ghost use Rattle.desk_past.specs.Keeping.{UsesDevice};
-ghost use Rattle.desk_past.specs.Reading.{IsOnlyReadFrom};
 ghost use Rattle.past_steps.specs.Steps.{IsBroughtAgain, LeavesBroughtAgain};
 
 use crate::index::Index;

@@ -4,9 +4,9 @@ ghost use Rattle.store_slots.specs.Errors.{OfLook};
 ghost use Rattle.desk_journal.specs.Looking.{OnlyLooks};
 ghost use Rattle.desk_journal.specs.Posting.{AnswersMustReopen};
 ghost use Rattle.desk_journal.specs.Undoing.{IsLeft, LeavesUndone, OfUndo};
+ghost use Rattle.past_pages.specs.Reading.{IsOnlyReadFrom};
 ghost use Rattle.desk_past.specs.Deeds.{after_deeds};
 ghost use Rattle.desk_past.specs.Keeping.{UsesDevice};
-ghost use Rattle.desk_past.specs.Reading.{IsOnlyReadFrom};
 ghost use Rattle.past_steps.specs.Steps.{BreaksOff, IsMomentOf, IsSteppedBack, LeavesSteppedBack, TakesBack, step_deeds};
 
 use crate::steps::{Candidate, Step, last_step};

@@ -5,8 +5,8 @@ ghost use Rattle.desk_journal.specs.Looking.{OnlyLooks};
 ghost use Rattle.past_steps.specs.Steps.{IsPartInUse};
 
 use desk_journal::{Error, STORE_SECTORS, Store};
-use desk_past::{PageKind, Part, front_in, part_at};
 use event_bytes::Event;
+use past_pages::{PageKind, Part, front_in, part_at};
 use sector_disk::Disk;
 use std::alloc::{AllocError, Global};
 use store_layout::PastEnd;

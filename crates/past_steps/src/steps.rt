@@ -5,8 +5,8 @@ ghost use Rattle.past_steps.specs.Steps.{IsPartInUse, step_deeds};
 
 use crate::index::{Found, Index, last_of};
 use desk_journal::{Document, Error, Store};
-use desk_past::{PageDeeds, page_in};
 use event_bytes::Event;
+use past_pages::{PageDeeds, page_in};
 use sector_disk::Disk;
 use std::alloc::{AllocError, Global};
 

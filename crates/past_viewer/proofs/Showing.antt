@@ -9,8 +9,8 @@ use Rattle.sector_disk.specs.declared.disk.Disk.{Ghosts}
 use Rattle.screen_drawing.specs.declared.scene.Scene.{Scene}
 use Rattle.desktop_definitions.specs.Shown.{shown_screen}
 use Rattle.desk_journal.specs.View.{StoreView}
-use Rattle.desk_past.specs.Reading.{IsOnlyReadFrom, IsQuiet}
-use Rattle.desk_past.proofs.StillReads.{read_twice, still_both, still_none}
+use Rattle.past_pages.specs.Reading.{IsOnlyReadFrom, IsQuiet}
+use Rattle.past_pages.proofs.StillReads.{read_twice, still_both, still_none}
 use Rattle.desktop_definitions.specs.Desktop.{Desktop}
 use Rattle.past_moments.specs.Moments.{IsLastOf}
 use Rattle.past_moments.proofs.Carried.{last_on}
@@ -18,7 +18,8 @@ use Rattle.past_looks.specs.Looking.{IsLookerOf, IsSameLook, IsSeenAt, StaysOrTu
 use Rattle.past_looks.specs.Words.{moment_line}
 use Rattle.past_looks.specs.declared.looker.Looker.{Looker}
 use Rattle.past_looks.proofs.Carrying.{below_on, line_says, looker_same, seen_on}
-use Rattle.past_viewer.specs.Copies.{clip_of, copied_words, exported_selection}
+use Rattle.terminal_clipboards.specs.Clips.{clip_of}
+use Rattle.past_viewer.specs.Copies.{copied_words, exported_selection}
 use Rattle.past_viewer.specs.Panes.{IsShownBy, asked_bytes, ring_bytes, size_question}
 use Rattle.past_viewer.specs.Viewing.{DoesKey, IsViewed, LeavesViewed, LooksOn, ShowsMoment, ShowsNone, TakesScenes, TakesSome}
 use Rattle.past_viewer.specs.Viewing.{TellsBelow, TurnsOrStays, none_kept}

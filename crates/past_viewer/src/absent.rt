@@ -1,6 +1,6 @@
 //! A person who asks for a past that the store doesn't keep.
 ghost use Rattle.std.specs.Prelude.{◌≡◌, false, None, IfErr, OnOk};
-ghost use Rattle.desk_past.specs.Reading.{IsOnlyReadFrom};
+ghost use Rattle.past_pages.specs.Reading.{IsOnlyReadFrom};
 ghost use Rattle.past_viewer.specs.Viewing.{CountsViewOutput, EndsViewBy, TakesScenes};
 
 use crate::pane::{Pane, Window};

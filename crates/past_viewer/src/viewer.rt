@@ -1,6 +1,6 @@
 //! The past on the screen, turn by turn.
 ghost use Rattle.std.specs.Prelude.{◌≡◌, Some, false, IfErr, IfOk, IfSome, OnOk};
-ghost use Rattle.desk_past.specs.Reading.{IsOnlyReadFrom};
+ghost use Rattle.past_pages.specs.Reading.{IsOnlyReadFrom};
 ghost use Rattle.past_looks.specs.Looking.{IsLookerOf, StaysOrTurns};
 ghost use Rattle.past_viewer.specs.declared.viewer.ViewEnd.TheVariants.{Memory, Output as TakesNoMore};
 ghost use Rattle.past_viewer.specs.Viewing.{CountsViewOutput, DoesKey, EndsViewBy, IsViewed, LeavesViewed, LooksOn, TakesScenes};

@@ -2,11 +2,12 @@
 use Rattle.std.proofs.Common.{◌≡◌, ◌+◌, ◌<◌, ◌≤◌, ℕ, List, [], ◌∷◌, length, refl, sym, ◌∙◌, ap, subst}
 use Rattle.std.proofs.Common.{arith, length-append}
 use Rattle.sector_disk.specs.Trail.{Content}
-use Rattle.desk_past.specs.Page.{Page, of_events, of_import, of_turn, HasPages, deeds_in, end_of_pages, page_sectors}
-use Rattle.desk_past.specs.Past.{AreGood, all_deeds}
-use Rattle.desk_past.specs.Reading.{HasPage, IsRead, many_deeds}
-use Rattle.desk_past.specs.declared.pages.PageDeeds.{PageDeeds}
-use Rattle.desk_past.specs.declared.pages.PageDeeds.TheVariants.{Events, Import, Turn}
+use Rattle.past_pages.specs.Page.{Page, of_events, of_import, of_turn, page_sectors}
+use Rattle.past_pages.specs.Reading.{HasPage, IsRead}
+use Rattle.past_pages.specs.declared.pages.PageDeeds.{PageDeeds}
+use Rattle.past_pages.specs.declared.pages.PageDeeds.TheVariants.{Events, Import, Turn}
+use Rattle.desk_past.specs.Past.{HasPages, deeds_in, end_of_pages, AreGood, all_deeds}
+use Rattle.desk_past.specs.Reading.{many_deeds}
 use Rattle.desk_past.proofs.Carrying.{end_above}
 use Rattle.desk_past.proofs.Moments.{many_posted}
 

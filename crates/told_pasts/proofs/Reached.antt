@@ -8,17 +8,16 @@ use Rattle.desktop_definitions.specs.Desktop.{Desktop}
 use Rattle.store_layout.specs.Finding.{StandingLaw}
 use Rattle.store_layout.specs.declared.layout.TheConstants.{STORE_SECTORS}
 use Rattle.desk_journal.specs.View.{StoreView}
-use Rattle.desk_past.specs.declared.parts.Part.{Part}
+use Rattle.past_pages.specs.declared.parts.Part.{Part}
+use Rattle.past_pages.specs.Parts.{IsPastPart}
+use Rattle.past_pages.specs.Reading.{IsOnlyReadFrom, IsQuiet}
+use Rattle.past_pages.proofs.StillReads.{still_shows}
 use Rattle.desk_past.specs.Deeds.{PastDeed}
 use Rattle.desk_past.specs.Going.{LiesInPart}
-use Rattle.desk_past.specs.Parts.{IsPastPart}
-use Rattle.desk_past.specs.Page.{HasPages, end_of_pages}
-use Rattle.desk_past.specs.Past.{HasMoment, KeepsAll, Start}
+use Rattle.desk_past.specs.Past.{HasPages, end_of_pages, HasMoment, KeepsAll, Start}
 use Rattle.desk_past.proofs.Opened.{pages_end, pages_there, start_room}
-use Rattle.desk_past.specs.Reading.{IsOnlyReadFrom, IsQuiet}
 use Rattle.desk_past.specs.Turning.{PastOf}
 use Rattle.desk_past.proofs.Remembering.{read_keeps}
-use Rattle.desk_past.proofs.StillReads.{still_shows}
 use Rattle.desk_past.proofs.TurnedBack.{past_behind}
 use Rattle.told_pasts.specs.Reaching.{HasCountable, HasReach, IsReach}
 use Rattle.told_pasts.specs.declared.reach.Reach.{Reach}

@@ -10,11 +10,12 @@ use Rattle.desktop_definitions.specs.Desktop.{Desktop}
 use Rattle.desk_journal.specs.View.{StoreView}
 use Rattle.document_filing.specs.Bringing.{Documents}
 use Rattle.event_bytes.specs.declared.event.Event.{Event}
+use Rattle.past_pages.specs.declared.pages.PageDeeds.{PageDeeds}
+use Rattle.past_pages.specs.Page.{Page, of_events, of_import, of_turn, page_sectors}
+use Rattle.past_pages.specs.Reading.{HasPage, IsRead}
 use Rattle.desk_past.specs.Deeds.{PastDeed, after_deeds, all_posted, brought, turned}
-use Rattle.desk_past.specs.declared.pages.PageDeeds.{PageDeeds}
-use Rattle.desk_past.specs.Page.{Page, of_events, of_import, of_turn, HasPages, deeds_in, end_of_pages, page_sectors}
+use Rattle.desk_past.specs.Past.{HasPages, deeds_in, end_of_pages}
 use Rattle.desk_past.specs.Past.{AreGood, AreTurns, HasMoment, IsTurn, Remembers, Start, all_deeds, moment}
-use Rattle.desk_past.specs.Reading.{HasPage, IsRead}
 use Rattle.desk_past.proofs.Moments.{after_both, joined}
 use Rattle.told_pasts.specs.Telling.{IsAmid, IsToldOn, IsToldOver, IsToShow}
 use Rattle.told_pasts.specs.Words.{told_lines, turn_line}

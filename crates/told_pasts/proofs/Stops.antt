@@ -13,13 +13,14 @@ use Rattle.store_slots.specs.Errors.{OfLook, OfPost}
 use Rattle.desk_journal.specs.Looking.{OnlyLooks}
 use Rattle.desk_journal.specs.Undoing.{OfUndo}
 use Rattle.desk_journal.specs.View.{StoreView}
+use Rattle.past_pages.proofs.Failing.{calm_answer, error_from, closed_of, failing_on}
 use Rattle.desk_past.specs.Deeds.{PastDeed}
 use Rattle.desk_past.specs.Errors.{OfDoing, OfMoment, OfSteps}
 use Rattle.desk_past.specs.Going.{LiesInPart}
 use Rattle.desk_past.specs.Past.{KeepsAll, Start}
 use Rattle.desk_past.specs.Turning.{PastOf}
-use Rattle.desk_past.proofs.InMemory.{calm_answer, doing_no_fault, error_from, fails_none, moment_of_doing, moment_of_look}
-use Rattle.desk_past.proofs.InMemory.{closed_of, failing_on, of_post, steps_of_doing, steps_of_look, stop_from}
+use Rattle.desk_past.proofs.InMemory.{doing_no_fault, fails_none, moment_of_doing, moment_of_look}
+use Rattle.desk_past.proofs.InMemory.{of_post, steps_of_doing, steps_of_look, stop_from}
 use Rattle.told_pasts.specs.Stopping.{StopsAs, as_in_memory}
 
 -- ---- errors of calls over a store in memory

@@ -3,16 +3,16 @@ use Rattle.std.specs.Prelude.{◌≡◌, ◌+◌, ◌-◌, ◌<◌, ◌≤◌, �
 use Rattle.sector_disk.specs.declared.disk.Disk.{Ghosts}
 use Rattle.sector_disk.specs.Trail.{now}
 use Rattle.event_bytes.specs.declared.event.Event.{Event}
+use Rattle.past_pages.specs.Page.{Page}
 use Rattle.desk_past.specs.Deeds.{PastDeed}
+use Rattle.desk_past.specs.Going.{LiesInPart}
+use Rattle.desk_past.specs.Past.{HasPages, end_of_pages, AreGood, KeepsAll, Start, all_deeds, first_page, moment}
+use Rattle.desk_past.specs.Turning.{PastOf}
 use Rattle.desktop_definitions.specs.Desktop.{Desktop}
 use Rattle.store_slots.specs.declared.error.Error.{Error}
 use Rattle.store_slots.specs.declared.error.Error.TheVariants.{Damaged, NotAStore}
 use Rattle.desk_journal.specs.Undoing.{IsTakenBack}
 use Rattle.desk_journal.specs.View.{StoreView}
-use Rattle.desk_past.specs.Going.{LiesInPart}
-use Rattle.desk_past.specs.Page.{Page, HasPages, end_of_pages}
-use Rattle.desk_past.specs.Past.{AreGood, KeepsAll, Start, all_deeds, first_page, moment}
-use Rattle.desk_past.specs.Turning.{PastOf}
 use Rattle.told_pasts.specs.declared.reach.Reach.{Reach}
 
 -- these are the numbers of a past

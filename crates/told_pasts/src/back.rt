@@ -2,19 +2,21 @@
 ghost use Rattle.std.specs.Prelude.{◌≡◌, ◌+◌, ◌-◌, ◌≤◌, ◌<◌, ◌^◌, ℕ, List, length, IfOk, IfSome, IsSomeAnd, OnOk, false};
 ghost use Rattle.sector_disk.specs.Trail.{now};
 ghost use Rattle.desktop_definitions.specs.Desktop.{Desktop};
+ghost use Rattle.past_pages.specs.Page.{Page};
+ghost use Rattle.past_pages.specs.Reading.{IsOnlyReadFrom};
 ghost use Rattle.desk_past.specs.Chain.{SpansOf, WasInSpans};
 ghost use Rattle.desk_past.specs.Deeds.{PastDeed};
 ghost use Rattle.desk_past.specs.Going.{LiesInPart};
-ghost use Rattle.desk_past.specs.Page.{Page, HasPages, end_of_pages};
-ghost use Rattle.desk_past.specs.Past.{AreGood, KeepsAll, Start, all_deeds};
-ghost use Rattle.desk_past.specs.Reading.{IsOnlyReadFrom, many_deeds};
+ghost use Rattle.desk_past.specs.Past.{HasPages, end_of_pages, AreGood, KeepsAll, Start, all_deeds};
+ghost use Rattle.desk_past.specs.Reading.{many_deeds};
 ghost use Rattle.desk_past.specs.Turning.{PastOf};
 ghost use Rattle.told_pasts.specs.Reaching.{GoesBackBy, HasCountable, KeepsBack, moment_before, none_if_missing};
 ghost use Rattle.told_pasts.specs.Stopping.{StopsAs};
 
 use crate::reach::{reach_of, sum_of};
 use desk_journal::{Error, Store};
-use desk_past::{PageDeeds, PageRead, any_moment, page_in};
+use desk_past::any_moment;
+use past_pages::{PageDeeds, PageRead, page_in};
 use sector_disk::{Disk, MemoryDisk};
 use std::alloc::Global;
 

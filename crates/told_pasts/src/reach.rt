@@ -2,15 +2,15 @@
 ghost use Rattle.std.specs.Prelude.{◌≡◌, ◌+◌, ◌<◌, ◌≤◌, ◌^◌, List, false, length, IfNone, IfOk, IfSome, IsSomeAnd, OnOk};
 ghost use Rattle.desktop_definitions.specs.Desktop.{Desktop};
 ghost use Rattle.store_layout.specs.declared.layout.TheConstants.{STORE_SECTORS};
+ghost use Rattle.past_pages.specs.Reading.{IsOnlyReadFrom};
 ghost use Rattle.desk_past.specs.Deeds.{PastDeed};
 ghost use Rattle.desk_past.specs.Going.{LiesInPart};
 ghost use Rattle.desk_past.specs.Past.{KeepsAll, Start};
-ghost use Rattle.desk_past.specs.Reading.{IsOnlyReadFrom};
 ghost use Rattle.told_pasts.specs.Reaching.{IsReach};
 ghost use Rattle.told_pasts.specs.Stopping.{StopsAs};
 
 use desk_journal::{Error, STORE_SECTORS, Store};
-use desk_past::{Part, part_at};
+use past_pages::{Part, part_at};
 use sector_disk::Disk;
 use store_layout::standing_law;
 

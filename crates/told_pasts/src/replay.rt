@@ -1,10 +1,10 @@
 //! Pages that are told, each over a store in memory in which the deeds before it were done once more.
 ghost use Rattle.std.specs.Prelude.{◌≡◌, ◌∷◌, ◌++◌, [], List, Some, None, false, IfErr, IfOk, OnOk};
 ghost use Rattle.desktop_definitions.specs.Desktop.{Desktop};
+ghost use Rattle.past_pages.specs.Page.{Page};
+ghost use Rattle.past_pages.specs.Reading.{IsOnlyReadFrom, IsRead};
 ghost use Rattle.desk_past.specs.Deeds.{PastDeed, all_posted, brought, turned};
-ghost use Rattle.desk_past.specs.Page.{Page, deeds_in};
-ghost use Rattle.desk_past.specs.Past.{HasMoment, IsTurn, Start, all_deeds, moment as moment_of};
-ghost use Rattle.desk_past.specs.Reading.{IsOnlyReadFrom, IsRead};
+ghost use Rattle.desk_past.specs.Past.{deeds_in, HasMoment, IsTurn, Start, all_deeds, moment as moment_of};
 ghost use Rattle.told_pasts.specs.Reaching.{HasReach};
 ghost use Rattle.told_pasts.specs.Stopping.{StopsAs, as_in_memory};
 ghost use Rattle.told_pasts.specs.Telling.{IsToldOver, IsToShow, IsAmid};
@@ -13,8 +13,9 @@ use crate::line::Line;
 use crate::reach::Reach;
 use crate::telling::{add_import, add_lines, push_line};
 use desk_journal::{Document, Error, Store};
-use desk_past::{PageDeeds, PageRead, moment, page_in};
+use desk_past::moment;
 use event_bytes::Event;
+use past_pages::{PageDeeds, PageRead, page_in};
 use sector_disk::{Disk, MemoryDisk};
 use std::alloc::{AllocError, Global};
 

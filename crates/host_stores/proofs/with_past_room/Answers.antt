@@ -1,6 +1,6 @@
 use Rattle.std.proofs.lemmas.Result.{IfOk-weaker, IfErr-weaker}
 use Rattle.std.proofs.Common.{subst}
-use Rattle.host_stores.specs.declared.TheConstants.{PAST_SECTORS}
+use Rattle.past_pages.specs.declared.parts.TheConstants.{PAST_SECTORS}
 use Rattle.sector_disk.specs.FileSectors.{sectors_of}
 use Rattle.sector_disk.specs.Trail.{now}
 use Rattle.store_layout.specs.Finding.{IsForeign, IsDamagedAt}

@@ -2,10 +2,10 @@ use Rattle.std.proofs.Common.{◌≡◌, ◌∙◌, ap, arith, inl, refl, sym}
 use Rattle.std.specs.Prelude.{Err}
 use Rattle.std.proofs.lemmas.Result.{err_from_is_err_and, IfErr-at_err}
 use Rattle.sector_disk.specs.Trail.{now}
+use Rattle.past_pages.proofs.Told.{ok_of, shown_as}
 use Rattle.desk_past.specs.Errors.{OfDoing, OfFound}
 use Rattle.desk_past.proofs.InMemory.{stop_at, stop_from}
 use Rattle.desk_past.proofs.Opened.{undone_to}
-use Rattle.desk_past.proofs.Told.{ok_of, shown_as}
 use Rattle.desk_past.proofs.again.back_to.Goals as goal
 
 pub returns-then-count-info-clause-is_one : goal.returns-then-count-info-clause-is_one

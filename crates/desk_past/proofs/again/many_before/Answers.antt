@@ -1,7 +1,7 @@
 use Rattle.std.proofs.Common.{◌∙◌, inl, subst, sym}
+use Rattle.past_pages.proofs.StillReads.{still_shows}
 use Rattle.desk_past.specs.Errors.{OfDoing}
 use Rattle.desk_past.proofs.InMemory.{of_look}
-use Rattle.desk_past.proofs.StillReads.{still_shows}
 use Rattle.desk_past.proofs.again.many_before.Goals as goal
 
 pub returns-in-Err-clause-errors : goal.returns-in-Err-clause-errors

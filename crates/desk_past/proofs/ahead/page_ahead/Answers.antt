@@ -1,11 +1,11 @@
 use Rattle.std.proofs.Common.{◌^◌, ◌<◌, ◌∙◌, ap, arith, length, subst, sym}
 use Rattle.sector_disk.specs.Trail.{now}
 use Rattle.store_layout.specs.declared.head.PastEnd.{PastEnd}
-use Rattle.desk_past.specs.Parts.{IsPastPart}
+use Rattle.past_pages.specs.Parts.{IsPastPart}
+use Rattle.past_pages.proofs.StillReads.{still_left, still_looked, still_none, still_shows}
+use Rattle.past_pages.proofs.Told.{ok_of, shown_as}
 use Rattle.desk_past.proofs.Brought.{few_ahead, page_few, is_ahead, room_ahead}
 use Rattle.desk_past.proofs.Rooms.{behind_start}
-use Rattle.desk_past.proofs.StillReads.{still_left, still_looked, still_none, still_shows}
-use Rattle.desk_past.proofs.Told.{ok_of, shown_as}
 use Rattle.desk_past.proofs.Sparing.{in_part}
 use Rattle.desk_past.proofs.ahead.page_ahead.Goals as goal
 

@@ -1,13 +1,14 @@
 use Rattle.std.proofs.Common.{◌≡◌, ◌⊎◌, inl, inr, ◌+◌, ◌<◌, ◌≤◌, ◌∙◌, ℕ, ap, arith, refl}
 use Rattle.store_layout.specs.Filling.{InRange}
+use Rattle.past_pages.proofs.Alike.{held_as}
 use Rattle.desk_past.proofs.Sparing.{but_then, but_touched, but_wider}
+use Rattle.desk_past.proofs.Begun.{begins_anew, desktop_kept, desktop_then, end_at, goes_on_now, has_begun, renewed_aside}
+use Rattle.desk_past.proofs.Begun.{spares_shows, still_remembered}
+use Rattle.desk_past.proofs.Copied.{spared_reads}
 use Rattle.std.specs.Prelude.{get_or}
 use Rattle.sector_disk.specs.Trail.{now}
 use Rattle.sector_disk.proofs.Touching.{read_is_an_image, still_reads as reads_stay}
 use Rattle.store_layout.specs.declared.layout.TheConstants.{STORE_SECTORS}
-use Rattle.desk_past.proofs.Begun.{begins_anew, desktop_kept, desktop_then, end_at, goes_on_now, has_begun, renewed_aside}
-use Rattle.desk_past.proofs.Begun.{spares_shows, still_remembered}
-use Rattle.desk_past.proofs.Copied.{held_as, spared_reads}
 use Rattle.desk_past.proofs.beginning.begin.Goals as goal
 
 pub make_start-requires : goal.make_start-requires

@@ -2,7 +2,8 @@ use Rattle.std.proofs.Common.{◌≡◌, ◌+◌, ◌*◌, ◌-◌, ◌≤◌, �
 use Rattle.std.proofs.lemmas.Result.{on_ok_weaker}
 use Rattle.sector_disk.specs.Trail.{now}
 use Rattle.store_layout.specs.declared.layout.TheConstants.{STORE_SECTORS}
-use Rattle.desk_past.specs.Beginning.{HasCopies, SparesOthers}
+use Rattle.past_pages.specs.Sectors.{HasCopies}
+use Rattle.desk_past.specs.Beginning.{SparesOthers}
 use Rattle.desk_past.proofs.Begun.{aside_both, aside_written, device_of, same_both, spares_then, spares_write}
 use Rattle.desk_past.proofs.Copied.{copies_as, copies_on, spared_reads, spared_wider}
 use Rattle.desk_past.proofs.beginning.copy_behind.Goals as goal

@@ -1,9 +1,9 @@
 use Rattle.std.proofs.Common.{◌≡◌, ◌+◌, ◌≤◌, ◌∙◌, ap, arith, refl, sym}
 use Rattle.std.specs.Prelude.{get_or}
 use Rattle.sector_disk.specs.Trail.{now}
+use Rattle.past_pages.proofs.StillReads.{still_reads}
 use Rattle.desk_past.proofs.Begun.{aside_both, aside_read, spared_read, spared_then}
 use Rattle.desk_past.proofs.Copied.{copies_as}
-use Rattle.desk_past.proofs.StillReads.{still_reads}
 use Rattle.desk_past.proofs.beginning.copy_changed.Goals as goal
 
 pub is_copied-requires : goal.is_copied-requires

@@ -1,7 +1,7 @@
 use Rattle.std.proofs.Common.{◌≡◌, ◌+◌, ◌-◌, ◌≤◌, ◌∙◌, arith, refl, rules, subst, sym}
 use Rattle.sector_disk.specs.Trail.{now}
 use Rattle.store_layout.specs.declared.layout.TheConstants.{STORE_SECTORS}
-use Rattle.desk_past.specs.Beginning.{HasCopies}
+use Rattle.past_pages.specs.Sectors.{HasCopies}
 use Rattle.desk_past.proofs.Begun.{aside_both, aside_none, same_both, spares_none, spares_then}
 use Rattle.desk_past.proofs.Copied.{copies_as, copies_on, spared_reads, spared_wider}
 use Rattle.desk_past.proofs.beginning.copy_rest.Goals as goal

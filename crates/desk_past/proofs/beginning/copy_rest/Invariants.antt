@@ -2,7 +2,8 @@ use Rattle.std.proofs.Common.{◌≡◌, ◌-◌, ◌≤◌}
 use Rattle.sector_disk.specs.Trail.{now}
 use Rattle.store_layout.specs.declared.layout.TheConstants.{STORE_SECTORS}
 use Rattle.store_slots.specs.Device.{IsSameDevice}
-use Rattle.desk_past.specs.Beginning.{HasCopies, IsAside, SparesOthers}
+use Rattle.past_pages.specs.Sectors.{HasCopies}
+use Rattle.desk_past.specs.Beginning.{IsAside, SparesOthers}
 use Rattle.desk_past.proofs.beginning.copy_rest.Given as goal
 
 -- only a part of the start was written, which has copies, and the store shows what it showed

@@ -2,9 +2,9 @@ use Rattle.std.proofs.Common.{◌≡◌, ◌+◌, ◌≤◌, ◌∙◌, ap, arit
 use Rattle.std.proofs.lemmas.Bool.{false≢true}
 use Rattle.sector_disk.specs.Trail.{now}
 use Rattle.store_layout.specs.declared.layout.TheConstants.{STORE_SECTORS}
+use Rattle.past_pages.proofs.StillReads.{still_reads}
 use Rattle.desk_past.proofs.Begun.{aside_both, aside_read, same_both, spares_read, spares_then}
 use Rattle.desk_past.proofs.Copied.{copies_as, spared_reads}
-use Rattle.desk_past.proofs.StillReads.{still_reads}
 use Rattle.desk_past.proofs.beginning.make_start.Goals as goal
 
 pub copy_behind-requires-clause-start : goal.copy_behind-requires-clause-start

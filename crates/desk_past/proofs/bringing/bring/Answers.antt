@@ -1,13 +1,13 @@
 use Rattle.std.proofs.Common.{◌∙◌, sym}
 use Rattle.std.proofs.lemmas.Result.{IfOk-weaker, err_from_is_err_and}
 use Rattle.store_slots.specs.declared.error.Error.TheVariants.{MustReopen, Worn}
+use Rattle.past_pages.proofs.StillReads.{still_none, usable_of}
 use Rattle.desk_past.proofs.ImportWays.{all_or_none_behind, both_ok, brings_behind, kept_behind, kept_or_not, left_then}
 use Rattle.desk_past.proofs.ImportWays.{none_brought, none_forgotten, none_reopen, none_worn, not_last, reopen_behind}
 use Rattle.desk_past.proofs.ImportWays.{told_epoch, unwritten_behind, worn_behind}
-use Rattle.desk_past.proofs.StillReads.{still_none, usable_of}
 use Rattle.desk_past.proofs.Ways.{never, not_reopen, not_worn}
-use Rattle.std.proofs.Common.{rules}
 use Rattle.desk_past.proofs.Sparing.{only_behind_reads, only_none, only_read, only_within, only_within_read, uses_only}
+use Rattle.std.proofs.Common.{rules}
 use Rattle.desk_past.proofs.bringing.bring.Goals as goal
 
 pub returns-then-info-clause-ok : goal.returns-then-info-clause-ok

@@ -1,8 +1,8 @@
 use Rattle.std.proofs.Common.{◌∙◌}
 use Rattle.std.proofs.lemmas.Result.{IfOk-weaker}
-use Rattle.desk_past.specs.Bringing.{import_of}
+use Rattle.past_pages.specs.Page.{import_of}
+use Rattle.past_pages.proofs.StillReads.{still_none}
 use Rattle.desk_past.proofs.Opened.{if_none_then, if_some_then}
-use Rattle.desk_past.proofs.StillReads.{still_none}
 use Rattle.desk_past.proofs.bringing.pages_ahead.Goals as goal
 
 pub returns-in_err-import-clause-still : goal.returns-in_err-import-clause-still

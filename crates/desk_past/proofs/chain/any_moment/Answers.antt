@@ -7,20 +7,21 @@ use Rattle.store_slots.specs.declared.error.Error.TheVariants.{NoMemory}
 use Rattle.sector_disk.specs.Trail.{Content, now}
 use Rattle.desktop_definitions.specs.Step.{steps_in}
 use Rattle.store_layout.specs.declared.head.PastEnd.{PastEnd}
+use Rattle.past_pages.specs.Page.{Page}
+use Rattle.past_pages.proofs.Failing.{error_from, failing_on, none_failed}
+use Rattle.past_pages.proofs.StillReads.{still_both, still_looked, still_none, still_reads, still_shows}
 use Rattle.desk_past.specs.Chain.{AreSpans, IsFoundSpan, WasThen}
 use Rattle.desk_past.specs.Past.{HasStart, Start, all_deeds, moment}
 use Rattle.desk_past.specs.declared.chain.TheConstants.{NO_EPOCH}
-use Rattle.desk_past.specs.Page.{Page}
 use Rattle.desk_past.specs.Reading.{HoldsTold, start_at}
-use Rattle.desktop_definitions.specs.Desktop.{Desktop}
 use Rattle.desk_past.proofs.Chaining.{HasSpans, before_told, was_in_use}
 use Rattle.desk_past.proofs.Found.{as_read, as_then, both_weaker}
-use Rattle.desk_past.proofs.InMemory.{error_calm, error_from, failing_on, fails_none, laying_of_reads, left_looked}
-use Rattle.desk_past.proofs.InMemory.{moment_of_laying, moment_of_look, never_reopened, none_failed, steps_of_look, steps_of_reads}
+use Rattle.desk_past.proofs.InMemory.{error_calm, fails_none, laying_of_reads, left_looked}
+use Rattle.desk_past.proofs.InMemory.{moment_of_laying, moment_of_look, never_reopened, steps_of_look, steps_of_reads}
 use Rattle.desk_past.proofs.InMemory.{stop_at, stop_from, whatever}
 use Rattle.desk_past.proofs.Opened.{if_some_always, if_some_then, some_then}
 use Rattle.desk_past.proofs.Stepping.{deeds_up_to, few_in_journal, moment_in_journal, moment_in_pages}
-use Rattle.desk_past.proofs.StillReads.{still_both, still_looked, still_none, still_reads, still_shows}
+use Rattle.desktop_definitions.specs.Desktop.{Desktop}
 use Rattle.desk_past.proofs.chain.any_moment.Goals as goal
 
 -- ---- in the journal in use

@@ -6,10 +6,10 @@ use Rattle.sector_disk.specs.Trail.{Content, now}
 use Rattle.store_layout.specs.declared.head.Head.{Head}
 use Rattle.store_layout.specs.declared.layout.TheConstants.{LABEL}
 use Rattle.store_layout.specs.Layout.{is_label}
+use Rattle.past_pages.proofs.StillReads.{still_both, still_looked, still_none, still_reads}
 use Rattle.desk_past.specs.Chain.{newer, open_head}
 use Rattle.desk_past.proofs.Chaining.{SaysSo, newest_shown}
 use Rattle.desk_past.proofs.Firsts.{head_told}
-use Rattle.desk_past.proofs.StillReads.{still_both, still_looked, still_none, still_reads}
 use Rattle.desk_past.proofs.chain.begun_at.Goals as goal
 
 pub returns-in_err-first-clause-still : goal.returns-in_err-first-clause-still

@@ -2,13 +2,13 @@ use Rattle.std.proofs.Common.{◌≡◌, ◌+◌, ◌<◌, ◌∙◌, ℕ, ap, a
 use Rattle.sector_disk.specs.Trail.{now}
 use Rattle.store_layout.specs.declared.layout.TheConstants.{STORE_SECTORS}
 use Rattle.std.proofs.Common.{inl, inr}
+use Rattle.past_pages.specs.Parts.{IsPastPart}
+use Rattle.past_pages.proofs.StillReads.{still_none}
 use Rattle.desk_past.specs.Beginning.{HasStartRoom}
 use Rattle.desk_past.specs.Chain.{start_shows}
 use Rattle.desk_past.specs.Going.{start_epoch}
-use Rattle.desk_past.specs.Parts.{IsPastPart}
 use Rattle.desk_past.proofs.Apart.{part_room}
 use Rattle.desk_past.proofs.Chaining.{span_low, span_stands}
-use Rattle.desk_past.proofs.StillReads.{still_none}
 use Rattle.desk_past.proofs.chain.begun_before.Goals as goal
 
 pub begun_at-requires : goal.begun_at-requires

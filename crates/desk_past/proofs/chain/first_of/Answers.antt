@@ -1,13 +1,13 @@
 use Rattle.std.proofs.Common.{◌≡◌, ◌∙◌, inl, inr, ap, arith, refl, rules, subst}
 use Rattle.std.specs.Prelude.{None, Some}
 use Rattle.sector_disk.specs.Trail.{Content, now}
+use Rattle.past_pages.proofs.StillReads.{still_both, still_none, still_reads}
 use Rattle.desk_past.specs.Beginning.{HasStartRoom}
 use Rattle.desk_past.specs.Going.{start_epoch}
 use Rattle.desk_past.specs.declared.chain.TheConstants.{NO_EPOCH}
 use Rattle.desk_past.proofs.Chaining.{SaysOfAll}
 use Rattle.desk_past.proofs.Found.{as_read}
 use Rattle.desk_past.proofs.Firsts.{first_found, passed_none, passed_on}
-use Rattle.desk_past.proofs.StillReads.{still_both, still_none, still_reads}
 use Rattle.desk_past.proofs.chain.first_of.Goals as goal
 
 pub loop-epoch-init : goal.loop-epoch-init

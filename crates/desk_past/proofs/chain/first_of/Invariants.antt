@@ -1,12 +1,12 @@
 use Rattle.std.proofs.Common.{◌≡◌, List}
 use Rattle.std.specs.Prelude.{IfSome}
 use Rattle.sector_disk.specs.Trail.{now}
+use Rattle.past_pages.specs.Page.{Page}
+use Rattle.past_pages.specs.Reading.{IsOnlyReadFrom}
 use Rattle.desk_past.specs.Beginning.{HasStartRoom}
 use Rattle.desk_past.specs.Chain.{AreSpans}
 use Rattle.desk_past.specs.Going.{start_epoch}
-use Rattle.desk_past.specs.Page.{Page}
 use Rattle.desk_past.specs.Past.{Start}
-use Rattle.desk_past.specs.Reading.{IsOnlyReadFrom}
 use Rattle.desk_past.specs.declared.chain.TheConstants.{NO_EPOCH}
 use Rattle.desk_past.proofs.Firsts.{ArePassed}
 use Rattle.desk_past.proofs.chain.first_of.Given as goal

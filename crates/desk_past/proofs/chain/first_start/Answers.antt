@@ -1,18 +1,18 @@
 use Rattle.std.proofs.Common.{◌≡◌, List, refl, subst}
 use Rattle.std.specs.Prelude.{IsSomeAnd}
 use Rattle.std.proofs.lemmas.Result.{IfOk-weaker}
+use Rattle.past_pages.specs.Page.{Page}
+use Rattle.past_pages.proofs.Failing.{looks_read}
+use Rattle.past_pages.proofs.StillReads.{still_looked, still_none}
 use Rattle.desk_past.specs.Beginning.{HasStartRoom}
-use Rattle.sector_disk.specs.Trail.{now}
-use Rattle.store_layout.specs.declared.head.PastEnd.{PastEnd}
 use Rattle.desk_past.specs.Chain.{AreSpans, HasSpan, IsFirstOf}
-use Rattle.desk_past.specs.Page.{Page}
 use Rattle.desk_past.specs.Past.{Start}
 use Rattle.desk_past.specs.declared.chain.TheConstants.{NO_EPOCH}
 use Rattle.desk_past.proofs.Found.{as_read}
-use Rattle.desk_past.proofs.InMemory.{looks_read}
 use Rattle.desk_past.proofs.Looks.{broken, looked_on, usable_after}
 use Rattle.desk_past.proofs.Opened.{if_some_then}
-use Rattle.desk_past.proofs.StillReads.{still_looked, still_none}
+use Rattle.sector_disk.specs.Trail.{now}
+use Rattle.store_layout.specs.declared.head.PastEnd.{PastEnd}
 use Rattle.desk_past.proofs.chain.first_start.Goals as goal
 
 pub first_of-requires : goal.first_of-requires

@@ -2,9 +2,9 @@ use Rattle.std.proofs.Common.{◌≡◌, ◌+◌, ◌∙◌, ap, sym}
 use Rattle.std.specs.Prelude.{Bool, Some, None, if◌then◌else◌}
 use Rattle.sector_disk.specs.Trail.{Content, now}
 use Rattle.store_layout.specs.Layout.{head_of, is_open}
+use Rattle.past_pages.proofs.StillReads.{still_looked, still_none, still_reads}
 use Rattle.desk_past.specs.Chain.{open_head}
 use Rattle.desk_past.proofs.Chaining.{head_open, head_shut}
-use Rattle.desk_past.proofs.StillReads.{still_looked, still_none, still_reads}
 use Rattle.desk_past.proofs.chain.open_head.Goals as goal
 
 pub returns-in_err-head-clause-still : goal.returns-in_err-head-clause-still

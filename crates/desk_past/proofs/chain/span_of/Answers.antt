@@ -4,12 +4,12 @@ use Rattle.std.specs.Prelude.{Some, None, IsSomeAnd}
 use Rattle.sector_disk.specs.Trail.{Content, now}
 use Rattle.desktop_definitions.specs.Desktop.{Desktop}
 use Rattle.store_layout.specs.declared.head.PastEnd.{PastEnd}
+use Rattle.past_pages.proofs.StillReads.{still_both, still_none}
 use Rattle.desk_past.specs.Chain.{IsSpan, start_shows}
 use Rattle.desk_past.specs.declared.chain.Begun.{Begun}
 use Rattle.desk_past.specs.declared.chain.TheConstants.{NO_EPOCH}
 use Rattle.desk_past.proofs.Chaining.{HasSpans, SaysOfAll, first_or_others, is_some_of, spans_on}
 use Rattle.desk_past.proofs.Found.{as_read}
-use Rattle.desk_past.proofs.StillReads.{still_both, still_none}
 use Rattle.desk_past.proofs.chain.span_of.Goals as goal
 
 pub loop-epoch-init : goal.loop-epoch-init

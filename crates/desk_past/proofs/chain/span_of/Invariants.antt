@@ -1,7 +1,7 @@
 use Rattle.std.proofs.Common.{◌≡◌}
 use Rattle.sector_disk.specs.Trail.{now}
 use Rattle.desktop_definitions.specs.Desktop.{Desktop}
-use Rattle.desk_past.specs.Reading.{IsOnlyReadFrom}
+use Rattle.past_pages.specs.Reading.{IsOnlyReadFrom}
 use Rattle.desk_past.specs.declared.chain.TheConstants.{NO_EPOCH}
 use Rattle.desk_past.proofs.Chaining.{HasSpans}
 use Rattle.desk_past.proofs.chain.span_of.Given as goal

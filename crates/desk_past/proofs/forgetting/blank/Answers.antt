@@ -1,6 +1,6 @@
 use Rattle.std.proofs.Common.{◌≡◌, ◌+◌, ◌-◌, ◌≤◌, ◌∙◌, arith, refl, rules, subst}
 use Rattle.sector_disk.specs.Trail.{now}
-use Rattle.desk_past.specs.Forgetting.{AreBlank}
+use Rattle.past_pages.specs.Sectors.{AreBlank}
 use Rattle.desk_past.proofs.Begun.{aside_both, aside_none, same_both, spared_none, spared_then}
 use Rattle.desk_past.proofs.Copied.{spared_reads, spared_wider}
 use Rattle.desk_past.proofs.Forgotten.{blank_as, blank_on}

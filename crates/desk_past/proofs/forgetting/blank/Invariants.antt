@@ -1,8 +1,8 @@
 use Rattle.std.proofs.Common.{◌≡◌, ◌-◌, ◌≤◌}
 use Rattle.sector_disk.specs.Trail.{now}
 use Rattle.store_slots.specs.Device.{IsSameDevice}
+use Rattle.past_pages.specs.Sectors.{AreBlank}
 use Rattle.desk_past.specs.Beginning.{IsAside, SparesAllBut}
-use Rattle.desk_past.specs.Forgetting.{AreBlank}
 use Rattle.desk_past.proofs.forgetting.blank.Given as goal
 
 -- only these sectors were written, the first of them have zeros, and the store shows what it showed

@@ -2,9 +2,9 @@ use Rattle.std.proofs.Common.{◌≡◌, ◌⊎◌, inl, inr, ◌+◌, ◌-◌, 
 use Rattle.std.proofs.lemmas.Result.{on_ok_weaker}
 use Rattle.sector_disk.specs.Trail.{now}
 use Rattle.store_layout.specs.declared.layout.TheConstants.{STORE_SECTORS}
-use Rattle.desk_past.specs.declared.parts.TheConstants.{PARTS, PART_SECTORS}
-use Rattle.desk_past.specs.Forgetting.{AreBlank}
-use Rattle.desk_past.specs.Parts.{part_count, parts_end}
+use Rattle.past_pages.specs.declared.parts.TheConstants.{PARTS, PART_SECTORS}
+use Rattle.past_pages.specs.Sectors.{AreBlank}
+use Rattle.past_pages.specs.Parts.{part_count, parts_end}
 use Rattle.desk_past.proofs.Apart.{part_above}
 use Rattle.desk_past.proofs.Begun.{aside_both, same_both}
 use Rattle.desk_past.proofs.Copied.{spared_reads}

@@ -2,9 +2,9 @@ use Rattle.std.proofs.Common.{◌≡◌, ◌+◌, ◌*◌, ◌≤◌, ◌∙◌,
 use Rattle.std.proofs.lemmas.List.{length-replicate}
 use Rattle.sector_disk.specs.declared.disk.TheConstants.{SECTOR_BYTES}
 use Rattle.sector_disk.specs.Trail.{now}
+use Rattle.past_pages.proofs.StillReads.{still_reads}
+use Rattle.past_pages.specs.Sectors.{AreBlank}
 use Rattle.desk_past.proofs.Begun.{aside_both, aside_read, aside_written, spared_none, spared_read, spared_then, spared_write}
-use Rattle.desk_past.proofs.StillReads.{still_reads}
-use Rattle.desk_past.specs.Forgetting.{AreBlank}
 use Rattle.desk_past.proofs.Forgotten.{blank_held}
 use Rattle.desk_past.proofs.forgetting.blank_some.Goals as goal
 

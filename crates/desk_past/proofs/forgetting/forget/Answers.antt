@@ -1,14 +1,14 @@
 use Rattle.std.proofs.Common.{◌≡◌, ◌+◌, ◌∙◌, arith, subst, sym}
 use Rattle.std.proofs.lemmas.Bool.{false≢true}
+use Rattle.past_pages.specs.Parts.{HasParts, IsPastPart}
+use Rattle.past_pages.specs.declared.parts.TheConstants.{PART_SECTORS}
+use Rattle.past_pages.proofs.StillReads.{still_both, still_looked, still_none}
 use Rattle.desk_past.specs.Beginning.{HasStartRoom}
-use Rattle.desk_past.specs.Parts.{HasParts, IsPastPart}
-use Rattle.desk_past.specs.declared.parts.TheConstants.{PART_SECTORS}
 use Rattle.desk_past.proofs.Apart.{part_room}
 use Rattle.desk_past.proofs.Found.{uncounted_then}
 use Rattle.desk_past.proofs.Forgotten.{forgets_then, has_forgotten}
 use Rattle.desk_past.proofs.GoingOn.{leaves_begun, leaves_read}
 use Rattle.desk_past.proofs.Over.{begun_usable}
-use Rattle.desk_past.proofs.StillReads.{still_both, still_looked, still_none}
 use Rattle.desk_past.proofs.forgetting.forget.Goals as goal
 
 pub oldest_base-requires-clause-usable : goal.oldest_base-requires-clause-usable

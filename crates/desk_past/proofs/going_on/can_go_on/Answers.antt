@@ -2,10 +2,10 @@ use Rattle.std.proofs.Common.{◌≡◌, ◌+◌, ◌<◌, ◌≤◌, ◌∙◌,
 use Rattle.std.proofs.lemmas.Bool.{false≢true}
 use Rattle.sector_disk.specs.Trail.{now}
 use Rattle.store_layout.specs.declared.layout.TheConstants.{STORE_SECTORS}
-use Rattle.desk_past.specs.Parts.{IsPastPart}
+use Rattle.past_pages.specs.Parts.{IsPastPart}
+use Rattle.past_pages.proofs.StillReads.{still_none}
 use Rattle.desk_past.proofs.Apart.{part_room}
 use Rattle.desk_past.proofs.Found.{at_part}
-use Rattle.desk_past.proofs.StillReads.{still_none}
 use Rattle.desk_past.proofs.going_on.can_go_on.Goals as goal
 
 pub start_epoch-requires : goal.start_epoch-requires

@@ -1,7 +1,7 @@
 use Rattle.std.proofs.Common.{◌≡◌, ◌+◌, ◌∙◌, arith, false, true, subst, sym}
 use Rattle.std.proofs.lemmas.Bool.{false≢true}
-use Rattle.desk_past.specs.Parts.{IsPartBeside, GoesOnIn, part_base}
-use Rattle.desk_past.specs.declared.parts.TheConstants.{PART_SECTORS}
+use Rattle.past_pages.specs.Parts.{IsPartBeside, GoesOnIn, part_base}
+use Rattle.past_pages.specs.declared.parts.TheConstants.{PART_SECTORS}
 use Rattle.desk_past.proofs.Apart.{at_place, second_beside, two_parts}
 use Rattle.desk_past.proofs.going_on.first_beside.Goals as goal
 

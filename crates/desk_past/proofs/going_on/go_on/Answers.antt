@@ -2,18 +2,18 @@ use Rattle.std.proofs.Common.{◌≡◌, ◌+◌, ℕ, ◌∙◌, ap, arith, ref
 use Rattle.std.proofs.lemmas.Bool.{false≢true}
 use Rattle.std.proofs.lemmas.Result.{IfOk-weaker}
 use Rattle.store_layout.specs.declared.head.PastEnd.{PastEnd}
+use Rattle.past_pages.specs.Parts.{HasParts, IsPartBeside, IsPastPart}
+use Rattle.past_pages.specs.declared.parts.TheConstants.{PART_SECTORS}
+use Rattle.past_pages.proofs.StillReads.{still_both, still_looked, still_none}
 use Rattle.desk_past.specs.Beginning.{HasStartRoom}
 use Rattle.desk_past.specs.Going.{CanGoOn, IsOldest, IsOutsetIn, IsWanted}
-use Rattle.desk_past.specs.Parts.{HasParts, IsPartBeside, IsPastPart}
 use Rattle.desk_past.specs.Writing.{LiesInOldest}
-use Rattle.desk_past.specs.declared.parts.TheConstants.{PART_SECTORS}
-use Rattle.sector_disk.specs.Trail.{Content, now}
 use Rattle.desk_past.proofs.Apart.{lies_beside, part_room}
 use Rattle.desk_past.proofs.Found.{as_read, as_then, due_begun, outset_then, uncounted_then}
 use Rattle.desk_past.proofs.GoingOn.{begins_then, forgets_begun, forgets_read, leaves_begun, leaves_read}
 use Rattle.desk_past.proofs.Over.{apart_next}
 use Rattle.desk_past.proofs.Sparing.{only_as, only_begun, only_none, only_read}
-use Rattle.desk_past.proofs.StillReads.{still_both, still_looked, still_none}
+use Rattle.sector_disk.specs.Trail.{Content, now}
 use Rattle.desk_past.proofs.going_on.go_on.Goals as goal
 
 pub is_wanted-requires : goal.is_wanted-requires

@@ -1,11 +1,11 @@
 use Rattle.std.proofs.Common.{◌≡◌, inl, inr, ◌+◌, ◌<◌, ◌∙◌, ℕ, ap, arith, refl, rules, subst, sym, false, true}
 use Rattle.std.proofs.lemmas.Bool.{cases_lt, false≢true}
 use Rattle.sector_disk.specs.Trail.{Content, now}
+use Rattle.past_pages.specs.Parts.{IsPastPart, part_base, part_count}
+use Rattle.past_pages.specs.declared.parts.TheConstants.{PART_SECTORS}
+use Rattle.past_pages.proofs.StillReads.{still_both, still_none, still_reads}
 use Rattle.desk_past.specs.Going.{IsStartedSomewhere, start_epoch}
-use Rattle.desk_past.specs.Parts.{IsPastPart, part_base, part_count}
-use Rattle.desk_past.specs.declared.parts.TheConstants.{PART_SECTORS}
 use Rattle.desk_past.proofs.Apart.{at_place, place_of}
-use Rattle.desk_past.proofs.StillReads.{still_both, still_none, still_reads}
 use Rattle.desk_past.proofs.going_on.is_started.Goals as goal
 
 pub loop-place-init : goal.loop-place-init

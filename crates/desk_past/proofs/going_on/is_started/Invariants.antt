@@ -1,8 +1,8 @@
 use Rattle.std.proofs.Common.{◌≡◌, ◌<◌, ℕ}
 use Rattle.sector_disk.specs.Trail.{now}
+use Rattle.past_pages.specs.Parts.{part_base}
+use Rattle.past_pages.specs.Reading.{IsOnlyReadFrom}
 use Rattle.desk_past.specs.Going.{start_epoch}
-use Rattle.desk_past.specs.Parts.{part_base}
-use Rattle.desk_past.specs.Reading.{IsOnlyReadFrom}
 use Rattle.desk_past.proofs.going_on.is_started.Given as goal
 
 -- nothing is written, and no start stands in the parts so far

@@ -2,9 +2,9 @@ use Rattle.std.proofs.Common.{◌≡◌, inl, inr, ◌∙◌, false, true, refl,
 use Rattle.std.proofs.lemmas.Bool.{false≢true}
 use Rattle.std.proofs.lemmas.Result.{IfOk-weaker}
 use Rattle.sector_disk.specs.Trail.{now}
-use Rattle.desk_past.specs.Parts.{IsPastPart}
+use Rattle.past_pages.specs.Parts.{IsPastPart}
+use Rattle.past_pages.proofs.StillReads.{still_none}
 use Rattle.desk_past.proofs.Found.{wanted_started, wanted_there}
-use Rattle.desk_past.proofs.StillReads.{still_none}
 use Rattle.desk_past.proofs.going_on.is_wanted.Goals as goal
 
 pub returns-then-asked-clause-is : goal.returns-then-asked-clause-is

@@ -1,11 +1,11 @@
 use Rattle.std.proofs.Common.{◌≡◌, inl, inr, ◌+◌, ◌≤◌, ◌<◌, ◌∙◌, ℕ, ap, arith, refl, subst, sym, false, true}
 use Rattle.std.proofs.lemmas.Bool.{false≢true}
 use Rattle.sector_disk.specs.Trail.{Content, now}
+use Rattle.past_pages.specs.Parts.{GoesOnIn, IsPartBeside, IsPastPart, part_base, part_count}
+use Rattle.past_pages.specs.declared.parts.TheConstants.{PART_SECTORS}
+use Rattle.past_pages.proofs.StillReads.{still_none}
 use Rattle.desk_past.specs.Going.{start_epoch}
-use Rattle.desk_past.specs.Parts.{GoesOnIn, IsPartBeside, IsPastPart, part_base, part_count}
-use Rattle.desk_past.specs.declared.parts.TheConstants.{PART_SECTORS}
 use Rattle.desk_past.specs.declared.going_on.Oldest.{Oldest}
-use Rattle.desk_past.proofs.StillReads.{still_none}
 use Rattle.desk_past.proofs.going_on.older_at.Goals as goal
 
 pub part_base-base-requires : goal.part_base-base-requires

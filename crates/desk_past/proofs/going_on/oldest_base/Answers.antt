@@ -1,11 +1,11 @@
 use Rattle.std.proofs.Common.{◌≡◌, inl, inr, ◌+◌, ◌≤◌, ◌<◌, ◌∙◌, ℕ, ap, arith, refl, rules, subst, sym}
 use Rattle.std.proofs.lemmas.Bool.{cases_lt}
 use Rattle.sector_disk.specs.Trail.{Content, now}
+use Rattle.past_pages.specs.Parts.{GoesOnIn, HasParts, IsPartBeside, part_base, part_count}
+use Rattle.past_pages.specs.declared.parts.TheConstants.{PART_SECTORS}
+use Rattle.past_pages.proofs.StillReads.{still_both, still_none, still_reads}
 use Rattle.desk_past.specs.Going.{start_epoch}
-use Rattle.desk_past.specs.Parts.{GoesOnIn, HasParts, IsPartBeside, part_base, part_count}
-use Rattle.desk_past.specs.declared.parts.TheConstants.{PART_SECTORS}
 use Rattle.desk_past.proofs.Apart.{place_of}
-use Rattle.desk_past.proofs.StillReads.{still_both, still_none, still_reads}
 use Rattle.desk_past.proofs.going_on.oldest_base.Goals as goal
 
 pub first_beside-base-requires : goal.first_beside-base-requires

@@ -1,8 +1,8 @@
 use Rattle.std.proofs.Common.{◌≡◌, ◌≤◌, ◌<◌, ℕ}
 use Rattle.sector_disk.specs.Trail.{now}
+use Rattle.past_pages.specs.Parts.{IsPartBeside, part_base}
+use Rattle.past_pages.specs.Reading.{IsOnlyReadFrom}
 use Rattle.desk_past.specs.Going.{start_epoch}
-use Rattle.desk_past.specs.Parts.{IsPartBeside, part_base}
-use Rattle.desk_past.specs.Reading.{IsOnlyReadFrom}
 use Rattle.desk_past.proofs.going_on.oldest_base.Given as goal
 
 -- nothing is written, and of the parts so far that are beside this is the oldest one

@@ -1,8 +1,8 @@
 use Rattle.std.proofs.Common.{◌≡◌, ◌+◌, ◌∙◌, ap, sym}
 use Rattle.std.proofs.lemmas.Bool.{cond-false, cond-true}
 use Rattle.sector_disk.specs.Trail.{now}
+use Rattle.past_pages.proofs.StillReads.{still_looked, still_none, still_reads}
 use Rattle.desk_past.proofs.Found.{slot_there}
-use Rattle.desk_past.proofs.StillReads.{still_looked, still_none, still_reads}
 use Rattle.desk_past.proofs.going_on.slot_epoch.Goals as goal
 
 pub returns-in_err-head-clause-still : goal.returns-in_err-head-clause-still

@@ -2,9 +2,9 @@ use Rattle.std.proofs.Common.{◌≡◌, ◌∙◌, ap, sym}
 use Rattle.std.specs.Prelude.{max}
 use Rattle.std.proofs.lemmas.Bool.{cond-false, cond-true}
 use Rattle.sector_disk.specs.Trail.{now}
+use Rattle.past_pages.proofs.StillReads.{still_both, still_looked, still_none, still_reads}
 use Rattle.desk_past.specs.Going.{slot_epoch}
 use Rattle.desk_past.proofs.Found.{start_there}
-use Rattle.desk_past.proofs.StillReads.{still_both, still_looked, still_none, still_reads}
 use Rattle.desk_past.proofs.going_on.start_epoch.Goals as goal
 
 pub returns-in_err-first-clause-still : goal.returns-in_err-first-clause-still

@@ -11,18 +11,19 @@ use Rattle.store_slots.specs.Errors.{OfDesktop}
 use Rattle.store_slots.specs.declared.error.Error.{Error}
 use Rattle.store_slots.specs.declared.error.Error.TheVariants.{Fault}
 use Rattle.desk_journal.specs.View.{StoreView}
+use Rattle.past_pages.specs.Parts.{HasParts, IsPastPart, LiesBeside}
+use Rattle.past_pages.specs.declared.parts.TheConstants.{PART_SECTORS}
+use Rattle.past_pages.proofs.Failing.{error_from, none_failed}
+use Rattle.past_pages.proofs.StillReads.{still_none, still_shows}
 use Rattle.desk_past.specs.Beginning.{HasStartRoom, IsBegunOrAside, IsStoppedBy}
 use Rattle.desk_past.specs.Keeping.{CanTurn}
-use Rattle.desk_past.specs.Parts.{HasParts, IsPastPart, LiesBeside}
-use Rattle.desk_past.specs.declared.parts.TheConstants.{PART_SECTORS}
 use Rattle.desk_past.proofs.Apart.{lies_beside, part_far, part_room}
 use Rattle.desk_past.proofs.Begun.{aside_none, renewed_aside, same_both}
 use Rattle.desk_past.proofs.GoingOn.{forgets_begun, leaves_begun, leaves_read}
-use Rattle.desk_past.proofs.InMemory.{error_from, fails_none, none_failed}
+use Rattle.desk_past.proofs.InMemory.{fails_none}
 use Rattle.desk_past.proofs.Over.{apart_next, begun_behind_it, can_still, counted_still, over_still, used_fails, way_begun}
 use Rattle.desk_past.proofs.Remembering.{read_moments}
 use Rattle.desk_past.proofs.Sparing.{only_begun, only_none, only_read, uses_only}
-use Rattle.desk_past.proofs.StillReads.{still_none, still_shows}
 use Rattle.desk_past.proofs.Ways.{room_renewed, way_aside}
 use Rattle.desk_past.proofs.keeping.begin_next.Goals as goal
 

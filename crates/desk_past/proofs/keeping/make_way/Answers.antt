@@ -2,9 +2,9 @@ use Rattle.store_layout.specs.declared.layout.TheConstants.{STORE_SECTORS}
 use Rattle.std.proofs.Common.{inl, inr, arith, rules}
 use Rattle.std.proofs.lemmas.Result.{on_ok_weaker}
 use Rattle.sector_disk.proofs.Touching.{weakened}
+use Rattle.past_pages.proofs.StillReads.{still_none}
 use Rattle.desk_past.proofs.Begun.{desktop_spared, spared_none}
 use Rattle.desk_past.proofs.Remembering.{read_moments}
-use Rattle.desk_past.proofs.StillReads.{still_none}
 use Rattle.desk_past.proofs.Ways.{room_or_due, way_none}
 use Rattle.desk_past.proofs.Sparing.{only_none, uses_only}
 use Rattle.desk_past.proofs.keeping.make_way.Goals as goal

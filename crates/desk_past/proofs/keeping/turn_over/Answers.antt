@@ -4,15 +4,15 @@ use Rattle.std.proofs.lemmas.Result.{on_ok_weaker}
 use Rattle.sector_disk.proofs.Touching.{chained, weakened}
 use Rattle.store_layout.specs.declared.head.PastEnd.{PastEnd}
 use Rattle.store_layout.specs.declared.layout.TheConstants.{STORE_SECTORS}
-use Rattle.desk_past.specs.Parts.{IsPastPart}
+use Rattle.past_pages.specs.Parts.{IsPastPart}
+use Rattle.past_pages.specs.declared.parts.TheConstants.{LEAST_ROOM}
+use Rattle.past_pages.proofs.StillReads.{still_both, still_looked, still_none, still_reads}
 use Rattle.desk_past.specs.Keeping.{HasPageRoom}
-use Rattle.desk_past.specs.declared.parts.TheConstants.{LEAST_ROOM}
 use Rattle.desk_past.proofs.Begun.{aside_looked, aside_read, desktop_spared, desktop_then, renewed_aside, same_both, spared_read}
 use Rattle.desk_past.proofs.Over.{can_still, due_still, forgets_behind, lies_still, over_still, way_behind}
 use Rattle.desk_past.proofs.Remembering.{leaves_then, read_keeps, read_moments, room_still}
 use Rattle.desk_past.proofs.Rooms.{behind_start}
 use Rattle.desk_past.proofs.Sparing.{in_part, oldest_then, only_as, only_behind_read, only_read, uses_only}
-use Rattle.desk_past.proofs.StillReads.{still_both, still_looked, still_none, still_reads}
 use Rattle.desk_past.proofs.Ways.{room_renewed, way_aside, way_renewed}
 use Rattle.desk_past.proofs.keeping.turn_over.Goals as goal
 

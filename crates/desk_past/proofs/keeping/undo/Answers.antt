@@ -4,10 +4,11 @@ use Rattle.std.proofs.lemmas.Result.{err_from_is_err_and}
 use Rattle.sector_disk.specs.Faults.{FailsAs}
 use Rattle.desk_journal.specs.Errors.{Fault}
 use Rattle.desk_journal.specs.Undoing.{OfUndo}
-use Rattle.desk_past.proofs.InMemory.{error_from, fails_none, none_failed, undo_none, undo_refused}
+use Rattle.past_pages.proofs.Failing.{error_from, none_failed}
+use Rattle.past_pages.proofs.StillReads.{usable_of}
+use Rattle.past_pages.proofs.Told.{ok_of}
+use Rattle.desk_past.proofs.InMemory.{fails_none, undo_none, undo_refused}
 use Rattle.desk_past.proofs.Sparing.{only_none, only_within, uses_only}
-use Rattle.desk_past.proofs.StillReads.{usable_of}
-use Rattle.desk_past.proofs.Told.{ok_of}
 use Rattle.desk_past.proofs.Undoing.{none_undone, others_kept, some_undone}
 use Rattle.desk_past.proofs.keeping.undo.Goals as goal
 

@@ -2,12 +2,12 @@ use Rattle.std.proofs.Common.{◌∙◌, ap, arith, rules}
 use Rattle.store_layout.specs.declared.layout.TheConstants.{STORE_SECTORS}
 use Rattle.std.proofs.lemmas.Option.{IfSome_then}
 use Rattle.std.proofs.lemmas.Result.{IfOk-weaker}
+use Rattle.past_pages.proofs.StillReads.{read_behind, usable_of}
 use Rattle.desk_past.proofs.Told.{none_then}
 use Rattle.desk_past.proofs.Remembering.{leaves_then, read_moments, told_room_still, told_still}
-use Rattle.desk_past.proofs.StillReads.{read_behind, usable_of}
 use Rattle.desk_past.proofs.Begun.{aside_looked, desktop_spared, desktop_then, spared_read}
-use Rattle.store_layout.specs.declared.head.PastEnd.{PastEnd}
 use Rattle.desk_past.proofs.Sparing.{only_as, only_behind_read, only_read, uses_only}
+use Rattle.store_layout.specs.declared.head.PastEnd.{PastEnd}
 use Rattle.desk_past.proofs.keeping.write_page.Goals as goal
 
 pub returns-in_err-told-clause-any_moment : goal.returns-in_err-told-clause-any_moment

@@ -1,15 +1,16 @@
 use Rattle.std.proofs.Common.{◌+◌, ◌-◌, ◌^◌, ◌<◌, ◌∙◌, ap, arith, length, refl, rules, subst, sym}
 use Rattle.sector_disk.specs.Trail.{now}
-use Rattle.desk_past.proofs.Told.{counts_on, ok_of, page_ends_at, shown_as}
+use Rattle.past_pages.proofs.Told.{ok_of, shown_as}
+use Rattle.past_pages.specs.Page.{journal_of}
+use Rattle.past_pages.proofs.StillReads.{still_left, still_none, usable_of}
+use Rattle.desk_past.proofs.Told.{counts_on, page_ends_at}
 use Rattle.desk_past.proofs.Remembering.{read_moments, read_then_moments, read_then_page}
 use Rattle.desk_past.proofs.Begun.{desktop_spared, spared_none, spared_read, spared_then, spared_write}
+use Rattle.desk_past.proofs.Rooms.{behind_start}
+use Rattle.desk_past.proofs.Sparing.{only_behind_read, only_none, only_read, only_there, uses_only}
 use Rattle.sector_disk.specs.Stored.{last_sector}
 use Rattle.store_layout.specs.declared.layout.TheConstants.{STORE_SECTORS}
 use Rattle.store_layout.specs.declared.head.PastEnd.{PastEnd}
-use Rattle.desk_past.specs.Past.{journal_of}
-use Rattle.desk_past.proofs.Rooms.{behind_start}
-use Rattle.desk_past.proofs.StillReads.{still_left, still_none, usable_of}
-use Rattle.desk_past.proofs.Sparing.{only_behind_read, only_none, only_read, only_there, uses_only}
 use Rattle.desk_past.proofs.keeping.write_page_at.Goals as goal
 
 pub returns-in_err-bytes-clause-any_moment : goal.returns-in_err-bytes-clause-any_moment

@@ -2,7 +2,8 @@ use Rattle.std.proofs.Common.{◌≡◌, ◌∙◌, false, refl, rules, sym}
 use Rattle.std.proofs.lemmas.Result.{IfOk-weaker}
 use Rattle.sector_disk.specs.Trail.{now}
 use Rattle.sector_disk.proofs.Touching.{read_is_an_image}
-use Rattle.desk_past.proofs.InMemory.{closed_of, failing_on, left_none, moment_of_laying, never_reopened}
+use Rattle.past_pages.proofs.Failing.{closed_of, failing_on}
+use Rattle.desk_past.proofs.InMemory.{left_none, moment_of_laying, never_reopened}
 use Rattle.desk_past.proofs.Opened.{stands_first}
 use Rattle.desk_past.proofs.reading.copy_of.Goals as goal
 

@@ -2,7 +2,7 @@ use Rattle.std.proofs.Common.{◌≡◌, inl, inr, ◌+◌, ◌^◌, ◌≤◌, 
 use Rattle.std.specs.Prelude.{MatchOption}
 use Rattle.sector_disk.specs.Trail.{now}
 use Rattle.store_layout.proofs.Bits.{true_or_false}
-use Rattle.desk_past.proofs.Told.{ok_of, shown_as}
+use Rattle.past_pages.proofs.Told.{ok_of, shown_as}
 use Rattle.desk_past.proofs.reading.events_before.Goals as goal
 
 pub returns-clause-sum : goal.returns-clause-sum

@@ -2,10 +2,10 @@ use Rattle.std.proofs.Common.{◌≡◌, ◌∙◌, arith, refl, subst, sym}
 use Rattle.std.specs.Prelude.{Err}
 use Rattle.std.proofs.lemmas.Result.{err_from_is_err_and}
 use Rattle.sector_disk.specs.Trail.{now}
-use Rattle.desk_past.specs.Page.{HasPages}
-use Rattle.desk_past.proofs.InMemory.{error_from, none_failed}
+use Rattle.past_pages.proofs.Failing.{error_from, none_failed}
+use Rattle.past_pages.proofs.StillReads.{still_both, still_none, still_reads}
+use Rattle.desk_past.specs.Past.{HasPages}
 use Rattle.desk_past.proofs.Legs.{all_gone, leg_gone, none_gone}
-use Rattle.desk_past.proofs.StillReads.{still_both, still_none, still_reads}
 use Rattle.desk_past.proofs.reading.go_legs.Goals as goal
 
 pub loop-leg-init : goal.loop-leg-init

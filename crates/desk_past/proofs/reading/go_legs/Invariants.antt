@@ -1,7 +1,7 @@
 use Rattle.std.proofs.Common.{◌≡◌, List, length}
 use Rattle.sector_disk.specs.Trail.{now}
+use Rattle.past_pages.specs.Reading.{IsOnlyReadFrom}
 use Rattle.desk_past.specs.Deeds.{PastDeed}
-use Rattle.desk_past.specs.Reading.{IsOnlyReadFrom}
 use Rattle.desk_past.specs.Routes.{AreLegs}
 use Rattle.desk_past.proofs.Legs.{HasGone}
 use Rattle.desk_past.proofs.reading.go_legs.Given as goal

@@ -2,13 +2,13 @@ use Rattle.std.proofs.Common.{◌≡◌, ◌+◌, ◌∙◌, ap, arith, length, 
 use Rattle.std.specs.Prelude.{Err}
 use Rattle.std.proofs.lemmas.Result.{err_from_is_err_and, IfErr-at_err}
 use Rattle.sector_disk.specs.Trail.{now}
+use Rattle.past_pages.proofs.Failing.{error_from, none_failed}
+use Rattle.past_pages.proofs.Told.{ok_of, shown_as}
 use Rattle.desk_past.specs.Errors.{OfDoing}
-use Rattle.desk_past.proofs.InMemory.{calm_from, error_from, found_no_fault, laying_of_found, none_failed, steps_of_doing}
-use Rattle.desk_past.proofs.InMemory.{stop_at, stop_from}
+use Rattle.desk_past.proofs.InMemory.{calm_from, found_no_fault, laying_of_found, steps_of_doing, stop_at, stop_from}
 use Rattle.desk_past.proofs.Opened.{stands_first, undone_to}
-use Rattle.desk_past.proofs.Told.{ok_of, shown_as}
-use Rattle.desk_past.proofs.reading.in_journal.Goals as goal
 use Rattle.desk_past.proofs.reading.in_journal.Goals.{then-count-info-via-then-count-info, then-count-info-via-else-count-info+then-sectors-lt-STORE_SECTORS}
+use Rattle.desk_past.proofs.reading.in_journal.Goals as goal
 
 pub returns-in_err-info-clause-faults : goal.returns-in_err-info-clause-faults
 returns-in_err-info-clause-faults g c =

@@ -4,16 +4,16 @@ use Rattle.std.proofs.lemmas.Bool.{false≢true}
 use Rattle.std.proofs.lemmas.Result.{err_from_is_err_and, IfErr-weaker, IfOk-weaker}
 use Rattle.sector_disk.specs.Trail.{now}
 use Rattle.store_layout.specs.declared.layout.TheConstants.{STORE_SECTORS}
-use Rattle.desk_past.specs.Page.{HasPages}
+use Rattle.past_pages.proofs.Failing.{error_from, none_failed}
+use Rattle.past_pages.proofs.StillReads.{still_both, still_reads}
+use Rattle.desk_past.specs.Past.{HasPages}
 use Rattle.desk_past.proofs.Gone.{all_done, done_to, start_stands, still_honest, told_end, told_pages, told_room}
 use Rattle.desk_past.proofs.Former.{calm_on}
-use Rattle.desk_past.proofs.InMemory.{calm_from, doing_no_fault, error_from, back_no_fault, fails_none, laying_of_back, laying_of_doing}
-use Rattle.desk_past.proofs.InMemory.{laying_of_reads}
+use Rattle.desk_past.proofs.InMemory.{calm_from, doing_no_fault, back_no_fault, fails_none, laying_of_back, laying_of_doing}
+use Rattle.desk_past.proofs.InMemory.{laying_of_reads, laying_of_steps, steps_of_doing, steps_of_reads, stop_from}
 use Rattle.desk_past.proofs.Opened.{if_some_then}
-use Rattle.desk_past.proofs.InMemory.{laying_of_steps, none_failed, steps_of_doing, steps_of_reads, stop_from}
-use Rattle.desk_past.proofs.StillReads.{still_both, still_reads}
-use Rattle.desk_past.proofs.reading.in_pages.Goals as goal
 use Rattle.desk_past.proofs.reading.in_pages.Goals.{then-told-sectors-via-then-told-sectors, then-told-sectors-via-else-told-sectors+then-told-lt-STORE_SECTORS, then-told-sectors-via-else-told-sectors+else-told-lt-STORE_SECTORS+then-base-told}
+use Rattle.desk_past.proofs.reading.in_pages.Goals as goal
 
 pub returns-then-told-sectors-clause-is_one : goal.returns-then-told-sectors-clause-is_one
 returns-then-told-sectors-clause-is_one g c = λ honest other start pages has is low high.

@@ -6,13 +6,14 @@ use Rattle.store_slots.specs.Errors.{OfLook}
 use Rattle.store_slots.specs.declared.error.Error.TheVariants.{NoMemory}
 use Rattle.sector_disk.specs.Trail.{now}
 use Rattle.desktop_definitions.specs.Step.{steps_in}
-use Rattle.desk_past.proofs.InMemory.{error_calm, error_from, failing_on, left_looked, moment_of_laying, moment_of_look}
-use Rattle.desk_past.proofs.InMemory.{never_reopened, none_failed, steps_of_look, stop_at, whatever}
+use Rattle.past_pages.proofs.Failing.{error_from, failing_on, none_failed}
+use Rattle.past_pages.proofs.StillReads.{read_twice, still_both, still_looked, still_none, still_reads, still_shows}
+use Rattle.desk_past.proofs.InMemory.{error_calm, left_looked, moment_of_laying, moment_of_look}
+use Rattle.desk_past.proofs.InMemory.{never_reopened, steps_of_look, stop_at, whatever}
 use Rattle.desk_past.proofs.Opened.{if_some_then, some_then}
 use Rattle.desk_past.specs.Past.{HasStart, HoldsPages}
 use Rattle.desk_past.proofs.Gone.{holds_told}
 use Rattle.desk_past.proofs.Stepping.{few_in_journal, moment_in_journal, moment_in_pages, moment_of_journal, moment_of_pages}
-use Rattle.desk_past.proofs.StillReads.{read_twice, still_both, still_looked, still_none, still_reads, still_shows}
 use Rattle.desk_past.proofs.reading.moment.Goals as goal
 
 pub returns-then-k-told-clause-comes_back : goal.returns-then-k-told-clause-comes_back

@@ -2,8 +2,9 @@ use Rattle.std.proofs.Common.{◌≡◌, ◌+◌, ◌≤◌, ◌∙◌, ap, arit
 use Rattle.std.proofs.lemmas.Result.{err_from_is_err_and, IfErr-weaker}
 use Rattle.std.specs.Prelude.{Err}
 use Rattle.sector_disk.specs.Trail.{now}
+use Rattle.past_pages.proofs.Failing.{calm_answer, error_from, none_failed}
 use Rattle.desk_past.proofs.Found.{both_weaker}
-use Rattle.desk_past.proofs.InMemory.{calm_answer, error_from, found_no_fault, laying_of_found, laying_of_reads, none_failed}
+use Rattle.desk_past.proofs.InMemory.{found_no_fault, laying_of_found, laying_of_reads}
 use Rattle.desk_past.proofs.InMemory.{steps_of_doing, steps_of_reads, stop_from}
 use Rattle.desk_past.proofs.Opened.{stands_shows}
 use Rattle.desk_past.proofs.reading.opened_at.Goals as goal

@@ -1,9 +1,10 @@
 use Rattle.std.proofs.Common.{◌≡◌, ◌∙◌, refl, sym}
 use Rattle.std.specs.Prelude.{Err}
 use Rattle.std.proofs.lemmas.Result.{err_from_is_err_and, IfErr-at_err}
+use Rattle.past_pages.proofs.Failing.{closed_of, error_from, none_failed}
 use Rattle.desk_past.specs.Errors.{OfDoing, OfLaying}
-use Rattle.desk_past.proofs.InMemory.{calm_from, closed_of, doing_no_fault, error_from, laying_no_reopen, laying_of_doing}
-use Rattle.desk_past.proofs.InMemory.{moment_of_doing, moment_of_laying, none_failed}
+use Rattle.desk_past.proofs.InMemory.{calm_from, doing_no_fault, laying_no_reopen, laying_of_doing}
+use Rattle.desk_past.proofs.InMemory.{moment_of_doing, moment_of_laying}
 use Rattle.desk_past.proofs.reading.start_of.Goals as goal
 
 pub returns-then-is_err-clause-open : goal.returns-then-is_err-clause-open

@@ -2,11 +2,11 @@ use Rattle.std.proofs.Common.{◌≡◌, ◌∙◌, arith, refl, subst, sym}
 use Rattle.std.specs.Prelude.{Err}
 use Rattle.std.proofs.lemmas.Result.{err_from_is_err_and, IfOk-weaker}
 use Rattle.sector_disk.specs.Trail.{now}
-use Rattle.desk_past.specs.Reading.{HasPage}
-use Rattle.desk_past.proofs.InMemory.{calm_answer, calm_from, doing_no_fault, error_from, none_failed}
-use Rattle.desk_past.proofs.InMemory.{steps_of_doing, steps_of_reads}
+use Rattle.past_pages.specs.Reading.{HasPage}
+use Rattle.past_pages.proofs.Failing.{calm_answer, error_from, none_failed}
+use Rattle.past_pages.proofs.StillReads.{still_both, still_none, still_reads}
+use Rattle.desk_past.proofs.InMemory.{calm_from, doing_no_fault, steps_of_doing, steps_of_reads}
 use Rattle.desk_past.proofs.Stepping.{all_stepped, next_ends, next_stepped, none_stepped, one_more}
-use Rattle.desk_past.proofs.StillReads.{still_both, still_none, still_reads}
 use Rattle.desk_past.proofs.reading.step_pages.Goals as goal
 
 pub loop-left-init : goal.loop-left-init

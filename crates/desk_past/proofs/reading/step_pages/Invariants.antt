@@ -1,8 +1,8 @@
 use Rattle.std.proofs.Common.{◌≡◌, ◌≤◌, ◌-◌, List, length, take}
 use Rattle.sector_disk.specs.Trail.{now}
-use Rattle.desk_past.specs.Page.{Page, HasPages, end_of_pages}
-use Rattle.desk_past.specs.Past.{AreGood, all_deeds}
-use Rattle.desk_past.specs.Reading.{IsOnlyReadFrom}
+use Rattle.past_pages.specs.Page.{Page}
+use Rattle.past_pages.specs.Reading.{IsOnlyReadFrom}
+use Rattle.desk_past.specs.Past.{HasPages, end_of_pages, AreGood, all_deeds}
 use Rattle.desk_past.specs.Routes.{HasNoTurn}
 use Rattle.desk_past.proofs.Stepping.{HasStepped}
 use Rattle.desk_past.proofs.reading.step_pages.Given as goal

@@ -2,12 +2,11 @@ use Rattle.std.proofs.Common.{◌≡◌, ◌<◌, ◌∙◌, arith, refl, subst,
 use Rattle.std.specs.Prelude.{Err}
 use Rattle.std.proofs.lemmas.Bool.{false≢true}
 use Rattle.std.proofs.lemmas.Result.{err_from_is_err_and}
-use Rattle.desk_past.specs.Page.{HasPages}
-use Rattle.desk_past.specs.Past.{all_deeds}
+use Rattle.past_pages.proofs.Failing.{error_from, none_failed}
+use Rattle.past_pages.proofs.StillReads.{still_both, still_none, still_reads}
+use Rattle.desk_past.specs.Past.{HasPages, all_deeds}
 use Rattle.desk_past.specs.Routes.{IsReached}
-use Rattle.desk_past.proofs.InMemory.{error_from, none_failed}
 use Rattle.desk_past.proofs.Legs.{fewer_left, left_of, no_way, still_within, way_on}
-use Rattle.desk_past.proofs.StillReads.{still_both, still_none, still_reads}
 use Rattle.desk_past.proofs.routes.legs_to.Goals as goal
 
 pub loop-next-init : goal.loop-next-init

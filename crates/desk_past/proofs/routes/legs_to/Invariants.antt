@@ -1,9 +1,9 @@
 use Rattle.std.proofs.Common.{◌≡◌, ◌+◌, ◌≤◌, List, [], length}
 use Rattle.std.specs.Prelude.{IfSome}
 use Rattle.sector_disk.specs.Trail.{now}
-use Rattle.desk_past.specs.Page.{Page, HasPages, end_of_pages}
-use Rattle.desk_past.specs.Past.{AreGood, AreTurns, Start, all_deeds}
-use Rattle.desk_past.specs.Reading.{IsOnlyReadFrom}
+use Rattle.past_pages.specs.Page.{Page}
+use Rattle.past_pages.specs.Reading.{IsOnlyReadFrom}
+use Rattle.desk_past.specs.Past.{HasPages, end_of_pages, AreGood, AreTurns, Start, all_deeds}
 use Rattle.desk_past.proofs.Legs.{HasWay, left_of}
 use Rattle.desk_past.proofs.routes.legs_to.Given as goal
 

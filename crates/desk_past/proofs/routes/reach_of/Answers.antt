@@ -1,10 +1,10 @@
 use Rattle.std.proofs.Common.{◌≡◌, ◌<◌, ◌≤◌, ◌∙◌, arith, refl, subst, sym}
 use Rattle.std.specs.Prelude.{Err, IfSome}
 use Rattle.std.proofs.lemmas.Result.{err_from_is_err_and}
-use Rattle.desk_past.specs.Reading.{HasPage}
-use Rattle.desk_past.proofs.InMemory.{error_from, none_failed}
+use Rattle.past_pages.specs.Reading.{HasPage}
+use Rattle.past_pages.proofs.Failing.{error_from, none_failed}
+use Rattle.past_pages.proofs.StillReads.{still_both, still_none, still_reads}
 use Rattle.desk_past.proofs.Legs.{none_passed, one_left, page_on, reached}
-use Rattle.desk_past.proofs.StillReads.{still_both, still_none, still_reads}
 use Rattle.desk_past.proofs.routes.reach_of.Goals as goal
 
 pub loop-left-init : goal.loop-left-init

@@ -1,8 +1,8 @@
 use Rattle.std.proofs.Common.{◌≡◌, ◌+◌, ◌-◌, ◌≤◌, List, [], length}
 use Rattle.sector_disk.specs.Trail.{now}
-use Rattle.desk_past.specs.Page.{Page, HasPages, end_of_pages}
-use Rattle.desk_past.specs.Past.{AreGood, AreTurns, Start, all_deeds}
-use Rattle.desk_past.specs.Reading.{IsOnlyReadFrom}
+use Rattle.past_pages.specs.Page.{Page}
+use Rattle.past_pages.specs.Reading.{IsOnlyReadFrom}
+use Rattle.desk_past.specs.Past.{HasPages, end_of_pages, AreGood, AreTurns, Start, all_deeds}
 use Rattle.desk_past.proofs.Legs.{IsReaching}
 use Rattle.desk_past.proofs.routes.reach_of.Given as goal
 

@@ -1,6 +1,6 @@
 use Rattle.std.proofs.Common.{◌≡◌, ◌∙◌, ap, false, rules, sym}
 use Rattle.store_layout.specs.declared.head.PastEnd.{PastEnd}
-use Rattle.desk_past.proofs.StillReads.{still_both, still_looked, still_none}
+use Rattle.past_pages.proofs.StillReads.{still_both, still_looked, still_none}
 use Rattle.desk_past.proofs.TurnedBack.{part_found, left_looked, left_twice, past_behind}
 use Rattle.desk_past.proofs.turning.desktop_at.Goals as goal
 

@@ -1,12 +1,12 @@
 use Rattle.std.proofs.Common.{rules}
 use Rattle.std.proofs.lemmas.Result.{IfOk-weaker, IfErr-weaker}
+use Rattle.past_pages.proofs.StillReads.{still_both}
+use Rattle.past_pages.specs.Page.{turn_of}
 use Rattle.desk_past.proofs.Begun.{same_both}
 use Rattle.desk_past.proofs.Sparing.{only_as_large, only_behind_read, only_read, uses_only}
-use Rattle.desk_past.proofs.StillReads.{still_both}
 use Rattle.desk_past.proofs.TurnWays.{err_then, none_left, none_shown, shown_behind}
 use Rattle.desk_past.proofs.TurnedBack.{fails_behind, in_use_then, left_twice, lies_there, none_back, none_can, turned_back}
 use Rattle.desk_past.proofs.TurnedBack.{turns_back}
-use Rattle.desk_past.specs.Turning.{turn_of}
 use Rattle.desk_past.proofs.turning.turn.Goals as goal
 
 pub returns-in_err-to-clause-any_moment : goal.returns-in_err-to-clause-any_moment

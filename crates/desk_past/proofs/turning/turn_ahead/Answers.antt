@@ -1,8 +1,8 @@
 use Rattle.std.proofs.Common.{◌∙◌}
 use Rattle.std.proofs.lemmas.Result.{IfOk-weaker}
-use Rattle.desk_past.specs.Turning.{turn_of}
+use Rattle.past_pages.specs.Page.{turn_of}
+use Rattle.past_pages.proofs.StillReads.{still_none}
 use Rattle.desk_past.proofs.Opened.{if_none_then, if_some_then}
-use Rattle.desk_past.proofs.StillReads.{still_none}
 use Rattle.desk_past.proofs.TurnWays.{turn_good}
 use Rattle.desk_past.proofs.turning.turn_ahead.Goals as goal
 

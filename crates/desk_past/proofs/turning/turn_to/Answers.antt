@@ -2,9 +2,9 @@ use Rattle.std.proofs.Common.{◌∙◌, Err, ap, rules, sym}
 use Rattle.std.proofs.lemmas.Bool.{false≢true}
 use Rattle.std.proofs.lemmas.Result.{err_from_is_err_and}
 use Rattle.store_slots.specs.declared.error.Error.TheVariants.{MustReopen}
+use Rattle.past_pages.proofs.StillReads.{still_none, usable_of}
 use Rattle.desk_past.proofs.Begun.{same_both}
 use Rattle.desk_past.proofs.ImportWays.{none_reopen, not_last, told_epoch}
-use Rattle.desk_past.proofs.StillReads.{still_none, usable_of}
 use Rattle.desk_past.proofs.TurnWays.{err_then, fault_on, is_fault, none_shown, none_turned, shown_behind, turned_behind, turned_then}
 use Rattle.desk_past.proofs.TurnWays.{turns_behind}
 use Rattle.desk_past.proofs.Ways.{never, not_reopen}

@@ -4,8 +4,9 @@ use Rattle.std.proofs.lemmas.Bool.{false≢true}
 use Rattle.std.proofs.lemmas.Result.{IfOk-weaker}
 use Rattle.sector_disk.specs.Trail.{now}
 use Rattle.sector_disk.specs.contracts.memory.MemoryDiskDisk.TheImpl.{ghosts as in_memory}
-use Rattle.desk_past.proofs.InMemory.{closed_of, looks_closed, looks_none, looks_read, whatever}
-use Rattle.desk_past.proofs.StillReads.{still_none}
+use Rattle.past_pages.proofs.Failing.{closed_of, looks_closed, looks_none, looks_read}
+use Rattle.past_pages.proofs.StillReads.{still_none}
+use Rattle.desk_past.proofs.InMemory.{whatever}
 use Rattle.former_stores.proofs.Formers.{former_kept, former_part, kept_former}
 use Rattle.former_stores.proofs.Laid.{if_some_where, some_where}
 use Rattle.former_stores.proofs.former.former_store.Goals as goal

@@ -2,9 +2,9 @@ use Rattle.std.proofs.Common.{◌∙◌, ap, arith, subst, sym}
 use Rattle.sector_disk.specs.Memory.{trail_of}
 use Rattle.sector_disk.specs.Trail.{now}
 use Rattle.sector_disk.specs.contracts.memory.MemoryDiskDisk.TheImpl.{ghosts as in_memory}
-use Rattle.desk_past.specs.Past.{StandsFrom}
+use Rattle.past_pages.specs.Laying.{StandsFrom}
+use Rattle.past_pages.proofs.StillReads.{still_both, still_reads}
 use Rattle.desk_past.proofs.InMemory.{zeros_are}
-use Rattle.desk_past.proofs.StillReads.{still_both, still_reads}
 use Rattle.former_stores.specs.Laying.{ArePlaced, IsLaid}
 use Rattle.former_stores.proofs.Formers.{laid_former}
 use Rattle.former_stores.proofs.Laid.{match_under}

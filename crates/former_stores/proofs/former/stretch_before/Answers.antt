@@ -1,8 +1,8 @@
 use Rattle.std.proofs.Common.{◌≡◌, ◌∙◌, ℕ, arith, subst, sym}
 use Rattle.sector_disk.specs.Trail.{Content}
-use Rattle.desk_past.specs.Past.{StandsFrom}
+use Rattle.past_pages.specs.Laying.{StandsFrom}
+use Rattle.past_pages.proofs.StillReads.{still_both, still_reads}
 use Rattle.desk_past.proofs.Apart.{part_far, part_room}
-use Rattle.desk_past.proofs.StillReads.{still_both, still_reads}
 use Rattle.former_stores.specs.Former.{SaysOfStart}
 use Rattle.former_stores.proofs.Formers.{goes_there, not_older, part_found}
 use Rattle.former_stores.proofs.former.stretch_before.Goals as goal

@@ -1,7 +1,7 @@
 use Rattle.std.proofs.Common.{◌∙◌, ap, sym}
 use Rattle.sector_disk.specs.Trail.{now}
 use Rattle.store_layout.specs.declared.head.PastEnd.{PastEnd}
-use Rattle.desk_past.proofs.Told.{ok_of, shown_as}
+use Rattle.past_pages.proofs.Told.{ok_of, shown_as}
 use Rattle.former_stores.proofs.former.told_by.Goals as goal
 
 pub returns-clause-told : goal.returns-clause-told

@@ -1,7 +1,7 @@
 use Rattle.std.proofs.Common.{◌≡◌, inl, inr, ◌+◌, ◌∙◌, ℕ, ap, arith, refl, rules, subst}
 use Rattle.std.proofs.lemmas.Bool.{cases_lt}
 use Rattle.sector_disk.specs.Trail.{now}
-use Rattle.desk_past.proofs.StillReads.{still_looked, still_none, still_reads}
+use Rattle.past_pages.proofs.StillReads.{still_looked, still_none, still_reads}
 use Rattle.former_stores.proofs.laying.copy_sectors.Goals as goal
 
 pub loop-k-init : goal.loop-k-init

@@ -2,7 +2,7 @@ use Rattle.std.proofs.Common.{◌≡◌, ℕ}
 use Rattle.sector_disk.specs.Trail.{now}
 use Rattle.store_layout.specs.Filling.{InRange}
 use Rattle.store_slots.specs.Device.{IsSameDevice}
-use Rattle.desk_past.specs.Reading.{IsOnlyReadFrom}
+use Rattle.past_pages.specs.Reading.{IsOnlyReadFrom}
 use Rattle.former_stores.specs.Laying.{IsCopiedTo}
 use Rattle.former_stores.proofs.laying.copy_sectors.Given as goal
 

@@ -1,7 +1,7 @@
 use Rattle.std.proofs.Common.{◌+◌, ◌<◌, ◌∙◌, ℕ, arith, ap, subst}
 use Rattle.sector_disk.specs.Trail.{now}
+use Rattle.past_pages.proofs.StillReads.{still_both, still_reads}
 use Rattle.desk_past.proofs.Opened.{copied_stands}
-use Rattle.desk_past.proofs.StillReads.{still_both, still_reads}
 use Rattle.former_stores.specs.Laying.{IsLaid}
 use Rattle.former_stores.proofs.Laid.{both_some, found_under, laid_as}
 use Rattle.former_stores.proofs.laying.laid.Goals as goal

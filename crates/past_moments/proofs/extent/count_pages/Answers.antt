@@ -1,6 +1,6 @@
 use Rattle.std.proofs.Common.{arith, subst, sym}
-use Rattle.desk_past.specs.Reading.{HasPage}
-use Rattle.desk_past.proofs.StillReads.{still_looked, still_none, still_reads}
+use Rattle.past_pages.specs.Reading.{HasPage}
+use Rattle.past_pages.proofs.StillReads.{still_looked, still_none, still_reads}
 use Rattle.past_moments.proofs.Counting.{all_counted, none_counted, page_counted}
 use Rattle.past_moments.proofs.extent.count_pages.Goals as goal
 

@@ -1,8 +1,8 @@
 use Rattle.std.proofs.Common.{◌≡◌, ◌-◌, ◌≤◌, List}
 use Rattle.sector_disk.specs.Trail.{now}
-use Rattle.desk_past.specs.Page.{Page, HasPages, end_of_pages}
-use Rattle.desk_past.specs.Past.{AreGood}
-use Rattle.desk_past.specs.Reading.{IsOnlyReadFrom}
+use Rattle.past_pages.specs.Page.{Page}
+use Rattle.past_pages.specs.Reading.{IsOnlyReadFrom}
+use Rattle.desk_past.specs.Past.{HasPages, end_of_pages, AreGood}
 use Rattle.past_moments.proofs.Counting.{HasCounted}
 use Rattle.past_moments.proofs.extent.count_pages.Given as goal
 

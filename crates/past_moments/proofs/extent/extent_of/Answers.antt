@@ -2,11 +2,11 @@ use Rattle.std.proofs.Common.{◌≡◌, ◌∙◌, ◌+◌, ap, arith, subst, s
 use Rattle.sector_disk.specs.Trail.{now}
 use Rattle.store_layout.specs.declared.head.PastEnd.{PastEnd}
 use Rattle.store_layout.specs.declared.layout.TheConstants.{STORE_SECTORS}
-use Rattle.desk_past.specs.Parts.{IsPastPart}
+use Rattle.past_pages.specs.Parts.{IsPastPart}
+use Rattle.past_pages.proofs.StillReads.{still_both, still_left, still_looked, still_none, still_reads, still_shows}
+use Rattle.past_pages.proofs.Told.{ok_of, shown_as}
 use Rattle.desk_past.specs.Past.{first_page}
 use Rattle.desk_past.proofs.Rooms.{behind_start}
-use Rattle.desk_past.proofs.StillReads.{still_both, still_left, still_looked, still_none, still_reads, still_shows}
-use Rattle.desk_past.proofs.Told.{ok_of, shown_as}
 use Rattle.past_moments.specs.Moments.{IsExtentOf}
 use Rattle.past_moments.proofs.Counting.{all_of, extent_is, journal_is, pages_then}
 use Rattle.past_moments.proofs.extent.extent_of.Goals as goal

@@ -1,6 +1,6 @@
 use Rattle.std.proofs.Common.{subst, sym}
 use Rattle.std.specs.Prelude.{IfSome}
-use Rattle.desk_past.proofs.StillReads.{still_both}
+use Rattle.past_pages.proofs.StillReads.{still_both}
 use Rattle.past_moments.specs.Moments.{IsPagePlace, IsSameMoment}
 use Rattle.past_moments.proofs.Carried.{extent_on, page_back, place_on}
 use Rattle.past_moments.proofs.Ways.{leg_place, leg_turned, place_behind}

@@ -1,6 +1,6 @@
 use Rattle.std.proofs.Common.{◌-◌}
 use Rattle.std.specs.Prelude.{IfSome}
-use Rattle.desk_past.specs.Reading.{IsOnlyReadFrom}
+use Rattle.past_pages.specs.Reading.{IsOnlyReadFrom}
 use Rattle.past_moments.specs.Moments.{IsExtentOf, IsPagePlace, IsSameMoment}
 use Rattle.past_moments.proofs.legs.last_leg.Given as goal
 

@@ -1,4 +1,4 @@
-use Rattle.desk_past.proofs.StillReads.{still_left, still_none}
+use Rattle.past_pages.proofs.StillReads.{still_left, still_none}
 use Rattle.past_moments.proofs.Carried.{moment_on}
 use Rattle.past_moments.proofs.Kept.{present_is}
 use Rattle.past_moments.proofs.moments.look_now.Goals as goal

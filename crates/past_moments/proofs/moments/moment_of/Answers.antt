@@ -1,4 +1,4 @@
-use Rattle.desk_past.proofs.StillReads.{still_left, still_none}
+use Rattle.past_pages.proofs.StillReads.{still_left, still_none}
 use Rattle.past_moments.specs.Moments.{IsDesktopAt, IsExtentOf}
 use Rattle.past_moments.proofs.Kept.{missing_then, moment_found}
 use Rattle.past_moments.proofs.moments.moment_of.Goals as goal

@@ -3,10 +3,11 @@ use Rattle.std.proofs.lemmas.Bool.{false≢true}
 use Rattle.std.proofs.lemmas.Result.{IfErr-at_err, IfOk-weaker, err_from_is_err_and}
 use Rattle.store_slots.specs.Errors.{OfLook}
 use Rattle.desk_journal.specs.Errors.{Fault, MustReopen}
+use Rattle.past_pages.proofs.Failing.{closed_of, error_from, failing_on, none_failed, read_none}
 use Rattle.desk_past.proofs.Begun.{same_both}
-use Rattle.desk_past.proofs.InMemory.{closed_of, error_from, failing_on, fails_none, none_failed, read_none, stop_at}
-use Rattle.past_steps.specs.Steps.{step_deeds, only_read as nothing_done}
+use Rattle.desk_past.proofs.InMemory.{fails_none, stop_at}
 use Rattle.desk_past.proofs.Looks.{left_twice}
+use Rattle.past_steps.specs.Steps.{step_deeds, only_read as nothing_done}
 use Rattle.past_steps.proofs.Turned.{closed_device, closed_reopen, leaves_after, leaves_stepped, no_reopen, taken_after}
 use Rattle.past_steps.proofs.back.step_back.Goals as goal
 

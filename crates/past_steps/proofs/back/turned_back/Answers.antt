@@ -2,11 +2,11 @@ use Rattle.std.proofs.Common.{Err, ap, false, ◌≡◌, ◌∙◌}
 use Rattle.std.proofs.lemmas.Result.{IfErr-at_err, IfOk-at_ok, err_from_is_err_and}
 use Rattle.store_slots.specs.Errors.{OfLook}
 use Rattle.desk_journal.specs.Undoing.{IsLeft}
+use Rattle.past_pages.proofs.StillReads.{still_both}
 use Rattle.desk_past.proofs.InMemory.{stop_at}
-use Rattle.desk_past.proofs.StillReads.{still_both}
-use Rattle.past_steps.specs.Steps.{BreaksOff, step_deeds}
 use Rattle.desk_past.proofs.Looks.{looks_then, only_read}
 use Rattle.desk_past.proofs.Sparing.{device_used}
+use Rattle.past_steps.specs.Steps.{BreaksOff, step_deeds}
 use Rattle.past_steps.proofs.Turned.{look_broken, look_fails, looks_end, then_done, then_fails, turn_broken, turn_made}
 use Rattle.past_steps.proofs.back.turned_back.Goals as goal
 

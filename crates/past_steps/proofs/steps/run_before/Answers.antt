@@ -1,4 +1,4 @@
-use Rattle.desk_past.proofs.InMemory.{looks_none}
+use Rattle.past_pages.proofs.Failing.{looks_none}
 use Rattle.desk_past.proofs.Looks.{starved}
 use Rattle.past_steps.proofs.steps.run_before.Goals as goal
 

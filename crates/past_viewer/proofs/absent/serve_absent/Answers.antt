@@ -1,6 +1,6 @@
 use Rattle.std.proofs.Common.{◌∙◌, refl}
 use Rattle.std.proofs.lemmas.Result.{err_from_is_err_and}
-use Rattle.desk_past.proofs.StillReads.{still_both, still_none}
+use Rattle.past_pages.proofs.StillReads.{still_both, still_none}
 use Rattle.past_viewer.specs.Viewing.TakesScenes.{none}
 use Rattle.past_viewer.proofs.Ending.{keyboard_other, not_of_keyboard, of_keyboard, output_calm, rises_behind, too_long_other}
 use Rattle.past_viewer.proofs.Showing.{scenes_none, scenes_on}

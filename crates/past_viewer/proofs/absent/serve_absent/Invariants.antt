@@ -1,5 +1,5 @@
 use Rattle.std.proofs.Common.{◌≡◌, None}
-use Rattle.desk_past.specs.Reading.{IsOnlyReadFrom}
+use Rattle.past_pages.specs.Reading.{IsOnlyReadFrom}
 use Rattle.past_viewer.specs.Viewing.{TakesScenes}
 use Rattle.past_viewer.proofs.absent.serve_absent.Given as goal
 

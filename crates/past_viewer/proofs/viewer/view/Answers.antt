@@ -1,6 +1,6 @@
 use Rattle.std.proofs.Common.{None, refl}
 use Rattle.std.proofs.lemmas.Result.{err_from_is_err_and, on_ok_weaker}
-use Rattle.desk_past.proofs.StillReads.{still_both}
+use Rattle.past_pages.proofs.StillReads.{still_both}
 use Rattle.past_viewer.specs.Viewing.IsViewed.{looked}
 use Rattle.past_viewer.proofs.Ending.{in_use, keyboard_other, not_of_keyboard, of_keyboard, output_calm}
 use Rattle.past_viewer.proofs.Showing.{leaves_after, leaves_none, only_read_first, viewed_after}

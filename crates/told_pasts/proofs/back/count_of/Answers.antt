@@ -1,7 +1,7 @@
 use Rattle.std.proofs.Common.{◌≡◌}
 use Rattle.std.specs.Prelude.{Err}
 use Rattle.std.proofs.lemmas.Result.{err_from_is_err_and}
-use Rattle.desk_past.proofs.InMemory.{none_failed}
+use Rattle.past_pages.proofs.Failing.{none_failed}
 use Rattle.told_pasts.proofs.Stops.{stops_first, stops_missing, stops_none}
 use Rattle.told_pasts.proofs.back.count_of.Goals as goal
 

@@ -1,9 +1,9 @@
 use Rattle.std.proofs.Common.{◌≡◌, ◌+◌, ◌∙◌, ap, arith, false, refl, rules, subst, sym}
 use Rattle.std.specs.Prelude.{Err}
 use Rattle.std.proofs.lemmas.Result.{err_from_is_err_and}
-use Rattle.desk_past.specs.Reading.{HasPage}
-use Rattle.desk_past.proofs.InMemory.{none_failed}
-use Rattle.desk_past.proofs.StillReads.{still_both, still_none, still_reads}
+use Rattle.past_pages.specs.Reading.{HasPage}
+use Rattle.past_pages.proofs.Failing.{none_failed}
+use Rattle.past_pages.proofs.StillReads.{still_both, still_none, still_reads}
 use Rattle.told_pasts.specs.declared.back.Pages.TheVariants.{Whole}
 use Rattle.told_pasts.proofs.Counted.{all_counted, count_left, counted_page, few_counted, none_counted, page_counted}
 use Rattle.told_pasts.proofs.Stops.{closed_stops, looks_stop, stops_later, stops_none}

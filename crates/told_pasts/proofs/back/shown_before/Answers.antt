@@ -1,13 +1,13 @@
 use Rattle.std.proofs.Common.{◌≡◌, ◌+◌, ◌-◌, ◌∙◌, ap, arith, length, refl, subst, sym}
 use Rattle.std.specs.Prelude.{Err}
+use Rattle.past_pages.proofs.Failing.{none_failed}
+use Rattle.past_pages.proofs.StillReads.{still_both}
 use Rattle.desk_past.specs.Chain.{WasInSpans}
 use Rattle.desk_past.proofs.Over.{lies_still, spans_still}
-use Rattle.std.proofs.lemmas.Result.{IfOk-weaker, err_from_is_err_and, on_ok_weaker}
 use Rattle.desk_past.specs.Past.{moment}
-use Rattle.desk_past.proofs.InMemory.{none_failed}
 use Rattle.desk_past.proofs.Opened.{if_some_always, some_then}
-use Rattle.desk_past.proofs.StillReads.{still_both}
 use Rattle.desk_past.proofs.Stepping.{deeds_up_to}
+use Rattle.std.proofs.lemmas.Result.{IfOk-weaker, err_from_is_err_and, on_ok_weaker}
 use Rattle.told_pasts.proofs.Reached.{has_before}
 use Rattle.told_pasts.proofs.Stops.{any_stops, stops_first, stops_none, stops_on}
 use Rattle.told_pasts.proofs.back.shown_before.Goals as goal

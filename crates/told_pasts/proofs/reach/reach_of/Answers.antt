@@ -2,9 +2,9 @@ use Rattle.std.proofs.Common.{◌≡◌, ◌∙◌, ap, false, rules, sym}
 use Rattle.std.specs.Prelude.{Err, IsSomeAnd}
 use Rattle.std.proofs.lemmas.Result.{err_from_is_err_and}
 use Rattle.sector_disk.specs.Trail.{now}
-use Rattle.desk_past.proofs.InMemory.{none_failed}
-use Rattle.desk_past.proofs.StillReads.{still_looked, still_none}
-use Rattle.desk_past.proofs.Told.{ok_of, shown_as}
+use Rattle.past_pages.proofs.Failing.{none_failed}
+use Rattle.past_pages.proofs.StillReads.{still_looked, still_none}
+use Rattle.past_pages.proofs.Told.{ok_of, shown_as}
 use Rattle.told_pasts.proofs.Reached.{part_found}
 use Rattle.told_pasts.proofs.Stops.{looks_stop, stops_first, stops_none}
 use Rattle.told_pasts.proofs.reach.reach_of.Goals as goal

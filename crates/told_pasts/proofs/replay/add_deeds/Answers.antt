@@ -1,6 +1,6 @@
 use Rattle.std.proofs.Common.{◌∙◌, refl}
 use Rattle.std.proofs.lemmas.Result.{err_from_is_err_and, on_ok_weaker}
-use Rattle.desk_past.proofs.StillReads.{still_none}
+use Rattle.past_pages.proofs.StillReads.{still_none}
 use Rattle.told_pasts.proofs.Replayed.{events_page, import_page, turn_page}
 use Rattle.told_pasts.proofs.Stops.{stops_memory, stops_none}
 use Rattle.told_pasts.proofs.replay.add_deeds.Goals as goal

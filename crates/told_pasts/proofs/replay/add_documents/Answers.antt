@@ -1,7 +1,8 @@
 use Rattle.std.proofs.Common.{◌≡◌}
 use Rattle.std.specs.Prelude.{Err}
 use Rattle.std.proofs.lemmas.Result.{err_from_is_err_and}
-use Rattle.desk_past.proofs.InMemory.{none_failed, whatever}
+use Rattle.past_pages.proofs.Failing.{none_failed}
+use Rattle.desk_past.proofs.InMemory.{whatever}
 use Rattle.told_pasts.proofs.Replayed.{told_there}
 use Rattle.told_pasts.proofs.Stops.{doing_then, ok_then, stops_doing, stops_first}
 use Rattle.told_pasts.proofs.replay.add_documents.Goals as goal

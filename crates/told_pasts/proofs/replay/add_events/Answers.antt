@@ -2,8 +2,9 @@ use Rattle.std.proofs.Common.{◌≡◌, ◌∙◌, refl, sym}
 use Rattle.std.specs.Prelude.{Err}
 use Rattle.std.proofs.lemmas.Bool.{eqb-true}
 use Rattle.std.proofs.lemmas.Result.{err_from_is_err_and}
-use Rattle.desk_past.proofs.InMemory.{none_failed, whatever}
-use Rattle.desk_past.proofs.StillReads.{still_none}
+use Rattle.past_pages.proofs.Failing.{none_failed}
+use Rattle.past_pages.proofs.StillReads.{still_none}
+use Rattle.desk_past.proofs.InMemory.{whatever}
 use Rattle.told_pasts.proofs.Replayed.{no_events_told, told_there}
 use Rattle.told_pasts.proofs.Stops.{doing_then, ok_then, stops_doing, stops_first, stops_none}
 use Rattle.told_pasts.proofs.replay.add_events.Goals as goal

@@ -2,10 +2,10 @@ use Rattle.std.proofs.Common.{◌≡◌, ◌∙◌, arith, refl, subst, sym}
 use Rattle.std.specs.Prelude.{Err}
 use Rattle.std.proofs.lemmas.Result.{err_from_is_err_and}
 use Rattle.sector_disk.specs.Trail.{now}
+use Rattle.past_pages.specs.Reading.{HasPage}
+use Rattle.past_pages.proofs.Failing.{none_failed}
+use Rattle.past_pages.proofs.StillReads.{still_both, still_none, still_reads}
 use Rattle.desk_past.specs.Deeds.{after_deeds}
-use Rattle.desk_past.specs.Reading.{HasPage}
-use Rattle.desk_past.proofs.InMemory.{none_failed}
-use Rattle.desk_past.proofs.StillReads.{still_both, still_none, still_reads}
 use Rattle.desk_past.proofs.TurnedBack.{past_behind}
 use Rattle.told_pasts.proofs.Reached.{its_end, its_pages, its_room}
 use Rattle.told_pasts.proofs.Replayed.{all_told, no_page_told, page_leads, page_left, page_there, page_told, past_leads}

@@ -1,6 +1,6 @@
 use Rattle.std.proofs.Common.{◌≡◌, ◌-◌}
 use Rattle.sector_disk.specs.Trail.{now}
-use Rattle.desk_past.specs.Reading.{IsOnlyReadFrom}
+use Rattle.past_pages.specs.Reading.{IsOnlyReadFrom}
 use Rattle.told_pasts.specs.Reaching.{HasReach}
 use Rattle.told_pasts.specs.Telling.{IsToShow}
 use Rattle.told_pasts.proofs.Replayed.{HasTold}

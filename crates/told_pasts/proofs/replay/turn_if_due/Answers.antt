@@ -1,8 +1,8 @@
 use Rattle.std.proofs.Common.{◌≡◌, ◌∙◌, refl, sym}
 use Rattle.std.specs.Prelude.{Err}
 use Rattle.std.proofs.lemmas.Result.{err_from_is_err_and}
-use Rattle.desk_past.proofs.InMemory.{none_failed}
-use Rattle.desk_past.proofs.StillReads.{still_none}
+use Rattle.past_pages.proofs.Failing.{none_failed}
+use Rattle.past_pages.proofs.StillReads.{still_none}
 use Rattle.told_pasts.proofs.Replayed.{none_due, turn_due}
 use Rattle.told_pasts.proofs.Stops.{moment_stops, stops_first, stops_missing, stops_none}
 use Rattle.told_pasts.proofs.replay.turn_if_due.Goals as goal

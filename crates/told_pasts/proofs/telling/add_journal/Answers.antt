@@ -2,8 +2,8 @@ use Rattle.std.proofs.Common.{◌≡◌, ◌∙◌, ◌-◌, ap, drop, length, s
 use Rattle.std.specs.Prelude.{Err}
 use Rattle.std.proofs.lemmas.Result.{err_from_is_err_and}
 use Rattle.sector_disk.specs.Trail.{now}
+use Rattle.past_pages.proofs.Failing.{none_failed}
 use Rattle.desk_past.specs.Deeds.{all_posted}
-use Rattle.desk_past.proofs.InMemory.{none_failed}
 use Rattle.told_pasts.specs.Telling.{IsToldOn}
 use Rattle.told_pasts.proofs.Lines.{last_ones}
 use Rattle.told_pasts.proofs.Stops.{doing_then, history_stops, ok_then, stops_doing, stops_first}

@@ -1,10 +1,10 @@
 use Rattle.std.proofs.Common.{◌≡◌, ◌-◌, ◌∙◌, ap, arith, sym, take}
 use Rattle.std.specs.Prelude.{Err}
 use Rattle.std.proofs.lemmas.Result.{IfOk-weaker, err_from_is_err_and, on_ok_weaker}
+use Rattle.past_pages.proofs.Failing.{none_failed}
+use Rattle.past_pages.proofs.StillReads.{still_both}
 use Rattle.desk_past.specs.Deeds.{after_deeds}
-use Rattle.desk_past.proofs.InMemory.{none_failed}
 use Rattle.desk_past.proofs.Opened.{some_then}
-use Rattle.desk_past.proofs.StillReads.{still_both}
 use Rattle.desk_past.proofs.Remembering.{read_keeps}
 use Rattle.desk_past.proofs.TurnedBack.{past_behind}
 use Rattle.told_pasts.proofs.Reached.{its_count}

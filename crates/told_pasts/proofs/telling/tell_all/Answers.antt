@@ -1,10 +1,10 @@
 use Rattle.std.proofs.Common.{◌≡◌, ◌++◌, ◌∙◌, ap, sym}
 use Rattle.std.specs.Prelude.{Err}
 use Rattle.std.proofs.lemmas.Result.{err_from_is_err_and}
+use Rattle.past_pages.proofs.Failing.{none_failed}
+use Rattle.past_pages.proofs.StillReads.{still_both, still_left, still_shows}
 use Rattle.desk_past.specs.Deeds.{after_deeds, all_posted}
 use Rattle.desk_past.specs.Past.{all_deeds}
-use Rattle.desk_past.proofs.InMemory.{none_failed}
-use Rattle.desk_past.proofs.StillReads.{still_both, still_left, still_shows}
 use Rattle.desk_past.proofs.TurnedBack.{past_behind}
 use Rattle.told_pasts.specs.Words.{told_lines}
 use Rattle.told_pasts.proofs.Lines.{lines_both}

@@ -1,9 +1,9 @@
 use Rattle.std.proofs.Common.{◌≡◌, ◌∙◌, arith, refl}
 use Rattle.std.specs.Prelude.{Err}
 use Rattle.std.proofs.lemmas.Result.{err_from_is_err_and}
-use Rattle.desk_past.proofs.InMemory.{none_failed}
+use Rattle.past_pages.proofs.Failing.{none_failed}
+use Rattle.past_pages.proofs.StillReads.{still_both}
 use Rattle.desk_past.proofs.Opened.{start_room}
-use Rattle.desk_past.proofs.StillReads.{still_both}
 use Rattle.told_pasts.proofs.Reached.{has_reach, reach_behind}
 use Rattle.told_pasts.proofs.Stops.{stops_first, stops_later, stops_none}
 use Rattle.told_pasts.proofs.telling.told_past.Goals as goal

@@ -1,4 +1,4 @@
-use Rattle.desk_past.proofs.StillReads.{still_both, still_none}
+use Rattle.past_pages.proofs.StillReads.{still_both, still_none}
 use Rattle.all_moments.proofs.all.AllMoments.come_before.Goals as goal
 
 pub loop-part-init : goal.loop-part-init

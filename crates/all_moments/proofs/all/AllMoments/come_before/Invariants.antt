@@ -1,4 +1,4 @@
-use Rattle.desk_past.specs.Reading.{IsOnlyReadFrom}
+use Rattle.past_pages.specs.Reading.{IsOnlyReadFrom}
 use Rattle.all_moments.specs.Parts.{AreAllMomentsOf}
 use Rattle.all_moments.proofs.all.AllMoments.come_before.Given as goal
 

@@ -1,6 +1,6 @@
 use Rattle.std.proofs.lemmas.Result.{on_ok_weaker}
 use Rattle.std.proofs.Common.{ap, arith}
-use Rattle.desk_past.proofs.StillReads.{still_both, still_none}
+use Rattle.past_pages.proofs.StillReads.{still_both, still_none}
 use Rattle.past_moments.specs.declared.moments.Moments.{Moments}
 use Rattle.all_moments.proofs.AtHand.{come_in_use}
 use Rattle.all_moments.proofs.all.AllMoments.come_to.Goals as goal

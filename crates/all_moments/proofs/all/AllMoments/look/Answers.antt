@@ -1,4 +1,4 @@
-use Rattle.desk_past.proofs.StillReads.{still_both}
+use Rattle.past_pages.proofs.StillReads.{still_both}
 use Rattle.past_moments.proofs.Kept.{found_then}
 use Rattle.all_moments.proofs.all.AllMoments.look.Goals as goal
 

@@ -1,6 +1,6 @@
 use Rattle.std.proofs.Common.{inl, inr, subst, sym}
 use Rattle.std.proofs.lemmas.Result.{IfOk-weaker, on_ok_weaker}
-use Rattle.desk_past.proofs.StillReads.{still_both}
+use Rattle.past_pages.proofs.StillReads.{still_both}
 use Rattle.past_moments.specs.Seeking.{IsBefore}
 use Rattle.all_moments.specs.Parts.{IsSoughtThen}
 use Rattle.all_moments.specs.Parts.IsSoughtThen.{in_use}

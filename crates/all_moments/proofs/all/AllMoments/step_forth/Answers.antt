@@ -1,5 +1,5 @@
 use Rattle.std.proofs.lemmas.Result.{on_ok_weaker}
-use Rattle.desk_past.proofs.StillReads.{still_both}
+use Rattle.past_pages.proofs.StillReads.{still_both}
 use Rattle.all_moments.proofs.AtHand.{all_now, all_stays}
 use Rattle.all_moments.proofs.Backward.{all_on}
 use Rattle.all_moments.proofs.all.AllMoments.step_forth.Goals as goal

@@ -1,5 +1,5 @@
 use Rattle.std.proofs.Common.{◌∙◌}
-use Rattle.desk_past.proofs.StillReads.{still_both}
+use Rattle.past_pages.proofs.StillReads.{still_both}
 use Rattle.past_looks.proofs.Carrying.{looker_same}
 use Rattle.past_looks.proofs.looker.Looker.go.Goals as goal
 

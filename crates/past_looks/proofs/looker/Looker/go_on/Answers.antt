@@ -1,5 +1,5 @@
 use Rattle.std.proofs.lemmas.Result.{on_ok_weaker}
-use Rattle.desk_past.proofs.StillReads.{still_both}
+use Rattle.past_pages.proofs.StillReads.{still_both}
 use Rattle.past_looks.proofs.looker.Looker.go_on.Goals as goal
 
 pub returns-clause-looker : goal.returns-clause-looker

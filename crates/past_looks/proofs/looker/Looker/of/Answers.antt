@@ -1,6 +1,6 @@
 use Rattle.std.proofs.lemmas.Result.{IfOk-weaker}
+use Rattle.past_pages.proofs.StillReads.{still_both}
 use Rattle.desk_past.proofs.Opened.{if_some_then}
-use Rattle.desk_past.proofs.StillReads.{still_both}
 use Rattle.past_looks.proofs.looker.Looker.of.Goals as goal
 
 pub returns-clause-is : goal.returns-clause-is

@@ -1,6 +1,6 @@
 use Rattle.std.proofs.Common.{◌∙◌, subst}
 use Rattle.std.proofs.lemmas.Result.{IfOk-weaker}
-use Rattle.desk_past.proofs.StillReads.{still_none}
+use Rattle.past_pages.proofs.StillReads.{still_none}
 use Rattle.past_looks.specs.Looking.{StaysOrTurns}
 use Rattle.past_looks.proofs.Carrying.{does_same, looker_same, stays_none, stays_read}
 use Rattle.past_looks.proofs.looker.Looker.press.Goals as goal

@@ -1,5 +1,5 @@
 use Rattle.std.proofs.Common.{refl}
-use Rattle.desk_past.proofs.StillReads.{still_none}
+use Rattle.past_pages.proofs.StillReads.{still_none}
 use Rattle.past_looks.proofs.Carrying.{looker_moved, looker_same}
 use Rattle.past_looks.proofs.looker.Looker.seek_on.Goals as goal
 

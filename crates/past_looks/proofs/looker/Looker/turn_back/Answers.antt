@@ -1,6 +1,6 @@
 use Rattle.std.proofs.Common.{◌∙◌, subst, sym}
 use Rattle.std.proofs.lemmas.Result.{IfOk-at_ok}
-use Rattle.desk_past.proofs.StillReads.{still_none}
+use Rattle.past_pages.proofs.StillReads.{still_none}
 use Rattle.past_moments.specs.Moments.{IsDesktopAt}
 use Rattle.all_moments.proofs.Backward.{then_in_use}
 use Rattle.past_looks.proofs.Carrying.{stays_turned, stays_none, stays_read, looker_alike, looker_on, looker_same}

@@ -1,5 +1,5 @@
 use Rattle.std.proofs.Common.{◌∙◌, arith}
-use Rattle.desk_past.proofs.StillReads.{still_looked, still_none}
+use Rattle.past_pages.proofs.StillReads.{still_looked, still_none}
 use Rattle.past_moments.proofs.Walking.{page_read, page_there}
 use Rattle.past_moments.proofs.extent.Extent.page_at.Goals as goal
 

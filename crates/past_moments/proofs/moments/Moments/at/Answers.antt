@@ -1,5 +1,5 @@
 use Rattle.std.proofs.Common.{◌∙◌, ◌≤◌, ap, refl, subst, sym}
-use Rattle.desk_past.proofs.StillReads.{still_both}
+use Rattle.past_pages.proofs.StillReads.{still_both}
 use Rattle.past_moments.specs.Moments.{IsDesktopAt, IsPagePlace}
 use Rattle.past_moments.specs.declared.extent.Place.{Place}
 use Rattle.past_moments.specs.declared.marks.Mark.{Mark}

@@ -1,7 +1,7 @@
 use Rattle.std.proofs.Common.{◌-◌, ◌∙◌, ap, refl, slice_get, subst, sym}
 use Rattle.std.proofs.lemmas.Result.{on_ok_weaker}
+use Rattle.past_pages.proofs.StillReads.{still_both}
 use Rattle.desk_past.specs.Deeds.{brought, posted}
-use Rattle.desk_past.proofs.StillReads.{still_both}
 use Rattle.past_moments.proofs.Carried.{deed_on, moment_on, moments_on}
 use Rattle.past_moments.proofs.Kept.{found_both, found_then, whatever}
 use Rattle.past_moments.proofs.Telling.{AreEvents, deed_event, deed_import, deed_late, deed_words, get_some, moment_deed, turn_words}

@@ -1,5 +1,5 @@
 use Rattle.std.proofs.Common.{◌∙◌, ap, arith, refl}
-use Rattle.desk_past.proofs.StillReads.{still_both, still_none}
+use Rattle.past_pages.proofs.StillReads.{still_both, still_none}
 use Rattle.past_moments.specs.declared.extent.Place.{Place}
 use Rattle.past_moments.specs.declared.marks.Mark.{Mark}
 use Rattle.past_moments.proofs.Carried.{extent_on, mark_on, marks_back, marks_on, moments_on, page_back, place_on}

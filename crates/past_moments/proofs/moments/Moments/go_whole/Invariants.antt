@@ -1,5 +1,5 @@
 use Rattle.std.proofs.Common.{◌-◌}
-use Rattle.desk_past.specs.Reading.{IsOnlyReadFrom}
+use Rattle.past_pages.specs.Reading.{IsOnlyReadFrom}
 use Rattle.past_moments.specs.Moments.{AreMomentsOf, IsMarkOf}
 use Rattle.past_moments.proofs.moments.Moments.go_whole.Given as goal
 

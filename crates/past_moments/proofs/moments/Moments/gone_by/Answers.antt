@@ -1,6 +1,6 @@
 use Rattle.std.proofs.Common.{◌≡◌, ◌∙◌, ◌+◌, ◌-◌, ap, arith, subst, sym, true}
 use Rattle.std.proofs.lemmas.Result.{IfOk-weaker}
-use Rattle.desk_past.proofs.StillReads.{still_none}
+use Rattle.past_pages.proofs.StillReads.{still_none}
 use Rattle.past_moments.specs.Seeking.{IsSoughtBy, stands, stands_at_moment}
 use Rattle.past_moments.specs.declared.seeking.Sought.TheVariants.{Before}
 use Rattle.past_moments.proofs.Gone.{sought_between}

@@ -1,7 +1,7 @@
 use Rattle.std.proofs.Common.{◌≤◌, ◌∙◌, ap, length, refl, subst, sym, take}
 use Rattle.std.proofs.lemmas.Result.{IfOk-weaker, on_ok_weaker}
 use Rattle.desktop_definitions.specs.Step.{steps}
-use Rattle.desk_past.proofs.StillReads.{still_both, still_none}
+use Rattle.past_pages.proofs.StillReads.{still_both, still_none}
 use Rattle.past_moments.specs.Seeking.{stands, stands_at_moment}
 use Rattle.past_moments.proofs.Carried.{mark_on, moments_on, sought_on}
 use Rattle.past_moments.proofs.Kept.{whatever}

@@ -1,6 +1,6 @@
 use Rattle.std.proofs.Common.{arith}
 use Rattle.std.proofs.lemmas.Result.{on_ok_weaker}
-use Rattle.desk_past.proofs.StillReads.{still_both}
+use Rattle.past_pages.proofs.StillReads.{still_both}
 use Rattle.past_moments.proofs.Kept.{found_then}
 use Rattle.past_moments.proofs.moments.Moments.look_led.Goals as goal
 

@@ -1,4 +1,4 @@
-use Rattle.desk_past.proofs.StillReads.{still_both}
+use Rattle.past_pages.proofs.StillReads.{still_both}
 use Rattle.past_moments.proofs.Carried.{extent_on}
 use Rattle.past_moments.proofs.Ways.{first_place}
 use Rattle.past_moments.proofs.moments.Moments.of.Goals as goal

@@ -1,5 +1,5 @@
 use Rattle.std.proofs.Common.{refl, subst, sym}
-use Rattle.desk_past.proofs.StillReads.{still_both}
+use Rattle.past_pages.proofs.StillReads.{still_both}
 use Rattle.past_moments.specs.Moments.{IsMarkOf}
 use Rattle.past_moments.proofs.Kept.{done_then, found_then}
 use Rattle.past_moments.proofs.moments.Moments.page_before.Goals as goal

@@ -1,4 +1,4 @@
-use Rattle.desk_past.proofs.StillReads.{still_both}
+use Rattle.past_pages.proofs.StillReads.{still_both}
 use Rattle.past_moments.proofs.Carried.{moments_on}
 use Rattle.past_moments.proofs.moments.Moments.step_forth.Goals as goal
 

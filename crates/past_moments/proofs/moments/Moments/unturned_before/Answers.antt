@@ -1,4 +1,4 @@
-use Rattle.desk_past.proofs.StillReads.{still_both}
+use Rattle.past_pages.proofs.StillReads.{still_both}
 use Rattle.past_moments.proofs.Carried.{marks_on, moments_on, place_on, same_on, extent_on}
 use Rattle.past_moments.proofs.Kept.{found_then}
 use Rattle.past_moments.proofs.moments.Moments.unturned_before.Goals as goal

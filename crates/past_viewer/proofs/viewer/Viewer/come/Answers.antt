@@ -1,5 +1,5 @@
 use Rattle.std.proofs.lemmas.Result.{err_from_is_err_and}
-use Rattle.desk_past.proofs.StillReads.{still_none}
+use Rattle.past_pages.proofs.StillReads.{still_none}
 use Rattle.past_viewer.proofs.Ending.{of_store}
 use Rattle.past_viewer.proofs.viewer.Viewer.come.Goals as goal
 

@@ -1,6 +1,6 @@
 use Rattle.std.proofs.Common.{None}
 use Rattle.std.proofs.lemmas.Result.{IfOk-weaker}
-use Rattle.desk_past.proofs.StillReads.{still_none}
+use Rattle.past_pages.proofs.StillReads.{still_none}
 use Rattle.past_viewer.specs.Viewing.IsViewed.{looked}
 use Rattle.past_viewer.specs.Viewing.TakesScenes.{none}
 use Rattle.past_viewer.specs.declared.viewer.Doing.TheVariants.{Stays}

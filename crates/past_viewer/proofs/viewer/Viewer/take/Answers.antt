@@ -1,6 +1,6 @@
 use Rattle.std.proofs.Common.{◌∙◌, refl}
 use Rattle.std.proofs.lemmas.Result.{err_from_is_err_and}
-use Rattle.desk_past.proofs.StillReads.{still_both}
+use Rattle.past_pages.proofs.StillReads.{still_both}
 use Rattle.past_viewer.specs.declared.viewer.Doing.TheVariants.{Leaves, Stays}
 use Rattle.past_viewer.proofs.Ending.{in_use, of_store, output_calm, rises_behind}
 use Rattle.past_looks.proofs.Carrying.{looker_same}
