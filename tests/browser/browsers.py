@@ -35,7 +35,7 @@ HARNESS = '''(() => {
         }
         const said = words[0], press = said.press || said.words?.press;
         if (press) tried.said.push(String.fromCharCode(...press));
-        if (press || said.bring || ['bring', 'past'].includes(said.ask)) tried.sent.push(performance.now());
+        if (press || said.bring || ['bring', 'forget', 'past'].includes(said.ask)) tried.sent.push(performance.now());
         return post.apply(this, words);
     };
 })()'''

@@ -38,7 +38,7 @@ RUN = '''(async () => {
     const made = kind => { const end = copied(kind); return crc(memory().subarray(Number(to), end)); };
     for (const gesture of gestures) {
         const bytes = Uint8Array.from(gesture, c => c.charCodeAt(0)), at = place(bytes);
-        const status = gesture === 'look' ? m.page_look(held) : m.page_press(held, at, BigInt(bytes.length));
+        const status = ['look', 'forget'].includes(gesture) ? m['page_' + gesture](held) : m.page_press(held, at, BigInt(bytes.length));
         m.page_give_back(at);
         out.push([status, made(0), made(1), made(2), m.page_rings(held), m.page_leaves(held), m.page_looks(held), m.page_pointer(held)]);
     }
@@ -63,7 +63,7 @@ def gesture():
     if kind < 0.7:
         return '\x1b[200~' + ''.join(random.choice('abc \r\n\t') for _ in range(random.randint(0, 60))) + '\x1b[201~'
     if kind < 0.71:
-        return 'look'
+        return 'look' if kind < 0.709 else 'forget'
     if kind < 0.73:
         return ''.join(chr(random.randint(0, 255)) for _ in range(random.randint(1, 6))).replace('\x11', '')
     if kind < 0.85:
@@ -77,14 +77,15 @@ def natively(gestures):
         library = ctypes.CDLL(f'{folder}/page.so')
     place, size = ctypes.c_void_p, ctypes.c_size_t
     library.page_press.argtypes, library.page_begin.argtypes = [place, ctypes.c_char_p, size], [place, ctypes.c_uint32]
-    library.page_start.argtypes = library.page_look.argtypes = library.page_looks.argtypes = [place]
+    library.page_start.argtypes = library.page_look.argtypes = library.page_looks.argtypes = library.page_forget.argtypes = [place]
+    calls = {'look': library.page_look, 'forget': library.page_forget}
     library.page_copy.argtypes, library.page_copy.restype = [place, ctypes.c_uint32, place, size], size
     library.page_rings.argtypes = library.page_leaves.argtypes = library.page_pointer.argtypes = [place]
     held, to = ctypes.byref(ctypes.c_uint64(0)), ctypes.create_string_buffer(1 << 22)
     library.page_start(held)
     library.page_begin(held, 1)
     for one in gestures:
-        made = [library.page_look(held) if one == 'look' else library.page_press(held, one.encode('latin1'), len(one))]
+        made = [calls[one](held) if one in calls else library.page_press(held, one.encode('latin1'), len(one))]
         for kind in range(3):
             made.append(zlib.crc32(ctypes.string_at(to, library.page_copy(held, kind, to, 1 << 22))))
         yield made + [call(held) for call in (library.page_rings, library.page_leaves, library.page_looks, library.page_pointer)]

@@ -1,8 +1,8 @@
 #!/usr/bin/env python3
 """pasts.py: the past in the page, in each browser. Ctrl-Z reaches over a reload; Ctrl-P and the button
 show the past, keys lead through it and seek a word, Return turns back to what is shown; what is selected there can be copied, and a
-document given as it was; the store is saved with its past and opened again; where the medium has no room for a past the desktop
-opens without one. Each line says what should be so, and whether it is; the status is 1 where something isn't."""
+document given as it was; the store is saved with its past and opened again; the past is forgotten by a button that asks first;
+where the medium has no room for a past the desktop opens without one. Each line says what should be so, and whether it is; the status is 1 where something isn't."""
 import shutil
 import sys
 
@@ -107,6 +107,39 @@ def tried(kind):
     shutil.rmtree(profile, ignore_errors=True)
 
 
+def forgotten(kind):
+    """A word that was deleted goes with the past, and what is shown stays."""
+    say = lambda what, holds, more='': check(kind, 'pasts', what, holds, more)
+    url, profile = served(), room()
+    page = opened(kind, url, profile)
+    page.call('Edit.Open', 50)
+    page.click(2, 1)
+    page.type('secret')
+    for _ in 'secret':
+        press(page, 'Backspace', wait=0.2)
+    page.type('kept')
+    there = page.rows()
+    press(page, 'p', True)
+    page.js('window.answerNo = true')
+    click_on(page, 'forget')
+    page.wait(1)
+    say('the page asks before it forgets a past', 'Forget the past' in page.js('window.askedFor'), page.js('window.askedFor'))
+    say('and forgets nothing where the answer is no', page.js(IN_PAST) and 'Nothing was forgotten' in page.note(), page.note())
+    page.js('window.answerNo = false')
+    click_on(page, 'forget')
+    page.until("document.getElementById('note').textContent.includes('The past is forgotten')")
+    say('what is forgotten leaves what the desktop shows', not page.js(IN_PAST) and page.rows() == there, shown(page))
+    page.quit()
+    page = opened(kind, url, profile)
+    say('also over another start', 'kept' in page.text(1, 50), shown(page))
+    press(page, 'p', True)
+    press(page, 'Home')
+    say('and no moment before it is there', page.js(IN_PAST) and 'kept' in page.text(1, 50), shown(page))
+    press(page, 'Escape')
+    page.quit()
+    shutil.rmtree(profile, ignore_errors=True)
+
+
 def without_room(kind):
     """A store that an earlier page made, on a medium that has room for it and for nothing behind it."""
     url = changed(FULL)
@@ -134,5 +167,6 @@ if __name__ == '__main__':
         sys.exit(print('no browser here: skipped'))
     for one in kinds:
         tried(one)
+        forgotten(one)
         without_room(one)
     sys.exit(bool(WRONG))

@@ -66,6 +66,17 @@ async function look() {
     if (refused) tell({ said: wordsOf(refused) });
 }
 by('past').onclick = () => { look(); keys.focus(); };
+async function forget() {
+    const asks = 'Forget the past of this desktop? What it shows now stays, and so do all its documents. All earlier moments go, ' +
+        'for good: what was deleted or changed, and each step back. Bytes of the last of it may stay in the desktop\'s own part of ' +
+        'the store, until that is written over. Cancel forgets nothing.';
+    if (!confirm(asks)) return tell({ said: 'Nothing was forgotten.' });
+    state.changed = true;
+    const { refused, failed } = await ask('forget');
+    if (failed) return null;
+    return tell({ said: refused ? wordsOf(refused) : 'The past is forgotten. One begins anew with what you see.' });
+}
+by('forget').onclick = () => { forget(); keys.focus(); };
 
 // ---- Text goes to the desktop as a paste does, in ASCII: what isn't becomes what is nearest, as by `desk import --ascii`.
 const LIKE = {

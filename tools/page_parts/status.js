@@ -19,6 +19,7 @@ const WORDS = {
     6: 'A document\'s name is a letter, and then letters, digits and periods: 31 characters at most.',
     7: 'Only a plain text can be a document: ASCII, and at most 262,144 characters.',
     8: 'There is no document of that name.', 9: 'The desktop has no room for that.', 10: 'This desktop keeps no past.',
+    11: 'The past stays: there is no room for one that begins anew.',
 };
 const UNREAD = [2, 3, 4];
 function wordsOf(error) {

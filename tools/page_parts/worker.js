@@ -170,6 +170,11 @@ const ASKED = {
         const refused = desk.call('page_look');
         return refused ? { refused } : done(0);
     },
+    async forget() {                                      // it begins anew, or stays; the page is shown then
+        const refused = desk.call('page_forget');
+        if (refused) desk.call('page_press', spelled(''));
+        return { ...await done(0), refused };
+    },
     there: ({ names }) => ({ there: names.filter(name => desk.call('page_give', spelled(name)) === 0) }),
     async bring({ documents }) {                          // all of them, or none where one is refused
         for (const [i, { name, bytes }] of documents.entries()) {

@@ -1,7 +1,7 @@
 -- The status of the program after a sitting.
 use Rattle.std.specs.Prelude.{ℕ, Bool, if◌then◌else◌}
-use Rattle.desk_sitting.specs.declared.ending.SittingEnd.{SittingEnd}
-use Rattle.desk_sitting.specs.declared.ending.SittingEnd.TheVariants.{Left, Closed, Input, TooLong, Output, Fault, Memory}
+use Rattle.terminal_sittings.specs.declared.ending.SittingEnd.{SittingEnd}
+use Rattle.terminal_sittings.specs.declared.ending.SittingEnd.TheVariants.{Left, Closed, Input, TooLong, Output, Fault, Memory}
 
 -- over a store in a file that has its name still
 abbrev pub named_status : SittingEnd → ℕ

@@ -2,9 +2,9 @@
 ghost use Rattle.std.specs.Prelude.{◌≡◌};
 ghost use Rattle.desk.specs.Statuses.{kept_status, lost_status, named_status};
 
-use desk_sitting::SittingEnd;
 use host_files::is_there;
 use std::io;
+use terminal_sittings::SittingEnd;
 
 /// Says how a sitting over a store in a file ended, where the person didn't leave, and that the file of that name is gone,
 /// if it is; and returns the status.

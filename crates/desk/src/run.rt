@@ -1,5 +1,5 @@
 //! What a run of the program `desk` does: its arguments say what (`orders`), and it is done over a store (the crates
-//! `cli_stores`, `cli_copies` and `cli_documents`). A person who sits down is served by `serve` of `desk_sitting` (`sitting`).
+//! `cli_stores`, `cli_copies` and `cli_documents`). A person who sits down is served by `serve` of `terminal_sittings` (`sitting`).
 
 use crate::orders::{Export, Import, Order, Sit, order_of};
 use crate::sitting::{Service, sit_at, sit_at_pair, sit_in_memory};
@@ -11,9 +11,9 @@ use cli_documents::{
 };
 use cli_imports::{Manner, import, import_to_pair};
 use cli_stores::{Trouble, picture};
-use desk_sitting::Saying;
 use host_files::hold_streams;
 use program_arguments::{Refusal, words};
+use status_line::Saying;
 use twin_files::{PairTrouble, check_pair};
 
 /// Does what the arguments of the program ask for, and returns the status: 0 when done, 1 where a document is refused,

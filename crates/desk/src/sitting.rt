@@ -1,21 +1,24 @@
 //! A person at a terminal, over a store in a file or in memory.
 ghost use Rattle.std.specs.Prelude.{◌≡◌, false, IfOk, OnOk};
-ghost use Rattle.desk_sitting.specs.Serving.{IsUsableAt};
+ghost use Rattle.terminal_sittings.specs.Serving.{IsUsableAt};
 
 use crate::endings::{kept, lost};
 use byte_streams::{AnswerWriter, CountedWriter};
 use cli_stores::{NewFile, Trouble, in_memory, make, new_file};
 use desk_journal::{Error, Store};
 use desk_past::{Outset, go_on};
-use desk_sitting::{MOST_TURNS, Past, Saying, SittingEnd, serve};
+use desk_sitting::MOST_TURNS;
+use done_presses::Past;
 use host_files::{HostFault, LockedFile, lock_alone};
 use host_stores::{FileDisk, with_past_room, without_twin};
 use past_viewer::{PastKeys, ViewEnd, Window as Size, view};
 use screen_drawing::{ring, send_bytes};
 use sector_disk::Disk;
+use status_line::Saying;
 use std::fs::File;
 use std::io::BufWriter;
 use terminal_keyboard::{DeskKeyboard, Keyboard, StandardInput};
+use terminal_sittings::{SittingEnd, serve};
 use twin_disk::Leg;
 use twin_files::{OpenedPair, PairTrouble, PairWatch, WatchedKeyboard, open_pair};
 

@@ -17,9 +17,9 @@ use Rattle.terminal_keyboard.specs.Presses.{at_rest}
 use Rattle.viewer_tracks.specs.declared.display.TheConstants.{COLUMNS}
 use Rattle.desk_sitting.specs.Sittings.{new_sitting}
 use Rattle.desk_page.specs.declared.page.TheConstants.{HEIGHT}
-use Rattle.desk_page.specs.Recording.{Recording, trail_since}
+use Rattle.page_disks.specs.Recording.{Recording, trail_since}
 use Rattle.desk_page.specs.Turns.{HostPage, IsMade}
-use Rattle.desk_page.specs.contracts.disk.RecordedDiskDisk.TheImpl.{ghosts}
+use Rattle.page_disks.specs.contracts.disk.RecordedDiskDisk.TheImpl.{ghosts}
 use Rattle.desk_page.proofs.Reopened.{shows_the_same}
 
 module _ {D : Type 0} (d : Ghosts D) (law : ShowingLaw) (disk made : D) (store : StoreView D) where

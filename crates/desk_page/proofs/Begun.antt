@@ -4,7 +4,7 @@ use Rattle.std.proofs.lemmas.Bool.{true≢false}
 use Rattle.sector_disk.specs.declared.disk.Disk.{Ghosts}
 use Rattle.store_layout.specs.declared.layout.TheConstants.{LAST_EPOCH}
 use Rattle.desk_journal.specs.Errors.{Error, NoMemory, Fault, MustReopen, OfPost, Worn}
-use Rattle.desk_page.specs.Recording.{Recording}
+use Rattle.page_disks.specs.Recording.{Recording}
 use Rattle.desk_page.specs.Turns.{HostPage, Begins, IsMadeOrFound, IsNotBegun, IsOfMemory, KeepsFrom, faulty, starved}
 
 -- the epochs aren't used up, and the store needn't be opened again

@@ -7,20 +7,21 @@ use Rattle.sector_disk.specs.declared.disk.Disk.{Ghosts}
 use Rattle.desktop_definitions.specs.Desktop.{Desktop}
 use Rattle.desk_journal.specs.Errors.{Error}
 use Rattle.store_documents.specs.HostText.{imported}
-use Rattle.desk_page.specs.Recording.{Recording}
+use Rattle.page_disks.specs.Recording.{Recording}
 use Rattle.desk_page.specs.declared.kept.Kept.{Kept}
 use Rattle.desk_page.specs.declared.scene.Scene.{Scene}
 use Rattle.desk_page.specs.declared.looks.Desk.{Desk}
 use Rattle.desk_page.specs.declared.looks.Desk.TheVariants.{Present}
+use Rattle.desk_page.specs.Forgetting.{ForgetsOrNot}
 use Rattle.desk_page.specs.Looks.{IsNotPressedAt, IsOfLook, LooksAtPast, PressesDesk, shown_desktop, page_of}
 use Rattle.desk_page.specs.Calls.{AnswersAsk, AnswersBegin, AnswersBring, AnswersLook, AnswersPress, IsEnded, IsOnlyAsked}
 use Rattle.desk_page.specs.Calls.{IsUncalled, TellsNoCall, begun, broken, brought, failed, lost, pressed, refused, shown}
-use Rattle.desk_page.specs.Calls.{turned_down, unkept, unlooked}
+use Rattle.desk_page.specs.Calls.{AnswersForget, anew, stays, stopped, turned_down, unkept, unlooked}
 use Rattle.desk_page.specs.Looks.LooksAtPast.{has_none, shows}
 use Rattle.desk_page.specs.Calls.{given as given_to, missing as missing_of}
-use Rattle.desk_page.specs.Statuses.{no_room, not_there, status_of_error, without_past}
+use Rattle.desk_page.specs.Statuses.{no_room, not_there, past_stays, status_of_error, without_past}
 use Rattle.desk_page.specs.Turns.{HostPage, Begins, BringsOrTurnsDown, Documents, IsHanded, IsNotBegun}
-use Rattle.desk_page.specs.Turns.{IsUnbrought, IsWithheld, faulty, starved}
+use Rattle.desk_page.specs.Turns.{IsStopped, IsWithheld, faulty, starved}
 
 -- the scene is as it was but for its calls
 pub tells_none : (old new : Kept) (scene : Scene) → new.scene ≡ scene → scene.calls.items ≡ []
@@ -137,6 +138,34 @@ module _ (d : Ghosts Recording) where
   not_looked before old new error status was why ended told =
       subst (AnswersLook d old new) (sym told) (lost before error was why ended)
 
+  -- the past is forgotten, or it stays
+  pub is_forgotten : (before : Desk) (after : HostPage) (scene : Option Scene) (old new : Kept) (status : ℕ)
+      → old.desk ≡ Some before → ForgetsOrNot d (page_of before) after scene → new.desk ≡ Some (Present after)
+      → new.text ≡ old.text → IfSome scene (λ s. (new.scene ≡ s) × (status ≡ 0))
+      → (scene ≡ None → TellsNoCall old new × (status ≡ past_stays)) → AnswersForget d old new status
+  is_forgotten before after (Some scene) old new status was forgets kept text handed left =
+      subst (AnswersForget d old new) (sym handed.1) (anew before was (record {
+        after = after;
+        forgets = subst (λ s. ForgetsOrNot d (page_of before) after (Some s)) (sym handed.0) forgets;
+        kept = kept;
+        text = text;
+      }))
+  is_forgotten before after None old new status was keeps kept text handed left =
+      let both = left refl in
+      subst (AnswersForget d old new) (sym both.1) (stays before was (record {
+        after = after;
+        keeps = keeps;
+        kept = kept;
+        text = text;
+        untold = both.0;
+      }))
+
+  pub not_forgotten : (before : Desk) (old new : Kept) (error : Error) (status : ℕ) → old.desk ≡ Some before
+      → IsStopped (page_of before) error → IsEnded old new → status ≡ status_of_error error
+      → AnswersForget d old new status
+  not_forgotten before old new error status was why ended told =
+      subst (AnswersForget d old new) (sym told) (stopped before error was why ended)
+
   -- documents, by whether they are brought or turned down
   pub are_answered : (name file : List ℕ) (documents : Documents) (scene : Option Scene) (before : Desk)
       (after : HostPage) (old new : Kept) (status : ℕ)
@@ -169,7 +198,7 @@ module _ (d : Ghosts Recording) where
       }))
 
   pub not_brought : (name file : List ℕ) (before : Desk) (old new : Kept) (error : Error) (status : ℕ)
-      → old.desk ≡ Some before → IsUnbrought (page_of before) error → IsEnded old new
+      → old.desk ≡ Some before → IsStopped (page_of before) error → IsEnded old new
       → status ≡ status_of_error error → AnswersBring d name file old new status
   not_brought name file before old new error status was why ended told =
       subst (AnswersBring d name file old new) (sym told) (broken before error was why ended)

@@ -10,7 +10,7 @@ use Rattle.desk_page.specs.Known.{IsCalled, KnowsShown, StaysKnown}
 use Rattle.desk_page.specs.Looks.{KnowsPast, LooksAtDesk, LooksAtPast, PressesDesk, PressesLook}
 use Rattle.desk_page.specs.Looks.LooksAtPast.{has_none, shows}
 use Rattle.desk_page.specs.Looks.PressesLook.{goes_back, looks_on, turns}
-use Rattle.desk_page.specs.Recording.{Recording}
+use Rattle.page_disks.specs.Recording.{Recording}
 use Rattle.desk_page.specs.Turns.{HostPage}
 use Rattle.desk_page.specs.declared.kept.Kept.{Kept}
 use Rattle.desk_page.specs.declared.looks.Desk.{Desk}
@@ -65,6 +65,15 @@ module _ (d : Ghosts Recording) where
       known_same look.kept (past_shown _ look.after _ look.none)
   looked_known old new status (calls.no_desk none same) is = known_same same.desk is
   looked_known old new status (calls.lost before error was why ended) is = known_none ended.desk
+
+  -- ---- a past that is forgotten
+
+  forgot_known : (old new : Kept) (status : ℕ) → calls.AnswersForget d old new status
+      → KnowsShown d old.desk → KnowsShown d new.desk
+  forgot_known old new status (calls.anew before was all) is = known_present all.after all.kept
+  forgot_known old new status (calls.stays before was all) is = known_present all.after all.kept
+  forgot_known old new status (calls.none_kept none same) is = known_same same.desk is
+  forgot_known old new status (calls.stopped before error was why ended) is = known_none ended.desk
 
   -- ---- what is asked for
 
@@ -122,6 +131,7 @@ module _ (d : Ghosts Recording) where
   stays_known old new (known.begins past status answers) is = begun_known past old new status answers is
   stays_known old new (known.presses bytes status answers) is = pressed_known bytes old new status answers is
   stays_known old new (known.looks status answers) is = looked_known old new status answers is
+  stays_known old new (known.forgets status answers) is = forgot_known old new status answers is
   stays_known old new (known.brings name file status answers) is = brought_known name file old new status answers is
   stays_known old new (known.keeps name file status answers) is = kept_known name file old new status answers is
   stays_known old new (known.gives name status answers) is = given_known name old new status answers is

@@ -1,13 +1,10 @@
-pub mod Spellings
-pub mod Repeated
-pub mod Recorded
 pub mod Values
 pub mod Places
 pub mod Reopened
 pub mod Beginnings
 pub mod Turning
-pub mod Loaded
 pub mod Keeping
 pub mod Begun
 pub mod Looked
+pub mod Forgotten
 pub mod Known

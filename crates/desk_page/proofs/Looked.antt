@@ -14,7 +14,7 @@ use Rattle.past_looks.specs.declared.looker.Doing.{Doing}
 use Rattle.past_looks.specs.declared.looker.Doing.TheVariants.{Stays, Leaves, Turned}
 use Rattle.past_looks.specs.declared.looker.Looker.{Looker}
 use Rattle.past_looks.proofs.Carrying.{looker_alike}
-use Rattle.desk_page.specs.Recording.{Recording}
+use Rattle.page_disks.specs.Recording.{Recording}
 use Rattle.desk_page.specs.declared.looks.Desk.{Desk}
 use Rattle.desk_page.specs.declared.looks.Desk.TheVariants.{Past}
 use Rattle.desk_page.specs.declared.looks.Looking.{Looking}

@@ -16,19 +16,19 @@ use Rattle.status_line.specs.declared.saying.Saying.TheVariants.{Greeting}
 use Rattle.viewer_tracks.specs.declared.display.TheConstants.{COLUMNS}
 use Rattle.terminal_presses.specs.declared.press.Heard.{Heard}
 use Rattle.terminal_keyboard.specs.Presses.{at_rest, parser_after, presses_heard}
-use Rattle.desk_sitting.specs.declared.serving.TheConstants.{MOST_TURNS}
+use Rattle.desk_sitting.specs.declared.sitting.TheConstants.{MOST_TURNS}
 use Rattle.desk_sitting.specs.declared.sitting.Sitting.{Sitting}
 use Rattle.desk_sitting.specs.Sittings.{new_sitting}
 use Rattle.screen_drawing.specs.Drawn.{drawing_of}
-use Rattle.desk_page.specs.Recording.{Recording}
-use Rattle.desk_page.specs.Spelling.{spelling_of_calls}
+use Rattle.page_disks.specs.Recording.{Recording}
+use Rattle.page_disks.specs.Spelling.{spelling_of_calls}
 use Rattle.desk_page.specs.Hearing.{Hears, heard_of}
 use Rattle.desk_page.specs.Lines.{page_line, page_shown}
 use Rattle.desk_page.specs.declared.scene.Scene.{Scene}
-use Rattle.desk_page.specs.contracts.disk.RecordedDiskDisk.TheImpl.{ghosts}
+use Rattle.page_disks.specs.contracts.disk.RecordedDiskDisk.TheImpl.{ghosts}
 use Rattle.desk_page.specs.declared.page.TheConstants.{HEIGHT}
 use Rattle.desk_page.specs.Turns.{HostPage, AreTravelled, IsHanded, IsMadeOrFound, IsNotBegun, IsNotPressed, IsToldAll}
-use Rattle.desk_page.specs.Turns.{IsUnbrought, IsWithheld, OfTravels, Presses, damaged, faulty, foreign, starved}
+use Rattle.desk_page.specs.Turns.{IsStopped, IsWithheld, OfTravels, Presses, damaged, faulty, foreign, starved}
 
 -- ---- why a page isn't handed out
 
@@ -48,10 +48,10 @@ withheld_later old page error usable why = elim why [
   | inr (inr both) ↦ absurd (true≢false (sym both.1 ∙ usable))
 ]
 
--- documents weren't brought
-pub unbrought : (page : HostPage) (error : Error) → OfPost error
-    → (error ≡ MustReopen → page.store.must_reopen ≡ true) → (error ≡ Worn → IsLast page.store) → IsUnbrought page error
-unbrought page error why reopen worn = elim why [
+-- a call stopped that ends an epoch
+pub stopped_so : (page : HostPage) (error : Error) → OfPost error
+    → (error ≡ MustReopen → page.store.must_reopen ≡ true) → (error ≡ Worn → IsLast page.store) → IsStopped page error
+stopped_so page error why reopen worn = elim why [
   | inl memory ↦ inl (inl memory)
   | inr (inl fault) ↦ inl (inr (inl fault))
   | inr (inr (inl is)) ↦ inl (inr (inr (is, reopen is)))

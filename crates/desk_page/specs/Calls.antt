@@ -10,17 +10,18 @@ use Rattle.store_documents.specs.declared.file_bytes.Unfit.TheVariants as unfit
 use Rattle.store_documents.specs.HostText.{imported}
 use Rattle.terminal_presses.specs.Pointers.{pointer_cell}
 use Rattle.viewer_tracks.specs.declared.display.TheConstants.{COLUMNS}
+use Rattle.desk_page.specs.Forgetting.{Forgets, KeepsItsPast}
 use Rattle.desk_page.specs.Giving.{given_text}
-use Rattle.desk_page.specs.Loading.{HasLoaded, disk_to_load}
+use Rattle.page_disks.specs.Loading.{HasLoaded, disk_to_load}
 use Rattle.desk_page.specs.Looks.{IsNotPressedAt, IsOfLook, LooksAtDesk, LooksAtPast, PressesDesk, shown_desktop, page_of}
-use Rattle.desk_page.specs.Recording.{Recording}
+use Rattle.page_disks.specs.Recording.{Recording}
 use Rattle.desk_page.specs.declared.kept.Kept.{Kept}
 use Rattle.desk_page.specs.declared.kept.Made.{Made}
 use Rattle.desk_page.specs.declared.kept.Made.TheVariants.{Drawing, Line, Calls, Text}
 use Rattle.desk_page.specs.declared.looks.Desk.{Desk}
 use Rattle.desk_page.specs.declared.looks.Desk.TheVariants.{Present, Past}
-use Rattle.desk_page.specs.Statuses.{gone, without_past, not_there, no_name, no_room, status_of_error, status_of_file}
-use Rattle.desk_page.specs.Turns.{HostPage, Begins, Brings, IsHanded, IsNotBegun, IsUnbrought, IsWithheld}
+use Rattle.desk_page.specs.Statuses.{gone, without_past, not_there, no_name, no_room, past_stays, status_of_error, status_of_file}
+use Rattle.desk_page.specs.Turns.{HostPage, Begins, Brings, IsHanded, IsNotBegun, IsStopped, IsWithheld}
 use Rattle.desk_page.specs.Turns.{TurnsDown}
 
 -- what the last call made
@@ -170,6 +171,32 @@ module _ (d : Ghosts Recording) where
         → IsWithheld (page_of before) error → IsEnded old new
         → AnswersLook old new (status_of_error error)
 
+  -- the past of the page is forgotten
+  pub record IsPastForgotten (before : Desk) (old new : Kept) : Type 0 where
+    pub after : HostPage
+    pub forgets : Forgets d (page_of before) after new.scene
+    pub kept : new.desk ≡ Some (Present after)
+    pub text : new.text ≡ old.text
+
+  -- or it stays
+  pub record IsPastLeft (before : Desk) (old new : Kept) : Type 0 where
+    pub after : HostPage
+    pub keeps : KeepsItsPast d (page_of before) after
+    pub kept : new.desk ≡ Some (Present after)
+    pub text : new.text ≡ old.text
+    pub untold : TellsNoCall old new
+
+  -- `forget`: the page is shown then, and no past. After an error nothing is kept, and no call of the disk is told.
+  pub data AnswersForget (old new : Kept) : ℕ → Type 0 where
+    anew : (before : Desk) → old.desk ≡ Some before → IsPastForgotten before old new
+        → AnswersForget old new 0
+    stays : (before : Desk) → old.desk ≡ Some before → IsPastLeft before old new
+        → AnswersForget old new past_stays
+    none_kept : old.desk ≡ None → IsUncalled old new → AnswersForget old new gone
+    stopped : (before : Desk) (error : Error) → old.desk ≡ Some before
+        → IsStopped (page_of before) error → IsEnded old new
+        → AnswersForget old new (status_of_error error)
+
   -- the document of that name of a file of the host's, and those that were kept before it, are brought
   pub record IsBrought (name file : List ℕ) (before : HostPage) (old new : Kept) : Type 0 where
     pub document : List ℕ
@@ -201,7 +228,7 @@ module _ (d : Ghosts Recording) where
         → AreTurnedDown name file (page_of before) old new
         → AnswersBring name file old new no_room
     broken : (before : Desk) (error : Error) → old.desk ≡ Some before
-        → IsUnbrought (page_of before) error → IsEnded old new
+        → IsStopped (page_of before) error → IsEnded old new
         → AnswersBring name file old new (status_of_error error)
 
   -- Somebody looks at what is shown.

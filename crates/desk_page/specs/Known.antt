@@ -2,10 +2,10 @@
 use Rattle.std.specs.Prelude.{ℕ, Bool, List, Option, Some}
 use Rattle.sector_disk.specs.declared.disk.Disk.{Ghosts}
 use Rattle.desk_page.specs.Calls.{AnswersAsk, AnswersBegin, AnswersBring, AnswersBringMore, AnswersGive, AnswersLoad}
-use Rattle.desk_page.specs.Calls.{AnswersLook, AnswersPress}
+use Rattle.desk_page.specs.Calls.{AnswersForget, AnswersLook, AnswersPress}
 use Rattle.desk_page.specs.Giving.{selected_text}
 use Rattle.desk_page.specs.Looks.{KnowsPast}
-use Rattle.desk_page.specs.Recording.{Recording}
+use Rattle.page_disks.specs.Recording.{Recording}
 use Rattle.desk_page.specs.declared.kept.Kept.{Kept}
 use Rattle.desk_page.specs.declared.looks.Desk.{Desk}
 use Rattle.desk_page.specs.declared.looks.Desk.TheVariants.{Past}
@@ -24,6 +24,7 @@ module _ (d : Ghosts Recording) where
     presses : (bytes : List ℕ) (status : ℕ) → AnswersPress d bytes old new status
         → IsCalled old new
     looks : (status : ℕ) → AnswersLook d old new status → IsCalled old new
+    forgets : (status : ℕ) → AnswersForget d old new status → IsCalled old new
     brings : (name file : List ℕ) (status : ℕ) → AnswersBring d name file old new status
         → IsCalled old new
     keeps : (name file : List ℕ) (status : ℕ) → AnswersBringMore name file old new status

@@ -16,7 +16,7 @@ use Rattle.desk_sitting.specs.Sittings.{new_sitting}
 use Rattle.desk_sitting.specs.declared.sitting.Sitting.{Sitting}
 use Rattle.viewer_tracks.specs.declared.display.TheConstants.{COLUMNS}
 use Rattle.desk_page.specs.Giving.{LooksAtStore}
-use Rattle.desk_page.specs.Recording.{Recording}
+use Rattle.page_disks.specs.Recording.{Recording}
 use Rattle.desk_page.specs.declared.looks.Desk.{Desk}
 use Rattle.desk_page.specs.declared.looks.Desk.TheVariants.{Present, Past}
 use Rattle.desk_page.specs.declared.looks.Looking.{Looking}

@@ -1,5 +1,5 @@
 -- What a call comes to, as the host is told: 0 where it is done, and else why not. After 1 to 5 a host has to begin anew,
--- and after 6 to 10 it goes on.
+-- and after 6 to 11 it goes on.
 use Rattle.std.specs.Prelude.{ℕ}
 use Rattle.desk_journal.specs.Errors.{Error, NotAStore, Damaged, TooSmall, Worn, Fault, NoMemory, MustReopen}
 use Rattle.store_documents.specs.declared.file_bytes.Unfit.{Unfit}
@@ -34,6 +34,10 @@ no_room = 9
 -- the store keeps no past that can be read
 abbrev pub without_past : ℕ
 without_past = 10
+
+-- the past isn't forgotten
+abbrev pub past_stays : ℕ
+past_stays = 11
 
 abbrev pub status_of_file : Unfit → ℕ
 status_of_file unfit.NoMemory = 1

@@ -25,15 +25,15 @@ use Rattle.desk_past.specs.Going.{ForgetsNone, IsDueOutset, IsOutsetOf}
 use Rattle.desk_past.specs.Writing.{LiesInOldest, WritesOnly}
 use Rattle.desk_past.specs.declared.going_on.Outset.{Outset}
 use Rattle.terminal_keyboard.specs.Presses.{at_rest, parser_after, presses_heard}
-use Rattle.desk_sitting.specs.declared.serving.TheConstants.{MOST_TURNS}
+use Rattle.desk_sitting.specs.declared.sitting.TheConstants.{MOST_TURNS}
 use Rattle.desk_sitting.specs.declared.sitting.Sitting.{Sitting}
 use Rattle.status_line.specs.declared.saying.Saying.TheVariants.{Greeting}
 use Rattle.desk_sitting.specs.Sittings.{new_sitting}
 use Rattle.desk_sitting.specs.Travels.{IsTravelled}
 use Rattle.desk_sitting.specs.TheDesk.{the_desk}
 use Rattle.screen_drawing.specs.Drawn.{drawing_of}
-use Rattle.desk_page.specs.Recording.{Recording, first_moment, forgotten}
-use Rattle.desk_page.specs.Spelling.{spelling_of_calls}
+use Rattle.page_disks.specs.Recording.{Recording, first_moment, forgotten}
+use Rattle.page_disks.specs.Spelling.{spelling_of_calls}
 use Rattle.desk_page.specs.declared.page.Page.{Page}
 use Rattle.viewer_tracks.specs.declared.display.TheConstants.{COLUMNS}
 use Rattle.desk_page.specs.declared.page.TheConstants.{HEIGHT}
@@ -58,9 +58,9 @@ IsOfMemory error = (error ≡ NoMemory) ⊎ (error ≡ Fault)
 abbrev pub OfTravels : Error → Type 0
 OfTravels error = (error ≡ NoMemory) ⊎ (error ≡ Fault) ⊎ (error ≡ MustReopen)
 
--- why documents are neither brought nor refused
-abbrev pub IsUnbrought : HostPage → Error → Type 0
-IsUnbrought old error = IsWithheld old error ⊎ (error ≡ Worn) × IsLast old.store
+-- why a call stops that ends an epoch: so, or since no epoch comes behind the one in use
+abbrev pub IsStopped : HostPage → Error → Type 0
+IsStopped old error = IsWithheld old error ⊎ (error ≡ Worn) × IsLast old.store
 
 module _ (d : Ghosts Recording) where
   -- A host is handed the drawing of what the page shows, the line below it, and each call of its disk that it hasn't been

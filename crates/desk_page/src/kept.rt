@@ -2,21 +2,22 @@
 ghost use Rattle.std.specs.Prelude.{◌≡◌, ◌≢◌, ◌≤◌, ◌++◌, ◌∷◌, [], ℕ, List, length, take, drop, min, IfOk, IfErr, IfSome};
 ghost use Rattle.std.specs.Prelude.{Some, None, Ok};
 ghost use Rattle.store_documents.specs.HostText.{imported};
-ghost use Rattle.desk_page.specs.Calls.{AnswersAsk, AnswersBegin, AnswersBring, AnswersBringMore, AnswersGive, AnswersLoad, AnswersLook, AnswersPress};
+ghost use Rattle.desk_page.specs.Calls.{AnswersAsk, AnswersBegin, AnswersBring, AnswersBringMore, AnswersForget, AnswersGive, AnswersLoad, AnswersLook, AnswersPress};
 ghost use Rattle.desk_page.specs.Calls.{IsNoFile, has_left, looks_of, made_by, made_numbered, pointer_number};
 ghost use Rattle.desk_page.specs.Giving.{selected_text};
 ghost use Rattle.desk_page.specs.Statuses.{not_there, status_of_error};
 
-use crate::disk::RecordedDisk;
-use crate::loading::loaded_with;
+use crate::forgetting::forgotten;
 use crate::looks::{Desk, look_at};
 use crate::scene::{Scene, begun, brought, settled};
 use crate::status::{
-    DONE, GONE, NO_DOCUMENT, NO_MEMORY, NO_NAME, NO_PAST, NO_ROOM, status_of, status_of_unfit,
+    DONE, GONE, NO_DOCUMENT, NO_MEMORY, NO_NAME, NO_PAST, NO_ROOM, PAST_STAYS, status_of,
+    status_of_unfit,
 };
 use desk_journal::Error;
 use document_filing::Document;
 use event_bytes::Name;
+use page_disks::{RecordedDisk, loaded_with};
 use sector_disk::Disk;
 use std::alloc::Global;
 use std::mem::replace;
@@ -148,6 +149,24 @@ impl Kept {
         };
         match look_at(alloc, desk.page()) {
             Ok((desk, scene)) => self.keep_or_leave(desk, scene, NO_PAST),
+            Err(error) => status_of(error),
+        }
+    }
+
+    /// Forgets the past of the page: one begins anew with what it shows, and behind the store nothing else is left. The page is
+    /// shown then, and no past, also where the past stays.
+    pub fn forget(&mut self, alloc: Global) -> u32
+        ensures answers { AnswersForget ⟦<RecordedDisk as Disk>⟧ self.old self.new result }
+        ensures untold { result ≢ 0 → self.new.scene.calls.items ≡ [] }
+        ensures coming { self.new.coming ≡ self.old.coming }
+        ensures loaded { self.new.loaded ≡ self.old.loaded }
+    {
+        self.scene.calls.clear();
+        let Some(desk) = self.desk.take() else {
+            return GONE;
+        };
+        match forgotten(alloc, desk.page()) {
+            Ok((page, scene)) => self.keep_or_leave(Desk::Present(page), scene, PAST_STAYS),
             Err(error) => status_of(error),
         }
     }

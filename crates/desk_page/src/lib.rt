@@ -5,31 +5,26 @@
 //! brings and gives documents, and `close` hands out the disk.
 //!
 //! The disk of a page that a host keeps (`Kept`) stands in memory, and spells its calls for a host that repeats them on a
-//! medium of its own (`RecordedDisk`). What is spelled are the writes and syncs that succeeded since it was last told to
-//! forget, in order. A host that has repeated a front of them has a medium as the disk was at that moment, and one that has
-//! repeated all of them has the disk as it is (`repeating_law`). So whatever is promised of what a crash leaves of this
-//! disk at any of its moments holds of a medium on which its calls are repeated, each after the one before.
+//! medium of its own (`page_disks`).
 #![tactic(auto)]
 
 mod apart;
-mod disk;
 mod documents;
+mod forgetting;
 mod heard;
 mod held;
 mod kept;
 mod laws;
-mod loading;
 mod looks;
 mod page;
 mod scene;
 mod status;
 
-pub use disk::RecordedDisk;
 pub use documents::{bring, give, selected};
 pub use heard::{hear, hearing};
 pub use held::{Held, put, take};
 pub use kept::{Kept, Made};
-pub use laws::{looking_law, repeating_law};
+pub use laws::looking_law;
 pub use looks::{Desk, Looking};
 pub use page::{Page, begin, begin_new, close, show};
 pub use scene::{HostPage, Scene};

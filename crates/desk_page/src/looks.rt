@@ -6,18 +6,19 @@ ghost use Rattle.desk_page.specs.Looks.{HandsOutLook, IsNotPressedAt, IsOfLook, 
 ghost use Rattle.desk_page.specs.Looks.{LooksAtPast, ComesOfPresses, PressesDesk, PressesLook, page_of, seated_anew, shown_desktop};
 ghost use Rattle.desk_page.specs.Turns.{IsOfMemory, IsWithheld};
 
-use crate::disk::RecordedDisk;
 use crate::documents::{give, selected};
 use crate::heard::hearing;
 use crate::page::HEIGHT;
 use crate::scene::{HostPage, Scene, pressed, settled, usable};
 use desk_journal::Error;
-use desk_sitting::{Saying, Sitting};
+use desk_sitting::Sitting;
 use event_bytes::Name;
+use page_disks::RecordedDisk;
 use past_looks::{Doing, Looker};
 use screen_cells::Screen;
 use screen_drawing::draw;
 use sector_disk::Disk;
+use status_line::Saying;
 use std::alloc::Global;
 use terminal_keyboard::Parser;
 use terminal_presses::{Heard, Press, Presses};
@@ -227,9 +228,9 @@ fn left(alloc: Global, page: HostPage) -> Shown
     Ok((Desk::Present(page), scene))
 }
 
-/// The page before a store that was turned: what was done and taken back before is known by its past alone. Whether lines are
-/// broken stays.
-fn seated_again(page: HostPage) -> HostPage
+/// The page before a store that was turned, or whose past was forgotten: what was done and taken back before is known by its past
+/// alone. Whether lines are broken stays.
+pub(crate) fn seated_again(page: HostPage) -> HostPage
     ensures store { result.store ≡ page.store }
     ensures sitting { result.sitting ≡ seated_anew page.sitting }
     ensures parser { result.parser ≡ page.parser }

@@ -16,11 +16,12 @@ ghost use Rattle.terminal_keyboard.specs.Presses.{at_rest};
 ghost use Rattle.viewer_tracks.specs.declared.display.TheConstants.{COLUMNS};
 
 use desk_journal::{Error, Store};
-use desk_sitting::{Saying, Sitting, mark};
+use desk_sitting::{Sitting, mark};
 use screen_cells::Screen;
 use screen_drawing::draw;
 use sector_disk::Disk;
 use starter_desktop::furnish;
+use status_line::Saying;
 use std::alloc::Global;
 use store_layout::showing_law;
 use terminal_keyboard::Parser;

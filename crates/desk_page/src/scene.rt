@@ -1,21 +1,20 @@
 //! What a host is handed of a page, and what a call does to a page.
 ghost use Rattle.std.specs.Prelude.{◌≡◌, ℕ, is_none, true, false, IfOk, IfErr, IsErrOf, IsOk, OnOk};
 ghost use Rattle.desk_journal.specs.View.{IsDurable};
-ghost use Rattle.desk_sitting.specs.declared.serving.TheConstants.{MOST_TURNS};
-ghost use Rattle.desk_page.specs.Spelling.{spelling_of_calls};
+ghost use Rattle.desk_sitting.specs.declared.sitting.TheConstants.{MOST_TURNS};
+ghost use Rattle.page_disks.specs.Spelling.{spelling_of_calls};
 ghost use Rattle.desk_page.specs.Turns.{AreTravelled, Begins, BringsOrTurnsDown, KeepsFrom, Presses, IsMade, IsMadeOrFound, IsToldAll, IsHanded, IsNotBegun};
-ghost use Rattle.desk_page.specs.Turns.{IsOfMemory, IsUnbrought, IsNotPressed, IsWithheld, OfTravels};
+ghost use Rattle.desk_page.specs.Turns.{IsOfMemory, IsStopped, IsNotPressed, IsWithheld, OfTravels};
 
-use crate::disk::RecordedDisk;
 use crate::documents::bring;
 use crate::heard::{hear, hearing};
-use crate::loading::blank_disk;
 use crate::page::{Page, begin, begin_new, close, show};
 use desk_journal::{Error, Store};
 use desk_past::go_on;
 use desk_sitting::{MOST_TURNS, Sitting, travel};
 use desktop_definitions::Reply;
 use document_filing::Document;
+use page_disks::{RecordedDisk, blank_disk};
 use sector_disk::Disk;
 use std::alloc::Global;
 use store_layout::{LAST_EPOCH, showing_law};
@@ -164,7 +163,7 @@ pub(crate) fn brought(
 ) -> Result<(HostPage, Option<Scene>), Error>
     ensures done { IfOk result (λ both.
         BringsOrTurnsDown ⟦<RecordedDisk as Disk>⟧ documents.now page both.0 both.1) }
-    ensures failed { IfErr result (IsUnbrought page) }
+    ensures failed { IfErr result (IsStopped page) }
 {
     let mut page = page;
     match bring(alloc, &mut page, documents)? {

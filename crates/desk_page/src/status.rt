@@ -38,6 +38,9 @@ pub const NO_ROOM: u32 = 9;
 /// The store keeps no past that can be read.
 pub const NO_PAST: u32 = 10;
 
+/// The past isn't forgotten: there is no room for one that begins anew.
+pub const PAST_STAYS: u32 = 11;
+
 /// The status of an error.
 pub(crate) fn status_of(error: Error) -> u32
     ensures status { result ≡ status_of_error error }

@@ -13,7 +13,7 @@ use Rattle.terminal_presses.specs.declared.press.Press.{Press}
 use Rattle.terminal_presses.specs.declared.action.Action.{Action}
 use Rattle.terminal_presses.specs.declared.hand.Hand.{Hand}
 use Rattle.desk_sitting.specs.Sittings.{meant_by}
-use Rattle.press_plans.specs.declared.task.Task.{Task}
+use Rattle.press_tasks.specs.declared.task.Task.{Task}
 use Rattle.desk_sitting.specs.Sittings.{most_plans}
 use Rattle.desk_sitting.specs.Questions.{unasked}
 use Rattle.press_plans.specs.Plans.{Plan, Aims, Asks, Events, Keeps, PutsAway, Refused as NotDone, Says, Shows, Tells, plan_of}
@@ -24,8 +24,6 @@ use Rattle.desk_sitting.specs.Sittings.{after_stage}
 use Rattle.desk_sitting.specs.Sittings.{after_task, asks_first, does, does_all, done_by, done_so, noted_at, task_in}
 use Rattle.desk_sitting.specs.Sittings.{with_marks, task_left, planned, with_hand}
 use Rattle.desk_sitting.specs.Sittings.{accepted_of}
-use Rattle.desk_sitting.specs.Desk.{accepted_events}
-use Rattle.desk_sitting.specs.TheDesk.{PressesAreSteps, the_desk}
 
 -- ---- one event
 
@@ -197,7 +195,7 @@ acted_steps a d =
           ∙ sym (ap (steps d.session.desktop) (cond-false (asks_first a d) [] (accepted_as a plain) done))
     ]
 
-press_steps : (press : Press) (d : Seat)
+pub press_steps : (press : Press) (d : Seat)
     → (after_press press d).session.desktop ≡ steps d.session.desktop (accepted_of press d)
 unfolding after_press
 press_steps press d =
@@ -211,14 +209,3 @@ press_steps press d =
           ∙ acted_steps made.1 held
           ∙ sym (ap (steps d.session.desktop) (cond-false d.sitting.leaves [] events here))
     ]
-
--- ---- presses
-
-pub presses_steps : PressesAreSteps
-presses_steps [] d = refl
-presses_steps (press ∷ presses) d =
-    let first = accepted_of press d in
-    let later = accepted_events the_desk presses (after_press press d) in
-    presses_steps presses (after_press press d)
-    ∙ ap (λ desktop. steps desktop later) (press_steps press d)
-    ∙ sym (steps_both d.session.desktop first later)

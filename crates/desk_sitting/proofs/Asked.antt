@@ -9,7 +9,7 @@ use Rattle.terminal_presses.specs.declared.action.Action.{Action}
 use Rattle.terminal_presses.specs.declared.press.Press.{Press}
 use Rattle.desk_sitting.specs.Sittings.{meant_by}
 use Rattle.desk_sitting.specs.declared.sitting.Sitting.{Sitting}
-use Rattle.press_plans.specs.declared.task.Task.{Task}
+use Rattle.press_tasks.specs.declared.task.Task.{Task}
 use Rattle.desk_sitting.specs.Sittings.{most_plans}
 use Rattle.desk_sitting.specs.Doing.{DoesAction, DoesPress, seat_of}
 use Rattle.desk_sitting.specs.Sittings.{Seat, accepted_as, accepted_in, accepted_of, accepted_unasked, acted}

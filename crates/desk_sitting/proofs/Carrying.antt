@@ -12,8 +12,8 @@ use Rattle.desk_journal.specs.Session.{session_of}
 use Rattle.desk_journal.specs.View.{StoreView, IsDurable}
 use Rattle.status_line.specs.declared.deed.Deed.{Deed}
 use Rattle.desk_sitting.specs.declared.sitting.Sitting.{Sitting}
-use Rattle.press_plans.specs.declared.task.Task.{Task}
-use Rattle.press_plans.specs.declared.task.TheConstants.{MOST_PLANS}
+use Rattle.press_tasks.specs.declared.task.Task.{Task}
+use Rattle.press_tasks.specs.declared.task.TheConstants.{MOST_PLANS}
 use Rattle.desk_sitting.specs.Sittings.{most_plans}
 use Rattle.desk_sitting.specs.Doing.{ComesToSeat, DoesPress, seat_of}
 use Rattle.desk_sitting.specs.Pasts.{KeepsPast}
@@ -21,7 +21,7 @@ use Rattle.desk_sitting.specs.Sittings.{Seat, accepted_by, accepted_in, accepted
 use Rattle.desk_sitting.specs.Sittings.{accepted_one, after_posts}
 use Rattle.desk_sitting.specs.Sittings.{after_stage, after_task, does, kept_follows, left_by, task_left, planned}
 use Rattle.desk_sitting.specs.Sittings.{went_on}
-use Rattle.press_plans.specs.Tasks.{deed_of_task}
+use Rattle.press_tasks.specs.Tasks.{deed_of_task}
 use Rattle.press_plans.specs.Plans.{Plan, plan_of}
 use Rattle.desk_sitting.proofs.Accepted.{alone_accepted, alone_posted, none_accepted}
 use Rattle.desk_sitting.proofs.Pressed.{alone_press, event_press, look_press, press_both, press_same, press_short}

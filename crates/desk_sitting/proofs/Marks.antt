@@ -17,9 +17,8 @@ use Rattle.press_plans.specs.Plans.{caret_place}
 use Rattle.status_line.specs.declared.saying.Saying.{Saying}
 use Rattle.status_line.specs.Choosing.{rest_saying, rests}
 use Rattle.desk_sitting.specs.declared.sitting.Sitting.{Sitting}
-use Rattle.desk_sitting.specs.Sittings.{is_scene_due}
 use Rattle.desk_sitting.specs.Stored.{names_unstored, menu_begin, unstored_at, unstored_caret}
-use Rattle.desk_sitting.specs.Telling.{mark_told, rest_marked, rest_told}
+use Rattle.desk_sitting.specs.Telling.{rest_marked}
 
 module _ {D : Type 0} (d : Ghosts D) where
   -- nobody looks
@@ -147,10 +146,3 @@ module _ (d : Desktop) (s : Sitting) where
     saying = (says ∙ ap rest_saying so
         ∙ sym (cond-true (rests s.saying) (rest_saying (unstored_caret d)) s.saying is)) k;
   }
-
-  -- nothing is told where no scene is due
-  pub not_due : is_scene_due s ≡ false → s ≡ mark_told d s
-  not_due is = λ k. record s { saying = sym (cond-false (is_scene_due s) (rest_told d s.saying) s.saying is) k }
-
-  pub due : is_scene_due s ≡ true → rest_marked d s ≡ mark_told d s
-  due is = λ k. record s { saying = sym (cond-true (is_scene_due s) (rest_told d s.saying) s.saying is) k }

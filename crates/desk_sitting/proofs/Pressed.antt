@@ -29,11 +29,11 @@ use Rattle.desk_sitting.specs.Doing.{ComesToSeat, DoesPress, GoesBy, IsDone, IsP
 use Rattle.desk_sitting.specs.Doing.{OfPresses}
 use Rattle.desk_sitting.specs.Doing.{SittingSurvives, seat_of}
 use Rattle.desk_sitting.specs.Sittings.{Seat, accepted_by, accepted_one, after_post, after_posts, does, does_all}
-use Rattle.desk_sitting.specs.Serving.{IsLookedAt}
+use Rattle.desk_sitting.specs.Doing.{IsLookedAt}
 use Rattle.desk_sitting.proofs.Accepted.{accepted_both, all_both, alone_accepted, alone_posted, one_steps, posted_both}
 use Rattle.desk_sitting.proofs.Posts.{posts_both, posts_look, posts_then, up_to_look}
 use Rattle.desk_sitting.proofs.Taking.{of_look, takes_alone}
-use Rattle.desk_sitting.proofs.Turning.{looked_at, same_device}
+use Rattle.desk_sitting.proofs.Looked.{looked_at, same_device}
 
 module _ {D : Type 0} (d : Ghosts D) where
   -- ---- one after another

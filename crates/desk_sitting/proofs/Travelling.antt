@@ -3,7 +3,7 @@ use Rattle.std.proofs.Common.{◌≡◌, ◌≢◌, ◌<◌, ◌∷◌, inl, inr
 use Rattle.std.proofs.Common.{Option, Some, None, subst, arith, ◌≤◌}
 use Rattle.done_presses.specs.declared.again.NextEvent.{NextEvent}
 use Rattle.std.specs.Prelude.{Result, Ok, Err, OnOk, IfErr}
-use Rattle.std.proofs.lemmas.Bool.{cases_lt, false≢true, ltb-true}
+use Rattle.std.proofs.lemmas.Bool.{false≢true}
 use Rattle.sector_disk.specs.declared.disk.Disk.{Ghosts}
 use Rattle.sector_disk.specs.Trail.{now, LeavesOnly}
 use Rattle.sector_disk.proofs.Touching.{at_last, chained, read_is_an_image, weakened}
@@ -13,7 +13,7 @@ use Rattle.store_layout.specs.Meaning.{MeansEither, Shows}
 use Rattle.desk_journal.specs.Errors.{Error, NoMemory, Fault, MustReopen, OfLook}
 use Rattle.desk_journal.specs.Posting.{AnswersMustReopen}
 use Rattle.desk_journal.specs.Looking.{OnlyLooks}
-use Rattle.desk_journal.specs.Undoing.{IsLeft, IsTakenBack, OfUndo}
+use Rattle.desk_journal.specs.Undoing.{IsLeft, OfUndo}
 use Rattle.document_filing.specs.Bringing.{Documents, brought_in}
 use Rattle.desktop_definitions.specs.Step.{Outcome}
 use Rattle.past_pages.specs.Reading.{IsOnlyReadFrom}
@@ -34,7 +34,7 @@ use Rattle.desk_sitting.specs.Pasts.{KeepsPast, PostsOn, PostsUpTo}
 use Rattle.desk_sitting.specs.Sittings.{accepted_one, after_post, refused}
 use Rattle.desk_sitting.specs.Travels.{Travelled, Travels, did_again, did_import, ended_there, foreseen, goes_again}
 use Rattle.desk_sitting.specs.Travels.{recalled, settled, step_count, store_place, took_back, took_import}
-use Rattle.desk_sitting.specs.Travels.{ComesBack, LaterStepsAreTurns, back, nothing, again, not_taken, taken as came_back, unread}
+use Rattle.desk_sitting.specs.Travels.{ComesBack, back, nothing, again, not_taken, taken as came_back, unread}
 use Rattle.desk_sitting.specs.Travels.{import_again, import_back, import_taken}
 use Rattle.desk_journal.specs.Session.{Session, session_of, taken}
 use Rattle.desk_sitting.specs.Desk.{Seat}
@@ -123,27 +123,6 @@ module _ {D : Type 0} (d : Ghosts D) where
       → new.must_reopen ≡ false
   taken_usable count deeds old new (turned made) = made.usable
   taken_usable count deeds old new (undone events are taken_back) = taken_back.usable
-
-  -- an undo leads to no later epoch
-  undone_below : (count : ℕ) (events : List Event) {old new : StoreView D} → IsTakenBack d count events old new
-      → new.epoch ≤ old.epoch
-  undone_below count events {old = old} taken_back = elim (cases_lt old.events count) [
-    | inl other ↦ elim (taken_back.other other) [
-      | inl same ↦ omega (arith, same.0)
-      | inr before ↦ omega (arith, before.0)
-    ]
-    | inr own ↦ omega (arith, (taken_back.own own).0)
-  ]
-
-  pub later_is_turned : LaterStepsAreTurns d
-  later_is_turned count deeds old new stepped later =
-      let above = ltb-true old.epoch new.epoch later in
-      let same = stepped.read.left.epoch in
-      elim stepped.takes [
-        | turned made ↦ (stepped.between, stepped.read, made)
-        | undone events are taken_back ↦
-            let below = undone_below count events taken_back in absurd (omega (arith, above, same, below))
-      ]
 
   stepped_either : (count : ℕ) (deeds : List PastDeed) (old new : StoreView D) → IsSteppedBack d count deeds old new
       → d.honest old.disk → IsDurable d old

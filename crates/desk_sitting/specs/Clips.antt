@@ -1,6 +1,5 @@
 -- What the clipboard of the terminal is given of what is copied.
-use Rattle.std.specs.Prelude.{ℕ, Bool, true, false, ◌&&◌, nat_lt, if◌then◌else◌, List, length, map, Option, Some, None}
-use Rattle.event_bytes.specs.Bytes.{lies_within}
+use Rattle.std.specs.Prelude.{ℕ, Bool, true, false, ◌&&◌, nat_lt, if◌then◌else◌, List, length, map, Option, None}
 use Rattle.event_bytes.specs.declared.event.Event.{Event}
 use Rattle.event_bytes.specs.declared.event.Event.TheVariants.{Key}
 use Rattle.event_bytes.specs.declared.keys.Key.TheVariants.{Copy, Cut}
@@ -8,7 +7,8 @@ use Rattle.desktop_definitions.specs.Desktop.{Desktop}
 use Rattle.store_documents.specs.HostText.{exported}
 use Rattle.status_line.specs.declared.saying.Saying.{Saying}
 use Rattle.status_line.specs.declared.saying.Saying.TheVariants.{Asks, NotClipped}
-use Rattle.desk_sitting.specs.declared.clips.TheConstants.{MOST_CLIPPED}
+use Rattle.terminal_clipboards.specs.Clips.{text_given}
+use Rattle.terminal_clipboards.specs.declared.clips.TheConstants.{MOST_CLIPPED}
 use Rattle.desk_sitting.specs.declared.sitting.Sitting.{Sitting}
 
 -- whether an event copies what is selected
@@ -21,14 +21,9 @@ is_copying _ = false
 abbrev pub copied_text : Desktop → List ℕ
 copied_text d = exported (map (λ character. character.0) d.copied)
 
--- What the clipboard is given of it, where something was copied since the last scene: all of it, or nothing where it is
--- empty or too long.
-abbrev pub text_given : Bool → List ℕ → Option (List ℕ)
-text_given copies text =
-    if copies && lies_within 1 MOST_CLIPPED (length text) then Some text else None
-
+-- what the clipboard is given of it, where something was copied since the last scene
 abbrev pub clip_sent : Desktop → Sitting → Option (List ℕ)
-clip_sent d s = text_given s.copies (copied_text d)
+clip_sent d s = if s.copies then text_given (copied_text d) else None
 
 -- Where it is too long, the line below says so, unless something is asked.
 abbrev pub unless_asked : Saying → Saying

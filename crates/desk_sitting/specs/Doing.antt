@@ -11,6 +11,7 @@ use Rattle.desk_journal.specs.Device.{IsSameDevice}
 use Rattle.desk_journal.specs.Errors.{Error, NoMemory, Fault}
 use Rattle.desk_journal.specs.Prefixes.{MeansPrefix}
 use Rattle.desk_journal.specs.View.{StoreView, IsDurable}
+use Rattle.desk_past.specs.Reading.{IsOnlyReadFrom}
 use Rattle.terminal_presses.specs.declared.action.Action.{Action}
 use Rattle.terminal_presses.specs.declared.press.Press.{Press}
 use Rattle.desk_sitting.specs.declared.sitting.Sitting.{Sitting}
@@ -62,6 +63,14 @@ module _ {D : Type 0} (d : Ghosts D) where
   abbrev pub TellsDone : Event → Result Bool Error → StoreView D → Type 0
   TellsDone event result old =
       IfOk result (λ done. d.honest old.disk → done ≡ does (session_of old) event)
+
+  -- ---- a look
+
+  -- The store was looked at: nothing is posted, and the disk is only read.
+  pub record IsLookedAt (old new : StoreView D) : Type 0 where
+    pub session : session_of new ≡ session_of old
+    pub read : IsOnlyReadFrom d old new
+    pub durable : IsDurable d new
 
   -- ---- the events of a press
 

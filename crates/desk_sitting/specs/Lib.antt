@@ -2,17 +2,10 @@ pub mod Called
 pub mod Clips
 pub mod Desk
 pub mod Doing
-pub mod Endings
-pub mod Files
 pub mod Pasts
 pub mod Questions
-pub mod Scenes
-pub mod Serving
-pub mod Sitting
 pub mod Sittings
 pub mod Stored
-pub mod Surviving
 pub mod Telling
 pub mod TheDesk
-pub mod Travelling
 pub mod Travels

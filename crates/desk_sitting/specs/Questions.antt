@@ -20,7 +20,7 @@ use Rattle.status_line.specs.Sayings.{is_in_memory}
 use Rattle.status_line.specs.declared.clicks.MiddleClick.{MiddleClick}
 use Rattle.status_line.specs.Clicks.{click_in, click_posted}
 use Rattle.earlier_presses.specs.Twice.{is_nothing, is_of_terminal}
-use Rattle.press_plans.specs.Tasks.{calling_wish}
+use Rattle.press_tasks.specs.Tasks.{calling_wish}
 use Rattle.status_line.specs.Named.{named_question}
 use Rattle.desk_sitting.specs.declared.sitting.Sitting.{Sitting}
 use Rattle.desk_sitting.specs.Called.{called_cell}

@@ -50,12 +50,12 @@ use Rattle.status_line.specs.Question.{asks_to_leave, comes_first}
 use Rattle.status_line.specs.Choosing.{came_to, done_saying, first_saying, fitted_saying, fill_saying, refused_saying}
 use Rattle.status_line.specs.Sayings.{resting_of}
 use Rattle.screen_reading.specs.Aims.{caret_cell, or_else}
-use Rattle.press_plans.specs.declared.task.Filling.{Filling}
-use Rattle.press_plans.specs.declared.task.Filling.TheVariants.{Off, Letters, Pasted}
-use Rattle.press_plans.specs.declared.task.Task.{Task}
-use Rattle.press_plans.specs.declared.task.Task.TheVariants.{Word}
-use Rattle.press_plans.specs.declared.task.TheConstants.{MOST_PLANS}
-use Rattle.press_plans.specs.Tasks.{calling_wish, deed_of_task, keeps_sight, task_of}
+use Rattle.press_tasks.specs.declared.task.Filling.{Filling}
+use Rattle.press_tasks.specs.declared.task.Filling.TheVariants.{Off, Letters, Pasted}
+use Rattle.press_tasks.specs.declared.task.Task.{Task}
+use Rattle.press_tasks.specs.declared.task.Task.TheVariants.{Word}
+use Rattle.press_tasks.specs.declared.task.TheConstants.{MOST_PLANS}
+use Rattle.press_tasks.specs.Tasks.{calling_wish, deed_of_task, keeps_sight, task_of}
 use Rattle.press_plans.specs.Plans.{Plan, plan_of}
 use Rattle.press_plans.specs.Plans.{Aims, Asks, Events, Keeps, PutsAway, Refused as NotDone, Says, Shows, Tells}
 use Rattle.desk_journal.specs.Session.{Session, is_worn, taken}
@@ -529,43 +529,3 @@ accepted_of press seat = if seat.sitting.leaves then [] else
     accepted_unasked next.1 (record seat {
       sitting = with_hand next (with_marks press seat.sitting);
     }))
-
--- ---- questions
-
--- a press asks a question
-abbrev pub asks_by : Press → Seat → Bool
-asks_by press seat = not seat.sitting.leaves
-    && asks_first (meant_by press seat.sitting).1 seat
-
--- A press that asks posts nothing, and leaves what it is asked about as it is.
-abbrev pub QuestionsPostNothing : Type 0
-QuestionsPostNothing = (press : Press) (seat : Seat) → asks_by press seat ≡ true
-    → (accepted_of press seat ≡ []) × ((after_press press seat).session ≡ seat.session)
-    × ((after_press press seat).sitting.leaves ≡ false)
-
--- It is asked once: what would lose something does it where it comes right after its question.
-abbrev pub QuestionsComeOnce : Type 0
-QuestionsComeOnce = (a : Action) (seat : Seat) → asks_first a seat ≡ true
-    → asks_first a (with_question a seat) ≡ false
-
--- ---- clicks of the middle button
-
-abbrev pub ends_of : MiddleClick → (ℕ × ℕ) × (ℕ × ℕ)
-ends_of click = (click.from, click.to)
-
--- an event is no such click, or it's the one that was told
-abbrev pub IsClickTold : Option MiddleClick → Event → Type 0
-IsClickTold told event =
-    IfSome (middle_click event) (λ click. option_map ends_of told ≡ Some (ends_of click))
-
--- whether a press makes such a click by itself; the presses that scroll are clicks in the bar of a viewer, and call
--- nothing
-abbrev pub is_clicking : Action → Bool
-is_clicking (action.Post event) = true
-is_clicking action.Mark = true
-is_clicking a = is_some (calling_wish a)
-
--- Each of them that is accepted of such a press is the one about which it is asked.
-abbrev pub ClicksAreTold : Type 0
-ClicksAreTold = (a : Action) (seat : Seat) → is_clicking a ≡ true
-    → All (IsClickTold (click_made a seat.session.desktop)) (accepted_as a seat)

@@ -1,9 +1,7 @@
 -- The desk of `serve`.
-use Rattle.std.specs.Prelude.{◌≡◌, ℕ, List, Option, is_some}
+use Rattle.std.specs.Prelude.{ℕ, List, Option, is_some}
 use Rattle.screen_pictures.specs.declared.cell.Cell.{Cell}
-use Rattle.desktop_definitions.specs.Step.{steps}
 use Rattle.terminal_keyboard.specs.Presses.{at_rest, parser_after, presses_heard}
-use Rattle.terminal_presses.specs.declared.press.Press.{Press}
 use Rattle.terminal_presses.specs.Pointers.{pointer_cell}
 use Rattle.terminal_presses.specs.Sights.{terminal_place}
 use Rattle.done_presses.specs.Again.{next_event}
@@ -11,7 +9,7 @@ pub use Rattle.event_bytes.specs.Parts.{◌>>=◌}
 use Rattle.status_line.specs.Sayings.{line_of, said_by_pointer}
 use Rattle.desk_sitting.specs.declared.sitting.Sitting.{Sitting}
 use Rattle.desk_sitting.specs.Clips.{clip_sent}
-use Rattle.desk_sitting.specs.Desk.{Desk, Seat, accepted_events, after_presses}
+use Rattle.desk_sitting.specs.Desk.{Desk}
 use Rattle.desk_sitting.specs.Sittings.{accepted_of, after_completion, after_fetch, after_press, looked, new_sitting}
 use Rattle.desk_sitting.specs.Telling.{scene_told}
 use Rattle.desk_sitting.specs.Travels.{did_import, done_again, foreseen, goes_again, none_again, recalled, settled}
@@ -53,9 +51,3 @@ the_desk = record {
   brings_again = λ documents from to s. did_import documents to (goes_again from s);
   ends_there = none_again;
 }
-
--- presses lead to the desktop to which the events lead that are accepted of them
-abbrev pub PressesAreSteps : Type 0
-PressesAreSteps = (presses : List Press) (seat : Seat)
-    → (after_presses the_desk presses seat).session.desktop
-    ≡ steps seat.session.desktop (accepted_events the_desk presses seat)

@@ -161,13 +161,6 @@ module _ {D : Type 0} (d : Ghosts D) where
     not_taken : (told : Option (List Event)) → IsLeft d old new
         → s' ≡ refused NotBack (settled (recalled told s)) → ComesBack s s' old new
 
-  -- A step back that leads to a later epoch is a turn, over which a past goes on.
-  abbrev pub LaterStepsAreTurns : Type 0
-  LaterStepsAreTurns = (count : ℕ) (deeds : List PastDeed) (old new : StoreView D)
-      → IsSteppedBack d count deeds old new → is_turn (store_place old) (store_place new) ≡ true
-      → (between : StoreView D) × IsOnlyReadFrom d old between
-      × IsTurnedBack d count deeds between new
-
 module _ (desk : Desk) {D : Type 0} (d : Ghosts D) where
   -- What was asked for beside the presses is done. Where nothing was known of that, a past may have told.
   pub data Travelled (s s' : Sitting) (old new : StoreView D) : Type 0 where

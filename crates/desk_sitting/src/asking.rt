@@ -17,7 +17,7 @@ use crate::unstored::names_unstored;
 use desk_journal::{Error, KeyWish, Loss, Store, WhyNot};
 use done_presses::StorePlace;
 use event_bytes::Event;
-use press_plans::calling_wish;
+use press_tasks::calling_wish;
 use screen_cells::Screen;
 use sector_disk::Disk;
 use status_line::{

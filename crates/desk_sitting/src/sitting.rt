@@ -10,9 +10,9 @@ ghost use Rattle.desk_sitting.specs.Sittings.{why_unreplaced, with_log_line, bro
 ghost use Rattle.desk_sitting.specs.Sittings.{pointed_no_more, asked_words, with_words, meant_by, task_or_word};
 ghost use Rattle.desk_sitting.specs.Sittings.{with_hand, with_marks, marked_saying, marks_more};
 ghost use Rattle.desk_sitting.specs.Sittings.{after_completion, asks_rest, hand_typed, is_tabulator};
+ghost use Rattle.desk_sitting.specs.Clips.{is_copying};
 ghost use Rattle.earlier_presses.specs.Twice.{is_of_terminal};
 
-use crate::clips::is_copying;
 use desk_journal::{Error, Store};
 use desktop_definitions::Reply;
 use desktop_definitions::codes::NOT_FOUND;
@@ -21,10 +21,10 @@ use earlier_presses::{
     Replacing, Typing, cell_again, cell_clicked, cell_kept, hand_meant, is_nothing, is_of_terminal,
     still_missed,
 };
-use event_bytes::{Event, TABULATOR};
+use event_bytes::{Event, Key, TABULATOR};
 use host_files::HostFault;
 use host_names::HostName;
-use press_plans::{Filling, Task};
+use press_tasks::{Filling, Task};
 use screen_cells::Screen;
 use screen_reading::{caret_of, fitted, followed, moved};
 use sector_disk::Disk;
@@ -36,6 +36,9 @@ use std::alloc::Global;
 use terminal_keyboard::Completion;
 use terminal_presses::{Action, Asks, Hand, Press, Sight, becomes_mark};
 use viewer_tracks::{ROWS, Track};
+
+/// How many turns a sitting has at most.
+pub const MOST_TURNS: u64 = u64::MAX;
 
 /// What is asked for beside a press: to take the last one back, or to do again what was taken back last.
 #[derive(Clone, Copy, Debug, PartialEq, Eq)]
@@ -657,4 +660,11 @@ fn is_unseen(hand: &Hand) -> bool
     ensures { result ≡ is_unseen hand.now }
 {
     hand.asked().is_none() && hand.armed().is_none() && hand.pointer().is_none()
+}
+
+/// Whether an event copies what is selected.
+fn is_copying(event: &Event) -> bool
+    ensures { result ≡ is_copying event.now }
+{
+    matches!(event, Event::Key(Key::Copy | Key::Cut))
 }

@@ -12,7 +12,8 @@ ghost use Rattle.press_plans.specs.Plans.{seen_plan};
 use crate::sitting::{Doing, Sitting};
 use desk_journal::{Error, Store};
 use event_bytes::Event;
-use press_plans::{MOST_PLANS, Plan, Task};
+use press_plans::{Plan, plan_of};
+use press_tasks::{MOST_PLANS, Task};
 use sector_disk::Disk;
 use status_line::{Deed, Saying};
 use std::alloc::Global;
@@ -76,7 +77,7 @@ impl Sitting {
     {
         let deed = task.deed();
         let follows = self.kept_follows(&task);
-        let plan = task.plan(alloc, store)?;
+        let plan = plan_of(alloc, task, store)?;
         let next = self.post_planned(alloc, plan, store)?;
         self.went_on(deed, follows);
         Ok(next)

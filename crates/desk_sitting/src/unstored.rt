@@ -2,7 +2,7 @@
 ghost use Rattle.std.specs.Prelude.{◌≡◌, false, Some, None, IfOk, OnOk, if◌then◌else◌};
 ghost use Rattle.desk_journal.specs.Looking.{OnlyLooks};
 ghost use Rattle.desk_sitting.specs.Stored.{is_closed_at, names_unstored, menu_begin, unstored_at, unstored_caret};
-ghost use Rattle.desk_sitting.specs.Telling.{mark_told, rest_marked};
+ghost use Rattle.desk_sitting.specs.Telling.{rest_marked};
 ghost use Rattle.desktop_definitions.specs.Shown.{shown_screen};
 
 use crate::Sitting;
@@ -109,23 +109,4 @@ pub fn mark<D: Disk>(
     let found = unstored_caret(alloc, store)?;
     sitting.saying = rest_saying(found);
     Ok(())
-}
-
-/// Where a scene is due, the line below says whether the text with the caret isn't stored, as `mark` has it.
-///
-/// Errors: `NoMemory`; `Fault`.
-pub(crate) fn mark_if_due<D: Disk>(
-    alloc: Global,
-    sitting: &mut Sitting,
-    store: &mut Store<D>,
-) -> Result<(), Error>
-    requires { store.old.must_reopen ≡ false }
-    ensures marked { OnOk result (D.honest store.old.disk
-        → sitting.new ≡ mark_told store.old.desktop sitting.old) }
-    ensures looks { OnlyLooks D.Disk result store.old store.new }
-{
-    if !sitting.is_scene_due() {
-        return Ok(());
-    }
-    mark(alloc, sitting, store)
 }

@@ -2,10 +2,10 @@
 use Rattle.std.specs.Prelude.{◌≡◌, ◌==◌, ℕ, List, [], Option, Some, None, if◌then◌else◌}
 use Rattle.sector_disk.specs.declared.disk.Disk.{Ghosts}
 use Rattle.desk_page.specs.Giving.{selected_text}
-use Rattle.desk_page.specs.Recording.{Recording}
+use Rattle.page_disks.specs.Recording.{Recording}
 use Rattle.desk_page.specs.declared.kept.Kept.{Kept}
 use Rattle.desk_page.specs.Calls.{AnswersAsk, AnswersBegin, AnswersBring, AnswersBringMore, AnswersGive, AnswersLoad}
-use Rattle.desk_page.specs.Calls.{AnswersLook, AnswersPress, has_left, looks_of, made_if, made_numbered, pointer_number}
+use Rattle.desk_page.specs.Calls.{AnswersForget, AnswersLook, AnswersPress, has_left, looks_of, made_if, made_numbered, pointer_number}
 use Rattle.desk_page.specs.Turns.{Documents}
 
 -- what the last call made, by its number
@@ -73,6 +73,11 @@ module _ (d : Ghosts Recording) where
   HasLooked (Some old) (Some new) status = AnswersLook d old new status
   HasLooked None new status = ⊥
   HasLooked (Some old) None status = ⊥
+
+  abbrev pub HasForgottenPast : Option Kept → Option Kept → ℕ → Type 0
+  HasForgottenPast (Some old) (Some new) status = AnswersForget d old new status
+  HasForgottenPast None new status = ⊥
+  HasForgottenPast (Some old) None status = ⊥
 
   abbrev pub HasPressed : List ℕ → Option Kept → Option Kept → ℕ → Type 0
   HasPressed bytes (Some old) (Some new) status = AnswersPress d bytes old new status

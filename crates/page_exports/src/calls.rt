@@ -4,10 +4,11 @@
 ghost use Rattle.std.specs.Prelude.{◌≡◌, ◌≢◌, ◌≤◌, ◌++◌, [], length, take, drop, min};
 ghost use Rattle.desk_page.specs.Owning.{IsThere};
 ghost use Rattle.page_exports.specs.Exports.{HasBegunPage, HasBrought, HasBroughtMore, HasCopied, HasGiven, HasLoadedSome};
-ghost use Rattle.page_exports.specs.Exports.{HasLooked, HasPressed, HasStarted};
+ghost use Rattle.page_exports.specs.Exports.{HasForgottenPast, HasLooked, HasPressed, HasStarted};
 ghost use Rattle.page_exports.specs.Exports.{coming_of, handed, loaded_of, rings_of, leaves_of, looks_told, pointer_told};
 
-use desk_page::{DONE, Held, Kept, Made, NO_MEMORY, RecordedDisk, put, take};
+use desk_page::{DONE, Held, Kept, Made, NO_MEMORY, put, take};
+use page_disks::RecordedDisk;
 use sector_disk::Disk;
 use std::alloc::Global;
 
@@ -71,6 +72,25 @@ pub extern "C" fn page_look(alloc: Global, held: &mut Held) -> u32
 {
     let mut kept = take(alloc, held);
     let status = kept.look(alloc);
+    put(held, kept);
+    status
+}
+
+/// Forgets the past of the page: one begins anew with what it shows, and of what was done before nothing is left behind the store
+/// but a copy of that. The page is shown then. With 11 the past stays, and after a status of 1 to 5 no page is kept: then no call
+/// of the disk is told, so a medium has what it had.
+#[unsafe(no_mangle)]
+pub extern "C" fn page_forget(alloc: Global, held: &mut Held) -> u32
+    requires { IsThere held.old.kept }
+    ensures there { IsThere held.new.kept }
+    ensures forgotten { HasForgottenPast ⟦<RecordedDisk as Disk>⟧ held.old.kept held.new.kept
+        result }
+    ensures untold { result ≢ 0 → handed 2 held.new.kept ≡ [] }
+    ensures coming { coming_of held.new.kept ≡ coming_of held.old.kept }
+    ensures loaded { loaded_of held.new.kept ≡ loaded_of held.old.kept }
+{
+    let mut kept = take(alloc, held);
+    let status = kept.forget(alloc);
     put(held, kept);
     status
 }

@@ -3,7 +3,7 @@
 //!
 //! What a call makes is kept, and copied out by `page_copy`: the drawing of the desktop, the line below it, and the calls
 //! of the disk. A host that repeats these calls on a medium of its own, each after the one before, has on it at each
-//! moment what the disk was at a moment of its own (`desk_page::repeating_law`). A status of 1 to 5 says why a call failed:
+//! moment what the disk was at a moment of its own (`page_disks::repeating_law`). A status of 1 to 5 says why a call failed:
 //! then the host opens the store anew, from its medium. After another one it goes on.
 #![tactic(auto)]
 

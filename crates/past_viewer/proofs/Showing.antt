@@ -18,7 +18,8 @@ use Rattle.past_looks.specs.Looking.{IsLookerOf, IsSameLook, IsSeenAt, StaysOrTu
 use Rattle.past_looks.specs.Words.{moment_line}
 use Rattle.past_looks.specs.declared.looker.Looker.{Looker}
 use Rattle.past_looks.proofs.Carrying.{below_on, line_says, looker_same, seen_on}
-use Rattle.past_viewer.specs.Copies.{clip_of, copied_words, exported_selection}
+use Rattle.terminal_clipboards.specs.Clips.{clip_of}
+use Rattle.past_viewer.specs.Copies.{copied_words, exported_selection}
 use Rattle.past_viewer.specs.Panes.{IsShownBy, asked_bytes, ring_bytes, size_question}
 use Rattle.past_viewer.specs.Viewing.{DoesKey, IsViewed, LeavesViewed, LooksOn, ShowsMoment, ShowsNone, TakesScenes, TakesSome}
 use Rattle.past_viewer.specs.Viewing.{TellsBelow, TurnsOrStays, none_kept}

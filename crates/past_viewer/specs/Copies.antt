@@ -1,15 +1,12 @@
 -- What is copied of a moment that is shown.
-use Rattle.std.specs.Prelude.{ℕ, ◌==◌, nat_lt, if◌then◌else◌, List, [], ◌∷◌, ◌++◌, codes, length, map}
+use Rattle.std.specs.Prelude.{ℕ, ◌==◌, nat_lt, if◌then◌else◌, List, [], ◌++◌, codes, map}
 use Rattle.std.specs.Prelude.{Option, Some, None}
-use Rattle.base64.specs.Engines.{standard}
-use Rattle.base64.specs.GeneralPurpose.{encode_of}
-use Rattle.event_bytes.specs.Bytes.{lies_within}
 use Rattle.desktop_definitions.specs.Desktop.{Desktop}
 use Rattle.desktop_definitions.specs.Viewers.{newest, selected}
 use Rattle.desktop_definitions.specs.declared.viewer.Selection.{Selection}
 use Rattle.store_documents.specs.HostText.{exported}
 use Rattle.past_looks.specs.Words.{grouped}
-use Rattle.past_viewer.specs.declared.copies.TheConstants.{MOST_COPIED}
+use Rattle.terminal_clipboards.specs.declared.clips.TheConstants.{MOST_CLIPPED}
 
 -- what is selected, as a text of the host's: its lines end with line feeds
 abbrev pub exported_within : Desktop → Option Selection → List ℕ
@@ -19,14 +16,6 @@ exported_within d (Some selection) =
 
 abbrev pub exported_selection : Desktop → List ℕ
 exported_selection d = exported_within d (newest d)
-
--- An escape byte and ]52;c;, then a text in base64, and a bell byte: by them a terminal takes the text into its clipboard.
-abbrev pub clipboard_order : List ℕ → List ℕ
-clipboard_order text = (27 ∷ codes "]52;c;") ++ encode_of standard text ++ 7 ∷ []
-
--- what gives the clipboard a text, which is all of it, or nothing where it is empty or too long
-abbrev pub clip_of : List ℕ → List ℕ
-clip_of text = if lies_within 1 MOST_COPIED (length text) then clipboard_order text else []
 
 -- what so many characters are called, and what puts them in
 abbrev pub copied_unit : ℕ → List ℕ
@@ -38,6 +27,6 @@ copied_unit n =
 abbrev pub copied_words : ℕ → List ℕ
 copied_words n =
     if n == 0 then codes "nothing is selected: drag over a text with the right button" else
-    (if nat_lt MOST_COPIED n
+    (if nat_lt MOST_CLIPPED n
     then codes "too long for the terminal's clipboard, which takes 74,994 bytes"
     else codes "copied " ++ (grouped n ++ copied_unit n))

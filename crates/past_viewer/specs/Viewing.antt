@@ -22,7 +22,8 @@ use Rattle.desk_past.specs.Turning.{ComesToMoment}
 use Rattle.past_moments.specs.Moments.{IsDesktopAt, IsLastOf}
 use Rattle.past_looks.specs.Looking.{IsLookerOf, IsSeenAt, ComesBackTo, LeavesMoment, SaysBelow}
 use Rattle.past_looks.specs.Words.{moment_line}
-use Rattle.past_viewer.specs.Copies.{clip_of, copied_words, exported_selection}
+use Rattle.terminal_clipboards.specs.Clips.{clip_of}
+use Rattle.past_viewer.specs.Copies.{copied_words, exported_selection}
 use Rattle.past_looks.specs.declared.looker.Looker.{Looker}
 use Rattle.past_viewer.specs.Panes.{size_question}
 use Rattle.past_viewer.specs.declared.viewer.ViewEnd.{ViewEnd}

@@ -2,9 +2,9 @@
 ghost use Rattle.std.specs.Prelude.{◌≡◌, IfOk};
 ghost use Rattle.past_viewer.specs.Copies.{copied_unit, copied_words};
 
-use crate::copies::MOST_COPIED;
 use past_looks::push_grouped;
 use std::alloc::{AllocError, Global};
+use terminal_clipboards::MOST_CLIPPED;
 
 /// What is said where there is nothing to be copied.
 const NOTHING_SELECTED: &[u8] = b"nothing is selected: drag over a text with the right button";
@@ -19,7 +19,7 @@ pub(crate) fn copied_words(alloc: Global, count: usize) -> Result<Vec<u8>, Alloc
     if count == 0 {
         return Vec::from_slice(alloc, NOTHING_SELECTED);
     }
-    if count > MOST_COPIED {
+    if count > MOST_CLIPPED {
         return Vec::from_slice(alloc, TOO_LONG);
     }
     let mut words = Vec::from_slice(alloc, b"copied ")?;

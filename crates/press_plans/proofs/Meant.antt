@@ -11,7 +11,7 @@ use Rattle.starter_desktop.specs.StarterDesktop.{tool_event}
 use Rattle.desk_journal.specs.Views.{DeskInfo, Place as ViewerPlace, desk_info, place_at}
 use Rattle.screen_pictures.specs.declared.cell.Cell.{Cell}
 use Rattle.screen_reading.specs.Extended.{kept_end}
-use Rattle.press_plans.specs.declared.task.Task.TheVariants as kind
+use Rattle.press_tasks.specs.declared.task.Task.TheVariants as kind
 use Rattle.press_plans.specs.Listed.{begins_in_viewer, event_meant, is_tool, lacks_tool, middle_or}
 use Rattle.status_line.specs.Deeds.{is_middle}
 use Rattle.screen_reading.specs.Aims.{caret_cell}

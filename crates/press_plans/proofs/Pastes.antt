@@ -14,9 +14,9 @@ use Rattle.caret_moves.specs.declared.wish.WhyNot.TheVariants as why
 use Rattle.desk_journal.specs.Leading.{led}
 use Rattle.filled_pastes.specs.Poured.{HasEnds, none, byte, line_end, poured_at}
 use Rattle.filled_pastes.specs.Poured.{PastesLoseNothing, PastesStayShort}
-use Rattle.press_plans.specs.declared.task.Task.{Task}
-use Rattle.press_plans.specs.declared.task.Task.TheVariants.{Post, Pour}
-use Rattle.press_plans.specs.declared.task.Stage.TheVariants.{First}
+use Rattle.press_tasks.specs.declared.task.Task.{Task}
+use Rattle.press_tasks.specs.declared.task.Task.TheVariants.{Post, Pour}
+use Rattle.press_tasks.specs.declared.task.Stage.TheVariants.{First}
 use Rattle.press_plans.specs.Pastes.{PartsComeWhole, left_to_type, typed_by}
 use Rattle.press_plans.specs.Plans.{column_clicked, first_plan, from_column, front_plan, poured_plan, standing, typable}
 

@@ -18,20 +18,21 @@ use Rattle.desk_journal.specs.Views.{DeskInfo, Place as ViewerPlace, ShownViewer
 use Rattle.terminal_presses.specs.Sights.{Sight}
 use Rattle.screen_reading.specs.Frames.{text_rows_in_sight}
 use Rattle.desk_journal.proofs.Passing.{at_start}
-use Rattle.press_plans.specs.declared.finding.Finding.{Finding}
-use Rattle.press_plans.specs.declared.refill.Refilling.{Refilling}
-use Rattle.press_plans.specs.declared.task.Filling.{Filling}
-use Rattle.press_plans.specs.declared.task.Stage.{Stage}
-use Rattle.press_plans.specs.declared.task.Stage.TheVariants.{First, On}
-use Rattle.press_plans.specs.declared.task.Task.{Task}
-use Rattle.press_plans.specs.declared.task.Task.TheVariants as kind
+use Rattle.press_tasks.specs.declared.finding.Finding.{Finding}
+use Rattle.press_tasks.specs.declared.refill.Refilling.{Refilling}
+use Rattle.press_tasks.specs.declared.task.Filling.{Filling}
+use Rattle.press_tasks.specs.declared.task.Stage.{Stage}
+use Rattle.press_tasks.specs.declared.task.Stage.TheVariants.{First, On}
+use Rattle.press_tasks.specs.declared.task.Task.{Task}
+use Rattle.press_tasks.specs.declared.task.Task.TheVariants as kind
 use Rattle.press_plans.specs.declared.plan.Plan.{Plan as MadePlan}
 use Rattle.press_plans.specs.Plans.{Makes, caret_place, comeback_plan, goes_along, page_plan, page_wish, paged_plan, place_meant}
 use Rattle.press_plans.specs.Plans.{Plan, Events, Says, answer_plan, lead_plan, opened_plan, opened_viewer, plan_of, plan_on}
 use Rattle.press_plans.specs.Plans.{seen_plan, unbroken_plan, broken_plan, type_plan, placed_plan, go_then}
 use Rattle.press_plans.specs.Plans.{poured_plan, room_plan, standing}
 use Rattle.filled_pastes.specs.Poured.{word_length}
-use Rattle.press_plans.specs.Filling.{room_if, one_behind, place_behind, is_place}
+use Rattle.press_plans.specs.Filling.{room_if, place_behind, is_place}
+use Rattle.press_tasks.specs.Refilling.{one_behind}
 use Rattle.earlier_presses.specs.Replacing.{TypingView, first_typed}
 use Rattle.status_line.specs.declared.deed.Deed.{Deed}
 use Rattle.caret_moves.specs.declared.wish.KeyWish.TheVariants.{Break, Place}

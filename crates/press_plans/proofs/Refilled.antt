@@ -12,8 +12,8 @@ use Rattle.sought_words.specs.declared.seeking.SearchStart.{SearchStart}
 use Rattle.sought_words.specs.Sought.{search_from}
 use Rattle.desktop_definitions.specs.Desktop.{Desktop}
 use Rattle.desk_journal.specs.Views.{Place as ViewerPlace, caret_text}
-use Rattle.press_plans.specs.declared.task.Task.TheVariants as kind
-use Rattle.press_plans.specs.declared.refill.Refilling.TheVariants as refilling
+use Rattle.press_tasks.specs.declared.task.Task.TheVariants as kind
+use Rattle.press_tasks.specs.declared.refill.Refilling.TheVariants as refilling
 use Rattle.press_plans.specs.Plans.{Plan, Refused, caret_place, edit_plan, plan_of, seek_edit}
 
 is_no_row : (n : ℕ) → n ≡ 0 → (n == 0) ≡ true

@@ -16,9 +16,9 @@ use Rattle.status_line.specs.declared.saying.Saying.TheVariants.{NoCaret, NoScro
 use Rattle.sought_words.specs.declared.seeking.Found.{Found}
 use Rattle.sought_words.specs.declared.seeking.SearchStart.{SearchStart}
 use Rattle.sought_words.specs.Sought.{search_from, sought_from}
-use Rattle.press_plans.specs.declared.finding.Finding.TheVariants as finding
+use Rattle.press_tasks.specs.declared.finding.Finding.TheVariants as finding
 use Rattle.press_plans.specs.declared.plan.Plan.{Plan as MadePlan}
-use Rattle.press_plans.specs.declared.task.Task.TheVariants as kind
+use Rattle.press_tasks.specs.declared.task.Task.TheVariants as kind
 use Rattle.press_plans.specs.Plans.{Plan, Makes, Asks, Refused, begin_plan, caret_place, found_plan, plan_of, search_plan, seen_plan}
 use Rattle.press_plans.specs.Plans.{words_plan}
 use Rattle.press_plans.proofs.Planning.{plans_seen, plans_starved}

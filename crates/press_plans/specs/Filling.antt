@@ -1,11 +1,12 @@
 -- What is typed by a press where lines are filled, so that it stays in sight.
-use Rattle.std.specs.Prelude.{ℕ, ◌+◌, ◌-◌, ◌^◌, Bool, false, ◌==◌, if◌then◌else◌, [], ◌∷◌, min, Option, Some, None}
+use Rattle.std.specs.Prelude.{ℕ, Bool, false, ◌==◌, if◌then◌else◌, [], ◌∷◌, Option, Some, None}
 use Rattle.event_bytes.specs.Bytes.{carriage_return}
 use Rattle.event_bytes.specs.declared.event.Event.{Event}
 use Rattle.event_bytes.specs.declared.event.Event.TheVariants.{Typed}
 use Rattle.desktop_definitions.specs.Desktop.{Desktop}
 use Rattle.desk_journal.specs.Views.{desk_info}
 use Rattle.filled_pastes.specs.Poured.{is_gap}
+use Rattle.press_tasks.specs.Refilling.{one_behind}
 
 -- For a word of how many characters the line is to have room: for a letter that is typed next, and for none where it is a
 -- blank, or where nothing is left. Before an end of line, and before another event, it isn't looked at.
@@ -21,10 +22,6 @@ abbrev pub room_if : Bool → Option Event → Option ℕ
 room_if fills next = if fills then room_for next else None
 
 -- the position of the caret once there is a character more before it
-abbrev pub one_behind : Option ℕ → ℕ
-one_behind None = 0
-one_behind (Some p) = min (p + 1) (2 ^ 32 - 1)
-
 abbrev pub place_behind : Desktop → ℕ
 place_behind d = one_behind (desk_info d).caret_position
 

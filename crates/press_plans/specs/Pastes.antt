@@ -5,9 +5,9 @@ use Rattle.event_bytes.specs.declared.event.Event.{Event}
 use Rattle.event_bytes.specs.declared.event.Event.TheVariants.{Typed}
 use Rattle.desktop_definitions.specs.Desktop.{Desktop}
 use Rattle.filled_pastes.specs.Poured.{HasEnds}
-use Rattle.press_plans.specs.declared.task.Task.{Task}
-use Rattle.press_plans.specs.declared.task.Task.TheVariants.{Post, Pour}
-use Rattle.press_plans.specs.declared.task.Stage.TheVariants.{On}
+use Rattle.press_tasks.specs.declared.task.Task.{Task}
+use Rattle.press_tasks.specs.declared.task.Task.TheVariants.{Post, Pour}
+use Rattle.press_tasks.specs.declared.task.Stage.TheVariants.{On}
 use Rattle.press_plans.specs.Plans.{Plan, Events, pour_plan}
 
 -- what events type, one after another, and what is typed by what is left to do

@@ -45,32 +45,32 @@ use Rattle.status_line.specs.declared.saying.Saying.{Saying}
 use Rattle.status_line.specs.declared.saying.Saying.TheVariants.{NoCaret, NoText, NoScroll, NothingAfter, NoWord, NoCommand}
 use Rattle.status_line.specs.declared.saying.Saying.TheVariants.{NoLine, PartHidden}
 use Rattle.status_line.specs.declared.saying.Saying.TheVariants.{BeyondEdge, NotThere, NoWords, WentRound, IsFilled}
-use Rattle.press_plans.specs.declared.task.Task.{Task}
-use Rattle.press_plans.specs.declared.task.Task.TheVariants as task
-use Rattle.press_plans.specs.declared.task.Task.TheVariants.{Post, Scroll, Lead}
-use Rattle.press_plans.specs.declared.task.Task.TheVariants.{TypeOn, GoBack, After, Seek}
-use Rattle.press_plans.specs.declared.task.Task.TheVariants.{TypeOver, Erase, Pour, Word, Extend, Find, Refill}
-use Rattle.press_plans.specs.declared.refill.Refilling.{Refilling}
-use Rattle.press_plans.specs.declared.refill.Refilling.TheVariants as refilling
-use Rattle.press_plans.specs.declared.refill.Stroke.{Stroke}
-use Rattle.press_plans.specs.Refilling.{after_stroke, edit_place, edit_stroke, stroke_event}
+use Rattle.press_tasks.specs.declared.task.Task.{Task}
+use Rattle.press_tasks.specs.declared.task.Task.TheVariants as task
+use Rattle.press_tasks.specs.declared.task.Task.TheVariants.{Post, Scroll, Lead}
+use Rattle.press_tasks.specs.declared.task.Task.TheVariants.{TypeOn, GoBack, After, Seek}
+use Rattle.press_tasks.specs.declared.task.Task.TheVariants.{TypeOver, Erase, Pour, Word, Extend, Find, Refill}
+use Rattle.press_tasks.specs.declared.refill.Refilling.{Refilling}
+use Rattle.press_tasks.specs.declared.refill.Refilling.TheVariants as refilling
+use Rattle.press_tasks.specs.declared.refill.Stroke.{Stroke}
+use Rattle.press_tasks.specs.Refilling.{after_stroke, edit_place, edit_stroke, stroke_event}
 use Rattle.filled_pastes.specs.declared.edits.Edit.{Edit}
 use Rattle.filled_pastes.specs.Paragraphs.{fill_edit, moved}
-use Rattle.press_plans.specs.declared.finding.Finding.{Finding}
-use Rattle.press_plans.specs.declared.finding.Finding.TheVariants as finding
-use Rattle.press_plans.specs.Finding.{words_finding}
+use Rattle.press_tasks.specs.declared.finding.Finding.{Finding}
+use Rattle.press_tasks.specs.declared.finding.Finding.TheVariants as finding
+use Rattle.press_tasks.specs.Finding.{words_finding}
 use Rattle.sought_words.specs.declared.seeking.Found.{Found}
 use Rattle.sought_words.specs.Sought.{search_from, sought_from}
-use Rattle.press_plans.specs.declared.task.Stage.{Stage}
-use Rattle.press_plans.specs.declared.task.Stage.TheVariants.{First, Back, On}
-use Rattle.press_plans.specs.declared.task.Task.TheVariants.{Page, Show, Reveal, Enter}
+use Rattle.press_tasks.specs.declared.task.Stage.{Stage}
+use Rattle.press_tasks.specs.declared.task.Stage.TheVariants.{First, Back, On}
+use Rattle.press_tasks.specs.declared.task.Task.TheVariants.{Page, Show, Reveal, Enter}
 use Rattle.press_plans.specs.declared.plan.Plan.{Plan as MadePlan}
 use Rattle.press_plans.specs.declared.plan.Plan.TheVariants as made
 use Rattle.status_line.specs.declared.deed.Deed.{Deed}
 use Rattle.press_plans.specs.Filling.{room_if, place_behind, is_place}
 use Rattle.press_plans.specs.Listed.{begins_in_viewer, event_meant, is_tool}
 use Rattle.filled_pastes.specs.Poured.{poured_at, word_length}
-use Rattle.press_plans.specs.Tasks.{lead_deed, posting}
+use Rattle.press_tasks.specs.Tasks.{lead_deed, posting}
 
 -- What a task becomes over a desktop: it can't be done, for a reason; or it has these events, and then this is left to
 -- do, if anything; or it has none. Then a line of the log is said, the pointer that keys move or the rows in sight go to a

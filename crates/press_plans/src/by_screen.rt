@@ -3,8 +3,8 @@ ghost use Rattle.std.specs.Prelude.{◌≡◌};
 ghost use Rattle.press_plans.specs.Plans.{click_of, draw_of, go_plan, plan_on, seek_plan, seen_plan, word_plan};
 
 use crate::plan::Plan;
-use crate::task::{CellPlace, Task};
 use event_bytes::{Event, Keys};
+use press_tasks::{CellPlace, Task};
 use screen_cells::Screen;
 use screen_reading::{next_command, picked_word};
 use status_line::Saying;

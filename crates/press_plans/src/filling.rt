@@ -4,16 +4,17 @@
 //! the line has no room, it is broken, and the caret goes back behind the same character.
 ghost use Rattle.std.specs.Prelude.{◌≡◌, false};
 ghost use Rattle.std.specs.Result.{result_map_both};
-ghost use Rattle.press_plans.specs.Filling.{is_place, one_behind, room_for, room_for_byte, room_if};
+ghost use Rattle.press_plans.specs.Filling.{is_place, room_for, room_for_byte, room_if};
+ghost use Rattle.press_tasks.specs.Refilling.{one_behind};
 ghost use Rattle.press_plans.specs.Plans.{Makes, Plans, broken_plan, go_then, placed_plan, seen_plan, unbroken_plan};
-ghost use Rattle.press_plans.specs.declared.task.Task.TheVariants as Task;
+ghost use Rattle.press_tasks.specs.declared.task.Task.TheVariants as Task;
 
 use crate::plan::{Plan, info_of, why_not};
-use crate::task::Task;
 use desk_journal::{Error, KeyWish, Store, WhyNot};
 use earlier_presses::Typing;
 use event_bytes::{CARRIAGE_RETURN, Event};
 use filled_pastes::is_gap;
+use press_tasks::{Task, one_behind};
 use sector_disk::Disk;
 use status_line::Deed;
 use std::alloc::Global;
@@ -52,16 +53,6 @@ fn room_if(fills: bool, next: &Option<Event>) -> Option<u8>
     ensures { result ≡ room_if fills next.now }
 {
     if fills { room_for(next) } else { None }
-}
-
-/// The position of the caret once there is a character more before it.
-pub(crate) fn one_behind(place: Option<u32>) -> u32
-    ensures { result ≡ one_behind place }
-{
-    match place {
-        None => 0,
-        Some(place) => place.saturating_add(1),
-    }
 }
 
 /// Whether this is the place.

@@ -5,53 +5,23 @@
 //! scroll bar.
 ghost use Rattle.std.specs.Prelude.{◌≡◌, false, option_map, IfOk, IfErr};
 ghost use Rattle.std.specs.Result.{result_map_both};
-ghost use Rattle.press_plans.specs.Finding.{words_finding};
 ghost use Rattle.press_plans.specs.Plans.{bring_plan, found_plan, on_plan, reach_plan, search_plan};
 ghost use Rattle.press_plans.specs.Plans.{Plans, seen_plan, selected_plan, selected_task, told_plan};
-ghost use Rattle.press_plans.specs.declared.task.Task.TheVariants as Task;
-ghost use Rattle.press_plans.specs.declared.finding.Finding.TheVariants as Finding;
+ghost use Rattle.press_tasks.specs.declared.task.Task.TheVariants as Task;
+ghost use Rattle.press_tasks.specs.declared.finding.Finding.TheVariants as Finding;
 
 use crate::filling::placed_plan;
 use crate::plan::{Plan, caret_place, info_of, why_not};
-use crate::task::Task;
 use desk_journal::{CaretCommand, Error, KeyWish, Store, WhyNot, Wish};
 use event_bytes::{Event, TypedBytes};
 use host_names::{HostName, first_words};
 use piece_ring::Look;
+use press_tasks::{Finding, Task, finding_of};
 use sector_disk::Disk;
 use sought_words::{Found, bytes_of, search_from, sought};
 use status_line::Saying;
 use std::alloc::Global;
 use std::vec::Vec;
-
-/// How far words are found.
-#[derive(Drop)]
-pub enum Finding {
-    /// What the press before it selected is sought, if it did, or it is asked for the words: before the caret, or behind it.
-    Search { over: bool, before: bool },
-    /// The words are sought that were searched last.
-    On(bool),
-    /// These words are sought.
-    Words(TypedBytes, bool),
-    /// They were found, and the caret goes there.
-    Reach(Found),
-    /// Their line comes into sight before.
-    Bring(Found),
-    /// It is in sight, and the caret goes there.
-    Arrive(Found),
-    /// The caret has gone there, as far as it can.
-    Tell(Found),
-}
-
-/// Words are sought; where there are none, or they can't be typed, those that were searched last.
-pub(crate) fn finding_of(words: &[u8], before: bool) -> Finding
-    ensures { result ≡ words_finding words.now before }
-{
-    match TypedBytes::new(words) {
-        None => Finding::On(before),
-        Some(words) => Finding::Words(words, before),
-    }
-}
 
 /// What is left of finding words.
 pub(crate) fn finding_plan<D: Disk>(

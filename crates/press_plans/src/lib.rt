@@ -1,7 +1,7 @@
 //! What presses are to do at the desk.
 //!
-//! A press that posts events is a task (`task`). Over the desktop that stands there it becomes a plan (`plan`), mostly by
-//! what the store tells of its texts, or what the screen shows (`by_screen`): the events, and what is left to do once they
+//! A press that posts events is a task (`press_tasks`). Over the desktop that stands there it becomes a plan (`plan`), mostly
+//! by what the store tells of its texts, or what the screen shows (`by_screen`): the events, and what is left to do once they
 //! are done. What is typed breaks its lines (`filling`), and so does what is pasted (`pouring`). What an event of the hand
 //! means at the desk is in `listed`, and what a page of a text does in `paging`.
 //!
@@ -21,10 +21,6 @@ mod paging;
 mod plan;
 mod pouring;
 mod refill;
-mod task;
 
-pub use finding::Finding;
-pub use laws::{constants_are_defined, pastes_come_whole};
-pub use plan::{Plan, caret_place};
-pub use refill::{Refilling, Stroke};
-pub use task::{Filling, MOST_PLANS, Task, calling_wish};
+pub use laws::pastes_come_whole;
+pub use plan::{Plan, caret_place, plan_of};

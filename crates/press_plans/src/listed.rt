@@ -5,10 +5,10 @@ ghost use Rattle.desk_journal.specs.Views.{place_at};
 ghost use Rattle.press_plans.specs.Listed.{begins_in_viewer, event_meant, is_tool, middle_or};
 ghost use Rattle.press_plans.specs.Plans.{is_call};
 
-use crate::task::CellPlace;
 use desk_journal::Store;
 use desktop_definitions::Entry;
 use event_bytes::Event;
+use press_tasks::CellPlace;
 use sector_disk::Disk;
 use starter_desktop::TOOL_NAME;
 

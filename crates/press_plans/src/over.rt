@@ -4,9 +4,9 @@ ghost use Rattle.std.specs.Result.{result_map_both};
 ghost use Rattle.press_plans.specs.Plans.{erase_plan, erasing, over_plan, seen_plan};
 
 use crate::plan::Plan;
-use crate::task::Task;
 use desk_journal::{KeyWish, WhyNot};
 use event_bytes::{Event, Key};
+use press_tasks::Task;
 use std::vec::Vec;
 
 /// What is selected up to the caret is cut, where anything is, and then this is left to do.

@@ -1,13 +1,13 @@
 //! A page of a viewer's text, with which the caret goes along.
 ghost use Rattle.std.specs.Prelude.{◌≡◌, false, option_map};
 ghost use Rattle.press_plans.specs.Plans.{Plans, click_of, goes_along, is_one_viewer, paged_plan, seen_plan, seen_start};
-ghost use Rattle.press_plans.specs.declared.task.Task.TheVariants as Task;
+ghost use Rattle.press_tasks.specs.declared.task.Task.TheVariants as Task;
 
 use crate::by_screen::click;
 use crate::plan::{Plan, caret_place, page_wish, place_meant};
-use crate::task::{CellPlace, Task};
 use desk_journal::{Error, Store};
 use event_bytes::Event;
+use press_tasks::{CellPlace, Task};
 use screen_reading::{text_rows_in_sight, text_start};
 use sector_disk::Disk;
 use status_line::Saying;

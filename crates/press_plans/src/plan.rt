@@ -17,12 +17,12 @@ use crate::over::{erase_plan, over_plan};
 use crate::paging::page_plan;
 use crate::pouring::pour_plan;
 use crate::refill::refill_plan;
-use crate::task::{CellPlace, Task, lead_deed, posting};
 use desk_journal::{DeskInfo, Error, KeyWish, ShownViewer, Store, WhyNot, Wish};
 use desktop_definitions::Entry;
 use done_presses::take_last;
 use event_bytes::{Event, Key, Keys};
 use host_names::HostName;
+use press_tasks::{CellPlace, Task, lead_deed, posting};
 use screen_cells::Screen;
 use screen_reading::{caret_of, kept_end, text_start};
 use sector_disk::Disk;
@@ -59,48 +59,46 @@ pub enum Plan {
     PutsAway(Task),
 }
 
-impl Task {
-    /// What it becomes over the desktop of a store.
-    ///
-    /// Errors: `NoMemory`, where memory runs out; `Fault`, where the disk fails; `MustReopen`.
-    pub fn plan<D: Disk>(self, alloc: Global, store: &mut Store<D>) -> Result<Plan, Error>
-        requires { store.old.must_reopen ≡ false }
-        ensures { Plans D.Disk self result store.old store.new }
-    {
-        match self {
-            Task::Post(event) => post_plan(alloc, event, store),
-            Task::Call(event, _) => post_plan(alloc, event, store),
-            Task::After(before, cell) => after_plan(before, cell, store),
-            Task::Enter(cell) => Ok(entry_plan(info_of(store).is_marked, cell)),
-            Task::Page { at, is_up, sight } => page_plan(alloc, at, is_up, sight, store),
-            Task::Show => Ok(shown_plan(caret_place(store))),
-            Task::Scroll(at, wish) => {
-                let presses = store.scroll(alloc, at, wish)?;
-                Ok(scroll_plan(wish, presses))
-            }
-            Task::Lead(wish) => {
-                let told = store.lead(alloc, wish)?;
-                Ok(lead_plan(wish, told))
-            }
-            Task::TypeOver(event, fills) => {
-                let told = store.lead(alloc, KeyWish::CutSelected)?;
-                Ok(over_plan(posting(fills, event), told))
-            }
-            Task::Erase { behind } => {
-                let told = store.lead(alloc, KeyWish::CutSelected)?;
-                Ok(erase_plan(behind, told))
-            }
-            Task::Find(finding) => finding_plan(alloc, finding, store),
-            Task::Refill(refilling) => refill_plan(alloc, refilling, store),
-            Task::Pour(stage, bytes, typed) => pour_plan(alloc, stage, bytes, typed, store),
-            Task::TypeOn(typing, fills, deed) => type_plan(alloc, typing, fills, deed, store),
-            Task::GoBack(place, typing, fills, deed) => {
-                let next = Task::TypeOn(typing, fills, deed);
-                go_then(alloc, KeyWish::Place(place), place, next, store)
-            }
-            Task::Extend(start, at) => extend_plan(alloc, start, at, store),
-            seen => plan_seen(alloc, seen, store),
+/// What a task becomes over the desktop of a store.
+///
+/// Errors: `NoMemory`, where memory runs out; `Fault`, where the disk fails; `MustReopen`.
+pub fn plan_of<D: Disk>(alloc: Global, task: Task, store: &mut Store<D>) -> Result<Plan, Error>
+    requires { store.old.must_reopen ≡ false }
+    ensures { Plans D.Disk task result store.old store.new }
+{
+    match task {
+        Task::Post(event) => post_plan(alloc, event, store),
+        Task::Call(event, _) => post_plan(alloc, event, store),
+        Task::After(before, cell) => after_plan(before, cell, store),
+        Task::Enter(cell) => Ok(entry_plan(info_of(store).is_marked, cell)),
+        Task::Page { at, is_up, sight } => page_plan(alloc, at, is_up, sight, store),
+        Task::Show => Ok(shown_plan(caret_place(store))),
+        Task::Scroll(at, wish) => {
+            let presses = store.scroll(alloc, at, wish)?;
+            Ok(scroll_plan(wish, presses))
         }
+        Task::Lead(wish) => {
+            let told = store.lead(alloc, wish)?;
+            Ok(lead_plan(wish, told))
+        }
+        Task::TypeOver(event, fills) => {
+            let told = store.lead(alloc, KeyWish::CutSelected)?;
+            Ok(over_plan(posting(fills, event), told))
+        }
+        Task::Erase { behind } => {
+            let told = store.lead(alloc, KeyWish::CutSelected)?;
+            Ok(erase_plan(behind, told))
+        }
+        Task::Find(finding) => finding_plan(alloc, finding, store),
+        Task::Refill(refilling) => refill_plan(alloc, refilling, store),
+        Task::Pour(stage, bytes, typed) => pour_plan(alloc, stage, bytes, typed, store),
+        Task::TypeOn(typing, fills, deed) => type_plan(alloc, typing, fills, deed, store),
+        Task::GoBack(place, typing, fills, deed) => {
+            let next = Task::TypeOn(typing, fills, deed);
+            go_then(alloc, KeyWish::Place(place), place, next, store)
+        }
+        Task::Extend(start, at) => extend_plan(alloc, start, at, store),
+        seen => plan_seen(alloc, seen, store),
     }
 }
 

@@ -1,4 +1,4 @@
-use Rattle.desk_page.specs.contracts.disk.RecordedDiskDisk.TheImpl.{ghosts}
+use Rattle.page_disks.specs.contracts.disk.RecordedDiskDisk.TheImpl.{ghosts}
 use Rattle.desk_page.proofs.Known.{stays_known}
 use Rattle.desk_page.proofs.laws.looking_law.Goals as goal
 

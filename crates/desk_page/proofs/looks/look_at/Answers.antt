@@ -1,7 +1,7 @@
 use Rattle.std.proofs.Common.{refl}
 use Rattle.std.proofs.lemmas.Result.{err_from_is_err_and}
 use Rattle.desk_page.specs.Looks.LooksAtPast.{has_none}
-use Rattle.desk_page.specs.contracts.disk.RecordedDiskDisk.TheImpl.{ghosts}
+use Rattle.page_disks.specs.contracts.disk.RecordedDiskDisk.TheImpl.{ghosts}
 use Rattle.desk_page.proofs.Looked.{looks_at}
 use Rattle.desk_page.proofs.Turning.{withheld_so}
 use Rattle.desk_page.proofs.looks.look_at.Goals as goal

@@ -2,7 +2,7 @@ use Rattle.std.proofs.Common.{refl}
 use Rattle.std.proofs.lemmas.Result.{err_from_is_err_and}
 use Rattle.past_looks.proofs.Carrying.{looker_alike}
 use Rattle.desk_page.specs.Looks.PressesLook.{looks_on}
-use Rattle.desk_page.specs.contracts.disk.RecordedDiskDisk.TheImpl.{ghosts}
+use Rattle.page_disks.specs.contracts.disk.RecordedDiskDisk.TheImpl.{ghosts}
 use Rattle.desk_page.proofs.looks.looked_on.Goals as goal
 
 pub returns-in_ok-scene-in-Ok-clause-looks : goal.returns-in_ok-scene-in-Ok-clause-looks

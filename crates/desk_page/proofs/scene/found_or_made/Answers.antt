@@ -1,7 +1,7 @@
 use Rattle.std.proofs.Common.{subst, sym}
 use Rattle.std.proofs.lemmas.Result.{IfErr-weaker}
 use Rattle.desk_page.specs.Turns.{IsNotBegun, starved}
-use Rattle.desk_page.specs.contracts.disk.RecordedDiskDisk.TheImpl.{ghosts}
+use Rattle.page_disks.specs.contracts.disk.RecordedDiskDisk.TheImpl.{ghosts}
 use Rattle.desk_page.proofs.Turning.{found_of, not_begun_of}
 use Rattle.desk_page.proofs.scene.found_or_made.Goals as goal
 

@@ -2,7 +2,7 @@ use Rattle.std.proofs.Common.{◌∙◌, ◌++◌, ap, refl}
 use Rattle.desktop_definitions.specs.Shown.{shown_screen}
 use Rattle.screen_drawing.specs.Drawn.{drawing_of}
 use Rattle.desk_page.specs.Lines.{page_line}
-use Rattle.desk_page.specs.contracts.disk.RecordedDiskDisk.TheImpl.{ghosts}
+use Rattle.page_disks.specs.contracts.disk.RecordedDiskDisk.TheImpl.{ghosts}
 use Rattle.desk_page.proofs.Turning.{handed_over}
 use Rattle.desk_page.proofs.scene.settled.Goals as goal
 

@@ -1,6 +1,6 @@
 use Rattle.std.proofs.Common.{◌∙◌, ap, refl}
-use Rattle.desk_page.proofs.Recorded.{forgotten_now}
-use Rattle.desk_page.specs.Recording.{Recording, forgotten}
+use Rattle.page_disks.proofs.Recorded.{forgotten_now}
+use Rattle.page_disks.specs.Recording.{Recording, forgotten}
 use Rattle.desk_journal.specs.View.{StoreView}
 use Rattle.desk_page.proofs.scene.told.Goals as goal
 

@@ -1,6 +1,6 @@
 use Rattle.std.proofs.Common.{◌≡◌, ◌∙◌, ap, arith, Err}
 use Rattle.std.proofs.lemmas.Result.{err_from_is_err_and}
-use Rattle.desk_sitting.specs.declared.serving.TheConstants.{MOST_TURNS}
+use Rattle.desk_sitting.specs.declared.sitting.TheConstants.{MOST_TURNS}
 use Rattle.desk_page.specs.Turns.{none, one_more}
 use Rattle.desk_page.proofs.Turning.{asked_for, no_endless}
 use Rattle.desk_page.proofs.scene.travel_on.Goals as goal

@@ -2,8 +2,8 @@ use Rattle.std.proofs.Common.{◌∙◌, ap, refl, List, ℕ}
 use Rattle.std.proofs.lemmas.Result.{err_from_is_err_and}
 use Rattle.desk_journal.specs.Views.{DeskInfo}
 use Rattle.caret_moves.specs.declared.wish.KeyWish.TheVariants.{Place}
-use Rattle.press_plans.specs.declared.task.Task.TheVariants as kind
-use Rattle.press_plans.specs.declared.finding.Finding.TheVariants as finding
+use Rattle.press_tasks.specs.declared.task.Task.TheVariants as kind
+use Rattle.press_tasks.specs.declared.finding.Finding.TheVariants as finding
 use Rattle.press_plans.specs.Plans.{bring_plan, on_plan, placed_plan, plan_of, reach_plan, told_plan}
 use Rattle.press_plans.proofs.Planning.{plans_at_once, plans_by_presses, plans_by_told, plans_seen, plans_unseen}
 use Rattle.press_plans.proofs.finding.finding_plan.Goals as goal

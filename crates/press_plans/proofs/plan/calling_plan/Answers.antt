@@ -2,7 +2,7 @@ use Rattle.std.proofs.Common.{◌∙◌, ap, sym, ◌∷◌, []}
 use Rattle.std.specs.Prelude.{Some}
 use Rattle.std.proofs.lemmas.Result.{err_from_is_err_and}
 use Rattle.desk_journal.specs.Views.{DeskInfo, desk_info}
-use Rattle.press_plans.specs.declared.task.Task.TheVariants as kind
+use Rattle.press_tasks.specs.declared.task.Task.TheVariants as kind
 use Rattle.press_plans.specs.Plans.{Events, empty_plan}
 use Rattle.screen_reading.specs.Aims.{caret_cell}
 use Rattle.press_plans.proofs.Meant.{called_in_viewer, called_on_empty}

@@ -1,5 +1,5 @@
 use Rattle.std.proofs.Common.{◌∙◌, refl, subst}
-use Rattle.desk_page.specs.contracts.disk.RecordedDiskDisk.TheImpl.{ghosts}
+use Rattle.page_disks.specs.contracts.disk.RecordedDiskDisk.TheImpl.{ghosts}
 use Rattle.desk_page.specs.Turns.{Begins, IsNotBegun}
 use Rattle.desk_page.proofs.Begun.{begun_usable}
 use Rattle.desk_page.proofs.Keeping.{is_begun, not_begun, not_handed}

@@ -1,6 +1,6 @@
 use Rattle.std.proofs.Common.{◌≡◌, ◌∙◌, ◌++◌, [], ◌∷◌, None, Some, ap, refl, sym}
 use Rattle.desk_page.specs.Calls.{declined, no_desktop}
-use Rattle.desk_page.specs.contracts.disk.RecordedDiskDisk.TheImpl.{ghosts}
+use Rattle.page_disks.specs.contracts.disk.RecordedDiskDisk.TheImpl.{ghosts}
 use Rattle.desk_page.proofs.Keeping.{are_answered, not_brought, tells_none}
 use Rattle.desk_page.proofs.kept.Kept.bring.Goals as goal
 

@@ -1,7 +1,7 @@
 use Rattle.std.proofs.Common.{refl}
 use Rattle.desk_page.specs.Calls.{nothing_kept}
 use Rattle.desk_page.specs.Giving.{selected_text}
-use Rattle.desk_page.specs.contracts.disk.RecordedDiskDisk.TheImpl.{ghosts}
+use Rattle.page_disks.specs.contracts.disk.RecordedDiskDisk.TheImpl.{ghosts}
 use Rattle.desk_page.proofs.Keeping.{is_asked, tells_none}
 use Rattle.desk_page.proofs.kept.Kept.copied.Goals as goal
 

@@ -4,7 +4,7 @@ use Rattle.event_bytes.specs.Bytes.{is_name}
 use Rattle.desk_page.specs.Calls.{asked, no_name_of, nothing_kept}
 use Rattle.desk_page.specs.Giving.{given_text}
 use Rattle.desk_page.specs.Looks.{shown_desktop}
-use Rattle.desk_page.specs.contracts.disk.RecordedDiskDisk.TheImpl.{ghosts}
+use Rattle.page_disks.specs.contracts.disk.RecordedDiskDisk.TheImpl.{ghosts}
 use Rattle.desk_page.proofs.Keeping.{is_asked, named_so, tells_none, unnamed}
 use Rattle.desk_page.proofs.kept.Kept.give.Goals as goal
 

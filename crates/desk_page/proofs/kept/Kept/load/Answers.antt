@@ -1,6 +1,6 @@
 use Rattle.std.proofs.Common.{refl, subst}
 use Rattle.desk_page.specs.Calls.{loads, starves}
-use Rattle.desk_page.specs.Loading.{HasLoaded, disk_to_load}
+use Rattle.page_disks.specs.Loading.{HasLoaded, disk_to_load}
 use Rattle.desk_page.proofs.kept.Kept.load.Goals as goal
 
 pub returns-in-Ok-clause-answers : goal.returns-in-Ok-clause-answers

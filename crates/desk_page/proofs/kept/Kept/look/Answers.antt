@@ -3,7 +3,7 @@ use Rattle.desk_page.specs.Calls.{no_desk}
 use Rattle.desk_page.specs.Looks.{LooksAtPast}
 use Rattle.desk_page.specs.Turns.{IsWithheld}
 use Rattle.desk_page.specs.declared.kept.Kept.{Kept}
-use Rattle.desk_page.specs.contracts.disk.RecordedDiskDisk.TheImpl.{ghosts}
+use Rattle.page_disks.specs.contracts.disk.RecordedDiskDisk.TheImpl.{ghosts}
 use Rattle.desk_page.proofs.Keeping.{is_looked, look_tells_none, not_looked, tells_none}
 use Rattle.desk_page.proofs.kept.Kept.look.Goals as goal
 

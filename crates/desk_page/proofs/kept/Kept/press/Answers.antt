@@ -1,6 +1,6 @@
 use Rattle.std.proofs.Common.{◌≡◌, ◌∙◌, None, refl, sym}
 use Rattle.desk_page.specs.Calls.{no_page}
-use Rattle.desk_page.specs.contracts.disk.RecordedDiskDisk.TheImpl.{ghosts}
+use Rattle.page_disks.specs.contracts.disk.RecordedDiskDisk.TheImpl.{ghosts}
 use Rattle.desk_page.proofs.Keeping.{is_pressed, not_pressed}
 use Rattle.desk_page.proofs.kept.Kept.press.Goals as goal
 

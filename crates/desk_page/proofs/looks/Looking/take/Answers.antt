@@ -1,6 +1,6 @@
 use Rattle.std.proofs.Common.{refl}
 use Rattle.past_pages.proofs.StillReads.{still_none}
-use Rattle.desk_page.specs.contracts.disk.RecordedDiskDisk.TheImpl.{ghosts}
+use Rattle.page_disks.specs.contracts.disk.RecordedDiskDisk.TheImpl.{ghosts}
 use Rattle.past_looks.specs.declared.looker.Doing.TheVariants.{Stays}
 use Rattle.desk_page.specs.declared.looks.Looking.{Looking}
 use Rattle.desk_page.proofs.Looked.{comes_behind}

@@ -1,6 +1,6 @@
 use Rattle.std.proofs.Common.{◌≡◌, false}
 use Rattle.desk_page.specs.Looks.{ComesOfPresses}
-use Rattle.desk_page.specs.contracts.disk.RecordedDiskDisk.TheImpl.{ghosts}
+use Rattle.page_disks.specs.contracts.disk.RecordedDiskDisk.TheImpl.{ghosts}
 use Rattle.past_looks.specs.declared.looker.Doing.TheVariants.{Stays}
 use Rattle.desk_page.proofs.looks.Looking.take.Given as goal
 

@@ -1,6 +1,6 @@
 use Rattle.std.proofs.Common.{◌≡◌, ◌+◌, ◌∙◌, suc, refl, sym, arith, Some, Ok}
 use Rattle.std.proofs.lemmas.Result.{err_from_is_err_and}
-use Rattle.press_plans.specs.declared.task.TheConstants.{MOST_PLANS}
+use Rattle.press_tasks.specs.declared.task.TheConstants.{MOST_PLANS}
 use Rattle.desk_sitting.specs.Sittings.{most_plans}
 use Rattle.desk_sitting.proofs.Carrying.{broken_stage, carried_early, carried_to, next_left, next_stage, none_of}
 use Rattle.desk_sitting.proofs.Carrying.{plans_are, within_plans}

@@ -1,9 +1,0 @@
-use Rattle.std.proofs.Common.{◌≡◌}
-use Rattle.sector_disk.specs.Trail.{now}
-use Rattle.desk_page.specs.Loading.{ReadsWith}
-use Rattle.desk_page.specs.Recording.{trail_since}
-use Rattle.desk_page.proofs.loading.load_some.Given as goal
-
-abbrev pub invariant-loop-n : goal.invariant-loop-n
-invariant-loop-n l = (l.disk.size ≡ l.fn.disk.size)
-    × ReadsWith l.bytes l.first l.n (now (trail_since l.fn.disk)).reads (now (trail_since l.disk)).reads

@@ -1,0 +1,4 @@
+pub mod Spellings
+pub mod Repeated
+pub mod Recorded
+pub mod Loaded

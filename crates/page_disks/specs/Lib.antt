@@ -1,0 +1,4 @@
+pub mod Spelling
+pub mod Recording
+pub mod Repeating
+pub mod Loading

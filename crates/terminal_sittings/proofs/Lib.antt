@@ -1,0 +1,11 @@
+pub mod Between
+mod Due
+mod Fetching
+mod Forgetting
+mod Laws
+mod Questions
+pub mod Seen
+pub mod Surviving
+mod Told
+pub mod Turning
+pub mod Whole

@@ -1,0 +1,9 @@
+pub mod Endings
+pub mod Files
+pub mod Forgetting
+pub mod Laws
+pub mod Scenes
+pub mod Serving
+pub mod Sitting
+pub mod Surviving
+pub mod Travelling
