@@ -4,7 +4,7 @@ use Rattle.sector_disk.specs.declared.disk.Disk.{Ghosts}
 use Rattle.event_bytes.specs.declared.event.Event.{Event}
 use Rattle.desk_journal.specs.View.{StoreView}
 use Rattle.desk_past.specs.Deeds.{all_posted, posted}
-use Rattle.desk_past.specs.Reading.{IsOnlyReadFrom}
+use Rattle.past_pages.specs.Reading.{IsOnlyReadFrom}
 use Rattle.past_runs.specs.Calls.{DoesCall, Past, PastCall, TriesCall, begins, brings, ends, looks, posts, posts_over}
 use Rattle.past_runs.specs.Calls.{takes_back, turns, turns_to, with_deeds}
 use Rattle.past_runs.specs.Runs.{BeginNone, FindRoom, ForgetsNothing, IsPastRun, LeadsAll}
