@@ -8,7 +8,7 @@ use Rattle.desktop_definitions.specs.declared.reply.Reply.TheVariants.{Done, No}
 use Rattle.document_filing.specs.Bringing.{Documents, brought_in}
 use Rattle.desk_journal.specs.Bringing.{AreBrought}
 use Rattle.desk_journal.specs.View.{StoreView}
-use Rattle.past_pages.specs.Page.{import_of}
+use Rattle.past_pages.specs.Page.{FitPage, import_of}
 use Rattle.desk_past.specs.Deeds.{PastDeed, brought}
 use Rattle.desk_past.specs.Ahead.{CanAdd}
 use Rattle.desk_past.specs.Past.{KeepsAll, Remembers, Start}

@@ -4,7 +4,7 @@ use Rattle.sector_disk.specs.declared.disk.Disk.{Ghosts}
 use Rattle.event_bytes.specs.declared.event.Event.{Event}
 use Rattle.desk_journal.specs.Device.{IsOnlyRead, IsSameDevice}
 use Rattle.desk_journal.specs.View.{StoreView}
-use Rattle.desk_past.specs.Keeping.{KeepsOn}
+use Rattle.desk_past.specs.Keeping.{KeepsPost}
 use Rattle.past_pages.specs.Reading.{IsOnlyReadFrom}
 use Rattle.past_pages.proofs.StillReads.{nothing_written}
 use Rattle.desk_sitting.specs.Pasts.{KeepsPosted, PostsOn, PostsUpTo}
@@ -35,7 +35,7 @@ module _ {D : Type 0} (d : Ghosts D) where
   pub posts_one : (event : Event) {old new : StoreView D} → KeepsPosted d event old new → PostsOn d (event ∷ []) old new
   posts_one event post = one_more event none post
 
-  pub up_to_one : (event : Event) {old new : StoreView D} → KeepsOn d event old new → IsSameDevice d old.disk new.disk
+  pub up_to_one : (event : Event) {old new : StoreView D} → KeepsPost d event old new → IsSameDevice d old.disk new.disk
       → PostsUpTo d [] (event ∷ []) old new
   up_to_one event {old = old} amid device = record { mid = old; goes = none; begins = (amid, device) }
 

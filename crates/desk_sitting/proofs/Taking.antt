@@ -17,7 +17,7 @@ use Rattle.desk_journal.specs.Errors.{Error, NoMemory, Fault, MustReopen, Worn, 
 use Rattle.desk_journal.specs.Looking.{OnlyLooks}
 use Rattle.desk_journal.specs.Checkpointing.{LeavesDesktop}
 use Rattle.desk_journal.specs.Posting.{LeavesEither, IsAcknowledged, AnswersWorn, AnswersMustReopen}
-use Rattle.desk_past.specs.Keeping.{HasKept, KeepsOn}
+use Rattle.desk_past.specs.Keeping.{HasKeptPost, KeepsPost}
 use Rattle.desk_sitting.specs.Pasts.{KeepsPast, PostsOn, PostsUpTo, none as none_posted}
 use Rattle.desk_journal.proofs.Stepped.{stepped_newest}
 use Rattle.desk_journal.specs.Session.{Session, session_of, is_worn, taken}
@@ -224,9 +224,9 @@ module _ {D : Type 0} (d : Ghosts D) where
   accepts_it : (session : Session) (event : Event) → is_worn session ≡ false → event ∷ [] ≡ accepted_one session event
   accepts_it session event room = sym (cond-false (is_worn session) [] (event ∷ []) room)
 
-  module _ (event : Event) {old new : StoreView D} (usable : old.must_reopen ≡ false) (amid : KeepsOn d event old new)
+  module _ (event : Event) {old new : StoreView D} (usable : old.must_reopen ≡ false) (amid : KeepsPost d event old new)
       (device : IsSameDevice d old.disk new.disk) where
-    pub keeps_acknowledged : {T : Type 0} (value : T) (reply : Reply) → HasKept d event old new
+    pub keeps_acknowledged : {T : Type 0} (value : T) (reply : Reply) → HasKeptPost d event old new
         → AnswersWorn (Ok reply) old new → KeepsPast d (accepted_one (session_of old) event) (Ok value) old new
     keeps_acknowledged value reply kept worn = record {
       posted = subst (λ (es : List Event). PostsOn d es old new)

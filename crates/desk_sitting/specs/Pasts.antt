@@ -5,14 +5,14 @@ use Rattle.event_bytes.specs.declared.event.Event.{Event}
 use Rattle.desk_journal.specs.Device.{IsOnlyRead, IsSameDevice}
 use Rattle.desk_journal.specs.Errors.{Error}
 use Rattle.desk_journal.specs.View.{StoreView}
-use Rattle.desk_past.specs.Keeping.{HasKept, KeepsOn}
+use Rattle.desk_past.specs.Keeping.{HasKeptPost, KeepsPost}
 use Rattle.past_pages.specs.Reading.{IsOnlyReadFrom}
 
 module _ {D : Type 0} (d : Ghosts D) where
-  -- An event was posted: of a past nothing is forgotten, and it goes on by the event.
+  -- An event was posted: of a past nothing is forgotten, and it goes on by the event, in its part or over to the next one.
   pub record KeepsPosted (event : Event) (old new : StoreView D) : Type 0 where
-    pub any_moment : KeepsOn d event old new
-    pub kept : HasKept d event old new
+    pub any_moment : KeepsPost d event old new
+    pub kept : HasKeptPost d event old new
     pub device : IsSameDevice d old.disk new.disk
 
   -- These events were posted so, one after another, and between them the store was only read.
@@ -27,7 +27,8 @@ module _ {D : Type 0} (d : Ghosts D) where
   -- an event was begun, whatever came of it; or none was
   abbrev pub KeepsBegun : List Event → StoreView D → StoreView D → Type 0
   KeepsBegun [] old new = IsOnlyRead d old.disk new.disk
-  KeepsBegun (event ∷ events) old new = KeepsOn d event old new × IsSameDevice d old.disk new.disk
+  KeepsBegun (event ∷ events) old new =
+      KeepsPost d event old new × IsSameDevice d old.disk new.disk
 
   -- such events, and then this one
   pub record PostsUpTo (events begun : List Event) (old new : StoreView D) : Type 0 where

@@ -11,7 +11,7 @@ use Rattle.status_line.specs.Clicks.{middle_click}
 use Rattle.press_tasks.specs.Tasks.{calling_wish}
 use Rattle.desk_journal.specs.View.{StoreView}
 use Rattle.desk_past.specs.Deeds.{PastDeed}
-use Rattle.desk_past.specs.Reading.{IsOnlyReadFrom}
+use Rattle.past_pages.specs.Reading.{IsOnlyReadFrom}
 use Rattle.past_steps.specs.Steps.{IsSteppedBack, IsTurnedBack}
 use Rattle.desk_sitting.specs.Desk.{Seat, accepted_events, after_presses}
 use Rattle.desk_sitting.specs.Questions.{click_made}

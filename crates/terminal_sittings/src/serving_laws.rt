@@ -14,8 +14,9 @@ pub fn sittings_survive<D: Disk>()
     ensures ends { (desk : Desk) → EndsSurvive desk D.Disk }
 {}
 
-/// Of a past nothing is forgotten while events are posted in a sitting (the parts `past` of `GoesBy` and `SurvivesEnd`).
-/// Wherever a crash cuts it off, what it leaves has the past from before, and all events that were acknowledged since then.
+/// Of a past nothing is forgotten while events are posted in a sitting (the parts `past` of `GoesBy` and `SurvivesEnd`), in
+/// its part, and over to the next one where that is full. Wherever a crash cuts it off, what it leaves has the past from
+/// before, and all events that were acknowledged since then.
 pub fn sittings_keep_pasts<D: Disk>()
     ensures { PostsForgetNothing D.Disk }
 {}

@@ -31,11 +31,11 @@ returns-in-Err-clause-done g c =
 pub returns-in-Ok-clause-past : goal.returns-in-Ok-clause-past
 returns-in-Ok-clause-past g c =
     let e = c.in-Ok.ensures in
-    keeps_acknowledged g.D.Disk c.args.event.now c.requires e.nothing_forgotten.within e.device.same c.reply.result c.in-Ok.reply
-    e.kept.within e.worn
+    keeps_acknowledged g.D.Disk c.args.event.now c.requires e.nothing_forgotten e.device.same c.reply.result c.in-Ok.reply
+    e.kept e.worn
 
 pub returns-in-Err-clause-past : goal.returns-in-Err-clause-past
 returns-in-Err-clause-past g c =
     let e = c.in-Err.ensures in
-    keeps_turned_away g.D.Disk c.args.event.now c.requires e.nothing_forgotten.within e.device.same c.in-Err.error c.args.self.now
+    keeps_turned_away g.D.Disk c.args.event.now c.requires e.nothing_forgotten e.device.same c.in-Err.error c.args.self.now
     c.turned_away.new.self c.turned_away.result e.worn c.turned_away.ensures.worn c.turned_away.ensures.other
