@@ -7,7 +7,7 @@ use Rattle.past_moments.proofs.moments.Moments.look_led.Goals as goal
 pub look_on-requires-clause-low : goal.look_on-requires-clause-low
 look_on-requires-clause-low g c =
     let low = rw c.in-Some.is at c.in_ok-mark.ensures.low in
-    let first = c.if-k.false in omega (arith, low, first)
+    let first = c.if-k-eq0.false in omega (arith, low, first)
 
 pub returns-clause-shown : goal.returns-clause-shown
 returns-clause-shown g c = found_then c.look_on.result (λ look fact. λ are.
