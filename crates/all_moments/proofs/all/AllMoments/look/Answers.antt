@@ -1,5 +1,5 @@
 use Rattle.past_pages.proofs.StillReads.{still_both}
-use Rattle.past_moments.proofs.Kept.{found_then}
+use Rattle.all_moments.proofs.AtHand.{found_then}
 use Rattle.all_moments.proofs.all.AllMoments.look.Goals as goal
 
 pub returns-clause-shown : goal.returns-clause-shown

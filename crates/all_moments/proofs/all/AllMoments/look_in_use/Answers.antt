@@ -1,9 +1,8 @@
 use Rattle.std.proofs.Common.{◌∙◌, arith}
 use Rattle.std.proofs.lemmas.Result.{on_ok_weaker}
 use Rattle.past_moments.proofs.Carried.{moments_on}
-use Rattle.past_moments.proofs.Kept.{found_then}
 use Rattle.all_moments.specs.Parts.IsDesktopThen.{in_use}
-use Rattle.all_moments.proofs.AtHand.{all_now, words_in_use, words_oldest_in_use}
+use Rattle.all_moments.proofs.AtHand.{all_now, found_then, words_in_use, words_oldest_in_use}
 use Rattle.all_moments.proofs.Backward.{all_on}
 use Rattle.all_moments.proofs.all.AllMoments.look_in_use.Goals as goal
 

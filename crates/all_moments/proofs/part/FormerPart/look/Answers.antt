@@ -1,7 +1,6 @@
 use Rattle.std.proofs.Common.{◌≡◌, ◌∙◌, arith, false, inl, inr, refl, rules}
 use Rattle.std.proofs.lemmas.Result.{on_ok_weaker}
-use Rattle.past_moments.proofs.Kept.{found_then}
-use Rattle.all_moments.proofs.AtHand.{begins_before, begins_from, part_moved}
+use Rattle.all_moments.proofs.AtHand.{begins_before, begins_from, found_then, part_moved}
 use Rattle.all_moments.proofs.part.FormerPart.look.Goals as goal
 
 -- ---- a deed led to it
