@@ -1,6 +1,6 @@
 use Rattle.std.proofs.Common.{ap, subst, sym}
-use Rattle.std.proofs.lemmas.Result.{on_ok_weaker}
-use Rattle.past_moments.proofs.Kept.{found_then}
+use Rattle.std.proofs.lemmas.Result.{IfOk-weaker, on_ok_weaker}
+use Rattle.desk_past.proofs.Opened.{if_some_then}
 use Rattle.past_moments.specs.Moments.{IsDesktopAt}
 use Rattle.all_moments.specs.Parts.{IsToldThen}
 use Rattle.all_moments.specs.Parts.IsDesktopThen.{in_use}
@@ -11,20 +11,20 @@ use Rattle.all_moments.proofs.all.AllMoments.look_at_hand.Goals as goal
 -- ---- it is the oldest moment of the part in use
 
 pub returns-then-k-self-clause-shown : goal.returns-then-k-self-clause-shown
-returns-then-k-self-clause-shown g c = found_then c.look_first.result (λ first fact is.
+returns-then-k-self-clause-shown g c = IfOk-weaker c.look_first.result _ _ (λ found has. if_some_then found has (λ first fact is.
     let all = all_stays g.D.Disk c.args.store.now c.args.self.now c.in-Some.part c.look.new.self c.in-Some.is
     c.in_ok-look-in-Some.ensures.stays is in
-    in_use (subst (λ k. IsDesktopAt g.D.Disk k first.shown.desktop c.look_first.new.store) (sym c.if-k-self.true) (fact all)))
+    in_use (subst (λ k. IsDesktopAt g.D.Disk k first.shown.desktop c.look_first.new.store) (sym c.if-k-self.true) (fact all))))
     c.look_first.ensures.shown
 
 pub returns-then-k-self-clause-words : goal.returns-then-k-self-clause-words
-returns-then-k-self-clause-words g c = found_then c.look_first.result (λ first same is.
+returns-then-k-self-clause-words g c = IfOk-weaker c.look_first.result _ _ (λ found has. if_some_then found has (λ first same is.
     some_with _ same c.in_ok-look-in-Some.ensures.inside c.in_ok-look-in-Some.ensures.words (λ was words inside told.
     let quiet = c.shows_what_crashes_leave.ensures.quiet c.requires in
     words_on g.D.Disk c.look_first.ensures.still c.requires quiet c.args.k first.words.items
     (subst (λ w. IsToldThen g.D.Disk c.args.k w c.args.store.now) (sym (ap (λ w. w.items) words))
     (words_at_hand g.D.Disk c.args.store.now c.args.self.now c.in-Some.part c.look.new.self c.in-Some.is
-    c.in_ok-look-in-Some.ensures.stays is c.args.k was.words.items inside told)))) c.look_first.ensures.words
+    c.in_ok-look-in-Some.ensures.stays is c.args.k was.words.items inside told))))) c.look_first.ensures.words
 
 pub returns-then-k-self-clause-are : goal.returns-then-k-self-clause-are
 returns-then-k-self-clause-are g c = on_ok_weaker c.look_first.result (λ fact is.
