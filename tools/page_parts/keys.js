@@ -67,9 +67,9 @@ async function look() {
 }
 by('past').onclick = () => { look(); keys.focus(); };
 async function forget() {
-    const asks = 'Forget the past of this desktop? What it shows now stays, and so do all its documents. All earlier moments go, ' +
-        'for good: what was deleted or changed, and each step back. Bytes of the last of it may stay in the desktop\'s own part of ' +
-        'the store, until that is written over. Cancel forgets nothing.';
+    const asks = 'Forget the past of this desktop? What it shows now stays, and so do all its documents. All earlier ' +
+        'moments go, for good, with what was deleted or changed in them. Ctrl-Z may reach the last 256 events, until you ' +
+        'have done as many more. Cancel forgets nothing.';
     if (!confirm(asks)) return tell({ said: 'Nothing was forgotten.' });
     state.changed = true;
     const { refused, failed } = await ask('forget');

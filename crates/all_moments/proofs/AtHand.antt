@@ -28,6 +28,12 @@ use Rattle.all_moments.proofs.Backward.{behind_low}
 
 -- ---- what is returned
 
+pub found_then : {X E : Type 0} (result : Result (Option X) E) {P Q : X → Type 0} → ((x : X) → P x → Q x)
+    → IfOk result (λ found. IfSome found P) → IfOk result (λ found. IfSome found Q)
+found_then (Err e) so is = tt
+found_then (Ok None) so is = tt
+found_then (Ok (Some x)) so is = so x is
+
 pub some_both : {X : Type 0} (found : Option X) {P Q R : X → Type 0} → ((x : X) → P x → Q x → R x) → IfSome found P
     → IfSome found Q → IfSome found R
 some_both None so is also = tt

@@ -6,5 +6,5 @@ pub mod Turning
 pub mod Keeping
 pub mod Begun
 pub mod Looked
-pub mod Forgotten
+pub mod ShownStill
 pub mod Known

@@ -11,7 +11,7 @@ use Rattle.past_runs.specs.Runs.{BeginNone, FindRoom, ForgetsNothing, IsPastRun,
 use Rattle.past_runs.proofs.Running.{nothing_forgotten, one_more as run_on}
 use Rattle.desk_sitting.specs.Pasts.{KeepsBegun, KeepsPosted, PostsOn}
 use Rattle.desk_sitting.specs.Pasts.{none, one_more, then_read}
-use Rattle.terminal_sittings.specs.Forgetting.{ArePosts, IsBegun, IsPost, PostsForgetNothing, WithLooks}
+use Rattle.terminal_sittings.specs.Forgetting.{ArePosts, BeginsPost, IsPost, PostsForgetNothing, WithLooks}
 use Rattle.terminal_sittings.specs.Forgetting.{look, same, none as no_call}
 
 -- ---- calls and their events
@@ -103,7 +103,7 @@ module _ {D : Type 0} (d : Ghosts D) where
   posts_do (begins base) next is post = absurd is
   posts_do looks next is post = absurd is
 
-  begun_tried : (call : PastCall) (begun : List Event) {old new : StoreView D} → IsBegun call begun
+  begun_tried : (call : PastCall) (begun : List Event) {old new : StoreView D} → BeginsPost call begun
       → KeepsBegun d begun old new → TriesCall d call old new
   begun_tried call [] {old = old} {new = new} is read =
       subst (λ (c : PastCall). TriesCall d c old new) (sym is) (record { amid = read; device = read.device })

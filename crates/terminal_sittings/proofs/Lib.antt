@@ -2,7 +2,7 @@ pub mod Between
 mod Due
 mod Fetching
 mod Forgetting
-mod Laws
+mod PressLaws
 mod Questions
 pub mod Seen
 pub mod Surviving

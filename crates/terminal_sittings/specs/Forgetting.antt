@@ -22,9 +22,9 @@ ArePosts (call ∷ calls) (event ∷ events) = IsPost call event × ArePosts cal
 ArePosts _ _ = ⊥
 
 -- the call of an event that is begun; where none is, a look
-abbrev pub IsBegun : PastCall → List Event → Type 0
-IsBegun call [] = call ≡ looks
-IsBegun call (event ∷ events) = IsPost call event
+abbrev pub BeginsPost : PastCall → List Event → Type 0
+BeginsPost call [] = call ≡ looks
+BeginsPost call (event ∷ events) = IsPost call event
 
 -- all calls are these, and between them some that only look
 pub data WithLooks : List PastCall → List PastCall → Type 0 where
@@ -54,7 +54,7 @@ module _ {D : Type 0} (d : Ghosts D) where
     pub run : IsPastRun d calls old mid
     pub amid : FindRoom d calls past old mid run → LeaveEach d calls past old mid run
     pub kept : FindRoom d calls past old mid run → KeepsPosts past posted events mid
-    pub at_last : (room : FindRoom d calls past old mid run) (last : PastCall) → IsBegun last begun
+    pub at_last : (room : FindRoom d calls past old mid run) (last : PastCall) → BeginsPost last begun
         → FindsRoom d last (kept room).all mid → LeavesPast d last (kept room).all mid new
 
   -- Over an honest disk, from a store that keeps a past, by any calls that post the events: whichever of them finds its part

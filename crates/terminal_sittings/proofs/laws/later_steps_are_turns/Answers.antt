@@ -1,4 +1,4 @@
-use Rattle.terminal_sittings.proofs.Laws.{later_is_turned}
+use Rattle.terminal_sittings.proofs.PressLaws.{later_is_turned}
 use Rattle.terminal_sittings.proofs.laws.later_steps_are_turns.Goals as goal
 
 pub returns : goal.returns
