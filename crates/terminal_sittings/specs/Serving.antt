@@ -121,7 +121,7 @@ module _ {D : Type 0} (d : Ghosts D) where
   -- the screen can't be worked out
   pub record IsBlind (old new : TurnState D) : Type 0 where
     pub due : is_scene_due old.sitting ≡ true
-    pub looked : IsLookedAt old.store new.store
+    pub looked : IsLookedAt d old.store new.store
     pub held : new.held ≡ old.held
     pub heard : new.heard ≡ old.heard
     pub unasked : new.asked ≡ old.asked
