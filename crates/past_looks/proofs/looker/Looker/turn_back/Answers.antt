@@ -64,7 +64,7 @@ pub returns-else-branch-clause-stays : goal.returns-else-branch-clause-stays
 returns-else-branch-clause-stays g c = λ _.
     let still = (c.in_ok-turn_to.ensures.not_done c.if-branch.false).still in (
       still,
-      λ is. looker_same g.D.Disk c.refuse.ensures.same
+      λ is. looker_same g.D.Disk c.refuse-else-branch.ensures.same
           (looker_on g.D.Disk still c.requires (c.shows_what_crashes_leave.ensures.quiet c.requires) _
           (looker_alike g.D.Disk c.args.self.now _ c.moment.ensures.same is)),
     )
