@@ -21,7 +21,7 @@ use Rattle.terminal_keyboard.specs.Hearings.{asked_for, asked_rest}
 use Rattle.done_presses.specs.Past.{PastView}
 use Rattle.status_line.specs.declared.saying.Saying.{Saying}
 use Rattle.desk_sitting.specs.declared.sitting.Sitting.{Sitting}
-use Rattle.desk_sitting.specs.Doing.{Breaks, DoesPresses, seat_of}
+use Rattle.desk_sitting.specs.Doing.{Breaks, DoesPresses, IsLookedAt, seat_of}
 use Rattle.desk_sitting.specs.Desk.{Desk, accepted_events}
 use Rattle.desk_sitting.specs.Sittings.{is_scene_due}
 use Rattle.terminal_sittings.specs.declared.ending.SittingEnd.{SittingEnd}
