@@ -1,6 +1,7 @@
-use Rattle.std.proofs.Common.{◌∙◌, ap, refl}
+use Rattle.std.proofs.Common.{◌∙◌, ap, refl, subst, sym}
 use Rattle.std.proofs.lemmas.Result.{err_from_is_err_and, on_ok_weaker}
 use Rattle.past_moments.proofs.Telling.{last_is}
+use Rattle.past_moments.specs.Moments.{IsLastOf}
 use Rattle.past_moments.specs.declared.moments.Look.{Look}
 use Rattle.past_looks.proofs.Carrying.{looker_read, looker_same}
 use Rattle.past_viewer.proofs.Ending.{of_memory_alone, of_store, output_calm}
@@ -49,9 +50,10 @@ pub returns-clause-scenes : goal.returns-clause-scenes
 returns-clause-scenes g c = on_ok_weaker c.show_saying.result (λ shown is.
     let of = looker_same g.D.Disk c.copied.ensures.same
     (looker_read g.D.Disk c.args.self.now.looker _ refl refl c.copied_of.ensures.same refl refl is) in
-    shown of (says_copied g.D.Disk c.copied.new.self.shown c.copied.new.self.moments.in_use.extent.last
+    shown of (says_copied g.D.Disk c.copied.new.self.shown c.last-last.result
     c.args.self.now.looker.look.shown.desktop _ _ _ _
-    (last_is g.D.Disk c.copied.new.self.moments.in_use.extent of.moments.known.in_use.extent)
+    (subst (λ n. IsLastOf g.D.Disk n c.args.store.now) (sym c.last-last.ensures)
+    (last_is g.D.Disk c.copied.new.self.moments.in_use.extent of.moments.known.in_use.extent))
     (ap (λ (look : Look). look.shown.desktop) c.copied.ensures.same.look ∙ c.copied_of.ensures.same)
     (c.as_slice-3.ensures.value ∙ c.in_ok-copied.ensures.clip)
     (c.as_slice.ensures.value ∙ c.in_ok-copied.ensures.words)
