@@ -54,8 +54,9 @@ module _ {D : Type 0} (d : Ghosts D) where
     pub run : IsPastRun d calls old mid
     pub amid : FindRoom d calls past old mid run → LeaveEach d calls past old mid run
     pub kept : FindRoom d calls past old mid run → KeepsPosts past posted events mid
-    pub at_last : (room : FindRoom d calls past old mid run) (last : PastCall) → BeginsPost last begun
-        → FindsRoom d last (kept room).all mid → LeavesPast d last (kept room).all mid new
+    pub at_last : (room : FindRoom d calls past old mid run) (last : PastCall)
+        → BeginsPost last begun → FindsRoom d last (kept room).all mid
+        → LeavesPast d last (kept room).all mid new
 
   -- Over an honest disk, from a store that keeps a past, by any calls that post the events: whichever of them finds its part
   -- full, and goes over to the next one.
