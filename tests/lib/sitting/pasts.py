@@ -87,7 +87,7 @@ def sit(trial, chance):
         if not sitting.hear_long(press_of(chance)):
             trial.wrong.append('no scene came')
             break
-        sitting.rest(0.05)
+        sitting.settle()
         now = now_of(trial.path)
         seen = {moment: rows for moment, rows in seen.items() if moment < now}  # (what was taken back is no moment any more)
         seen[now] = sitting.terminal.lines()[:ROWS]

@@ -124,6 +124,21 @@ class Sitting:
         while self.read(seconds):
             pass
 
+    def settle(self, seconds=60):
+        """Reads until the program waits for what is pressed next, and nothing comes any more, however busy the machine is, or
+        until a time has gone."""
+        end = time.monotonic() + seconds
+        while time.monotonic() < end and (self.read(0.02) or not self.is_waiting() or self.read(0.02)):
+            pass
+
+    def is_waiting(self):
+        """Whether the program neither runs nor waits for the disk. True where there is none."""
+        try:
+            with open(f'/proc/{self.program()}/stat', encoding='ascii', errors='replace') as file:
+                return file.read().rpartition(')')[2].split()[0] not in 'RD'
+        except OSError:
+            return True
+
     def look_anew(self):
         """Has the whole screen painted again. What was shown before that is the terminal's `before` then. False where
         no such scene comes."""
