@@ -84,8 +84,10 @@ fn is_between(from: u32, to: u32, index: u16) -> bool
     if index < from { false } else { index < to }
 }
 
-/// How many of the indices are between these. It is compiled apart, so that a count among no index stays short.
+/// How many of the indices are between these. It is compiled apart, and as what is seldom called, so that a count among
+/// no index stays short.
 #[inline(never)]
+#[cold]
 fn count_between(indices: &[u16], from: u32, to: u32) -> u32
     requires { length indices.now < 2 ^ 32 }
     ensures { result ≡ count_by (is_between from to) indices.now }

@@ -1,5 +1,5 @@
 //! The bytes of an event.
-ghost use Rattle.std.specs.Prelude.{◌≡◌, ◌+◌, ◌<◌, ◌≤◌, ◌^◌, ◌++◌, length};
+ghost use Rattle.std.specs.Prelude.{◌≡◌, ◌+◌, ◌<◌, ◌≤◌, ◌^◌, ◌++◌, length, IfSome};
 ghost use Rattle.arrayvec.specs.ArrayVec.{array_vec_len};
 ghost use Rattle.event_bytes.specs.Parts.{byte, word_bytes, counted_bytes};
 ghost use Rattle.event_bytes.specs.Spelling.{IsEvent, spelling};
@@ -43,6 +43,45 @@ impl Event {
         }
         written
     }
+
+    /// The bytes that spell the event, if it has no text: 6 of them at most.
+    #[tactic(auto, unfolding(crate::specs::Spelling::spelling))]
+    pub fn encode_short(&self) -> Option<ArrayVec<u8, 6>>
+        ensures spelled { IfSome result (λ short. short.items ≡ spelling self.now) }
+        ensures valid { IsEvent self.now }
+    {
+        match self {
+            Event::Key(key) => Some(short(&[KEY, key.number()])),
+            Event::Mark { x, y } => Some(short(&[MARK, *x, *y])),
+            Event::Point {
+                keys,
+                x0,
+                y0,
+                x1,
+                y1,
+            } => Some(short(&[POINT, keys.number(), *x0, *y0, *x1, *y1])),
+            // (reading a text says that it is one)
+            Event::Typed(bytes) => {
+                let _ = bytes.as_bytes();
+                None
+            }
+            Event::File { name, bytes } => {
+                let _ = name.as_bytes();
+                let _ = bytes.as_bytes();
+                None
+            }
+        }
+    }
+}
+
+/// So many bytes, which are few.
+fn short(bytes: &[u8]) -> ArrayVec<u8, 6>
+    requires { length bytes.now ≤ 6 }
+    ensures { result.items ≡ bytes.now }
+{
+    let mut short = ArrayVec::new();
+    short.try_extend_from_slice(bytes).unwrap();
+    short
 }
 
 /// Adds a name, after its length in one byte.

@@ -1,10 +1,10 @@
 -- Putting one thing after another.
-use Rattle.std.proofs.Common.{◌≡◌, ℕ, ◌<◌, List, [], ◌∷◌, ◌++◌, length, Result, Ok, Err, subst, sym, ap, ◌∙◌, arith}
+use Rattle.std.proofs.Common.{◌≡◌, ℕ, ◌<◌, List, [], ◌∷◌, ◌++◌, length, Result, Ok, Err, OnOk, subst, sym, ap, ◌∙◌, arith}
 use Rattle.std.specs.List.{flat_map}
 use Rattle.std.proofs.lemmas.List.{append-nil, append_assoc}
 use Rattle.sector_disk.specs.declared.disk.Fault.{Fault}
 use Rattle.image_format.specs.declared.sink.ByteSink.{Ghosts}
-use Rattle.image_format.specs.Streams.{Puts}
+use Rattle.image_format.specs.Streams.{Puts, PutsFront}
 use Rattle.image_format.specs.Image.{listed_bytes}
 
 module _ {K : Type 0} (k : Ghosts K) where
@@ -12,6 +12,21 @@ module _ {K : Type 0} (k : Ghosts K) where
   pub same_put : {X : Type 0} {xs ys : List ℕ} {a b : K} {r : Result X Fault} → xs ≡ ys → Puts k r xs a b
       → Puts k r ys a b
   same_put {X} {xs} {ys} {a} {b} {r} same puts = subst (λ (bytes : List ℕ). Puts k r bytes a b) same puts
+
+  -- all of the bytes were put
+  pub all_taken : {X : Type 0} {x : X} (before bytes none : List ℕ) {a b : K} → bytes ≡ before → none ≡ []
+      → ((done : List ℕ) → k.has_put a done → k.has_put b (done ++ bytes)) → k.same_ground a b
+      → k.failures b ≡ k.failures a → PutsFront {E = Fault} k (Ok x) before none a b
+  all_taken before bytes none same empty put stands cause = record {
+    taken = bytes;
+    puts = record { put = put; stands = stands; cause = cause };
+    left = sym (ap (λ (after : List ℕ). bytes ++ after) empty ∙ append-nil bytes ∙ same);
+  }
+
+-- what holds in any case holds where a call succeeded
+pub in_any_case : {X E : Type 0} (result : Result X E) (P : Type 0) → P → OnOk result P
+in_any_case (Ok _) P holds = holds
+in_any_case (Err _) P holds = tt
 
 -- What is still to be put of the whole bytes, and that all before it was put.
 pub record IsLeft {K : Type 0} (k : Ghosts K) (whole rest : List ℕ) (old new : K) : Type 0 where
@@ -65,17 +80,6 @@ module _ {K : Type 0} (k : Ghosts K)
           → Puts {E = Fault} k (Ok y) bytes a b
       same y puts = record { put = puts.put; stands = puts.stands; cause = puts.cause }
 
-  -- all was put
-  pub all_put : {X : Type 0} (x : X) (whole : List ℕ) {a b : K} → IsLeft k whole [] a b
-      → Puts {E = Fault} k (Ok x) whole a b
-  all_put x whole {a} {b} so_far =
-      let same : so_far.done ≡ whole = sym (so_far.parts ∙ append-nil so_far.done) in
-      record {
-        put = λ before has. subst (λ (bytes : List ℕ). k.has_put b (before ++ bytes)) same (so_far.puts.put before has);
-        stands = so_far.puts.stands;
-        cause = so_far.puts.cause;
-      }
-
   -- before the first item the number was put
   pub number_put : {A X : Type 0} {x : X} (number : ℕ → List ℕ) (bytes : A → List ℕ) (items : List A) (n : ℕ) {a b : K}
       → length items ≡ n → Puts {E = Fault} k (Ok x) (number n) a b
@@ -92,8 +96,31 @@ module _ {K : Type 0} (k : Ghosts K)
       one_more whole (bytes item) (flat_map bytes later)
       (subst (λ (left : List A). IsLeft k whole (flat_map bytes left) a b) front so_far) next
 
-  -- no item is left
-  pub items_put : {A X : Type 0} (x : X) (bytes : A → List ℕ) (whole : List ℕ) (items : List A) {a b : K} → items ≡ []
-      → IsLeft k whole (flat_map bytes items) a b → Puts {E = Fault} k (Ok x) whole a b
-  items_put {A} x bytes whole items {a} {b} none so_far =
-      all_put x whole (subst (λ (left : List A). IsLeft k whole (flat_map bytes left) a b) none so_far)
+  -- the first bytes of a block were put
+  pub front_put : {X : Type 0} {x : X} (whole taken block rest before : List ℕ) {a b c : K} → before ≡ taken ++ block
+      → IsLeft k whole (before ++ rest) a b → Puts {E = Fault} k (Ok x) taken b c → IsLeft k whole (block ++ rest) a c
+  front_put whole taken block rest before {a} {b} is so_far next =
+      one_more whole taken (block ++ rest)
+      (subst (λ (l : List ℕ). IsLeft k whole l a b) (ap (λ (l : List ℕ). l ++ rest) is ∙ append_assoc taken block rest)
+      so_far)
+      next
+
+  -- the first of the items that are left came into the block
+  pub item_kept : {A : Type 0} (bytes : A → List ℕ) (whole block more : List ℕ) (items : List A) (item : A)
+      (later : List A) {a b : K} → items ≡ item ∷ later → more ≡ block ++ bytes item
+      → IsLeft k whole (block ++ flat_map bytes items) a b → IsLeft k whole (more ++ flat_map bytes later) a b
+  item_kept {A} bytes whole block more items item later {a} {b} front is so_far =
+      subst (λ (l : List ℕ). IsLeft k whole l a b)
+      (ap (λ (left : List A). block ++ flat_map bytes left) front
+      ∙ sym (ap (λ (l : List ℕ). l ++ flat_map bytes later) is ∙ append_assoc block (bytes item) (flat_map bytes later)))
+      so_far
+
+  -- the block was put, or not, where no item is left
+  pub last_put : {A Y : Type 0} (bytes : A → List ℕ) (r : Result Y Fault) (whole block : List ℕ) (items : List A)
+      {a b c : K} → items ≡ [] → IsLeft k whole (block ++ flat_map bytes items) a b → Puts k r block b c
+      → Puts k r whole a c
+  last_put {A} bytes r whole block items none so_far last =
+      same_put k
+      (sym (so_far.parts ∙ ap (λ (left : List A). so_far.done ++ (block ++ flat_map bytes left)) none
+      ∙ ap (λ (l : List ℕ). so_far.done ++ l) (append-nil block)))
+      (then_put so_far.puts last)

@@ -60,3 +60,11 @@ pub record Puts {K X E : Type 0} (k : SinkGhosts K) (result : Result X E) (bytes
   pub put : OnOk result ((before : List ℕ) → k.has_put old before → k.has_put new (before ++ bytes))
   pub stands : k.same_ground old new
   pub cause : CountsFault result (k.failures old) (k.failures new)
+
+-- A call that puts the first of some bytes, none perhaps, and leaves the others.
+pub record PutsFront {K X E : Type 0} (k : SinkGhosts K) (result : Result X E)
+    (before after : List ℕ)
+    (old new : K) : Type 0 where
+  pub taken : List ℕ
+  pub puts : Puts k result taken old new
+  pub left : OnOk result (before ≡ taken ++ after)

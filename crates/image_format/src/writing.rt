@@ -1,16 +1,19 @@
 //! Putting an image of the newest version, part by part.
-ghost use Rattle.std.specs.Prelude.{◌≡◌, ◌<◌, ◌^◌, length, OnOk};
+ghost use Rattle.std.specs.Prelude.{◌≡◌, ◌<◌, ◌≤◌, ◌^◌, ◌+◌, ◌++◌, length, OnOk};
 ghost use Rattle.event_bytes.specs.Parts.{byte, word_bytes, counted_bytes};
 ghost use Rattle.command_table.specs.Versions.{newest_version};
 ghost use Rattle.piece_ring.specs.Flat.{flat};
 ghost use Rattle.desktop_definitions.specs.Looks.{IsLook, AreLooks};
-ghost use Rattle.image_format.specs.Streams.{Puts};
+ghost use Rattle.image_format.specs.Streams.{Puts, PutsFront};
+ghost use Rattle.image_format.specs.declared.lengths.TheConstants.{PIECE_BYTES};
+ghost use Rattle.image_format.specs.declared.writing.TheConstants.{BLOCK_BYTES};
 ghost use Rattle.image_format.specs.Pictures.{entry_of_stretch};
 ghost use Rattle.image_format.specs.Image.{look_bytes, piece_bytes, pieces_bytes, cell_bytes, ranked_bytes, viewer_bytes};
 ghost use Rattle.image_format.specs.Image.{entry_bytes, closed_bytes, long, offset_code, optional, AreSome};
 
 use crate::lengths::PIECE_BYTES;
 use crate::{ByteSink, Ranked, Stretch, ViewerPicture};
+use arrayvec::ArrayVec;
 use desktop_definitions::{ClosedViewer, LEAST_OFFSET};
 use piece_ring::{Cursor, Look, Piece};
 use sector_disk::Fault;
@@ -102,16 +105,36 @@ fn bytes_of_piece(piece: Piece) -> [u8; PIECE_BYTES]
     ]
 }
 
-/// Puts a piece.
-fn put_piece<K: ByteSink>(sink: &mut K, piece: Piece) -> Result<(), Fault>
-    requires { IsLook piece.look }
-    ensures { Puts K.ByteSink result (piece_bytes piece) sink.old sink.new }
+/// How many bytes of pieces are put at once, at most.
+const BLOCK_BYTES: usize = 16 * PIECE_BYTES;
+
+/// Bytes of pieces that are put at once.
+type Block = ArrayVec<u8, BLOCK_BYTES>;
+
+/// Puts the bytes of a block that has no room for a piece more, which is empty then.
+fn put_full<K: ByteSink>(sink: &mut K, block: &mut Block) -> Result<(), Fault>
+    ensures puts { PutsFront K.ByteSink result block.old.items block.new.items sink.old sink.new }
+    ensures room { OnOk result (length block.new.items + PIECE_BYTES ≤ BLOCK_BYTES) }
 {
-    sink.put(&bytes_of_piece(piece))
+    if block.remaining_capacity() >= PIECE_BYTES {
+        return Ok(());
+    }
+    sink.put(block.as_slice())?;
+    block.clear();
+    Ok(())
 }
 
-/// Puts the pieces that are left to a cursor, of which there are so many, after their number. Once they were put none
-/// of them was empty.
+/// Adds the bytes of a piece.
+fn add_piece(block: &mut Block, piece: Piece)
+    requires look { IsLook piece.look }
+    requires room { length block.old.items + PIECE_BYTES ≤ BLOCK_BYTES }
+    ensures { block.new.items ≡ block.old.items ++ piece_bytes piece }
+{
+    block.try_extend_from_slice(&bytes_of_piece(piece)).unwrap();
+}
+
+/// Puts the pieces that are left to a cursor, of which there are so many, after their number: block by block. Once they
+/// were put none of them was empty.
 pub fn put_pieces<K: ByteSink>(
     sink: &mut K,
     count: u32,
@@ -123,10 +146,12 @@ pub fn put_pieces<K: ByteSink>(
     ensures some { OnOk result (AreSome pieces.entry.left) }
 {
     put_long(sink, count)?;
+    let mut block = Block::new();
     while let Some(piece) = pieces.next_piece() {
-        put_piece(sink, piece)?;
+        put_full(sink, &mut block)?;
+        add_piece(&mut block, piece);
     }
-    Ok(())
+    put_bytes(sink, block.as_slice())
 }
 
 /// Puts the position of a caret, if there is one.

@@ -90,7 +90,9 @@ fn refused(error: Error) -> Result<Answer, PlayEnd>
     }
 }
 
-/// Works out the lines of a file's text, or that there is no such file.
+/// Works out the lines of a file's text, or that there is no such file. Looks are compiled apart: a line that posts takes
+/// no room on the stack for what they want.
+#[inline(never)]
 #[tactic(auto, unfolding(crate::specs::Answers::answer, crate::specs::Answers::session_after))]
 fn show<D: Disk>(alloc: Global, name: &Name, store: &mut Store<D>) -> Result<Answer, PlayEnd>
     requires { store.old.must_reopen ≡ false }
@@ -103,6 +105,7 @@ fn show<D: Disk>(alloc: Global, name: &Name, store: &mut Store<D>) -> Result<Ans
 }
 
 /// Works out the lines of what the desktop has.
+#[inline(never)]
 #[tactic(auto, unfolding(crate::specs::Answers::answer, crate::specs::Answers::session_after))]
 fn list<D: Disk>(alloc: Global, store: &mut Store<D>) -> Result<Answer, PlayEnd>
     requires { store.old.must_reopen ≡ false }
@@ -113,6 +116,7 @@ fn list<D: Disk>(alloc: Global, store: &mut Store<D>) -> Result<Answer, PlayEnd>
 }
 
 /// Works out the printed screen.
+#[inline(never)]
 #[tactic(auto, unfolding(crate::specs::Answers::answer, crate::specs::Answers::session_after))]
 fn screen<D: Disk>(alloc: Global, store: &mut Store<D>) -> Result<Answer, PlayEnd>
     requires { store.old.must_reopen ≡ false }

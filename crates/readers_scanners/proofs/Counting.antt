@@ -57,7 +57,7 @@ run_front off zero k look h = refl
 run_front off (suc n) zero look h = absurd (omega (arith, h))
 run_front off (suc n) (suc k) look h = ap (λ r. (off, look) ∷ r) (run_front (suc off) n k look (omega (arith, h)))
 
-run_end : (n off len : ℕ) (look : Look) (more : Text ℕ) → 0 < len → AreWithin n (run off len look ++ more)
+pub run_end : (n off len : ℕ) (look : Look) (more : Text ℕ) → 0 < len → AreWithin n (run off len look ++ more)
     → off + len ≤ n
 run_end n off zero look more some all = absurd (omega (arith, some))
 run_end n off (suc zero) look more some all =

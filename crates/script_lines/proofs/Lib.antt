@@ -4,5 +4,6 @@ pub mod FirstSpace
 pub mod Gathering
 pub mod LongLines
 pub mod Numbers
+pub mod Pointing
 pub mod Splitting
 pub mod Stretches

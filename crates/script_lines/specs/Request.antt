@@ -6,6 +6,7 @@ use Rattle.std.specs.Map.{lookup}
 use Rattle.std.specs.Str.{bytes_eq}
 use Rattle.event_bytes.specs.Bytes.{is_name, is_file_bytes, is_typed_bytes}
 use Rattle.event_bytes.specs.declared.event.Event.TheVariants.{Typed, Key, Mark, Point, File}
+use Rattle.event_bytes.specs.declared.keys.Keys.{Keys}
 use Rattle.screen_pictures.specs.Bytes.{is_printable}
 use Rattle.script_lines.specs.declared.request.TheConstants.{LONGEST_LINE}
 use Rattle.script_lines.specs.declared.request.Request.{Request}
@@ -28,6 +29,10 @@ abbrev pub point_of : List ℕ → Option Request
 point_of text = leading keys_named text >>= λ keys. leading to_number keys.1 >>= λ x0.
     leading to_number x0.1 >>= λ y0. leading to_number y0.1 >>= λ x1. to_number x1.1 >>= λ y1.
     Some (Post (Point keys.0 x0.0 y0.0 x1.0 y1))
+
+-- the request of keys and of the columns and rows of these cells
+abbrev pub pointing : Keys × ℕ × ℕ × ℕ × ℕ → Request
+pointing drag = Post (Point drag.0 drag.1 drag.2 drag.3 drag.4)
 
 -- the file's name and its bytes
 abbrev pub file_request : List ℕ → List ℕ → Option Request

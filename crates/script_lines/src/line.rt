@@ -6,7 +6,7 @@ ghost use Rattle.screen_pictures.specs.Printed.{ended_line};
 ghost use Rattle.script_lines.specs.Script.{IsLine};
 ghost use Rattle.script_lines.specs.Request.{request_of};
 
-use crate::request::{LONGEST_LINE, Request, ask};
+use crate::request::{LONGEST_LINE, Request, ask, ask_nothing};
 use arrayvec::ArrayVec;
 use byte_streams::ScriptReader;
 use std::marker::Model;
@@ -39,7 +39,7 @@ impl Line {
         ensures { (line : List ℕ) → HoldsLine self.now line → request.new ≡ request_of line }
     {
         if self.is_long {
-            *request = Request::Malformed;
+            ask_nothing(request);
         } else {
             ask(self.bytes.as_slice(), request);
         }

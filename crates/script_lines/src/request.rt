@@ -10,14 +10,18 @@ ghost use Rattle.std.specs.List.{list_all};
 ghost use Rattle.screen_pictures.specs.Bytes.{is_printable};
 ghost use Rattle.script_lines.specs.Request.{is_readable, file_bytes_of, typed_bytes_of, typed_of, key_request};
 ghost use Rattle.script_lines.specs.Request.{mark_request, point_of, file_request, show_of, command_of, request_of};
-ghost use Rattle.script_lines.specs.Request.{typed_plain};
+ghost use Rattle.script_lines.specs.Request.{typed_plain, pointing};
+ghost use Rattle.script_lines.specs.declared.request.Request.TheVariants.{Malformed};
 
 use crate::percent::{is_plain, spelled};
 use crate::words::{key, leading_keys, leading_number, number, split_word};
-use event_bytes::{Event, FileBytes, Name, TypedBytes};
+use event_bytes::{Event, FileBytes, Keys, Name, TypedBytes};
 
 /// How many bytes a line has at most.
 pub(crate) const LONGEST_LINE: usize = 4096;
+
+/// The keys of the mouse, the column and the row where they go down, and those where they go up.
+type Drag = (Keys, u8, u8, u8, u8);
 
 /// What a line asks for.
 #[derive(Debug, PartialEq, Eq, Drop)]
@@ -45,8 +49,56 @@ pub fn ask(line: &[u8], request: &mut Request)
 {
     match plain_typed(line) {
         Some(text) => type_plain(text, request),
-        None => *request = parse(line),
+        None => ask_other(line, request),
     }
+}
+
+/// The same where the line types no such text. It is compiled apart, and so is all that makes a request, since a function
+/// clears at its beginning all places for texts that stand in it.
+#[inline(never)]
+fn ask_other(line: &[u8], request: &mut Request)
+    ensures { request.new ≡ request_of line.now }
+{
+    match pointed(line) {
+        Some(drag) => point_anew(drag, request),
+        None => parse_anew(line, request),
+    }
+}
+
+/// Makes the request what a line asks for that points with the mouse.
+#[inline(never)]
+fn point_anew(drag: Drag, request: &mut Request)
+    ensures { request.new ≡ pointing drag }
+{
+    *request = pointing(drag);
+}
+
+/// Makes the request what the line asks for, by its words.
+#[inline(never)]
+fn parse_anew(line: &[u8], request: &mut Request)
+    ensures { request.new ≡ request_of line.now }
+{
+    *request = parse(line);
+}
+
+/// Makes the request that of a malformed line.
+#[inline(never)]
+pub(crate) fn ask_nothing(request: &mut Request)
+    ensures { request.new ≡ Malformed }
+{
+    *request = Request::Malformed;
+}
+
+/// How the line points with the mouse. None where it asks for something else.
+fn pointed(line: &[u8]) -> Option<Drag>
+    ensures { IfSome result (λ drag. request_of line.now ≡ pointing drag) }
+{
+    let (name, rest) = split_word(line);
+    let text = rest?;
+    if name == b"point".as_slice() && is_text(line) {
+        return drag_of(text);
+    }
+    None
 }
 
 /// The text that the line types, where each byte of it stands for itself. None where the line asks for something else.
@@ -191,18 +243,34 @@ fn mark(text: &[u8]) -> Option<Request>
 fn point(text: &[u8]) -> Option<Request>
     ensures { result ≡ point_of text.now }
 {
+    let drag = drag_of(text)?;
+    Some(pointing(drag))
+}
+
+/// The keys, the cell where they go down and the one where they go up.
+fn drag_of(text: &[u8]) -> Option<Drag>
+    ensures { option_map pointing result ≡ point_of text.now }
+{
     let (keys, rest) = leading_keys(text)?;
     let (x0, rest) = leading_number(rest)?;
     let (y0, rest) = leading_number(rest)?;
     let (x1, rest) = leading_number(rest)?;
     let y1 = number(rest)?;
-    Some(Request::Post(Event::Point {
+    Some((keys, x0, y0, x1, y1))
+}
+
+/// The request to point so with the mouse.
+fn pointing(drag: Drag) -> Request
+    ensures { result ≡ pointing drag }
+{
+    let (keys, x0, y0, x1, y1) = drag;
+    Request::Post(Event::Point {
         keys,
         x0,
         y0,
         x1,
         y1,
-    }))
+    })
 }
 
 /// The request that `file` makes of its two arguments.

@@ -1,6 +1,7 @@
 pub mod Trail
 pub mod Confined
 pub mod Memory
+pub mod Settled
 pub mod Sectors
 pub mod FileTrail
 pub mod FileSectors

@@ -1,19 +1,21 @@
 //! What a disk in memory keeps of its sectors. A sector that was never written takes no room.
-ghost use Rattle.std.specs.Prelude.{◌≡◌, ℕ, Ok, OnOk, OnErr, IfOk, Some, true, false, nat_eq};
+ghost use Rattle.std.specs.Prelude.{◌≡◌, ℕ, Ok, OnOk, OnErr, IfOk, MatchOption, None, Some, true, false, nat_eq};
+ghost use Rattle.std.specs.Prelude.{[], ◌∷◌, ◌++◌, length, if◌then◌else◌};
 ghost use Rattle.std.specs.Option.{is_some};
-ghost use Rattle.std.specs.BTreeMap.{get, Updates, IsUnchanged};
+ghost use Rattle.std.specs.BTreeMap.{get};
 ghost use Rattle.std.specs.Ordering.{nat_cmp};
 ghost use Rattle.std.specs.Set.{is_member};
 ghost use Rattle.std.specs.List.Sorted.{IsStrictlySortedBy};
 ghost use Rattle.sector_disk.specs.Trail.{after_sync};
 ghost use Rattle.sector_disk.specs.Memory.{zero_moment, zeros};
-ghost use Rattle.sector_disk.specs.Sectors.{moment_of, synced_content, IsAsBefore, IsPut, IsSectorWritten};
+ghost use Rattle.sector_disk.specs.Settled.{settled_place};
+ghost use Rattle.sector_disk.specs.Sectors.{settled_of, moment_of, synced_content, IsAsBefore, IsSectorWritten};
 
 use crate::heap::HeapSector;
+use crate::settled::Settled;
 use crate::{NoMemory, SECTOR_BYTES, Sector};
 use std::alloc::Global;
 use std::collections::BTreeMap;
-use std::mem;
 
 /// The bytes of a sector that was never written.
 #[tactic(auto, unfolding(crate::specs::Memory::zeros))]
@@ -31,46 +33,50 @@ fn clear(buffer: &mut Sector)
     *buffer = [0; SECTOR_BYTES as usize];
 }
 
-/// Gives a sector that has room other bytes, and keeps those that it had as the ones of the last sync where none are
-/// kept yet. The bytes are copied once, to new memory where the old ones are kept. `NoMemory`: there was none, and
-/// nothing is changed.
+/// A sector that was written.
+#[derive(Drop)]
+pub(crate) struct KnownSector {
+    /// The bytes that were written last.
+    pub(crate) bytes: HeapSector,
+
+    /// Where the bytes that it had at the last sync are, if it's pending.
+    pub(crate) place: usize,
+}
+
+/// Gives a sector that was written other bytes, and keeps those that it had as the ones of the last sync where none are
+/// kept yet. The bytes are copied once. `NoMemory`: there was none to keep the old ones, and nothing is changed.
 fn overwrite(
     alloc: Global,
     n: u32,
-    place: &mut HeapSector,
-    settled: &mut BTreeMap<u32, HeapSector>,
+    sector: &mut KnownSector,
+    settled: &mut Settled,
     bytes: &Sector,
 ) -> Result<(), NoMemory>
-    ensures put { OnOk result (place.new ≡ bytes.now) }
-    ensures kept { OnOk result (is_some (get nat_cmp settled.old n) ≡ true
-        → settled.new ≡ settled.old) }
-    ensures keeps { OnOk result (is_some (get nat_cmp settled.old n) ≡ false
-        → IsPut settled.old settled.new n (Some place.old)) }
-    ensures refused { OnErr result (IsUnchanged settled.old settled.new) }
-    ensures left { OnErr result (place.new ≡ place.old) }
+    ensures put { OnOk result (sector.new.bytes ≡ bytes.now) }
+    ensures kept { OnOk result (is_some (settled_place settled.old n sector.old.place) ≡ true
+        → (settled.new ≡ settled.old) × (sector.new.place ≡ sector.old.place)) }
+    ensures keeps { OnOk result (is_some (settled_place settled.old n sector.old.place) ≡ false
+        → (settled.new ≡ settled.old ++ (n, sector.old.bytes) ∷ [])
+        × (sector.new.place ≡ length settled.old)) }
+    ensures refused { OnErr result (settled.new ≡ settled.old) }
+    ensures left { OnErr result (sector.new ≡ sector.old) }
 {
-    if settled.contains_key(&n) {
-        place.set(bytes);
-        return Ok(());
+    if !settled.holds(n, sector.place) {
+        sector.place = settled.keep(alloc, n, &mut sector.bytes)?;
     }
-    let sector = HeapSector::new(alloc, bytes)?;
-    let Ok(_) = settled.insert(n, sector) else {
-        return Err(NoMemory);
-    };
-    exchange(n, place, settled);
+    sector.bytes.set(bytes);
     Ok(())
 }
 
-/// Exchanges a sector and the one that is kept under this number.
-fn exchange(n: u32, place: &mut HeapSector, settled: &mut BTreeMap<u32, HeapSector>)
-    requires { is_some (get nat_cmp settled.old n) ≡ true }
-    ensures put { get nat_cmp settled.old n ≡ Some place.new }
-    ensures keeps { Updates nat_cmp settled.old settled.new n (Some place.old) }
+/// Adds a number, if it is wanted. `NoMemory`: an allocation was refused.
+fn note_if(found: &mut Vec<u32>, n: u32, is_wanted: bool) -> Result<(), NoMemory>
+    ensures { OnOk result (found.new.items
+        ≡ found.old.items ++ (if is_wanted then n ∷ [] else [])) }
 {
-    match settled.get_mut(&n) {
-        Some(kept) => mem::swap(place, kept),
-        None => unreachable!(),
+    if is_wanted {
+        found.push(n)?;
     }
+    Ok(())
 }
 
 /// The bytes of the sectors.
@@ -78,11 +84,11 @@ fn exchange(n: u32, place: &mut HeapSector, settled: &mut BTreeMap<u32, HeapSect
 pub(crate) struct Sectors {
     alloc: Global,
 
-    /// Of each sector that was written, the bytes that were written last.
-    pub(crate) latest: BTreeMap<u32, HeapSector>,
+    /// The sectors that were written.
+    pub(crate) latest: BTreeMap<u32, KnownSector>,
 
     /// Of each pending sector, the bytes that it had at the last sync.
-    pub(crate) settled: BTreeMap<u32, HeapSector>,
+    pub(crate) settled: Settled,
 }
 
 impl Sectors {
@@ -94,8 +100,18 @@ impl Sectors {
         Sectors {
             alloc,
             latest: BTreeMap::new(alloc),
-            settled: BTreeMap::new(alloc),
+            settled: Settled::new(alloc),
         }
+    }
+
+    /// What is kept of a pending sector as it was at the last sync. None where it isn't pending.
+    #[tactic(auto, unfolding(crate::specs::Sectors::settled_of))]
+    fn settled_of(&self, n: u32) -> Option<&HeapSector>
+        ensures { MatchOption result (settled_of self.now n ≡ None)
+            (λ sector. settled_of self.now n ≡ Some sector.now) }
+    {
+        let sector = self.latest.get(&n)?;
+        self.settled.get(n, sector.place)
     }
 
     /// Copies to the buffer the bytes of sector `n` as they were written last, zeros where it never was.
@@ -104,7 +120,7 @@ impl Sectors {
         ensures { buffer.new ≡ (moment_of self.now).reads n }
     {
         match self.latest.get(&n) {
-            Some(sector) => sector.copy_to(buffer),
+            Some(sector) => sector.bytes.copy_to(buffer),
             None => clear(buffer),
         }
     }
@@ -114,7 +130,7 @@ impl Sectors {
     pub(crate) fn copy_settled(&self, n: u32, buffer: &mut Sector)
         ensures { buffer.new ≡ synced_content self.now n }
     {
-        match self.settled.get(&n) {
+        match self.settled_of(n) {
             Some(sector) => sector.copy_to(buffer),
             None => self.copy_latest(n, buffer),
         }
@@ -134,7 +150,10 @@ impl Sectors {
     pub(crate) fn is_pending(&self, n: u32) -> bool
         ensures { result ≡ (moment_of self.now).pending n }
     {
-        self.settled.contains_key(&n)
+        match self.settled_of(n) {
+            Some(_) => true,
+            None => false,
+        }
     }
 
     /// Gives sector `n` room for its bytes, which stay as they are. `NoMemory`: there was no memory for them.
@@ -146,7 +165,8 @@ impl Sectors {
             return Ok(());
         }
         let bytes = HeapSector::new(self.alloc, &empty_sector())?;
-        let Ok(_) = self.latest.insert(n, bytes) else {
+        let place = self.settled.len();
+        let Ok(_) = self.latest.insert(n, KnownSector { bytes, place }) else {
             return Err(NoMemory);
         };
         Ok(())
@@ -157,19 +177,12 @@ impl Sectors {
     fn put(&mut self, n: u32, bytes: &Sector) -> Result<bool, NoMemory>
         ensures room { IfOk result (λ there. there ≡ is_some (get nat_cmp self.old.latest n)) }
         ensures absent { result ≡ Ok false → IsAsBefore self.old self.new }
-        ensures put { result ≡ Ok true
-            → Updates nat_cmp self.old.latest self.new.latest n (Some bytes.now) }
-        ensures kept { result ≡ Ok true → is_some (get nat_cmp self.old.settled n) ≡ true
-            → self.new.settled ≡ self.old.settled }
-        ensures keeps { result ≡ Ok true → is_some (get nat_cmp self.old.settled n) ≡ false
-            → IsPut self.old.settled self.new.settled n (get nat_cmp self.old.latest n) }
-        ensures refused { OnErr result (IsUnchanged self.old.settled self.new.settled) }
-        ensures left { OnErr result (IsPut self.old.latest self.new.latest n
-            (get nat_cmp self.old.latest n)) }
+        ensures written { result ≡ Ok true → IsSectorWritten self.old self.new n bytes.now }
+        ensures refused { OnErr result (IsAsBefore self.old self.new) }
     {
         match self.latest.get_mut(&n) {
-            Some(place) => {
-                overwrite(self.alloc, n, place, &mut self.settled, bytes)?;
+            Some(sector) => {
+                overwrite(self.alloc, n, sector, &mut self.settled, bytes)?;
                 Ok(true)
             }
             None => Ok(false),
@@ -203,6 +216,10 @@ impl Sectors {
         ensures which { IfOk result (λ v. (n : ℕ)
             → is_member nat_eq v.items n ≡ (moment_of self.now).pending n) }
     {
-        self.settled.keys().copied().collect(alloc)
+        let mut found = Vec::new(alloc);
+        for n in self.latest.keys() {
+            note_if(&mut found, *n, self.is_pending(*n))?;
+        }
+        Ok(found)
     }
 }

@@ -27,6 +27,6 @@ pub use layout::{
     AREA_SECTORS, AREAS, FIRST_LAYOUT, IMAGE_SECTORS, JOURNAL_EVENTS, LABEL, LAST_EPOCH, LAYOUT,
     SLOTS, STORE_SECTORS, area_at, area_start, body, gate, image_at, slot_gate, slot_head,
 };
-pub use sectors::{body_of, closed_gate, event_of, has_label, is_open_gate, label, open_gate};
+pub use sectors::{closed_gate, event_of, has_label, is_open_gate, label, open_gate, put_body};
 pub use sink::SectorSink;
 pub use source::SectorSource;

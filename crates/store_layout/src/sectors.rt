@@ -31,11 +31,30 @@ pub fn closed_gate() -> Sector
     [0; SECTOR_BYTES as usize]
 }
 
-/// The spelling of the event, and then zeros.
-pub fn body_of(event: &Event) -> Sector
-    ensures { BeginsWithEvent result event.now }
+/// Puts the spelling of the event at the beginning of a sector, and leaves what stands behind it.
+pub fn put_body(sector: &mut Sector, event: &Event)
+    ensures { BeginsWithEvent sector.new event.now }
 {
-    beginning_with(event.encode().as_slice())
+    match event.encode_short() {
+        Some(spelled) => begin_with(sector, spelled.as_slice()),
+        None => put_body_of_any(sector, event),
+    }
+}
+
+/// The same of any event. It is compiled apart, so that an event without a text takes no room for one on the stack.
+#[inline(never)]
+fn put_body_of_any(sector: &mut Sector, event: &Event)
+    ensures { BeginsWithEvent sector.new event.now }
+{
+    begin_with(sector, event.encode().as_slice());
+}
+
+/// Puts bytes at the beginning of a sector, and leaves what stands behind them.
+fn begin_with(sector: &mut Sector, bytes: &[u8])
+    requires { length bytes.now ≤ 1024 }
+    ensures { sector.new ≡ bytes.now ++ drop (length bytes.now) sector.new }
+{
+    sector[..bytes.len()].copy_from_slice(bytes);
 }
 
 /// The bytes, and then zeros.

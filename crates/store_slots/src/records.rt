@@ -13,12 +13,13 @@ ghost use Rattle.store_slots.specs.Written.{HasRecord, InRecord, IsInJournal, Is
 
 use crate::Error;
 use crate::live::LiveDesktop;
+use crate::sector::blank_sector;
 use event_bytes::Event;
 use event_loop::{NEWEST, Reply};
 use sector_disk::{Disk, Fault, SECTOR_BYTES};
 use std::alloc::Global;
 use store_layout::{
-    JOURNAL_EVENTS, LAYOUT, SLOTS, STORE_SECTORS, body, body_of, closed_gate, gate, open_gate,
+    JOURNAL_EVENTS, LAYOUT, SLOTS, STORE_SECTORS, body, closed_gate, gate, open_gate, put_body,
 };
 
 /// Closes the gate after gate k, where there is one.
@@ -44,7 +45,9 @@ fn stage<D: Disk>(disk: &mut D, slot: u32, k: u32, event: &Event) -> Result<(), 
     ensures staged { OnOk result
         (D.honest disk.old → HasRecord (now (D.trail disk.new)) slot k event.now) }
 {
-    disk.write(body(slot, k), &body_of(event))?;
+    let mut record = blank_sector();
+    put_body(&mut record, event);
+    disk.write(body(slot, k), &record)?;
     close_next(disk, slot, k)?;
     disk.sync()?;
     Ok(())

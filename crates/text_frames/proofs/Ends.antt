@@ -51,16 +51,19 @@ module _ (bs : List ℕ) (from at ends more rows : ℕ) (low : from ≤ at) (so_
       let rest = is.below in
       record { below = omega (arith, all, so_far, rest, sum); behind = is.behind }
 
-  pub rows_on_if : (long : ℕ) (found : Option ℕ) → IfSome found (λ p. (at + more ≤ p) × (p ≤ long))
-      → IfSome found (IsRowBelow bs at more) → IfSome found (IsRowBelow bs from rows)
+  pub rows_on_if : (long : ℕ) (found : Option Reading)
+      → IfSome found (λ row. (at + more ≤ row.position) × (row.position ≤ long))
+      → IfSome found (λ row. IsRowBelow bs at more row.position)
+      → IfSome found (λ row. IsRowBelow bs from rows row.position)
   rows_on_if long None range is = tt
-  rows_on_if long (Some p) range is = rows_on p range.0 is
+  rows_on_if long (Some row) range is = rows_on row.position range.0 is
 
-pub farther : (a b long : ℕ) (found : Option ℕ) → a ≤ b → IfSome found (λ p. (b ≤ p) × (p ≤ long))
-    → IfSome found (λ p. (a ≤ p) × (p ≤ long))
+pub farther : (a b long : ℕ) (found : Option Reading) → a ≤ b
+    → IfSome found (λ row. (b ≤ row.position) × (row.position ≤ long))
+    → IfSome found (λ row. (a ≤ row.position) × (row.position ≤ long))
 farther a b long None less range = tt
-farther a b long (Some p) less range =
-    let far = range.0 in ((let le : a ≤ p = omega (arith, less, far) in le), range.1)
+farther a b long (Some row) less range =
+    let far = range.0 in ((let le : a ≤ row.position = omega (arith, less, far) in le), range.1)
 
 module _ {S : Type 0} (characters : S → List ℕ) (failures : S → ℕ) (honest : S → Type 0) (same_ground : S → S
     → Type 0) (ground_through : (a b c : S) → same_ground a b → same_ground b c → same_ground a c)

@@ -139,22 +139,24 @@ fn pass_known<'a, S: CharSource>(
     (reader, 0, 0)
 }
 
-/// Where the row begins that is so many rows below that of the position `from`. None where the text ends before. The
-/// text is read from there to less than a stretch past that place; the last stretch is counted again in short ones, of
-/// which the last is read. `Fault`: the source failed in this call.
-pub(crate) fn row_below<S: CharSource>(
-    text: &Text,
+/// A reader where the row begins that is so many rows below that of the position `from`. None where the text ends
+/// before. The text is read from there to less than a stretch past that place; the last stretch is counted again in
+/// short ones, of which the last is read. `Fault`: the source failed in this call.
+pub(crate) fn row_below<'a, S: CharSource>(
+    text: &'a Text,
     from: u32,
     rows: u32,
     source: &mut S,
-) -> Result<Option<u32>, Fault>
+) -> Result<Option<Reader<'a>>, Fault>
     requires walk { CanWalk (S.characters source.old) (flat text.now) from
         (length (flat text.now)) }
     requires some { 0 < rows }
     ensures begins { IfOk result (λ found. S.honest source.old → IfSome found
-        (IsRowBelow (bytes_of_text (S.characters source.old) (flat text.now)) from rows)) }
-    ensures range { IfOk result (λ found. IfSome found (λ p. (from + rows ≤ p)
-        × (p ≤ length (flat text.now)))) }
+        (λ row. IsRowBelow (bytes_of_text (S.characters source.old) (flat text.now)) from rows
+        row.position)) }
+    ensures range { IfOk result (λ found. IfSome found (λ row. (from + rows ≤ row.position)
+        × (row.position ≤ length (flat text.now)))) }
+    ensures text { IfOk result (λ found. IfSome found (λ row. row.text ≡ flat text.now)) }
     ensures source { ReadsOrFails S.CharSource result source.old source.new }
 {
     let reader = Reader::open(text, from);
@@ -241,22 +243,24 @@ fn stretch_within<'a, S: CharSource>(
     Ok((reader, rows - ends))
 }
 
-/// Where the row begins that is so many rows below that of the reader, read byte by byte. None where the text ends
+/// The reader where the row begins that is so many rows below its own, read byte by byte. None where the text ends
 /// before. `Fault`: the source failed in this call.
 fn row_within<'a, S: CharSource>(
     text: &'a Text,
     first: Reader<'a>,
     rows: u32,
     source: &mut S,
-) -> Result<Option<u32>, Fault>
+) -> Result<Option<Reader<'a>>, Fault>
     requires text { first.text ≡ flat text.now }
     requires offsets { AreWithin (length (S.characters source.old)) (flat text.now) }
     requires some { 0 < rows }
     ensures begins { IfOk result (λ found. S.honest source.old → IfSome found
-        (IsRowBelow (bytes_of_text (S.characters source.old) (flat text.now)) first.entry.position
-        rows)) }
-    ensures range { IfOk result (λ found. IfSome found (λ p. (first.entry.position + rows ≤ p)
-        × (p ≤ length (flat text.now)))) }
+        (λ row. IsRowBelow (bytes_of_text (S.characters source.old) (flat text.now))
+        first.entry.position rows row.position)) }
+    ensures range { IfOk result (λ found. IfSome found
+        (λ row. (first.entry.position + rows ≤ row.position)
+        × (row.position ≤ length (flat text.now)))) }
+    ensures text { IfOk result (λ found. IfSome found (λ row. row.text ≡ flat text.now)) }
     ensures source { ReadsOrFails S.CharSource result source.old source.new }
 {
     let from = first.pos();
@@ -267,7 +271,7 @@ fn row_within<'a, S: CharSource>(
         let byte = reader.next_byte(source)?;
         left = left_after(left, byte);
         if left == 0 {
-            return Ok(Some(at + 1));
+            return Ok(Some(reader));
         }
     }
     Ok(None)

@@ -1,4 +1,4 @@
-use Rattle.std.proofs.Common.{List, ◌∷◌, [], slice_index_or}
+use Rattle.std.proofs.Common.{◌∷◌, [], slice_index_or}
 use Rattle.image_format.proofs.writing.bytes_of_piece.Goals as goal
 
 pub returns : goal.returns

@@ -24,7 +24,7 @@ returns-clause-begins g c h =
     let to_short = subst (λ cs. ends_between (bytes_of_text cs text) long.position short.position + last ≡ rest) same
     (second.leads still) in
     let short_way = second.range in
-    let to_row = subst (λ cs. IfSome found (IsRowBelow (bytes_of_text cs text) short.position last))
+    let to_row = subst (λ cs. IfSome found (λ row. IsRowBelow (bytes_of_text cs text) short.position last row.position))
     (second.source.reads.same still ∙ same) (third.begins (second.source.reads.still still)) in
     rows_on_if bs c.args.from long.position _ rest c.args.rows long_way.low refl to_long (length text) found
     (farther _ _ (length text) found short_way.few third.range)

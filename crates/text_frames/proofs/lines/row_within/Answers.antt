@@ -52,11 +52,12 @@ returns-then-left-eq0-clause-begins g c h =
     c.left_after-left.ensures (ends_within bs c.pos-from.result c.loop-at.at c.in_ok-byte.byte there low) (before.so_far h) in
     let last = left_none c.loop-at.left c.left_after-left.result before.some (is_return c.in_ok-byte.byte)
     c.left_after-left.ensures none in
-    subst (λ from. IsRowBelow bs from c.args.rows (c.loop-at.at + 1)) c.pos-from.ensures.position (record {
+    subst (λ p. IsRowBelow bs c.args.first.position c.args.rows p) (sym (read.moves ∙ ap (λ n. n + 1) before.way.place))
+    (subst (λ from. IsRowBelow bs from c.args.rows (c.loop-at.at + 1)) c.pos-from.ensures.position (record {
       below = omega (arith, all, none);
       behind = ap (slice_get bs) (let e : c.loop-at.at + 1 - 1 ≡ c.loop-at.at = omega arith in e) ∙ there
           ∙ ap Some (return_is c.in_ok-byte.byte last);
-    })
+    }))
 
 pub returns-then-left-eq0-clause-range : goal.returns-then-left-eq0-clause-range
 returns-then-left-eq0-clause-range g c =
@@ -64,5 +65,8 @@ returns-then-left-eq0-clause-range g c =
     let test = c.loop-at-test.true in
     let few = left_few c.loop-at.left c.left_after-left.result before.some (is_return c.in_ok-byte.byte)
     (c.pos-from.result + c.args.rows) c.loop-at.at c.left_after-left.ensures before.few in
-    let from = c.pos-from.ensures.position in
-    (omega (arith, few, none, from), omega (arith, test, len))
+    let from = c.pos-from.ensures.position in let moves = c.in_ok-byte.ensures.moves in let place = before.way.place in
+    (omega (arith, few, none, from, moves, place), omega (arith, test, len, moves, place))
+
+pub returns-then-left-eq0-clause-text : goal.returns-then-left-eq0-clause-text
+returns-then-left-eq0-clause-text g c = c.in_ok-byte.ensures.text ∙ c.loop-at.invariant.way.same

@@ -24,10 +24,12 @@ returns-in-Some-clause-read g c =
     let s = g.S.CharSource in let text = flat c.args.text.now in let found = c.in_ok-found.ensures in
     let bs = bytes_of_text (s.characters c.args.source.now) text in let n : ℕ = c.args.row - c.args.place.now.row in
     let here : c.pos.result ≡ c.args.reader.now.position = c.pos.ensures.position in
-    let range = subst (λ o. IfSome o (λ p. (c.pos.result + n ≤ p) × (p ≤ length text))) c.in-Some.is found.range in
+    let range = subst (λ o. IfSome o (λ row. (c.pos.result + n ≤ row.position) × (row.position ≤ length text))) c.in-Some.is
+    found.range in
     let above = c.if-first-wanted.false in let far = range.0 in
-    row_reached (s.honest c.args.source.now) (s.characters c.args.source.now) text c.args.reader.now c.open.result
-    c.args.org c.args.row c.args.place.now.row c.args.place.now.column n c.in-Some.start c.requires.so_far
-    (omega (arith, above)) refl c.open.ensures.text c.open.ensures.position (omega (arith, far, here)) range.1
-    (λ h. subst (λ q. IsRowBelow bs q n c.in-Some.start) here
-    (subst (λ o. IfSome o (IsRowBelow bs c.pos.result n)) c.in-Some.is (found.begins h)))
+    row_reached (s.honest c.args.source.now) (s.characters c.args.source.now) text c.args.reader.now c.in-Some.begin
+    c.args.org c.args.row c.args.place.now.row c.args.place.now.column n c.in-Some.begin.position c.requires.so_far
+    (omega (arith, above)) refl (subst (λ o. IfSome o (λ row. row.text ≡ text)) c.in-Some.is found.text) refl
+    (omega (arith, far, here)) range.1
+    (λ h. subst (λ q. IsRowBelow bs q n c.in-Some.begin.position) here
+    (subst (λ o. IfSome o (λ row. IsRowBelow bs c.pos.result n row.position)) c.in-Some.is (found.begins h)))

@@ -7,6 +7,6 @@ returns-in_default-clause-same c = no_room c.args.self.now c.insert.new.self c.i
 
 pub returns-clause-same : goal.returns-clause-same
 returns-clause-same c =
-    made_room c.args.self.now c.insert.new.self c.args.n c.in_ok-bytes.bytes
-    (c.in_ok-bytes.ensures ∙ c.empty_sector.ensures) (sym c.contains_key.ensures ∙ c.if-contains_key.false)
-    c.in-Ok.ensures.updates
+    made_room c.args.self.now c.insert.new.self c.args.n _
+    (c.in_ok-bytes.ensures ∙ c.empty_sector.ensures) c.len-place.ensures
+    (sym c.contains_key.ensures ∙ c.if-contains_key.false) c.in-Ok.ensures.updates
