@@ -44,6 +44,16 @@ pub pages_on : (pages : List Page) (c : Content) (at : ℕ) (p : Page) → HasPa
 pages_on [] c at p has held = (held, tt)
 pages_on (q ∷ pages) c at p has held = (has.0, pages_on pages c (at + page_sectors q) p has.1 held)
 
+-- more pages
+pub end_both : (pages more : List Page) (at : ℕ) → end_of_pages at (pages ++ more) ≡ end_of_pages (end_of_pages at pages) more
+end_both [] more at = refl
+end_both (q ∷ pages) more at = end_both pages more (at + page_sectors q)
+
+pub pages_both : (pages more : List Page) (c : Content) (at : ℕ) → HasPages c at pages
+    → HasPages c (end_of_pages at pages) more → HasPages c at (pages ++ more)
+pages_both [] more c at has held = held
+pages_both (q ∷ pages) more c at has held = (has.0, pages_both pages more c (at + page_sectors q) has.1 held)
+
 -- a start rests on the sectors of its store
 start_stays : (c c' : Content) (start : Start)
     → ((n : ℕ) → start.base ≤ n → n < first_page start → c' n ≡ c n) → HasStart c start → HasStart c' start
@@ -83,6 +93,11 @@ pub written_on : (pages : List Page) (c : Content) (start : Start) (p : Page) �
     → HoldsBytes c (end_of_pages (first_page start) pages) (page_bytes p) → HoldsPages c start (pages ++ p ∷ [])
 written_on pages c start p has held = (has.0, pages_on pages c (first_page start) p has.1 held)
 
+-- more pages
+pub written_both : (pages more : List Page) (c : Content) (start : Start) → HoldsPages c start pages
+    → HasPages c (end_of_pages (first_page start) pages) more → HoldsPages c start (pages ++ more)
+written_both pages more c start has held = (has.0, pages_both pages more c (first_page start) has.1 held)
+
 -- two facts of each image
 pub both_leave : {P Q : Content → Type 0} {old new : Trail} → LeavesOnly old new P → LeavesOnly old new Q
     → LeavesOnly old new (λ c. P c × Q c)
@@ -118,6 +133,15 @@ pub written_front : (pages : List Page) (c : Content) (start : Start) (p : Page)
     → HoldsPages c start pages
 written_front pages c start p has = (has.0, pages_front pages c (first_page start) p has.1)
 
+-- all pages before some
+pages_before : (pages more : List Page) (c : Content) (at : ℕ) → HasPages c at (pages ++ more) → HasPages c at pages
+pages_before [] more c at has = tt
+pages_before (q ∷ pages) more c at has = (has.0, pages_before pages more c (at + page_sectors q) has.1)
+
+pub written_before : (pages more : List Page) (c : Content) (start : Start) → HoldsPages c start (pages ++ more)
+    → HoldsPages c start pages
+written_before pages more c start has = (has.0, pages_before pages more c (first_page start) has.1)
+
 -- the events of a journal can be spelled
 journal_valid : (events : List Event) (c : Content) (slot k : ℕ) → IsJournal c slot k events → AreEvents events
 journal_valid [] c slot k journal = tt
@@ -147,3 +171,7 @@ good_journal c s was newest short = record {
 pub good_on : (pages : List Page) (p : Page) → AreGood pages → IsGoodPage p → AreGood (pages ++ p ∷ [])
 good_on [] p good last = (last, tt)
 good_on (q ∷ pages) p good last = (good.0, good_on pages p good.1 last)
+
+pub good_both : (pages more : List Page) → AreGood pages → AreGood more → AreGood (pages ++ more)
+good_both [] more good last = last
+good_both (q ∷ pages) more good last = (good.0, good_both pages more good.1 last)

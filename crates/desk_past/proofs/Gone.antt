@@ -1,6 +1,7 @@
 -- A way to a moment of the pages that was found and gone. `d` and `e` are what is known of the disks.
-use Rattle.std.proofs.Common.{◌≡◌, ◌+◌, ◌<◌, ◌≤◌, ◌∙◌, ℕ, List, [], length, refl, sym, ap, subst, arith, true}
-use Rattle.std.specs.Prelude.{Bool}
+use Rattle.std.proofs.Common.{◌≡◌, ◌+◌, ◌<◌, ◌≤◌, ◌∙◌, ℕ, List, [], length, sym, ap, subst, arith}
+use Rattle.std.specs.declared.option.Option.{Option}
+use Rattle.std.specs.Prelude.{IsSomeAnd}
 use Rattle.sector_disk.specs.declared.disk.Disk.{Ghosts}
 use Rattle.sector_disk.specs.Trail.{Content, now}
 use Rattle.desktop_definitions.specs.Desktop.{Desktop}
@@ -9,14 +10,16 @@ use Rattle.store_layout.specs.declared.layout.TheConstants.{STORE_SECTORS}
 use Rattle.desk_journal.specs.View.{StoreView}
 use Rattle.past_pages.specs.Page.{Page}
 use Rattle.past_pages.specs.Laying.{StandsFrom}
+use Rattle.past_pages.specs.Marks.{ShowsCopy}
 use Rattle.past_pages.specs.Reading.{IsOnlyReadFrom, IsQuiet}
 use Rattle.past_pages.proofs.StillReads.{still_both, still_reads}
 use Rattle.desk_past.specs.Deeds.{PastDeed, after_deeds}
 use Rattle.desk_past.specs.Past.{HasPages, end_of_pages}
 use Rattle.desk_past.specs.Past.{AreGood, AreTurns, HasStart, HoldsPages, Remembers, Start, all_deeds, first_page, moment}
-use Rattle.desk_past.specs.Reading.{HoldsTold, IsLed}
-use Rattle.desk_past.specs.Routes.{AreLegs}
+use Rattle.desk_past.specs.Reading.{HoldsTold, IsLed, ShowsNow}
+use Rattle.desk_past.specs.Routes.{IsWay}
 use Rattle.desk_past.specs.declared.routes.Leg.{Leg}
+use Rattle.desk_past.specs.declared.routes.Origin.{Origin}
 use Rattle.desk_past.proofs.Carrying.{end_above}
 
 -- ---- what the head in use tells
@@ -51,43 +54,58 @@ module _ {size : ℕ} {start : Start} {told : PastEnd} {pages : List Page} {c : 
   pub told_end : end_of_pages (base + STORE_SECTORS) pages ≡ told.next
   told_end = ap (λ n. end_of_pages (n + STORE_SECTORS) pages) (sym is) ∙ has.up_to
 
+-- ---- a way that is found and gone
+
 -- the store was read up to `mid` before the way was found, and up to `far` before it was gone
-module _ {D E : Type 0} (d : Ghosts D) (e : Ghosts E) {start : Start} {told : PastEnd} {pages : List Page}
-    {old mid far : StoreView D} (has : HoldsTold (d.size old.disk) start told pages (now (d.trail old.disk)).reads)
-    (base : ℕ) (is : start.base ≡ base)
-    (honest : d.honest old.disk) (quiet : IsQuiet d old) (still : IsOnlyReadFrom d old mid)
-    (more : IsOnlyReadFrom d mid far) (first k : ℕ)
-    (first_is : first ≡ start.before) (high : k < told.before) (legs : List Leg) {done : Bool}
-    {shown new : StoreView E}
-    (ways : d.honest mid.disk → (start : Start) (pages : List Page) → start.before ≡ first
-    → HasPages (now (d.trail mid.disk)).reads (base + STORE_SECTORS) pages → AreGood pages → AreTurns start [] pages
-    → end_of_pages (base + STORE_SECTORS) pages ≡ told.next → k ≤ first + length (all_deeds pages)
-    → (l : List PastDeed) × AreLegs (now (d.trail mid.disk)).reads told.next legs l
-    × (moment start (all_deeds pages) k ≡ after_deeds start.desktop l))
-    (led : d.honest far.disk → (l : List PastDeed) → AreLegs (now (d.trail far.disk)).reads told.next legs l
-    → (done ≡ true) × IsLed e l shown new) where
-  way : (l : List PastDeed) × AreLegs (now (d.trail mid.disk)).reads told.next legs l
-      × (moment start (all_deeds pages) k ≡ after_deeds start.desktop l)
-  way =
+module _ {D : Type 0} (d : Ghosts D) {start : Start} {told : PastEnd} {pages : List Page} {old mid : StoreView D}
+    (has : HoldsTold (d.size old.disk) start told pages (now (d.trail old.disk)).reads) (base : ℕ) (is : start.base ≡ base)
+    (honest : d.honest old.disk) (quiet : IsQuiet d old) (still : IsOnlyReadFrom d old mid) (first k : ℕ)
+    (first_is : first ≡ start.before) (high : k < told.before) where
+  -- what is known of the way to a moment of some pages is known of the way to moment k
+  pub way_there : (X : Start → List Page → Type 0) → (d.honest mid.disk → (start : Start) (pages : List Page)
+      → start.before ≡ first → HasPages (now (d.trail mid.disk)).reads (base + STORE_SECTORS) pages → AreGood pages
+      → AreTurns start [] pages → end_of_pages (base + STORE_SECTORS) pages ≡ told.next
+      → k ≤ first + length (all_deeds pages) → X start pages) → X start pages
+  way_there X ways =
       let counted : start.before + length (all_deeds pages) ≡ told.before = has.counted in
       ways (still.left.disk.device.still honest) start pages (sym first_is)
       (subst (λ x. HasPages x (base + STORE_SECTORS) pages) (sym (still_reads d still quiet honest))
       (told_pages has base is))
       has.good has.turns (told_end has base is) (omega (arith, first_is, counted, high))
 
-  goes : (done ≡ true) × IsLed e way.0 shown new
-  goes =
+  -- it leads to what the desktop was then
+  pub way_gone : {E : Type 0} (e : Ghosts E) {far : StoreView D} → IsOnlyReadFrom d mid far → (legs : List Leg) (from : Origin)
+      (found : Option (StoreView E)) → (d.honest mid.disk → (start : Start) (pages : List Page) → start.before ≡ first
+      → HasPages (now (d.trail mid.disk)).reads (base + STORE_SECTORS) pages → AreGood pages → AreTurns start [] pages
+      → end_of_pages (base + STORE_SECTORS) pages ≡ told.next → k ≤ first + length (all_deeds pages)
+      → IsWay (now (d.trail mid.disk)).reads told.next start (all_deeds pages) k legs from)
+      → (d.honest far.disk → (start : Start) → HasStart (now (d.trail far.disk)).reads start → start.base ≡ base
+      → (deeds : List PastDeed) (k : ℕ) → IsWay (now (d.trail far.disk)).reads told.next start deeds k legs from
+      → IsSomeAnd found (λ shown. (e.honest shown.disk) × (shown.desktop ≡ moment start deeds k)))
+      → IsSomeAnd found (λ shown. (e.honest shown.disk) × (shown.desktop ≡ moment start (all_deeds pages) k))
+  way_gone e {far = far} more legs from found ways led =
       let both : IsOnlyReadFrom d old far = still_both d still more in
-      led (both.left.disk.device.still honest) way.0
-      (subst (λ x. AreLegs x told.next legs way.0) (still_reads d still quiet honest ∙ sym (still_reads d both quiet honest))
-      way.1)
+      let reads = still_reads d both quiet honest in
+      led (both.left.disk.device.still honest) start (subst (λ x. HasStart x start) (sym reads) has.written.0) is
+      (all_deeds pages) k
+      (subst (λ x. IsWay x told.next start (all_deeds pages) k legs from) (still_reads d still quiet honest ∙ sym reads)
+      (way_there (λ s p. IsWay (now (d.trail mid.disk)).reads told.next s (all_deeds p) k legs from) ways))
 
-  pub all_done : done ≡ true
-  all_done = goes.0
+-- ---- from where a way goes, and to where
 
-  pub still_honest : e.honest shown.disk → e.honest new.disk
-  still_honest = goes.1.still
+pub start_shown : {E : Type 0} (e : Ghosts E) {c : Content} {start : Start} (has : HasStart c start) {was : Desktop}
+    {shown : StoreView E} → was ≡ start.desktop → ShowsNow e has.standing shown → ShowsCopy e was shown
+start_shown e has same shows = record {
+  usable = shows.usable;
+  honest = shows.honest;
+  desktop = shows.desktop ∙ has.is ∙ sym same;
+}
 
-  pub done_to : e.honest shown.disk → shown.desktop ≡ start.desktop → new.desktop ≡ moment start (all_deeds pages) k
-  done_to usable same =
-      goes.1.desktop usable ∙ ap (λ x. after_deeds x way.0) same ∙ sym way.2
+pub led_to : {E : Type 0} (e : Ghosts E) {c : Content} {end : ℕ} {start : Start} {deeds : List PastDeed} {k : ℕ}
+    {legs : List Leg} {from : Origin} {shown new : StoreView E} (way : IsWay c end start deeds k legs from)
+    → ShowsCopy e way.was shown → IsLed e way.done shown new
+    → (e.honest new.disk) × (new.desktop ≡ moment start deeds k)
+led_to e way shows led = (
+  led.still shows.honest,
+  led.desktop shows.honest ∙ ap (λ x. after_deeds x way.done) shows.desktop ∙ sym way.leads,
+)

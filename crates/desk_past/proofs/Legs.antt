@@ -1,9 +1,8 @@
--- The way to a moment: legs between turns.
+-- The way to a moment: legs between turns and desktops.
 use Rattle.std.proofs.Common.{◌≡◌, ◌+◌, ◌-◌, ◌<◌, ◌≤◌, ℕ, zero, suc, List, [], ◌∷◌, ◌++◌, length, take, refl, sym}
 use Rattle.std.proofs.Common.{◌∙◌, ap}
 use Rattle.std.proofs.Common.{subst, arith, length-append, true}
-use Rattle.std.specs.declared.option.Option.{Option}
-use Rattle.std.specs.Prelude.{Bool, Some, None, IfSome}
+use Rattle.std.specs.Prelude.{Bool, false}
 use Rattle.sector_disk.specs.declared.disk.Disk.{Ghosts}
 use Rattle.desk_journal.specs.View.{StoreView}
 use Rattle.std.proofs.lemmas.List.{take-append-le}
@@ -12,18 +11,22 @@ use Rattle.sector_disk.specs.Trail.{Content}
 use Rattle.event_bytes.specs.declared.event.Event.{Event}
 use Rattle.desktop_definitions.specs.Desktop.{Desktop}
 use Rattle.document_filing.specs.Bringing.{Documents}
-use Rattle.past_pages.specs.Page.{Page, of_events, of_import, of_turn, page_sectors}
-use Rattle.past_pages.specs.Reading.{HasPage, IsKindOf, kind_count}
+use Rattle.past_pages.specs.Copies.{Sectors}
+use Rattle.past_pages.specs.Page.{Page, of_copy, of_events, of_import, of_turn, page_sectors}
+use Rattle.past_pages.specs.Reading.{HasCopy, HasPage, IsKindOf, kind_count}
 use Rattle.past_pages.specs.declared.pages.PageKind.{PageKind}
 use Rattle.past_pages.specs.declared.pages.PageKind.TheVariants as which
 use Rattle.desk_past.specs.Deeds.{PastDeed, after_deeds, all_posted, brought, posted, turned}
 use Rattle.desk_past.specs.Past.{HasPages, deeds_in, end_of_pages}
 use Rattle.desk_past.specs.Past.{AreGood, AreTurns, HasMoment, IsTurn, Start, all_deeds, moment}
 use Rattle.desk_past.specs.Reading.{IsLed}
-use Rattle.desk_past.specs.Routes.{AreLegs, HasNoTurn, IsLeg, IsPassed, IsReached, leg_from}
+use Rattle.desk_past.specs.Routes.{AreLegs, BeginsAt, HasNoTurn, IsLeg, IsPassed, IsReached, IsWay, LeadsBack}
+use Rattle.desk_past.specs.Routes.{LegBeginsAt}
+use Rattle.desk_past.specs.declared.routes.Origin.{Origin}
+use Rattle.desk_past.specs.declared.routes.Origin.TheVariants.{AtCopy, AtMoment, AtStart}
 use Rattle.desk_past.specs.declared.routes.Leg.{Leg}
 use Rattle.desk_past.proofs.Carrying.{end_above}
-use Rattle.desk_past.proofs.Moments.{after_both, joined, many_posted, nil_right}
+use Rattle.desk_past.proofs.Moments.{after_both, deeds_of_both, joined, many_posted, nil_right}
 use Rattle.desk_past.proofs.Stepping.{some_left}
 
 -- ---- pages behind others
@@ -31,11 +34,6 @@ use Rattle.desk_past.proofs.Stepping.{some_left}
 joined_pages : (a b c : List Page) → (a ++ b) ++ c ≡ a ++ (b ++ c)
 joined_pages [] b c = refl
 joined_pages (p ∷ a) b c = ap (λ r. p ∷ r) (joined_pages a b c)
-
-pub deeds_of_both : (some more : List Page) → all_deeds (some ++ more) ≡ all_deeds some ++ all_deeds more
-deeds_of_both [] more = refl
-deeds_of_both (p ∷ some) more = ap (λ l. deeds_in p ++ l) (deeds_of_both some more)
-    ∙ sym (joined (deeds_in p) (all_deeds some) (all_deeds more))
 
 -- ---- none of these deeds is a turn
 
@@ -58,23 +56,39 @@ none_in_both (turned to ∷ some) more first second = absurd first
 
 -- ---- a page has as many deeds as its front says
 
-kind_many : (kind : PageKind) (p : Page) → IsKindOf kind p → kind_count kind ≡ length (deeds_in p)
+pub kind_many : (kind : PageKind) (p : Page) → IsKindOf kind p → kind_count kind ≡ length (deeds_in p)
 kind_many (which.Events n) (of_events version all) is = is ∙ sym (many_posted all)
-kind_many which.Import (of_import version all) is = refl
-kind_many (which.Turn k) (of_turn version moment to) is = refl
 kind_many (which.Events n) (of_import version all) is = absurd is
-kind_many (which.Events n) (of_turn version k to) is = absurd is
+kind_many (which.Events n) (of_turn version moment to) is = absurd is
+kind_many (which.Events n) (of_copy version false sectors to) is = absurd is
+kind_many (which.Events n) (of_copy version true sectors to) is = absurd is
 kind_many which.Import (of_events version all) is = absurd is
-kind_many which.Import (of_turn version k to) is = absurd is
+kind_many which.Import (of_import version all) is = refl
+kind_many which.Import (of_turn version moment to) is = absurd is
+kind_many which.Import (of_copy version false sectors to) is = absurd is
+kind_many which.Import (of_copy version true sectors to) is = absurd is
 kind_many (which.Turn k) (of_events version all) is = absurd is
 kind_many (which.Turn k) (of_import version all) is = absurd is
+kind_many (which.Turn k) (of_turn version moment to) is = refl
+kind_many (which.Turn k) (of_copy version false sectors to) is = absurd is
+kind_many (which.Turn k) (of_copy version true sectors to) is = absurd is
+kind_many which.Mark (of_events version all) is = absurd is
+kind_many which.Mark (of_import version all) is = absurd is
+kind_many which.Mark (of_turn version moment to) is = absurd is
+kind_many which.Mark (of_copy version false sectors to) is = refl
+kind_many which.Mark (of_copy version true sectors to) is = absurd is
+kind_many which.FarTurn (of_events version all) is = absurd is
+kind_many which.FarTurn (of_import version all) is = absurd is
+kind_many which.FarTurn (of_turn version moment to) is = absurd is
+kind_many which.FarTurn (of_copy version false sectors to) is = absurd is
+kind_many which.FarTurn (of_copy version true sectors to) is = refl
 
 -- ---- on the way to moment k
 
 -- So many deeds are left to it behind the pages that were passed, up to this sector, and this is the last leg so far:
 -- these deeds came before it, and these pages of it were passed.
 pub record IsReaching (c : Content) (end : ℕ) (start : Start) (pages : List Page) (k at left : ℕ) (leg : Leg)
-    (from : Option ℕ)
+    (from : Origin)
     : Type 0 where
   pub todo : List Page
   pub passed : List Page
@@ -91,13 +105,15 @@ pub record IsReaching (c : Content) (end : ℕ) (start : Start) (pages : List Pa
   pub counted : start.before + length lead + leg.count ≡ k
   pub enough : leg.count ≤ length (all_deeds passed) + left
   pub some : 0 < left → leg.count ≡ length (all_deeds passed) + left
-  pub leads : after_deeds start.desktop lead ≡ leg_from start (all_deeds pages) from
-  pub earlier : IfSome from (λ to. (start.before ≤ to) × (to < k))
+  pub here : Desktop
+  pub begins : LegBeginsAt c end start (all_deeds pages) from here
+  pub leads : after_deeds start.desktop lead ≡ here
+  pub earlier : LeadsBack start.before k from
 
 pub none_passed : {c : Content} {end : ℕ} {start : Start} (pages : List Page) (k first : ℕ) (leg : Leg)
     → HasPages c first pages → AreGood pages → AreTurns start [] pages → end_of_pages first pages ≡ end
-    → leg.at ≡ first → start.before + leg.count ≡ k → IsReaching c end start pages k first leg.count leg None
-none_passed {c = c} {end = end} pages k first leg held good turns ends at counted = record {
+    → leg.at ≡ first → start.before + leg.count ≡ k → IsReaching c end start pages k first leg.count leg AtStart
+none_passed {c = c} {end = end} {start = start} pages k first leg held good turns ends at counted = record {
   todo = pages;
   passed = [];
   lead = [];
@@ -113,11 +129,13 @@ none_passed {c = c} {end = end} pages k first leg held good turns ends at counte
   counted = omega (arith, counted);
   enough = omega arith;
   some = λ more. omega arith;
+  here = start.desktop;
+  begins = refl;
   leads = refl;
   earlier = tt;
 }
 
-module _ {c : Content} {end : ℕ} {start : Start} {pages : List Page} {k at left : ℕ} {leg : Leg} {from : Option ℕ}
+module _ {c : Content} {end : ℕ} {start : Start} {pages : List Page} {k at left : ℕ} {leg : Leg} {from : Origin}
     (was : IsReaching c end start pages k at left leg from) where
   long : length (all_deeds pages) ≡ length was.lead + (length (all_deeds was.passed) + length (all_deeds was.todo))
   long = let all = ap length was.all in omega (
@@ -185,21 +203,20 @@ module _ {c : Content} {end : ℕ} {start : Start} {pages : List Page} {k at lef
       enough = omega (arith, was.enough, many_more, rest);
       some = λ left_more. (let before : 0 < left = omega (arith, rest, left_more) in
           let count = was.some before in omega (arith, count, many_more, rest, left_more));
+      here = was.here;
+      begins = was.begins;
       leads = was.leads;
       earlier = was.earlier;
     }
 
-    -- a turn was passed: another leg begins
-    turn_passed : (to : Desktop) (moment_of : ℕ) → deeds_in p ≡ turned to ∷ []
-        → HasMoment start (was.lead ++ all_deeds was.passed) moment_of
-        → to ≡ moment start (was.lead ++ all_deeds was.passed) moment_of → 0 < left
-        → (leg' : Leg) → leg'.at ≡ next → leg'.count ≡ less → IsReaching c end start pages k next less leg'
-        (Some moment_of)
-    turn_passed to moment_of one within same some leg' starts counts =
-        let one_long = ap length one in
+    -- another leg begins behind it
+    leg_anew : (from' : Origin) (there : Desktop) → LegBeginsAt c end start (all_deeds pages) from' there
+        → after_deeds start.desktop (was.lead ++ (all_deeds was.passed ++ deeds_in p)) ≡ there
+        → LeadsBack start.before k from' → 0 < left → length (deeds_in p) ≤ left
+        → (leg' : Leg) → leg'.at ≡ next → leg'.count ≡ less → IsReaching c end start pages k next less leg' from'
+    leg_anew from' there begins leads earlier some few leg' starts counts =
         let count = was.some some in
         let lead_long = length-append was.lead (all_deeds was.passed ++ deeds_in p) in
-        let front_long = length-append was.lead (all_deeds was.passed) in
         let passed_long = length-append (all_deeds was.passed) (deeds_in p) in
         record {
           todo = more;
@@ -216,42 +233,79 @@ module _ {c : Content} {end : ℕ} {start : Start} {pages : List Page} {k at lef
           good = (subst AreGood is was.todo_good).1;
           up_to = ap (λ n. end_of_pages n more) (starts ∙ behind) ∙ sym (ap (end_of_pages at) is) ∙ was.todo_ends;
           free = tt;
-          counted = omega (arith, was.counted, count, lead_long, passed_long, one_long, rest, counts, some);
+          counted = omega (arith, was.counted, count, lead_long, passed_long, rest, counts, few);
           enough = omega (arith, counts);
           some = λ left_more. omega (arith, counts);
-          leads = ap (after_deeds start.desktop)
-              (sym (joined was.lead (all_deeds was.passed) (deeds_in p))
-              ∙ ap (λ l. (was.lead ++ all_deeds was.passed) ++ l) one)
-              ∙ after_both start.desktop (was.lead ++ all_deeds was.passed) (turned to ∷ [])
-              ∙ same
-              ∙ ap (after_deeds start.desktop) (sym (take-append-le (moment_of - start.before)
-              (was.lead ++ all_deeds was.passed) (all_deeds was.todo) (omega (arith, within.low, within.high))))
-              ∙ ap (λ l. after_deeds start.desktop (take (moment_of - start.before) l))
-              (joined was.lead (all_deeds was.passed) (all_deeds was.todo) ∙ was.all);
-          earlier = (within.low, omega (arith, within.high, front_long, was.counted, count, some));
+          here = there;
+          begins = begins;
+          leads = leads;
+          earlier = earlier;
         }
+
+    -- behind a turn to a moment
+    turn_passed : (to : Desktop) (moment_of : ℕ) → deeds_in p ≡ turned to ∷ []
+        → HasMoment start (was.lead ++ all_deeds was.passed) moment_of
+        → to ≡ moment start (was.lead ++ all_deeds was.passed) moment_of → 0 < left
+        → (leg' : Leg) → leg'.at ≡ next → leg'.count ≡ less → IsReaching c end start pages k next less leg'
+        (AtMoment moment_of)
+    turn_passed to moment_of one within same some leg' starts counts =
+        let one_long = ap length one in
+        let count = was.some some in
+        let front_long = length-append was.lead (all_deeds was.passed) in
+        leg_anew (AtMoment moment_of) (moment start (all_deeds pages) moment_of) refl
+        (ap (after_deeds start.desktop)
+        (sym (joined was.lead (all_deeds was.passed) (deeds_in p))
+        ∙ ap (λ l. (was.lead ++ all_deeds was.passed) ++ l) one)
+        ∙ after_both start.desktop (was.lead ++ all_deeds was.passed) (turned to ∷ [])
+        ∙ same
+        ∙ ap (after_deeds start.desktop) (sym (take-append-le (moment_of - start.before)
+        (was.lead ++ all_deeds was.passed) (all_deeds was.todo) (omega (arith, within.low, within.high))))
+        ∙ ap (λ l. after_deeds start.desktop (take (moment_of - start.before) l))
+        (joined was.lead (all_deeds was.passed) (all_deeds was.todo) ∙ was.all))
+        (within.low, omega (arith, within.high, front_long, was.counted, count, some)) some
+        (omega (arith, one_long, some)) leg' starts counts
+
+    -- behind a desktop
+    copy_passed : (to : Desktop) → HasCopy c at end to
+        → after_deeds start.desktop (was.lead ++ (all_deeds was.passed ++ deeds_in p)) ≡ to → 0 < left
+        → length (deeds_in p) ≤ left → (leg' : Leg) → leg'.at ≡ next → leg'.count ≡ less
+        → IsReaching c end start pages k next less leg' (AtCopy at)
+    copy_passed to has leads = leg_anew (AtCopy at) to has leads tt
 
   -- one page more was passed
   after_page : (p : Page) (more : List Page) (is : was.todo ≡ p ∷ more) (next less : ℕ) → next ≡ at + page_sectors p
       → less ≡ left - length (deeds_in p) → 0 < left → IsTurn start (was.lead ++ all_deeds was.passed) p
-      → {leg' : Leg} {from' : Option ℕ} → IsPassed p next less leg from leg' from'
+      → {leg' : Leg} {from' : Origin} → IsPassed p at next less leg from leg' from'
       → IsReaching c end start pages k next less leg' from'
   after_page (of_events version events) more is next less behind rest some turn same =
-      subst (λ (x : Leg × Option ℕ). IsReaching c end start pages k next less x.0 x.1)
+      subst (λ (x : Leg × Origin). IsReaching c end start pages k next less x.0 x.1)
       (λ i. (sym same.0 i, sym same.1 i))
       (page_passed (of_events version events) more is next less behind rest (none_in_posted events))
   after_page (of_import version documents) more is next less behind rest some turn same =
-      subst (λ (x : Leg × Option ℕ). IsReaching c end start pages k next less x.0 x.1)
+      subst (λ (x : Leg × Origin). IsReaching c end start pages k next less x.0 x.1)
       (λ i. (sym same.0 i, sym same.1 i))
       (page_passed (of_import version documents) more is next less behind rest tt)
   after_page (of_turn version m to) more is next less behind rest some turn {leg' = leg'} same =
-      subst (λ (x : Option ℕ). IsReaching c end start pages k next less leg' x) (sym same.2)
+      subst (λ (x : Origin). IsReaching c end start pages k next less leg' x) (sym same.2)
       (turn_passed (of_turn version m to) more is next less behind rest to m refl turn.0 turn.1 some leg' same.0 same.1)
+  after_page (of_copy version false sectors to) more is next less behind rest some turn {leg' = leg'} same =
+      subst (λ (x : Origin). IsReaching c end start pages k next less leg' x) (sym same.2)
+      (copy_passed (of_copy version false sectors to) more is next less behind rest to
+      (record { version = version; far = false; sectors = sectors; page = has_page (of_copy version false sectors to) more is })
+      (ap (λ l. after_deeds start.desktop (was.lead ++ l)) (nil_right (all_deeds was.passed)) ∙ sym turn) some
+      (omega arith) leg' same.0 same.1)
+  after_page (of_copy version true sectors to) more is next less behind rest some turn {leg' = leg'} same =
+      subst (λ (x : Origin). IsReaching c end start pages k next less leg' x) (sym same.2)
+      (copy_passed (of_copy version true sectors to) more is next less behind rest to
+      (record { version = version; far = true; sectors = sectors; page = has_page (of_copy version true sectors to) more is })
+      (ap (after_deeds start.desktop) (sym (joined was.lead (all_deeds was.passed) (turned to ∷ [])))
+      ∙ after_both start.desktop (was.lead ++ all_deeds was.passed) (turned to ∷ [])) some
+      (omega (arith, some)) leg' same.0 same.1)
 
   pub page_on : 0 < left → k ≤ start.before + length (all_deeds pages) → (kind : PageKind) (next n less : ℕ)
       → n ≡ kind_count kind → less ≡ left - n
       → ((p : Page) → HasPage c at end p → IsKindOf kind p × (next ≡ at + page_sectors p))
-      → {leg' : Leg} {from' : Option ℕ} → ((p : Page) → IsKindOf kind p → IsPassed p next less leg from leg' from')
+      → {leg' : Leg} {from' : Origin} → ((p : Page) → IsKindOf kind p → IsPassed p at next less leg from leg' from')
       → IsReaching c end start pages k next less leg' from'
   page_on some room kind next n less many rest read passes =
       let x = page_left some room in
@@ -268,6 +322,8 @@ module _ {c : Content} {end : ℕ} {start : Start} {pages : List Page} {k at lef
       let both = deeds_of_both was.passed was.todo in
       let front = ap (take leg.count) both ∙ take-append-le leg.count (all_deeds was.passed) (all_deeds was.todo) few in
       record {
+        was = was.here;
+        begins = was.begins;
         done = take leg.count (all_deeds (was.passed ++ was.todo));
         is_leg = record {
           pages = was.passed ++ was.todo;
@@ -285,7 +341,7 @@ module _ {c : Content} {end : ℕ} {start : Start} {pages : List Page} {k at lef
             (take-append-add was.lead (all_deeds was.passed ++ all_deeds was.todo) leg.count)
             ∙ after_both start.desktop was.lead (take leg.count (all_deeds was.passed ++ all_deeds was.todo))
             ∙ ap (λ x. after_deeds x (take leg.count (all_deeds was.passed ++ all_deeds was.todo))) was.leads
-            ∙ ap (λ l. after_deeds (leg_from start (all_deeds pages) from) (take leg.count l)) (sym both);
+            ∙ ap (λ l. after_deeds was.here (take leg.count l)) (sym both);
       }
 
 -- ---- legs, one after another
@@ -319,16 +375,21 @@ last_leg (first ∷ legs) leg deeds are =
 
 -- ---- the legs of a way so far
 
-pub record HasWay (c : Content) (end : ℕ) (start : Start) (deeds : List PastDeed) (k : ℕ) (legs : List Leg)
-    (from : Option ℕ)
+-- they lead from there to moment k, and there may be a moment, too
+pub record IsWaySoFar (c : Content) (end : ℕ) (start : Start) (deeds : List PastDeed) (k : ℕ) (legs : List Leg)
+    (from : Origin)
     : Type 0 where
+  pub was : Desktop
+  pub begins : LegBeginsAt c end start deeds from was
   pub done : List PastDeed
   pub are : AreLegs c end legs done
-  pub leads : moment start deeds k ≡ after_deeds (leg_from start deeds from) done
+  pub leads : moment start deeds k ≡ after_deeds was done
 
 pub no_way : {c : Content} {end : ℕ} (start : Start) (deeds : List PastDeed) (k : ℕ) {legs : List Leg} → legs ≡ []
-    → HasWay c end start deeds k legs (Some k)
+    → IsWaySoFar c end start deeds k legs (AtMoment k)
 no_way {c = c} {end = end} start deeds k none = record {
+  was = moment start deeds k;
+  begins = refl;
   done = [];
   are = subst (λ l. AreLegs c end l []) (sym none) refl;
   leads = refl;
@@ -336,32 +397,60 @@ no_way {c = c} {end = end} start deeds k none = record {
 
 pub way_on : {c : Content} {end : ℕ} {start : Start} {deeds : List PastDeed} {k to : ℕ} {legs more : List Leg}
     {leg : Leg}
-    {from : Option ℕ} → HasWay c end start deeds k legs (Some to) → IsReached c end start deeds to leg from
-    → more ≡ legs ++ leg ∷ [] → HasWay c end start deeds k more from
-way_on {c = c} {end = end} {start = start} {deeds = deeds} {legs = legs} {leg = leg} {from = from} was there on =
+    {from : Origin} → IsWaySoFar c end start deeds k legs (AtMoment to) → IsReached c end start deeds to leg from
+    → more ≡ legs ++ leg ∷ [] → IsWaySoFar c end start deeds k more from
+way_on {c = c} {end = end} {start = start} {deeds = deeds} {legs = legs} {leg = leg} {from = from} before there on =
     record {
-      done = there.done ++ was.done;
-      are = subst (λ l. AreLegs c end l (there.done ++ was.done)) (sym on)
-          (legs_on legs leg was.done there.done was.are there.is_leg);
-      leads = was.leads ∙ ap (λ x. after_deeds x was.done) there.leads
-          ∙ sym (after_both (leg_from start deeds from) there.done was.done);
+      was = there.was;
+      begins = there.begins;
+      done = there.done ++ before.done;
+      are = subst (λ l. AreLegs c end l (there.done ++ before.done)) (sym on)
+          (legs_on legs leg before.done there.done before.are there.is_leg);
+      leads = before.leads ∙ ap (λ x. after_deeds x before.done) (before.begins ∙ there.leads)
+          ∙ sym (after_both there.was there.done before.done);
     }
 
+-- from no moment it is a whole way
+begins_there : (c : Content) (end : ℕ) (start : Start) (deeds : List PastDeed) (from : Origin) (was : Desktop)
+    → ((n : ℕ) → from ≡ AtMoment n → ⊥) → LegBeginsAt c end start deeds from was → BeginsAt c end start from was
+begins_there c end start deeds AtStart was none begins = begins
+begins_there c end start deeds (AtMoment n) was none begins = none n refl
+begins_there c end start deeds (AtCopy at) was none begins = begins
+
+pub whole_way : {c : Content} {end : ℕ} {start : Start} {deeds : List PastDeed} {k : ℕ} {legs : List Leg}
+    (from : Origin) → ((n : ℕ) → from ≡ AtMoment n → ⊥) → IsWaySoFar c end start deeds k legs from
+    → IsWay c end start deeds k legs from
+whole_way {c = c} {end = end} {start = start} {deeds = deeds} from none way = record {
+  was = way.was;
+  begins = begins_there c end start deeds from way.was none way.begins;
+  done = way.done;
+  are = way.are;
+  leads = way.leads;
+}
+
 -- how many moments may come before the one from which a way goes
-pub left_of : Option ℕ → ℕ
-left_of None = 0
-left_of (Some k) = suc k
+pub left_of : Origin → ℕ
+left_of AtStart = 0
+left_of (AtMoment k) = suc k
+left_of (AtCopy at) = 0
 
-pub fewer_left : (from : Option ℕ) (k before : ℕ) → IfSome from (λ to. (before ≤ to) × (to < k))
-    → left_of from < left_of (Some k)
+pub fewer_left : (from : Origin) (k before : ℕ) → LeadsBack before k from → left_of from < left_of (AtMoment k)
 unfolding left_of
-fewer_left None k before back = omega arith
-fewer_left (Some to) k before back = omega (arith, back.1)
+fewer_left AtStart k before back = omega arith
+fewer_left (AtMoment to) k before back = omega (arith, back.1)
+fewer_left (AtCopy at) k before back = omega arith
 
-pub still_within : (from : Option ℕ) (before : ℕ) {k to : ℕ} → to ≤ k → IfSome from (λ n. (before ≤ n) × (n < to))
-    → IfSome from (λ n. (before ≤ n) × (n ≤ k))
-still_within None before low back = tt
-still_within (Some n) before low back = (back.0, omega (arith, back.1, low))
+-- a moment from which a way begins is at most moment k
+abbrev pub LiesWithin : ℕ → ℕ → Origin → Type 0
+LiesWithin before k AtStart = Unit {0}
+LiesWithin before k (AtMoment n) = (before ≤ n) × (n ≤ k)
+LiesWithin before k (AtCopy at) = Unit {0}
+
+pub still_within : (from : Origin) (before : ℕ) {k to : ℕ} → to ≤ k → LeadsBack before to from
+    → LiesWithin before k from
+still_within AtStart before low back = tt
+still_within (AtMoment n) before low back = (back.0, omega (arith, back.1, low))
+still_within (AtCopy at) before low back = tt
 
 -- ---- legs that were gone. `e` is what is known of the disk of the store on which they are gone.
 
@@ -423,21 +512,42 @@ all_gone e {c = c} {end = end} {legs = legs} {old = old} {new = new} was none =
 
 -- ---- what becomes of the last leg behind a page that was read
 
-pub passed_on : (kind : PageKind) (p : Page) (at left : ℕ) (leg : Leg) (from : Option ℕ)
-    → ((version k : ℕ) (to : Desktop) → IsKindOf kind (of_turn version k to) → ⊥) → IsKindOf kind p
-    → IsPassed p at left leg from leg from
-passed_on kind (of_events version events) at left leg from none is = (refl, refl)
-passed_on kind (of_import version documents) at left leg from none is = (refl, refl)
-passed_on kind (of_turn version k to) at left leg from none is = absurd (none version k to is)
+pub passed_turn : (k next left : ℕ) (p : Page) (here : ℕ) (old leg : Leg) (before : Origin) → leg.at ≡ next
+    → leg.count ≡ left → IsKindOf (which.Turn k) p → IsPassed p here next left old before leg (AtMoment k)
+passed_turn k next left (of_events version events) here old leg before starts counts is = absurd is
+passed_turn k next left (of_import version documents) here old leg before starts counts is = absurd is
+passed_turn k next left (of_turn version m to) here old leg before starts counts is = (starts, counts, ap AtMoment is)
+passed_turn k next left (of_copy version false sectors to) here old leg before starts counts is = absurd is
+passed_turn k next left (of_copy version true sectors to) here old leg before starts counts is = absurd is
 
-pub passed_turn : (kind : PageKind) (p : Page) (at left : ℕ) (old leg : Leg) (before : Option ℕ) (to : ℕ)
-    → ((version : ℕ) (events : List Event) → IsKindOf kind (of_events version events) → ⊥)
-    → ((version : ℕ) (documents : Documents) → IsKindOf kind (of_import version documents) → ⊥)
-    → ((version k : ℕ) (d : Desktop) → IsKindOf kind (of_turn version k d) → to ≡ k)
-    → leg.at ≡ at → leg.count ≡ left → IsKindOf kind p → IsPassed p at left old before leg (Some to)
-passed_turn kind (of_events version events) at left old leg before to events_not import_not same starts counts is =
-    absurd (events_not version events is)
-passed_turn kind (of_import version documents) at left old leg before to events_not import_not same starts counts is =
-    absurd (import_not version documents is)
-passed_turn kind (of_turn version k d) at left old leg before to events_not import_not same starts counts is =
-    (starts, counts, ap Some (same version k d is))
+pub passed_mark : (next left : ℕ) (p : Page) (here : ℕ) (old leg : Leg) (before : Origin) → leg.at ≡ next
+    → leg.count ≡ left → IsKindOf which.Mark p → IsPassed p here next left old before leg (AtCopy here)
+passed_mark next left (of_events version events) here old leg before starts counts is = absurd is
+passed_mark next left (of_import version documents) here old leg before starts counts is = absurd is
+passed_mark next left (of_turn version m to) here old leg before starts counts is = absurd is
+passed_mark next left (of_copy version false sectors to) here old leg before starts counts is = (starts, counts, refl)
+passed_mark next left (of_copy version true sectors to) here old leg before starts counts is = absurd is
+
+pub passed_far : (next left : ℕ) (p : Page) (here : ℕ) (old leg : Leg) (before : Origin) → leg.at ≡ next
+    → leg.count ≡ left → IsKindOf which.FarTurn p → IsPassed p here next left old before leg (AtCopy here)
+passed_far next left (of_events version events) here old leg before starts counts is = absurd is
+passed_far next left (of_import version documents) here old leg before starts counts is = absurd is
+passed_far next left (of_turn version m to) here old leg before starts counts is = absurd is
+passed_far next left (of_copy version false sectors to) here old leg before starts counts is = absurd is
+passed_far next left (of_copy version true sectors to) here old leg before starts counts is = (starts, counts, refl)
+
+pub passed_events : (n next left : ℕ) (p : Page) (here : ℕ) (leg : Leg) (before : Origin) → IsKindOf (which.Events n) p
+    → IsPassed p here next left leg before leg before
+passed_events n next left (of_events version events) here leg before is = (refl, refl)
+passed_events n next left (of_import version documents) here leg before is = absurd is
+passed_events n next left (of_turn version m to) here leg before is = absurd is
+passed_events n next left (of_copy version false sectors to) here leg before is = absurd is
+passed_events n next left (of_copy version true sectors to) here leg before is = absurd is
+
+pub passed_import : (next left : ℕ) (p : Page) (here : ℕ) (leg : Leg) (before : Origin) → IsKindOf which.Import p
+    → IsPassed p here next left leg before leg before
+passed_import next left (of_events version events) here leg before is = absurd is
+passed_import next left (of_import version documents) here leg before is = (refl, refl)
+passed_import next left (of_turn version m to) here leg before is = absurd is
+passed_import next left (of_copy version false sectors to) here leg before is = absurd is
+passed_import next left (of_copy version true sectors to) here leg before is = absurd is

@@ -13,10 +13,12 @@ pub mod OverPages
 pub mod ImportWays
 pub mod TurnWays
 pub mod TurnedBack
+pub mod FarTurns
 pub mod Stepping
 pub mod Legs
 pub mod Opened
 pub mod Sparing
+pub mod Marking
 pub mod Copied
 pub mod Begun
 pub mod Ways
@@ -30,3 +32,4 @@ pub mod Chaining
 pub mod Firsts
 pub mod Found
 pub mod Forgotten
+pub mod Fronts

@@ -27,6 +27,12 @@ deeds_on [] p = nil_right (deeds_in p)
 deeds_on (q ∷ pages) p =
     ap (λ l. deeds_in q ++ l) (deeds_on pages p) ∙ sym (joined (deeds_in q) (all_deeds pages) (deeds_in p))
 
+-- more pages
+pub deeds_of_both : (some more : List Page) → all_deeds (some ++ more) ≡ all_deeds some ++ all_deeds more
+deeds_of_both [] more = refl
+deeds_of_both (p ∷ some) more = ap (λ l. deeds_in p ++ l) (deeds_of_both some more)
+    ∙ sym (joined (deeds_in p) (all_deeds some) (all_deeds more))
+
 -- ---- events that are posted
 
 pub many_posted : (events : List Event) → length (all_posted events) ≡ length events

@@ -2,7 +2,7 @@
 use Rattle.std.proofs.Common.{◌≡◌, inl, inr, ◌+◌, ◌-◌, ◌<◌, ◌≤◌, ℕ, List, [], ◌∷◌, ◌++◌, length, take, refl, sym, ◌∙◌, ap}
 use Rattle.std.proofs.Common.{subst, arith, false, length-append}
 use Rattle.std.specs.declared.option.Option.{Option}
-use Rattle.std.specs.Prelude.{Some, None, IfNone, IfSome, IsSomeAnd}
+use Rattle.std.specs.Prelude.{Some, None, IfNone, IfSome, IsSomeAnd, SomeIff}
 use Rattle.std.proofs.Math.Seq.{take-append_seam}
 use Rattle.sector_disk.specs.declared.disk.Disk.{Ghosts}
 use Rattle.sector_disk.specs.Confined.{IsConfined}
@@ -38,6 +38,20 @@ if_some_then None has then_is = tt
 pub if_some_always : {X : Type 0} {P : X → Type 0} (o : Option X) → ((x : X) → P x) → IfSome o P
 if_some_always (Some x) all = all x
 if_some_always None all = tt
+
+-- of the one that was found
+pub if_some_at : {X : Type 0} {P : X → Type 0} (o : Option X) → ((x : X) → o ≡ Some x → P x) → IfSome o P
+if_some_at (Some x) all = all x refl
+if_some_at None all = tt
+
+pub some_at : {X : Type 0} {P : X → Type 0} {o : Option X} {x : X} → IsSomeAnd o P → o ≡ Some x → P x
+some_at {P = P} has is = subst (λ found. IsSomeAnd found P) is has
+
+-- what is left of so many
+pub rest_is : (o : Option ℕ) (all some rest : ℕ) → SomeIff o (some ≤ all) (all - some) → rest + some ≡ all
+    → IsSomeAnd o (λ n. n ≡ rest)
+rest_is (Some n) all some rest found sum = let is = found.1 in omega (arith, is, sum)
+rest_is None all some rest found sum = found (omega (arith, sum))
 
 pub if_none_then : {X P Q : Type 0} (o : Option X) → IfNone o P → (P → Q) → IfNone o Q
 if_none_then (Some x) has then_is = tt

@@ -2,7 +2,7 @@
 use Rattle.std.proofs.Common.{◌≡◌, ◌+◌, ◌-◌, ◌<◌, ◌≤◌, ℕ, zero, suc, List, [], ◌∷◌, ◌++◌, length, take, refl, sym}
 use Rattle.std.proofs.Common.{◌∙◌, ap}
 use Rattle.std.proofs.Common.{subst, arith, length-append, true}
-use Rattle.std.specs.Prelude.{Bool}
+use Rattle.std.specs.Prelude.{Bool, false}
 use Rattle.std.proofs.lemmas.List.{append-nil, length-take, take-append-le, take_all}
 use Rattle.std.proofs.Math.Seq.{take-append-add}
 use Rattle.sector_disk.specs.declared.disk.Disk.{Ghosts}
@@ -15,10 +15,11 @@ use Rattle.document_filing.specs.Bringing.{Documents}
 use Rattle.desk_journal.specs.Bringing.{AreBrought}
 use Rattle.desk_journal.specs.Undoing.{IsLedOn}
 use Rattle.desk_journal.specs.View.{StoreView}
-use Rattle.past_pages.specs.Page.{Page, of_events, of_import, of_turn, page_sectors}
+use Rattle.past_pages.specs.Copies.{Sectors}
+use Rattle.past_pages.specs.Page.{Page, of_copy, of_events, of_import, of_turn, page_sectors}
 use Rattle.past_pages.specs.Reading.{HasPage, IsRead}
 use Rattle.past_pages.specs.declared.pages.PageDeeds.{PageDeeds}
-use Rattle.past_pages.specs.declared.pages.PageDeeds.TheVariants.{Events, Import, Turn}
+use Rattle.past_pages.specs.declared.pages.PageDeeds.TheVariants.{Events, FarTurn, Import, Mark, Turn}
 use Rattle.desk_past.specs.Deeds.{PastDeed, after_deeds, all_posted, brought, posted, turned}
 use Rattle.desk_past.specs.Past.{HasPages, deeds_in, end_of_pages}
 use Rattle.desk_past.specs.Past.{AreGood, HasMoment, Remembers, Start, all_deeds, moment}
@@ -145,13 +146,29 @@ module _ {E : Type 0} (e : Ghosts E) {c : Content} {end count : ℕ} {pages : Li
 pub read_many : (deeds : PageDeeds) (p : Page) → IsRead deeds p → many_deeds deeds ≡ length (deeds_in p)
 read_many (Events events) (of_events version all) is = ap length is ∙ sym (many_posted all)
 read_many (Events events) (of_import version all) is = absurd is
+read_many (Events events) (of_turn version k to) is = absurd is
+read_many (Events events) (of_copy version false sectors to) is = absurd is
+read_many (Events events) (of_copy version true sectors to) is = absurd is
 read_many (Import documents) (of_events version all) is = absurd is
 read_many (Import documents) (of_import version all) is = refl
-read_many (Events events) (of_turn version k to) is = absurd is
 read_many (Import documents) (of_turn version k to) is = absurd is
+read_many (Import documents) (of_copy version false sectors to) is = absurd is
+read_many (Import documents) (of_copy version true sectors to) is = absurd is
 read_many (Turn moment) (of_events version all) is = absurd is
 read_many (Turn moment) (of_import version all) is = absurd is
 read_many (Turn moment) (of_turn version k to) is = refl
+read_many (Turn moment) (of_copy version false sectors to) is = absurd is
+read_many (Turn moment) (of_copy version true sectors to) is = absurd is
+read_many Mark (of_events version all) is = absurd is
+read_many Mark (of_import version all) is = absurd is
+read_many Mark (of_turn version k to) is = absurd is
+read_many Mark (of_copy version false sectors to) is = refl
+read_many Mark (of_copy version true sectors to) is = absurd is
+read_many FarTurn (of_events version all) is = absurd is
+read_many FarTurn (of_import version all) is = absurd is
+read_many FarTurn (of_turn version k to) is = absurd is
+read_many FarTurn (of_copy version false sectors to) is = absurd is
+read_many FarTurn (of_copy version true sectors to) is = refl
 
 -- ---- the page that comes next: what was read of it, and as much of that done
 
@@ -211,30 +228,36 @@ module _ {E : Type 0} (e : Ghosts E) {old new : StoreView E} where
       → ((version : ℕ) (page : List Event) → IsRead all (of_events version page) → items ≡ page)
       → ((version : ℕ) (documents : Documents) → IsRead all (of_import version documents) → ⊥)
       → ((version k : ℕ) (to : Desktop) → IsRead all (of_turn version k to) → ⊥)
+      → ((version : ℕ) (far : Bool) (sectors : Sectors) (to : Desktop) → IsRead all (of_copy version far sectors to) → ⊥)
       → IsRead all p → events ≡ take count items → IsLedOn e events old new → IsLed e (take count (deeds_in p)) old new
-  led_events {events = events} all (of_events version page) count items same other others read first led = record {
+  led_events {events = events} all (of_events version page) count items same other others copies read first led = record {
     still = led.still;
     desktop = λ h. led.desktop h
         ∙ ap (steps old.desktop) (first ∙ ap (take count) (same version page read))
         ∙ sym (after_posted old.desktop (take count page))
         ∙ ap (after_deeds old.desktop) (sym (posted_first count page));
   }
-  led_events all (of_import version documents) count items same other others read first led =
+  led_events all (of_import version documents) count items same other others copies read first led =
       absurd (other version documents read)
-  led_events all (of_turn version k to) count items same other others read first led = absurd (others version k to read)
+  led_events all (of_turn version k to) count items same other others copies read first led = absurd (others version k to read)
+  led_events all (of_copy version far sectors to) count items same other others copies read first led =
+      absurd (copies version far sectors to read)
 
   -- an import is one deed
   pub led_import : (all : PageDeeds) (p : Page) (count : ℕ) (documents : Documents) {reply : Reply}
       → ((version : ℕ) (page : List Event) → IsRead all (of_events version page) → ⊥)
       → ((version : ℕ) (page : Documents) → IsRead all (of_import version page) → documents ≡ page)
       → ((version k : ℕ) (to : Desktop) → IsRead all (of_turn version k to) → ⊥)
+      → ((version : ℕ) (far : Bool) (sectors : Sectors) (to : Desktop) → IsRead all (of_copy version far sectors to) → ⊥)
       → IsRead all p → count ≡ 1 → (e.honest old.disk → e.honest new.disk) → AreBrought e documents reply old new
       → IsLed e (take count (deeds_in p)) old new
-  led_import all (of_events version events) count documents other same others read one still done =
+  led_import all (of_events version events) count documents other same others copies read one still done =
       absurd (other version events read)
-  led_import all (of_turn version k to) count documents other same others read one still done =
+  led_import all (of_turn version k to) count documents other same others copies read one still done =
       absurd (others version k to read)
-  led_import all (of_import version page) count documents other same others read one still done = record {
+  led_import all (of_copy version far sectors to) count documents other same others copies read one still done =
+      absurd (copies version far sectors to read)
+  led_import all (of_import version page) count documents other same others copies read one still done = record {
     still = still;
     desktop = λ h. ap (λ (o : Outcome). o.desktop) (done.brought.done h)
         ∙ ap (λ l. after_deeds old.desktop (brought l ∷ [])) (same version page read)
@@ -257,10 +280,13 @@ turn_first (suc count) to some free = free
 pub led_turn : (all : PageDeeds) (p : Page) (count : ℕ)
     → ((version : ℕ) (page : List Event) → IsRead all (of_events version page) → ⊥)
     → ((version : ℕ) (documents : Documents) → IsRead all (of_import version documents) → ⊥)
+    → ((version : ℕ) (sectors : Sectors) (to : Desktop) → IsRead all (of_copy version false sectors to) → ⊥)
     → IsRead all p → 0 < count → HasNoTurn (take count (deeds_in p)) → ⊥
-led_turn all (of_events version page) count events documents read some free = events version page read
-led_turn all (of_import version page) count events documents read some free = documents version page read
-led_turn all (of_turn version k to) count events documents read some free = turn_first count to some free
+led_turn all (of_events version page) count events documents marks read some free = events version page read
+led_turn all (of_import version page) count events documents marks read some free = documents version page read
+led_turn all (of_turn version k to) count events documents marks read some free = turn_first count to some free
+led_turn all (of_copy version false sectors to) count events documents marks read some free = marks version sectors to read
+led_turn all (of_copy version true sectors to) count events documents marks read some free = turn_first count to some free
 
 -- ---- moments
 

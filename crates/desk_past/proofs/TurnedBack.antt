@@ -75,7 +75,7 @@ part_found d past lies large told all = all past.start.base lies.end
     (omega (arith, behind_start d past.keeps, told)) (omega (arith, lies.within, told))
 
 -- and what a past can take it can take behind a call that only reads
-add_still : {D : Type 0} (d : Ghosts D) {start : Start} {deeds : List PastDeed} {desktop : Desktop}
+pub add_still : {D : Type 0} (d : Ghosts D) {start : Start} {deeds : List PastDeed} {desktop : Desktop}
     {old mid : StoreView D} (was : KeepsAll d start deeds desktop old) (honest : d.honest old.disk)
     (quiet : IsQuiet d old) (still : IsOnlyReadFrom d old mid) (p : Page) → CanAdd d p was
     → CanAdd d p (read_keeps d was honest quiet {new = mid} still.left.disk still.usable)

@@ -1,7 +1,7 @@
 -- The past of a store: a start, and behind it the pages up to the sector that the head of the slot in use names.
-use Rattle.std.specs.Prelude.{◌≡◌, ◌⊎◌, ◌<◌, ◌≤◌, ◌^◌, ℕ, ◌+◌, ◌-◌, List, [], ◌∷◌, ◌++◌, length, take, false}
-use Rattle.sector_disk.specs.Trail.{Content, now, LeavesOnly}
+use Rattle.std.specs.Prelude.{◌≡◌, ◌⊎◌, ◌<◌, ◌≤◌, ◌^◌, ℕ, ◌+◌, ◌-◌, List, [], ◌∷◌, ◌++◌, length, take, false, true}
 use Rattle.sector_disk.specs.Stored.{HoldsBytes}
+use Rattle.sector_disk.specs.Trail.{Content, now, LeavesOnly}
 use Rattle.sector_disk.specs.declared.disk.Disk.{Ghosts}
 use Rattle.event_bytes.specs.declared.event.Event.{Event}
 use Rattle.desktop_definitions.specs.Desktop.{Desktop}
@@ -9,7 +9,8 @@ use Rattle.store_layout.specs.declared.head.PastEnd.{PastEnd}
 use Rattle.store_layout.specs.declared.layout.TheConstants.{LAYOUT, STORE_SECTORS}
 use Rattle.store_layout.specs.Meaning.{Standing, Stands, desktop_of}
 use Rattle.desk_journal.specs.View.{StoreView}
-use Rattle.past_pages.specs.Page.{Page, of_events, of_import, of_turn, IsGoodPage, journal_of}
+use Rattle.past_pages.specs.Copies.{Sectors}
+use Rattle.past_pages.specs.Page.{Page, of_copy, of_events, of_import, of_turn, IsGoodPage, copy_of, journal_of}
 use Rattle.past_pages.specs.Page.{page_bytes, page_sectors}
 use Rattle.past_pages.specs.Laying.{StandsFrom}
 use Rattle.desk_past.specs.Deeds.{PastDeed, after_deeds, all_posted, brought, turned}
@@ -50,6 +51,8 @@ abbrev pub deeds_in : Page → List PastDeed
 deeds_in (of_events version events) = all_posted events
 deeds_in (of_import version documents) = brought documents ∷ []
 deeds_in (of_turn version k to) = turned to ∷ []
+deeds_in (of_copy version false sectors to) = []
+deeds_in (of_copy version true sectors to) = turned to ∷ []
 
 -- all that some pages say was done, in order
 abbrev pub all_deeds : List Page → List PastDeed
@@ -74,11 +77,14 @@ abbrev pub AreGood : List Page → Type 0
 AreGood [] = Unit {0}
 AreGood (p ∷ pages) = IsGoodPage p × AreGood pages
 
--- A turn that comes behind these deeds leads to what the desktop was at its moment.
+-- A turn that comes behind these deeds leads to what the desktop was at its moment, and a mark has the desktop to which they
+-- led. A far turn leads to any desktop, which its page has.
 abbrev pub IsTurn : Start → List PastDeed → Page → Type 0
 IsTurn start deeds (of_events version events) = Unit {0}
 IsTurn start deeds (of_import version documents) = Unit {0}
 IsTurn start deeds (of_turn version k to) = HasMoment start deeds k × (to ≡ moment start deeds k)
+IsTurn start deeds (of_copy version false sectors to) = to ≡ after_deeds start.desktop deeds
+IsTurn start deeds (of_copy version true sectors to) = Unit {0}
 
 -- so does each of these pages, the first of which comes behind these deeds
 abbrev pub AreTurns : Start → List PastDeed → List Page → Type 0
@@ -128,16 +134,25 @@ abbrev pub IsHeadTold : {D : Type 0} (d : Ghosts D) {start : Start} {deeds : Lis
     → Type 0
 IsHeadTold d told keeps = told ≡ keeps.remembers.standing.past
 
--- The same, and behind those pages stands the page of the journal in use, up to this end, which doesn't count yet.
+-- each of these pages is a mark that has this desktop
+abbrev pub AreMarkPages : Desktop → List Page → Type 0
+AreMarkPages desktop [] = Unit {0}
+AreMarkPages desktop (p ∷ pages) = (sectors : Sectors) × (p ≡ copy_of false sectors desktop)
+    × IsGoodPage p × AreMarkPages desktop pages
+
+-- The same, and behind those pages stand the page of the journal in use, and marks or none, up to this end, which don't count
+-- yet.
 pub record HasNewPage {D : Type 0} (d : Ghosts D) (start : Start) (deeds : List PastDeed)
     (desktop : Desktop) (end : PastEnd) (store : StoreView D)
     : Type 0 where
   pub keeps : KeepsAll d start deeds desktop store
-  pub held : HoldsBytes (now (d.trail store.disk)).reads keeps.remembers.standing.past.next
-      (page_bytes (journal_of keeps.remembers.standing))
+  pub marks : List Page
+  pub are : AreMarkPages desktop marks
+  pub held : HasPages (now (d.trail store.disk)).reads keeps.remembers.standing.past.next
+      (journal_of keeps.remembers.standing ∷ marks)
   pub short : length (page_bytes (journal_of keeps.remembers.standing)) < 2 ^ 32
-  pub up_to : keeps.remembers.standing.past.next
-      + page_sectors (journal_of keeps.remembers.standing) ≡ end.next
+  pub up_to : end_of_pages keeps.remembers.standing.past.next
+      (journal_of keeps.remembers.standing ∷ marks) ≡ end.next
   pub room : end.next ≤ d.size store.disk
   pub counted : keeps.remembers.standing.past.before + length keeps.remembers.standing.events
       ≡ end.before

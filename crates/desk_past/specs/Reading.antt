@@ -10,7 +10,7 @@ use Rattle.desk_journal.specs.Undoing.{ShowsStanding}
 use Rattle.desk_journal.specs.View.{StoreView}
 use Rattle.past_pages.specs.Page.{Page}
 use Rattle.past_pages.specs.declared.pages.PageDeeds.{PageDeeds}
-use Rattle.past_pages.specs.declared.pages.PageDeeds.TheVariants.{Events, Import, Turn}
+use Rattle.past_pages.specs.declared.pages.PageDeeds.TheVariants.{Events, FarTurn, Import, Mark, Turn}
 use Rattle.past_pages.specs.declared.pages.PageKind.{PageKind}
 use Rattle.past_pages.specs.declared.pages.PageKind.TheVariants as which
 use Rattle.desk_past.specs.Deeds.{PastDeed, after_deeds}
@@ -31,11 +31,13 @@ pub record HoldsTold (size : ℕ) (start : Start) (told : PastEnd) (pages : List
 abbrev pub start_at : Standing → ℕ → Desktop
 start_at t k = steps_in t.version t.start (take (k - t.past.before) t.events)
 
--- how much a page says was done: an import is one deed, and so is a turn
+-- how much a page says was done: an import is one deed, and so is a turn; a mark is none
 abbrev pub many_deeds : PageDeeds → ℕ
 many_deeds (Events events) = length events.items
 many_deeds (Import documents) = 1
 many_deeds (Turn k) = 1
+many_deeds Mark = 0
+many_deeds FarTurn = 1
 
 -- from the one store to the other this was done
 pub record IsLed {D : Type 0} (d : Ghosts D) (deeds : List PastDeed) (old new : StoreView D)

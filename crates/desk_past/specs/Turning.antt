@@ -1,14 +1,17 @@
 -- A turn of a store with a past to one of its moments. `d` is what is known of a disk.
-use Rattle.std.specs.Prelude.{◌≡◌, ◌⊎◌, ◌++◌, ◌∷◌, [], ℕ, List}
+use Rattle.std.specs.Prelude.{◌≡◌, ◌⊎◌, ◌++◌, ◌∷◌, [], ℕ, List, true}
 use Rattle.sector_disk.specs.declared.disk.Disk.{Ghosts}
 use Rattle.sector_disk.specs.Trail.{LeavesOnly}
 use Rattle.desktop_definitions.specs.Desktop.{Desktop}
 use Rattle.desk_journal.specs.Gathering.{GatheredView}
-use Rattle.desk_journal.specs.Turning.{IsTurnedTo}
+use Rattle.desk_journal.specs.Turning.{IsTurnedTo, LeavesThisOrThat}
+use Rattle.desk_journal.specs.Undoing.{IsLeft}
 use Rattle.desk_journal.specs.View.{StoreView}
 use Rattle.past_pages.specs.Reading.{IsOnlyReadFrom}
-use Rattle.past_pages.specs.Page.{turn_of}
+use Rattle.past_pages.specs.Copies.{Sectors}
+use Rattle.past_pages.specs.Page.{Page, IsGoodPage, copy_of, turn_of}
 use Rattle.desk_past.specs.Ahead.{CanAdd}
+use Rattle.desk_past.specs.Chain.{SpansOf, WasInSpans}
 use Rattle.desk_past.specs.Deeds.{PastDeed, turned}
 use Rattle.desk_past.specs.Going.{LiesInPart}
 use Rattle.desk_past.specs.Past.{HasMoment, KeepsAll, Remembers, Start, moment}
@@ -75,3 +78,43 @@ module _ {D : Type 0} (d : Ghosts D) where
   abbrev pub HasTurnedBack : ℕ → StoreView D → StoreView D → Type 0
   HasTurnedBack k old new = (past : PastOf old) → LiesInPart d past.keeps
       → HasMoment past.start past.deeds k × KeepsTurned (moment past.start past.deeds k) past new
+
+  -- ---- to one of any part
+
+  -- this was the desktop at moment k of each past in a part that the store keeps, there or in the parts before
+  pub record WasThenAt (k : ℕ) (to : Desktop) (store : StoreView D) : Type 0 where
+    pub in_use : (past : PastOf store) → LiesInPart d past.keeps
+        → HasMoment past.start past.deeds k → to ≡ moment past.start past.deeds k
+    pub over_parts : (past : PastOf store) → LiesInPart d past.keeps
+        → (spans : List (Start × List Page)) (are : SpansOf d past.keeps spans) (was : Desktop)
+        → WasInSpans d past.keeps spans are k was → to ≡ was
+
+  -- At every moment of the call a crash leaves what there was, or the desktop of that moment, and of a past all deeds, or
+  -- these and the turn.
+  pub record LeavesFar (k : ℕ) (old new : StoreView D) : Type 0 where
+    pub to : Desktop
+    pub was : WasThenAt k to old
+    pub either : LeavesThisOrThat d to old new
+    pub past : (past : PastOf old) → LeavesTurned to past new
+
+  -- nothing is forgotten: nothing was written, or it goes so
+  abbrev pub TurnsFar : ℕ → StoreView D → StoreView D → Type 0
+  TurnsFar k old new = IsLeft d old new ⊎ LeavesFar k old new
+
+  -- True: the store shows that desktop, and its past goes on over the turn.
+  pub record HasTurnedFar (k : ℕ) (old new : StoreView D) : Type 0 where
+    pub to : GatheredView
+    pub was : WasThenAt k to.desktop old
+    pub shows : IsTurnedTo d to old new
+    pub past : (past : PastOf old) → KeepsTurned to.desktop past new
+
+  -- the past in use, or a part before, has such a moment, and there is room for a page with its desktop
+  pub record CanTurnFar (k : ℕ) (store : StoreView D) : Type 0 where
+    pub past : PastOf store
+    pub lies : LiesInPart d past.keeps
+    pub to : Desktop
+    pub there : WasAt k to past
+        ⊎ (spans : List (Start × List Page)) × (are : SpansOf d past.keeps spans)
+        × WasInSpans d past.keeps spans are k to
+    pub add : (sectors : Sectors) → IsGoodPage (copy_of true sectors to)
+        → CanAdd d (copy_of true sectors to) past.keeps

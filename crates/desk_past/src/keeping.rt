@@ -1,6 +1,7 @@
 //! Events that stay.
 ghost use Rattle.std.specs.Prelude.{◌≡◌, ◌≢◌, ◌+◌, ◌*◌, ◌^◌, ◌≤◌, ◌<◌, List, true, false, IfErr, IfOk, IsErrOf, OnOk, IfSome, IfNone};
 ghost use Rattle.sector_disk.specs.declared.disk.TheConstants.{SECTOR_BYTES};
+ghost use Rattle.sector_disk.specs.Faults.{FailsAs};
 ghost use Rattle.sector_disk.specs.Stored.{last_sector};
 ghost use Rattle.sector_disk.specs.Trail.{now};
 ghost use Rattle.desktop_definitions.specs.Desktop.{Desktop};
@@ -8,7 +9,9 @@ ghost use Rattle.store_layout.specs.declared.layout.TheConstants.{STORE_SECTORS}
 ghost use Rattle.store_slots.specs.Errors.{OfDesktop, OfLook, OfPost};
 ghost use Rattle.desk_journal.specs.Checkpointing.{IsRenewed, LeavesDesktop};
 ghost use Rattle.desk_journal.specs.Posting.{AnswersMustReopen, AnswersWorn, HasJournalRoom, IsAcknowledged, IsDueBefore, LeavesEither};
-ghost use Rattle.desk_journal.specs.Undoing.{OfUndo};
+ghost use Rattle.desk_journal.specs.Undoing.{IsLeft, OfUndo, ShowsStanding};
+ghost use Rattle.store_layout.specs.Meaning.{Standing};
+ghost use Rattle.past_pages.specs.Marks.{IsCopyPage};
 ghost use Rattle.past_pages.specs.Reading.{IsOnlyReadFrom};
 ghost use Rattle.desk_past.specs.Beginning.{IsAside};
 ghost use Rattle.desk_past.specs.Deeds.{PastDeed};
@@ -20,11 +23,12 @@ ghost use Rattle.desk_past.specs.Writing.{LiesInOldest, LiesUpTo, UsesAhead, Use
 
 use crate::beginning::begin;
 use crate::going_on::oldest_base;
+use crate::reading::copy_of;
 use desk_journal::{Error, STORE_SECTORS, Store};
 use desktop_definitions::Reply;
 use event_bytes::Event;
-use past_pages::{LEAST_ROOM, has_parts, page_read, part_at, sectors_for};
-use sector_disk::Disk;
+use past_pages::{BARE_PART, LEAST_ROOM, copy_page, has_parts, page_read, part_at, sectors_for};
+use sector_disk::{Disk, MemoryDisk};
 use std::alloc::Global;
 use store_layout::{JOURNAL_EVENTS, LAST_EPOCH, LAYOUT, PastEnd, standing_law};
 
@@ -65,10 +69,10 @@ fn write_page_at<D: Disk>(
         → (start : Start) (deeds : List PastDeed) (desktop : Desktop)
         → (keeps : KeepsAll D.Disk start deeds desktop store.old) → IsHeadTold D.Disk told keeps
         → LeavesAll D.Disk start deeds desktop store.old store.new }
-    ensures written { IfOk result (λ end. IfSome end (λ n. D.honest store.old.disk
-        → (start : Start) (deeds : List PastDeed) (desktop : Desktop)
+    ensures written { IfOk result (λ end. IfSome end (λ n. (told.next ≤ n.next)
+        × (D.honest store.old.disk → (start : Start) (deeds : List PastDeed) (desktop : Desktop)
         → (keeps : KeepsAll D.Disk start deeds desktop store.old) → IsHeadTold D.Disk told keeps
-        → HasNewPage D.Disk start deeds desktop n store.new)) }
+        → HasNewPage D.Disk start deeds desktop n store.new))) }
     ensures none { IfOk result (λ end. IfNone end (IsOnlyReadFrom D.Disk store.old store.new)) }
     ensures full { IfOk result (λ found. IfNone found (D.honest store.old.disk
         → (start : Start) (deeds : List PastDeed) (desktop : Desktop)
@@ -108,10 +112,11 @@ fn write_page<D: Disk>(
         → (start : Start) (deeds : List PastDeed) (desktop : Desktop)
         → KeepsAll D.Disk start deeds desktop store.old
         → LeavesAll D.Disk start deeds desktop store.old store.new }
-    ensures written { IfOk result (λ end. IfSome end (λ n. D.honest store.old.disk
-        → (start : Start) (deeds : List PastDeed) (desktop : Desktop)
+    ensures written { IfOk result (λ end. IfSome end (λ n. (D.honest store.old.disk
+        → (s : Standing) → ShowsStanding D.Disk store.old s → s.past.next ≤ n.next)
+        × (D.honest store.old.disk → (start : Start) (deeds : List PastDeed) (desktop : Desktop)
         → KeepsAll D.Disk start deeds desktop store.old
-        → HasNewPage D.Disk start deeds desktop n store.new)) }
+        → HasNewPage D.Disk start deeds desktop n store.new))) }
     ensures none { IfOk result (λ end. IfNone end (IsOnlyReadFrom D.Disk store.old store.new)) }
     ensures full { IfOk result (λ found. IfNone found (D.honest store.old.disk
         → (start : Start) (deeds : List PastDeed) (desktop : Desktop)
@@ -128,10 +133,123 @@ fn write_page<D: Disk>(
     write_page_at(alloc, store, told, end)
 }
 
-/// Ends the epoch in use: its page is written and settled, and then a checkpoint begins the next one. False where there
-/// is no room for the page before sector `end`, or where the slot in use has an older version: then nothing is written.
+/// Behind how many deeds, and behind each as many more, a mark is due: so many are done once more in memory in five
+/// milliseconds, which an opening takes.
+const MARK_DEEDS: u64 = 4_096;
+
+/// Whether a mark is due where so many deeds come behind so many.
+fn is_mark_due(before: u64, after: u64) -> bool {
+    before / MARK_DEEDS < after / MARK_DEEDS
+}
+
+/// The page of a mark with what a store shows. None where there is no memory for it, or where that can't be read.
 ///
-/// Errors: those of `write_page` and `Store::checkpoint`.
+/// Errors: `MustReopen`; `Fault`.
+fn mark_page<D: Disk>(alloc: Global, store: &mut Store<D>) -> Result<Option<Vec<u8>>, Error>
+    ensures page { IfOk result (λ found. IfSome found (λ bytes. D.honest store.old.disk
+        → IsCopyPage false store.old.desktop bytes.items)) }
+    ensures looks { IsLeft D.Disk store.old store.new }
+    ensures usable { store.new.must_reopen ≡ store.old.must_reopen }
+    ensures faults { FailsAs Error.Fault OfLook result (D.failures store.old.disk)
+        (D.failures store.new.disk) }
+    ensures open { IsErrOf result Error.MustReopen → store.old.must_reopen ≡ true }
+{
+    match copy_of(alloc, store) {
+        Ok(copy) => Ok(page_of_mark(alloc, copy)),
+        Err(Error::MustReopen) => Err(Error::MustReopen),
+        Err(Error::Fault) => Err(Error::Fault),
+        Err(_) => Ok(None),
+    }
+}
+
+/// The page of a mark with what a store in memory shows, which is let go. None where there is no memory for it.
+fn page_of_mark(alloc: Global, shown: Store<MemoryDisk>) -> Option<Vec<u8>>
+    ensures { IfSome result (λ bytes. IsCopyPage false shown.desktop bytes.items) }
+{
+    let Ok(to) = shown.gathered(alloc) else {
+        return None;
+    };
+    match copy_page(alloc, false, to) {
+        Ok(page) => Some(page),
+        Err(_no_memory) => None,
+    }
+}
+
+/// Writes a mark with what the store shows behind the page that ends where `past` says, before sector `end`, and settles it:
+/// what the head is to tell then. `past` where there is no room for it, or no memory, and nothing is written.
+///
+/// Errors: those of `mark_page` and `Store::write_behind`.
+fn write_mark<D: Disk>(
+    alloc: Global,
+    store: &mut Store<D>,
+    past: PastEnd,
+    end: u32,
+) -> Result<PastEnd, Error>
+    ensures any_moment { D.honest store.old.disk
+        → (start : Start) (deeds : List PastDeed) (desktop : Desktop)
+        → HasNewPage D.Disk start deeds desktop past store.old
+        → LeavesAll D.Disk start deeds desktop store.old store.new }
+    ensures written { IfOk result (λ n. D.honest store.old.disk
+        → (start : Start) (deeds : List PastDeed) (desktop : Desktop)
+        → HasNewPage D.Disk start deeds desktop past store.old
+        → HasNewPage D.Disk start deeds desktop n store.new) }
+    ensures moments { LeavesDesktop D.Disk store.old store.new }
+    ensures aside { OnOk result (IsAside D.Disk store.old store.new) }
+    ensures device { UsesOnly D.Disk (λ _. LiesUpTo end past.next) OfLook result store.old
+        store.new }
+    ensures open { IsErrOf result Error.MustReopen → store.old.must_reopen ≡ true }
+{
+    standing_law();
+    store.shows_what_crashes_leave();
+    let _info = store.info()?;
+    let Some(bytes) = mark_page(alloc, store)? else {
+        return Ok(past);
+    };
+    store.shows_what_crashes_leave();
+    let end = end.min(store.sectors());
+    let Some(next) = end_behind(past, bytes.len(), 0, end) else {
+        return Ok(past);
+    };
+    store.write_behind(past.next, next.next - past.next, bytes.as_slice())?;
+    Ok(next)
+}
+
+/// The same where a mark is due, in sectors that are kept for marks; else `past`, and nothing is written.
+///
+/// Errors: those of `write_mark`.
+fn mark_if_due<D: Disk>(
+    alloc: Global,
+    store: &mut Store<D>,
+    past: PastEnd,
+    end: u32,
+) -> Result<PastEnd, Error>
+    ensures any_moment { D.honest store.old.disk
+        → (start : Start) (deeds : List PastDeed) (desktop : Desktop)
+        → HasNewPage D.Disk start deeds desktop past store.old
+        → LeavesAll D.Disk start deeds desktop store.old store.new }
+    ensures written { IfOk result (λ n. D.honest store.old.disk
+        → (start : Start) (deeds : List PastDeed) (desktop : Desktop)
+        → HasNewPage D.Disk start deeds desktop past store.old
+        → HasNewPage D.Disk start deeds desktop n store.new) }
+    ensures moments { LeavesDesktop D.Disk store.old store.new }
+    ensures aside { OnOk result (IsAside D.Disk store.old store.new) }
+    ensures device { UsesOnly D.Disk (λ _. LiesUpTo end past.next) OfLook result store.old
+        store.new }
+    ensures open { IsErrOf result Error.MustReopen → store.old.must_reopen ≡ true }
+{
+    store.shows_what_crashes_leave();
+    let events = store.info()?.events as u64;
+    if !is_mark_due(past.before.saturating_sub(events), past.before) {
+        return Ok(past);
+    }
+    write_mark(alloc, store, past, end.saturating_sub(BARE_PART))
+}
+
+/// Ends the epoch in use: its page is written and settled, and a mark behind it, if one is due and has room; then a checkpoint
+/// begins the next epoch. False where there is no room for the page before sector `end`, or where the slot in use has an older
+/// version: then nothing is written.
+///
+/// Errors: those of `write_page`, `mark_if_due` and `Store::checkpoint`.
 pub fn end_epoch<D: Disk>(alloc: Global, store: &mut Store<D>, end: u32) -> Result<bool, Error>
     ensures any_moment { D.honest store.old.disk
         → (start : Start) (deeds : List PastDeed) (desktop : Desktop)
@@ -156,6 +274,7 @@ pub fn end_epoch<D: Disk>(alloc: Global, store: &mut Store<D>, end: u32) -> Resu
     let Some(past) = write_page(alloc, store, end)? else {
         return Ok(false);
     };
+    let past = mark_if_due(alloc, store, past, end)?;
     store.shows_what_crashes_leave();
     store.checkpoint_with(past)?;
     Ok(true)

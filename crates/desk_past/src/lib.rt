@@ -28,4 +28,4 @@ pub use going_on::{Outset, go_on};
 pub use keeping::{end_epoch, post, undo};
 pub use laws::{former_stays_law, one_past_law, present_law, span_stays_law};
 pub use reading::{copy_of, moment, post_all, start_of};
-pub use turning::{turn, turn_to};
+pub use turning::{turn, turn_far, turn_to};

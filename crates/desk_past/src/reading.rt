@@ -6,7 +6,7 @@ ghost use Rattle.desktop_definitions.specs.Desktop.{Desktop};
 ghost use Rattle.desktop_definitions.specs.Step.{steps_in};
 ghost use Rattle.store_layout.specs.declared.layout.TheConstants.{LAYOUT, STORE_SECTORS};
 ghost use Rattle.store_layout.specs.Meaning.{Standing};
-ghost use Rattle.store_slots.specs.Errors.{OfLook};
+ghost use Rattle.store_slots.specs.Errors.{OfDesktop, OfLook};
 ghost use Rattle.desk_journal.specs.Device.{IsOnlyRead};
 ghost use Rattle.desk_journal.specs.Undoing.{IsLedOn, IsLeft, ShowsStanding};
 ghost use Rattle.past_pages.specs.Page.{Page};
@@ -17,15 +17,16 @@ ghost use Rattle.desk_past.specs.Errors.{OfDoing, OfGoingBack, OfLaying, OfMomen
 ghost use Rattle.desk_past.specs.Past.{HasPages, deeds_in, end_of_pages};
 ghost use Rattle.desk_past.specs.Past.{AreGood, HasMoment, HasStart, KeepsAll, Start, all_deeds, moment as moment_of};
 ghost use Rattle.desk_past.specs.Reading.{HoldsTold, IsLed, ShowsNow, many_deeds, start_at};
-ghost use Rattle.desk_past.specs.Routes.{AreLegs, HasNoTurn};
+ghost use Rattle.past_pages.specs.Marks.{ShowsCopy};
+ghost use Rattle.desk_past.specs.Routes.{AreLegs, BeginsAt, HasNoTurn, IsWay};
 
 use crate::again::{
     back_to, brought, empty_disk, many_before, opened, posted, taken_back, told_in,
 };
-use crate::routes::{Leg, legs_to};
+use crate::routes::{Leg, Origin, Way, way_to};
 use desk_journal::{Error, STORE_SECTORS, Store};
 use event_bytes::Event;
-use past_pages::{PageDeeds, lay, page_at};
+use past_pages::{PageDeeds, copy_at, front_at, lay, page_at};
 use sector_disk::{Disk, MemoryDisk};
 use std::alloc::Global;
 use store_layout::{PastEnd, standing_law};
@@ -146,13 +147,14 @@ pub fn post_all<E: Disk>(alloc: Global, shown: &mut Store<E>, events: &[Event]) 
     Ok(())
 }
 
-/// How much a page says was done: an import is one deed, and so is a turn.
+/// How much a page says was done: an import is one deed, and so is a turn; a mark is none.
 fn count_of(deeds: &PageDeeds) -> usize
     ensures { result ≡ many_deeds deeds.now }
 {
     match deeds {
         PageDeeds::Events(events) => events.len(),
-        PageDeeds::Import(_) | PageDeeds::Turn(_) => 1,
+        PageDeeds::Import(_) | PageDeeds::Turn(_) | PageDeeds::FarTurn => 1,
+        PageDeeds::Mark => 0,
     }
 }
 
@@ -185,6 +187,8 @@ fn do_first<E: Disk>(
             Ok(true)
         }
         PageDeeds::Turn(_) => Ok(false),
+        PageDeeds::FarTurn => Ok(false),
+        PageDeeds::Mark => Ok(true),
     }
 }
 
@@ -296,26 +300,20 @@ fn go_legs<D: Disk, E: Disk>(
     Ok(true)
 }
 
-/// The desktop of moment `k` of a start in memory, behind the first events of its journal. None where it has no such moment,
-/// or where these aren't asked for.
+/// The desktop of moment `k` of a start in memory, behind the first events of its journal. None where it has no such moment.
 ///
 /// Errors: those of `told_in` and `back_to`.
 fn in_start<E: Disk + Drop>(
     alloc: Global,
     shown: Store<E>,
-    asked: bool,
     k: u64,
 ) -> Result<Option<Store<E>>, Error>
     ensures is_one { IfOk result (λ found. (t : Standing) → ShowsNow E.Disk t shown
-        → asked ≡ true → t.past.before ≤ k → k ≤ t.past.before + length t.events
+        → t.past.before ≤ k → k ≤ t.past.before + length t.events
         → IsSomeAnd found (λ back. back.desktop ≡ start_at t k)) }
-    ensures there { IfOk result (λ found. IfSome found (λ back. asked ≡ true)) }
     ensures errors { IfErr result OfGoingBack }
     ensures stops { IfErr result (λ e. (t : Standing) → ShowsNow E.Disk t shown → OfDoing e) }
 {
-    if !asked {
-        return Ok(None);
-    }
     let mut shown = shown;
     let told = told_in(&mut shown)?;
     if k < told.before {
@@ -324,10 +322,181 @@ fn in_start<E: Disk + Drop>(
     back_to(alloc, shown, k - told.before)
 }
 
+/// How many deeds the pages have from sector `first` up to sector `end`. None where one is missing, or where they can't be
+/// counted.
+///
+/// Errors: those of `front_at`.
+fn many_in<D: Disk>(
+    alloc: Global,
+    store: &mut Store<D>,
+    first: u32,
+    end: u32,
+) -> Result<Option<u64>, Error>
+    requires usable { store.old.must_reopen ≡ false }
+    requires room { end ≤ D.size store.old.disk }
+    ensures whole { IfOk result (λ found. D.honest store.old.disk → (pages : List Page)
+        → HasPages (now (D.trail store.old.disk)).reads first pages → AreGood pages
+        → end_of_pages first pages ≡ end
+        → MatchOption found (2 ^ 64 ≤ length (all_deeds pages))
+        (λ count. count ≡ length (all_deeds pages))) }
+    ensures still { IsOnlyReadFrom D.Disk store.old store.new }
+    ensures faults { FailsAs Error.Fault OfDesktop result (D.failures store.old.disk)
+        (D.failures store.new.disk) }
+{
+    store.shows_what_crashes_leave();
+    let mut at = first;
+    let mut count = 0u64;
+    while at < end {
+        let Some(page) = front_at(alloc, store, at, end)? else {
+            return Ok(None);
+        };
+        let Some(sum) = count.checked_add(page.kind.count() as u64) else {
+            return Ok(None);
+        };
+        count = sum;
+        at = page.next;
+    }
+    Ok(Some(count))
+}
+
+/// How many deeds came before the pages from sector `first` on, which end where `told` says. None where one is missing, or
+/// where they have more deeds than came.
+///
+/// Errors: those of `many_in`.
+fn before_pages<D: Disk>(
+    alloc: Global,
+    store: &mut Store<D>,
+    first: u32,
+    told: PastEnd,
+) -> Result<Option<u64>, Error>
+    requires usable { store.old.must_reopen ≡ false }
+    requires room { told.next ≤ D.size store.old.disk }
+    ensures before { IfOk result (λ found. D.honest store.old.disk → (pages : List Page)
+        → HasPages (now (D.trail store.old.disk)).reads first pages → AreGood pages
+        → end_of_pages first pages ≡ told.next → (before : ℕ)
+        → before + length (all_deeds pages) ≡ told.before
+        → IsSomeAnd found (λ n. n ≡ before)) }
+    ensures still { IsOnlyReadFrom D.Disk store.old store.new }
+    ensures faults { FailsAs Error.Fault OfDesktop result (D.failures store.old.disk)
+        (D.failures store.new.disk) }
+{
+    let Some(count) = many_in(alloc, store, first, told.next)? else {
+        return Ok(None);
+    };
+    Ok(told.before.checked_sub(count))
+}
+
+/// The store in memory from which a way goes: that of the start in sector `base`, or of a page before sector `end`. None where
+/// it goes from a moment, or where the page has no desktop.
+///
+/// Errors: those of `opened_at` and `copy_at`.
+fn shown_from<D: Disk, E: Disk + Drop>(
+    alloc: Global,
+    store: &mut Store<D>,
+    base: u32,
+    from: Origin,
+    end: u32,
+    disk: E,
+) -> Result<Option<Store<E>>, Error>
+    requires usable { store.old.must_reopen ≡ false }
+    requires there { base + STORE_SECTORS ≤ end }
+    requires room { end ≤ D.size store.old.disk }
+    requires blank { IsBlankRoom E.Disk disk }
+    ensures shown { IfOk result (λ found. D.honest store.old.disk → E.honest disk
+        → (start : Start) → HasStart (now (D.trail store.old.disk)).reads start
+        → start.base ≡ base → (was : Desktop)
+        → BeginsAt (now (D.trail store.old.disk)).reads end start from was
+        → IsSomeAnd found (ShowsCopy E.Disk was)) }
+    ensures still { IsOnlyReadFrom D.Disk store.old store.new }
+    ensures faults { FailsAs Error.Fault OfLaying result (D.failures store.old.disk)
+        (D.failures store.new.disk) }
+    ensures stops { IfErr result (λ e. D.honest store.old.disk → E.honest disk → (start : Start)
+        → HasStart (now (D.trail store.old.disk)).reads start → start.base ≡ base → OfSteps e) }
+{
+    match from {
+        Origin::AtStart => Ok(Some(opened_at(alloc, store, base, disk)?)),
+        Origin::AtCopy(at) => Ok(copy_at(alloc, store, at, end, disk)?),
+        Origin::AtMoment(_) => Ok(None),
+    }
+}
+
+/// The desktop to which a way leads through the pages behind the start in sector `base`, which end before sector `end`. None
+/// where it can't be gone.
+///
+/// Errors: those of `shown_from` and `go_legs`.
+fn gone<D: Disk, E: Disk + Drop>(
+    alloc: Global,
+    store: &mut Store<D>,
+    base: u32,
+    way: Way,
+    end: u32,
+    disk: E,
+) -> Result<Option<Store<E>>, Error>
+    requires usable { store.old.must_reopen ≡ false }
+    requires there { base + STORE_SECTORS ≤ end }
+    requires room { end ≤ D.size store.old.disk }
+    requires blank { IsBlankRoom E.Disk disk }
+    ensures led { IfOk result (λ found. D.honest store.old.disk → E.honest disk
+        → (start : Start) → HasStart (now (D.trail store.old.disk)).reads start
+        → start.base ≡ base → (deeds : List PastDeed) (k : ℕ)
+        → IsWay (now (D.trail store.old.disk)).reads end start deeds k way.legs.items way.from
+        → IsSomeAnd found (λ shown. E.honest shown.disk
+        × (shown.desktop ≡ moment_of start deeds k))) }
+    ensures still { IsOnlyReadFrom D.Disk store.old store.new }
+    ensures faults { FailsAs Error.Fault OfLaying result (D.failures store.old.disk)
+        (D.failures store.new.disk) }
+    ensures stops { IfErr result (λ e. D.honest store.old.disk → E.honest disk → (start : Start)
+        → HasStart (now (D.trail store.old.disk)).reads start → start.base ≡ base → OfSteps e) }
+{
+    store.shows_what_crashes_leave();
+    let Some(shown) = shown_from(alloc, store, base, way.from, end, disk)? else {
+        return Ok(None);
+    };
+    let mut shown = shown;
+    if !go_legs(alloc, store, &mut shown, way.legs, end)? {
+        return Ok(None);
+    }
+    Ok(Some(shown))
+}
+
+/// The desktop of moment `k` before the start in sector `base`, behind the first events of its journal. None where it has no
+/// such moment, or where these aren't asked for.
+///
+/// Errors: those of `opened_at` and `in_start`.
+fn before_start<D: Disk, E: Disk + Drop>(
+    alloc: Global,
+    store: &mut Store<D>,
+    base: u32,
+    asked: bool,
+    k: u64,
+    disk: E,
+) -> Result<Option<Store<E>>, Error>
+    requires usable { store.old.must_reopen ≡ false }
+    requires numbered { base + STORE_SECTORS < 2 ^ 32 }
+    requires there { base + STORE_SECTORS ≤ D.size store.old.disk }
+    requires blank { IsBlankRoom E.Disk disk }
+    ensures is_one { IfOk result (λ found. D.honest store.old.disk → E.honest disk
+        → (t : Standing) → StandsFrom (now (D.trail store.old.disk)).reads base t
+        → asked ≡ true → t.past.before ≤ k → k ≤ t.past.before + length t.events
+        → IsSomeAnd found (λ back. back.desktop ≡ start_at t k)) }
+    ensures there { IfOk result (λ found. IfSome found (λ back. asked ≡ true)) }
+    ensures still { IsOnlyReadFrom D.Disk store.old store.new }
+    ensures faults { FailsAs Error.Fault OfLaying result (D.failures store.old.disk)
+        (D.failures store.new.disk) }
+    ensures stops { IfErr result (λ e. D.honest store.old.disk → E.honest disk → (t : Standing)
+        → StandsFrom (now (D.trail store.old.disk)).reads base t → OfSteps e) }
+{
+    if !asked {
+        return Ok(None);
+    }
+    let shown = opened_at(alloc, store, base, disk)?;
+    in_start(alloc, shown, k)
+}
+
 /// The desktop of moment `k` of the pages behind a start, which end where `told` says. None where they have no such
 /// moment. Those from before the start, which its own journal has, are moments of the part before it, if that stands.
 ///
-/// Errors: those of `opened_at`, `in_start`, `legs_to` and `go_legs`.
+/// Errors: those of `front_at`, `before_start`, `way_to` and `gone`.
 pub(crate) fn in_pages<D: Disk, E: Disk + Drop>(
     alloc: Global,
     store: &mut Store<D>,
@@ -367,20 +536,17 @@ pub(crate) fn in_pages<D: Disk, E: Disk + Drop>(
     {
         return Ok(None);
     }
-    let mut shown = opened_at(alloc, store, base, disk)?;
-    let Some(first) = many_before(&mut shown)? else {
+    let first_page = base + STORE_SECTORS;
+    let Some(first) = before_pages(alloc, store, first_page, told)? else {
         return Ok(None);
     };
     if k < first {
-        return in_start(alloc, shown, follows, k);
+        return before_start(alloc, store, base, follows, k, disk);
     }
-    let Some(legs) = legs_to(alloc, store, base + STORE_SECTORS, first, told.next, k)? else {
+    let Some(way) = way_to(alloc, store, first_page, first, told.next, k)? else {
         return Ok(None);
     };
-    if !go_legs(alloc, store, &mut shown, legs, told.next)? {
-        return Ok(None);
-    }
-    Ok(Some(shown))
+    gone(alloc, store, base, way, told.next, disk)
 }
 
 /// The desktop of moment `k` of the past that begins in sector `base`, as a store in memory: what the first deeds give,

@@ -1,17 +1,16 @@
 //! The way to a moment of a past in which there are turns.
-ghost use Rattle.std.specs.Prelude.{◌≡◌, ◌+◌, ◌≤◌, ◌<◌, ◌++◌, ◌∷◌, [], List, Decides, false, length, IfOk, IfSome, IsSomeAnd, OnOk};
+ghost use Rattle.std.specs.Prelude.{◌≡◌, ◌+◌, ◌≤◌, ◌<◌, ◌++◌, ◌∷◌, [], List, Decides, false, length, IfOk, IsSomeAnd, OnOk};
 ghost use Rattle.sector_disk.specs.Faults.{FailsAs};
 ghost use Rattle.sector_disk.specs.Trail.{now};
 ghost use Rattle.store_slots.specs.Errors.{OfDesktop};
 ghost use Rattle.past_pages.specs.Page.{Page};
 ghost use Rattle.past_pages.specs.Reading.{IsKindOf, IsOnlyReadFrom};
-ghost use Rattle.desk_past.specs.Deeds.{PastDeed, after_deeds};
 ghost use Rattle.desk_past.specs.Past.{HasPages, end_of_pages};
-ghost use Rattle.desk_past.specs.Past.{AreGood, AreTurns, Start, all_deeds, moment as moment_of};
-ghost use Rattle.desk_past.specs.Routes.{AreLegs, IsPassed, IsReached};
+ghost use Rattle.desk_past.specs.Past.{AreGood, AreTurns, Start, all_deeds};
+ghost use Rattle.desk_past.specs.Routes.{IsPassed, IsReached, IsWay, LeadsBack};
 
 use desk_journal::{Error, Store};
-use past_pages::{PageKind, front_at};
+use past_pages::{PageFront, PageKind, front_at};
 use sector_disk::Disk;
 use std::alloc::{AllocError, Global};
 
@@ -22,24 +21,45 @@ pub(crate) struct Leg {
     pub count: u64,
 }
 
-/// The last leg to a moment, and the moment to which the turn before it leads. None: it begins at the start.
+/// Where a way begins: at the start, at the moment to which a turn led, or at the desktop that the page in a sector has.
+#[derive(Clone, Copy, Debug, PartialEq, Eq)]
+pub(crate) enum Origin {
+    AtStart,
+    AtMoment(u64),
+    AtCopy(u32),
+}
+
+/// The last leg to a moment, and from where it goes.
 #[derive(Clone, Copy)]
 struct Reach {
     leg: Leg,
-    from: Option<u64>,
+    from: Origin,
 }
 
-/// The last leg behind a page that ends at sector `at`, where so many deeds are left: behind a turn another one begins.
-fn reach_behind(reach: Reach, kind: PageKind, at: u32, left: u64) -> Reach
-    ensures { (p : Page) → IsKindOf kind p
-        → IsPassed p at left reach.leg reach.from result.leg result.from }
+/// The last leg behind a page in sector `here` that ends at sector `page.next`, where so many deeds are left: behind a turn
+/// another one begins, and so it does behind a desktop.
+fn reach_behind(reach: Reach, page: PageFront, here: u32, left: u64) -> Reach
+    ensures { (p : Page) → IsKindOf page.kind p
+        → IsPassed p here page.next left reach.leg reach.from result.leg result.from }
 {
-    match kind {
+    let leg = Leg {
+        at: page.next,
+        count: left,
+    };
+    match page.kind {
         PageKind::Events(_) => reach,
         PageKind::Import => reach,
         PageKind::Turn(to) => Reach {
-            leg: Leg { at, count: left },
-            from: Some(to),
+            leg,
+            from: Origin::AtMoment(to),
+        },
+        PageKind::FarTurn => Reach {
+            leg,
+            from: Origin::AtCopy(here),
+        },
+        PageKind::Mark => Reach {
+            leg,
+            from: Origin::AtCopy(here),
         },
     }
 }
@@ -65,7 +85,7 @@ fn reach_of<D: Disk>(
         → AreTurns start [] pages → end_of_pages first pages ≡ end
         → k ≤ before + length (all_deeds pages)
         → IsSomeAnd found (λ r. IsReached (now (D.trail store.old.disk)).reads end start
-        (all_deeds pages) k r.leg r.from × IfSome r.from (λ to. (before ≤ to) × (to < k)))) }
+        (all_deeds pages) k r.leg r.from × LeadsBack before k r.from)) }
     ensures still { IsOnlyReadFrom D.Disk store.old store.new }
     ensures faults { FailsAs Error.Fault OfDesktop result (D.failures store.old.disk)
         (D.failures store.new.disk) }
@@ -76,7 +96,7 @@ fn reach_of<D: Disk>(
             at: first,
             count: k - before,
         },
-        from: None,
+        from: Origin::AtStart,
     };
     let mut at = first;
     let mut left = k - before;
@@ -85,19 +105,19 @@ fn reach_of<D: Disk>(
             return Ok(None);
         };
         left = left.saturating_sub(page.kind.count() as u64);
+        reach = reach_behind(reach, page, at, left);
         at = page.next;
-        reach = reach_behind(reach, page.kind, at, left);
     }
     Ok(Some(reach))
 }
 
-/// Whether this is no moment, or one before moment `k`, and not before the pages.
-fn leads_back(from: Option<u64>, before: u64, k: u64) -> bool
-    ensures { Decides result (IfSome from (λ to. (before ≤ to) × (to < k))) }
+/// Whether a way doesn't begin at a moment, or at one before moment `k`, and not before the pages.
+fn leads_back(from: Origin, before: u64, k: u64) -> bool
+    ensures { Decides result (LeadsBack before k from) }
 {
     match from {
-        None => true,
-        Some(to) => before <= to && to < k,
+        Origin::AtMoment(to) => before <= to && to < k,
+        Origin::AtStart | Origin::AtCopy(_) => true,
     }
 }
 
@@ -109,18 +129,25 @@ fn add(legs: &mut Vec<Leg>, leg: Leg) -> Result<(), AllocError>
     Ok(())
 }
 
-/// The legs of the way to moment `k` by the pages from sector `first` up to sector `end`, before which so many deeds
-/// came. The last of them is gone first. None where the pages have no such moment.
+/// The way to a moment: where it begins, and its legs, the last of which is gone first.
+#[derive(Drop)]
+pub(crate) struct Way {
+    pub from: Origin,
+    pub legs: Vec<Leg>,
+}
+
+/// The way to moment `k` by the pages from sector `first` up to sector `end`, before which so many deeds came. None where the
+/// pages have no such moment.
 ///
 /// Errors: those of `front_at`; `NoMemory`.
-pub(crate) fn legs_to<D: Disk>(
+pub(crate) fn way_to<D: Disk>(
     alloc: Global,
     store: &mut Store<D>,
     first: u32,
     before: u64,
     end: u32,
     k: u64,
-) -> Result<Option<Vec<Leg>>, Error>
+) -> Result<Option<Way>, Error>
     requires usable { store.old.must_reopen ≡ false }
     requires room { end ≤ D.size store.old.disk }
     requires later { before ≤ k }
@@ -129,17 +156,16 @@ pub(crate) fn legs_to<D: Disk>(
         → HasPages (now (D.trail store.old.disk)).reads first pages → AreGood pages
         → AreTurns start [] pages → end_of_pages first pages ≡ end
         → k ≤ before + length (all_deeds pages)
-        → IsSomeAnd found (λ legs. (done : List PastDeed)
-        × AreLegs (now (D.trail store.old.disk)).reads end legs.items done
-        × (moment_of start (all_deeds pages) k ≡ after_deeds start.desktop done))) }
+        → IsSomeAnd found (λ way. IsWay (now (D.trail store.old.disk)).reads end start
+        (all_deeds pages) k way.legs.items way.from)) }
     ensures still { IsOnlyReadFrom D.Disk store.old store.new }
     ensures faults { FailsAs Error.Fault OfDesktop result (D.failures store.old.disk)
         (D.failures store.new.disk) }
 {
     store.shows_what_crashes_leave();
     let mut legs = Vec::new(alloc);
-    let mut next = Some(k);
-    while let Some(to) = next {
+    let mut from = Origin::AtMoment(k);
+    while let Origin::AtMoment(to) = from {
         let Some(reach) = reach_of(alloc, store, first, before, end, to)? else {
             return Ok(None);
         };
@@ -147,7 +173,7 @@ pub(crate) fn legs_to<D: Disk>(
             return Ok(None);
         }
         add(&mut legs, reach.leg)?;
-        next = reach.from;
+        from = reach.from;
     }
-    Ok(Some(legs))
+    Ok(Some(Way { from, legs }))
 }

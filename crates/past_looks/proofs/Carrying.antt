@@ -1,5 +1,5 @@
 -- What is known of a person who looks at a past, from press to press. `d` is what is known of a disk.
-use Rattle.std.proofs.Common.{◌≡◌, ◌∙◌, ℕ, List, Option, Some, None, true, false, inl, inr, refl, sym, ap, subst}
+use Rattle.std.proofs.Common.{◌≡◌, ◌<◌, ◌≤◌, ◌∙◌, ℕ, List, Option, Some, None, true, false, inl, inr, refl, sym, ap, arith, subst}
 use Rattle.std.proofs.lemmas.Bool.{true≢false, false≢true}
 use Rattle.std.specs.Prelude.{is_some}
 use Rattle.sector_disk.specs.declared.disk.Disk.{Ghosts}
@@ -10,16 +10,19 @@ use Rattle.desk_journal.specs.Turning.{LeavesThisOrThat}
 use Rattle.desk_journal.specs.View.{StoreView}
 use Rattle.past_pages.specs.Reading.{IsOnlyReadFrom, IsQuiet}
 use Rattle.past_pages.proofs.StillReads.{still_none}
-use Rattle.desk_past.specs.Turning.{TurnsTo}
+use Rattle.desk_journal.specs.Gathering.{GatheredView}
+use Rattle.desk_past.specs.Turning.{ComesToMoment, HasTurnedFar, TurnsFar, TurnsTo}
 use Rattle.past_moments.specs.Moments.{IsDesktopAt, IsLastOf}
 use Rattle.all_moments.specs.Parts.{AreAllMomentsOf, IsDesktopThen, IsToldThen}
 use Rattle.past_moments.specs.declared.moments.Look.{Look}
 use Rattle.past_moments.proofs.Carried.{last_on}
-use Rattle.all_moments.proofs.Backward.{all_on, desktop_on, words_on}
+use Rattle.all_moments.proofs.Backward.{all_on, desktop_on, then_in_use, words_on}
 use Rattle.past_moments.proofs.Telling.{last_is}
-use Rattle.past_looks.specs.Looking.{ComesOfPress, IsAlike, IsLookerOf, IsSameLook, IsSeenAt, ComesBackTo, KeepsUntouched, SaysBelow}
-use Rattle.past_looks.specs.Looking.{StaysOrTurns, below_of, desktop_before, is_of_mouse, looker_line, untouched_of}
+use Rattle.past_looks.specs.Looking.{ComesBackTo, ComesOfPress, IsAlike, IsFormerMoment, IsLookerOf, IsSameLook, IsSeenAt}
+use Rattle.past_looks.specs.Looking.{KeepsUntouched, SaysBelow, StaysOrTurns, below_of, desktop_before, is_of_mouse, looker_line, untouched_of}
+use Rattle.past_looks.specs.Looking.ComesBackTo.{former as back_far, in_use as back_near}
 use Rattle.past_looks.specs.Looking.IsSeenAt.{plain, pointed}
+use Rattle.past_looks.specs.Looking.LeavesMoment.{former as leaves_far, in_use as leaves_near}
 use Rattle.past_looks.specs.Looking.SaysBelow.{asks, says, seeks}
 use Rattle.past_looks.specs.Words.{moment_line, said_words}
 use Rattle.past_looks.specs.declared.looker.Doing.{Doing}
@@ -167,10 +170,42 @@ module _ {D : Type 0} (d : Ghosts D) where
   pub stays_none : {store : StoreView D} {k : ℕ} → store.must_reopen ≡ false → StaysOrTurns d k store store
   stays_none {store = store} usable = stays_read (still_none d store usable)
 
-  -- it is turned to that moment
-  pub stays_turned : {old new : StoreView D} (k : ℕ) (to : Desktop) → IsDesktopAt d k to old
-      → LeavesThisOrThat d to old new → TurnsTo d k to old new → StaysOrTurns d k old new
-  stays_turned k to was leaves keeps = inr (record { to = to; was = was; leaves = leaves; keeps = keeps })
+  -- ---- it is turned to that moment, of the part in use
+
+  -- such was the desktop
+  pub was_near : {store : StoreView D} (looker : Looker) (to : Desktop) → to ≡ untouched_of looker
+      → looker.moments.in_use.extent.first ≤ looker.shown → IsLookerOf d looker store → IsDesktopAt d looker.shown to store
+  was_near {store = store} looker to same low is = subst (λ x. IsDesktopAt d looker.shown x store) (sym same)
+      (then_in_use d store looker.moments.in_use looker.shown (untouched_of looker) is.moments.known.in_use low is.moment)
+
+  pub stays_near : {old new : StoreView D} (looker : Looker) (to : Desktop) → to ≡ untouched_of looker
+      → looker.moments.in_use.extent.first ≤ looker.shown → LeavesThisOrThat d to old new
+      → TurnsTo d looker.shown to old new → IsLookerOf d looker old → StaysOrTurns d looker.shown old new
+  stays_near looker to same low leaves keeps is = inr (leaves_near to (was_near looker to same low is) leaves keeps)
+
+  pub comes_near : {old new : StoreView D} (looker : Looker) (to : GatheredView) → to.desktop ≡ untouched_of looker
+      → looker.moments.in_use.extent.first ≤ looker.shown → ComesToMoment d looker.shown to old new
+      → IsLookerOf d looker old → ComesBackTo d looker.shown old new
+  comes_near looker to same low comes is = back_near to (was_near looker to.desktop same low is) comes
+
+  -- ---- of a former part
+
+  is_former_moment : {store : StoreView D} (looker : Looker) → looker.shown < looker.moments.in_use.extent.first
+      → IsLookerOf d looker store → IsFormerMoment d looker.shown store
+  is_former_moment looker low is = λ past lies.
+      let first : looker.moments.in_use.extent.first ≡ past.start.before = (is.moments.known.in_use.extent past lies).first in
+      omega (arith, first, low)
+
+  pub stays_far : {old new : StoreView D} (looker : Looker) → looker.shown < looker.moments.in_use.extent.first
+      → TurnsFar d looker.shown old new → IsLookerOf d looker old → StaysOrTurns d looker.shown old new
+  stays_far looker low (inl left) is = inl left.disk
+  stays_far looker low (inr leaves) is = inr (leaves_far (is_former_moment looker low is) leaves)
+
+  pub comes_far : {old new : StoreView D} (looker : Looker) → looker.shown < looker.moments.in_use.extent.first
+      → HasTurnedFar d looker.shown old new → IsLookerOf d looker old → ComesBackTo d looker.shown old new
+  comes_far looker low turned is = back_far (is_former_moment looker low is) turned
+
+  -- ---- what a press does
 
   -- first another one of the same past was shown
   pub does_same : (doing : Doing) (old new : StoreView D) (l l' l'' : Looker) → IsSameLook l l'

@@ -1,5 +1,5 @@
 -- A person who looks at the past of a store. `d` is what is known of a disk.
-use Rattle.std.specs.Prelude.{◌≡◌, ◌⊎◌, ℕ, Bool, true, false, List, Option, Some, None}
+use Rattle.std.specs.Prelude.{◌≡◌, ◌⊎◌, ◌<◌, ℕ, Bool, true, false, List, Option, Some, None}
 use Rattle.sector_disk.specs.declared.disk.Disk.{Ghosts}
 use Rattle.event_bytes.specs.declared.event.Event.{Event}
 use Rattle.event_bytes.specs.declared.event.Event.TheVariants.{Point}
@@ -10,9 +10,9 @@ use Rattle.desk_journal.specs.Gathering.{GatheredView}
 use Rattle.desk_journal.specs.Turning.{LeavesThisOrThat}
 use Rattle.desk_journal.specs.View.{StoreView}
 use Rattle.past_pages.specs.Reading.{IsOnlyReadFrom}
-use Rattle.desk_past.specs.Turning.{ComesToMoment, TurnsTo}
+use Rattle.desk_past.specs.Turning.{ComesToMoment, HasTurnedFar, LeavesFar, TurnsTo}
 use Rattle.past_moments.specs.Moments.{IsDesktopAt, IsLastOf}
-use Rattle.all_moments.specs.Parts.{AreAllMomentsOf, IsDesktopThen, IsToldThen}
+use Rattle.all_moments.specs.Parts.{AreAllMomentsOf, BeginsWhere, IsDesktopThen, IsToldThen}
 use Rattle.past_looks.specs.Words.{asked_line, moment_line, said_words, seeking_line}
 use Rattle.past_looks.specs.declared.looker.Doing.{Doing}
 use Rattle.past_looks.specs.declared.looker.Doing.TheVariants.{Stays, Leaves, Turned}
@@ -87,17 +87,22 @@ module _ {D : Type 0} (d : Ghosts D) where
 
   -- ---- what becomes of the store
 
-  -- it was turned back to its moment k
-  abbrev pub ComesBackTo : ℕ → StoreView D → StoreView D → Type 0
-  ComesBackTo k old new = (to : GatheredView) × IsDesktopAt d k to.desktop old
-      × ComesToMoment d k to old new
+  -- that moment is one of a former part: it lies before the part in use
+  abbrev pub IsFormerMoment : ℕ → StoreView D → Type 0
+  IsFormerMoment k store = BeginsWhere d store (λ start. k < start.before)
 
-  -- At every moment a crash leaves what the store showed, or the desktop of its moment k, and of a past nothing is forgotten.
-  pub record LeavesMoment (k : ℕ) (old new : StoreView D) : Type 0 where
-    pub to : Desktop
-    pub was : IsDesktopAt d k to old
-    pub leaves : LeavesThisOrThat d to old new
-    pub keeps : TurnsTo d k to old new
+  -- It was turned back to its moment k: one of the part in use; or one of a former part.
+  pub data ComesBackTo (k : ℕ) (old new : StoreView D) : Type 0 where
+    in_use : (to : GatheredView) → IsDesktopAt d k to.desktop old → ComesToMoment d k to old new
+        → ComesBackTo k old new
+    former : IsFormerMoment k old → HasTurnedFar d k old new → ComesBackTo k old new
+
+  -- At every moment a crash leaves what the store showed, or the desktop of its moment k: of the part in use; or of a former
+  -- part. Of a past nothing is forgotten.
+  pub data LeavesMoment (k : ℕ) (old new : StoreView D) : Type 0 where
+    in_use : (to : Desktop) → IsDesktopAt d k to old → LeavesThisOrThat d to old new
+        → TurnsTo d k to old new → LeavesMoment k old new
+    former : IsFormerMoment k old → LeavesFar d k old new → LeavesMoment k old new
 
   -- it is only read, or so it is
   abbrev pub StaysOrTurns : ℕ → StoreView D → StoreView D → Type 0

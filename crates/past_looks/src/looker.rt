@@ -2,6 +2,7 @@
 ghost use Rattle.std.specs.Prelude.{◌≡◌, false, is_some, true, IfOk, IfSome, OnOk};
 ghost use Rattle.desktop_definitions.specs.Shown.{shown_screen};
 ghost use Rattle.past_pages.specs.Reading.{IsOnlyReadFrom};
+ghost use Rattle.desk_past.specs.Turning.{HasTurnedFar, TurnsFar};
 ghost use Rattle.all_moments.specs.Parts.{AreAllMomentsOf, IsNearest};
 ghost use Rattle.past_looks.specs.Looking.{ComesOfPress, IsAlike, IsLookerOf, IsSameLook, ComesBackTo, KeepsUntouched, StaysOrTurns};
 ghost use Rattle.past_looks.specs.Looking.{is_of_mouse, looker_line, untouched_of};
@@ -11,7 +12,7 @@ use crate::hand::{PAGE_EVENTS, ViewHand, Way, Wish};
 use crate::words::{asked_line, moment_line, seeking_line};
 use all_moments::AllMoments;
 use desk_journal::{Error, Store, Wish as Lines};
-use desk_past::{copy_of, turn_to};
+use desk_past::{copy_of, turn_far, turn_to};
 use desktop_definitions::Reply;
 use event_bytes::Event;
 use past_moments::{Look, Sought, of_memory};
@@ -40,8 +41,6 @@ pub enum Said {
     NoWord,
     /// That the past has no room for a turn.
     NoRoom,
-    /// That a turn leads to no moment of a former part.
-    Former,
     /// That the moment can't be worked out.
     Unread,
 }
@@ -488,8 +487,8 @@ impl Looker {
     }
 
     /// Turns the store back to the moment that is shown, and the person goes back to that. Where it is the present nothing is
-    /// turned, where another moment is wished that is shown first, and where it is one of a former part, or the past has no room
-    /// for a turn, the person looks on.
+    /// turned, where another moment is wished that is shown first, and where the past has no room for a turn the person looks
+    /// on.
     ///
     /// Errors: those of `turn_back`.
     fn turn<D: Disk>(&mut self, alloc: Global, store: &mut Store<D>) -> Result<Doing, Error>
@@ -528,10 +527,10 @@ impl Looker {
         }
     }
 
-    /// Turns the store back to the moment that is shown. False where that is one of a former part, or the past has no room for
-    /// it: then it rings, and the store is only read.
+    /// Turns the store back to the moment that is shown, of the part in use or of a former one. False where the past has no room
+    /// for it: then it rings, and the store is only read.
     ///
-    /// Errors: those of `copy_of`, `Store::gathered` and `turn_to`.
+    /// Errors: those of `turn_former`, `copy_of`, `Store::gathered` and `turn_to`.
     pub fn turn_back<D: Disk>(&mut self, alloc: Global, store: &mut Store<D>) -> Result<bool, Error>
         requires { store.old.must_reopen ≡ false }
         ensures turned { IfOk result (λ done. done ≡ true → IsLookerOf D.Disk self.old store.old
@@ -547,12 +546,31 @@ impl Looker {
         store.shows_what_crashes_leave();
         let shown = self.shown;
         if self.moments.is_former(shown) {
-            self.refuse(Said::Former);
-            return Ok(false);
+            return self.turn_former(alloc, store);
         }
         let copy = self.moment(alloc)?;
         let to = of_memory(copy.gathered(alloc))?;
         if turn_to(alloc, store, shown, to)? {
+            Ok(true)
+        } else {
+            self.refuse(Said::NoRoom);
+            Ok(false)
+        }
+    }
+
+    /// The same, where that moment is one of a former part: its desktop is worked out anew, for a page that has it.
+    ///
+    /// Errors: those of `turn_far`.
+    fn turn_former<D: Disk>(&mut self, alloc: Global, store: &mut Store<D>) -> Result<bool, Error>
+        ensures turned { IfOk result (λ done. done ≡ true
+            → HasTurnedFar D.Disk self.old.shown store.old store.new) }
+        ensures stays { IfOk result (λ done. done ≡ false
+            → IsOnlyReadFrom D.Disk store.old store.new) }
+        ensures same { IsSameLook self.old self.new }
+        ensures any_moment { TurnsFar D.Disk self.old.shown store.old store.new }
+        ensures usable { OnOk result (store.new.must_reopen ≡ false) }
+    {
+        if turn_far(alloc, store, self.shown)? {
             Ok(true)
         } else {
             self.refuse(Said::NoRoom);
@@ -601,7 +619,6 @@ fn words_of(said: Said, led: &[u8]) -> &[u8]
         Said::NotThere => b"that word didn't go from the screen before",
         Said::NoWord => b"type the word behind / first",
         Said::NoRoom => b"the past has no room for a turn",
-        Said::Former => b"Return reaches no former part, desk earlier does",
         Said::Unread => b"what was before can't be read",
     }
 }

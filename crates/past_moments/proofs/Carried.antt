@@ -8,19 +8,21 @@ use Rattle.sector_disk.specs.declared.disk.Disk.{Ghosts}
 use Rattle.sector_disk.specs.Trail.{Content}
 use Rattle.desktop_definitions.specs.Desktop.{Desktop}
 use Rattle.desk_journal.specs.View.{StoreView}
+use Rattle.past_pages.specs.Page.{Page}
 use Rattle.past_pages.specs.Parts.{IsPastPart}
-use Rattle.past_pages.specs.Reading.{IsOnlyReadFrom, IsQuiet}
+use Rattle.past_pages.specs.Reading.{HasCopy, IsOnlyReadFrom, IsQuiet}
 use Rattle.past_pages.proofs.StillReads.{still_reads}
-use Rattle.past_pages.specs.declared.pages.PageDeeds.{PageDeeds}
 use Rattle.desk_past.specs.Deeds.{PastDeed}
 use Rattle.desk_past.specs.Going.{LiesInPart}
-use Rattle.desk_past.specs.Past.{HoldsPast, KeepsAll, Start}
+use Rattle.desk_past.specs.Past.{HoldsPast, KeepsAll, Start, moment}
 use Rattle.desk_past.specs.Turning.{PastOf}
 use Rattle.desk_past.proofs.Before.{part_before, past_before}
-use Rattle.past_moments.specs.Moments.{AreMarksOf, AreMomentsOf, IsDeedOf, IsExtentOf, IsLastOf, IsMarkOf, IsToldOf, IsDesktopAt, IsPageOf, IsPagePlace, IsSameMoment}
+use Rattle.past_moments.specs.Moments.{AreMarksOf, AreMomentsOf, GoesFrom, IsDeedOf, IsExtentOf, IsLastOf, IsMarkOf, IsToldOf, IsDesktopAt, IsPageOf, IsPagePlace, IsSameMoment}
 use Rattle.past_moments.specs.Seeking.{IsSoughtOf, IsStandingAt}
 use Rattle.past_moments.specs.declared.extent.Extent.{Extent}
 use Rattle.past_moments.specs.declared.extent.Place.{Place}
+use Rattle.past_moments.specs.declared.legs.Source.{Source}
+use Rattle.past_moments.specs.declared.legs.Source.TheVariants.{Copy, Kept, Moment}
 use Rattle.past_moments.specs.declared.marks.Mark.{Mark}
 use Rattle.past_moments.specs.declared.marks.Marks.{Marks}
 use Rattle.past_moments.specs.declared.moments.Moments.{Moments}
@@ -68,6 +70,15 @@ module _ {D : Type 0} (d : Ghosts D) {old mid : StoreView D} (still : IsOnlyRead
 
   pub same_on : (k other : ℕ) → IsSameMoment d k other old → IsSameMoment d k other mid
   same_on k other is = λ past lies. is (past_before d still usable quiet past) (part_before d still usable quiet past lies)
+
+  pub goes_on : (place : Place) (from : Source) → GoesFrom d place from old → GoesFrom d place from mid
+  goes_on place Kept goes = tt
+  goes_on place (Moment k) goes = same_on place.k k goes
+  goes_on place (Copy at) goes = λ past lies.
+      let was = past_before d still usable quiet past in
+      subst (λ (c : Content). HasCopy c at past.keeps.remembers.standing.past.next (moment past.start past.deeds place.k))
+      (sym (still_reads d still (quiet was.honest) was.honest))
+      (goes was (part_before d still usable quiet past lies))
 
   pub mark_on : (mark : Mark) → IsMarkOf d mark old → IsMarkOf d mark mid
   mark_on mark is = record {
@@ -138,16 +149,16 @@ module _ {D : Type 0} (d : Ghosts D) {old mid : StoreView D} (still : IsOnlyRead
     count = then_is.count;
   }
 
-  pub page_back : (place : Place) (deeds : PageDeeds) (next : Place) → IsPageOf d place deeds next mid
-      → IsPageOf d place deeds next old
-  page_back place deeds next is = λ past lies. let then_is = is (past_then past) (part_then past lies) in record {
+  pub page_back : (place : Place) (such : Page → Type 0) (next : Place) → IsPageOf d place such next mid
+      → IsPageOf d place such next old
+  page_back place such next is = λ past lies. let then_is = is (past_then past) (part_then past lies) in record {
     front = then_is.front;
     page = then_is.page;
     todo = then_is.todo;
     parts = then_is.parts;
     at = then_is.at;
     count = then_is.count;
-    read = then_is.read;
+    is = then_is.is;
     next_at = then_is.next_at;
     next_count = then_is.next_count;
   }

@@ -1,5 +1,5 @@
--- How many deeds pages have, and how far a past reaches.
-use Rattle.std.proofs.Common.{◌≡◌, ◌∙◌, ◌+◌, ◌-◌, ◌<◌, ◌≤◌, ℕ, List, [], ◌∷◌, ◌++◌, length, drop, refl, sym, ap, subst, arith}
+-- How far a past reaches.
+use Rattle.std.proofs.Common.{◌≡◌, ◌∙◌, ◌+◌, ◌-◌, ℕ, List, [], ◌∷◌, ◌++◌, length, drop, refl, sym, ap, subst, arith}
 use Rattle.std.proofs.Common.{length-append, Some, None}
 use Rattle.std.specs.Prelude.{Option, IfSome}
 use Rattle.sector_disk.specs.declared.disk.Disk.{Ghosts}
@@ -9,72 +9,10 @@ use Rattle.store_layout.specs.Meaning.{Standing}
 use Rattle.store_layout.specs.declared.head.PastEnd.{PastEnd}
 use Rattle.store_slots.specs.Beside.{IsHistory, alone, behind}
 use Rattle.desk_journal.specs.View.{StoreView}
-use Rattle.past_pages.specs.Page.{Page, page_sectors}
-use Rattle.past_pages.specs.Reading.{HasPage, IsRead}
-use Rattle.past_pages.specs.declared.pages.PageDeeds.{PageDeeds}
-use Rattle.desk_past.specs.Past.{HasPages, deeds_in, end_of_pages, AreGood, all_deeds, first_page}
+use Rattle.desk_past.specs.Past.{HasPages, end_of_pages, all_deeds, first_page}
 use Rattle.desk_past.specs.Turning.{PastOf}
-use Rattle.desk_past.specs.Reading.{many_deeds}
-use Rattle.desk_past.proofs.Carrying.{end_above}
-use Rattle.desk_past.proofs.Stepping.{read_many}
 use Rattle.past_moments.specs.Moments.{IsExtentIn}
 use Rattle.past_moments.specs.declared.extent.Extent.{Extent}
-
--- so many deeds of some pages were counted, up to this sector
-pub record HasCounted (c : Content) (end : ℕ) (pages : List Page) (at k : ℕ) : Type 0 where
-  pub todo : List Page
-  pub written : HasPages c at todo
-  pub good : AreGood todo
-  pub up_to : end_of_pages at todo ≡ end
-  pub counted : k + length (all_deeds todo) ≡ length (all_deeds pages)
-
-pub none_counted : {c : Content} {end : ℕ} (pages : List Page) (at : ℕ) → HasPages c at pages → AreGood pages
-    → end_of_pages at pages ≡ end → HasCounted c end pages at 0
-none_counted pages at written good up_to = record {
-  todo = pages;
-  written = written;
-  good = good;
-  up_to = up_to;
-  counted = omega arith;
-}
-
-one_left : (c : Content) (todo : List Page) (at end : ℕ) → HasPages c at todo → AreGood todo → end_of_pages at todo ≡ end
-    → at < end → (p : Page) × (more : List Page) × (todo ≡ p ∷ more) × HasPage c at end p
-one_left c [] at end held good up_to low = absurd (omega (arith, up_to, low))
-one_left c (p ∷ more) at end held good up_to low =
-    let far = end_above more (at + page_sectors p) in
-    (p, more, refl, record { held = held.0; good = good.0; within = omega (arith, far, up_to) })
-
-none_left : (todo : List Page) (at end : ℕ) → end_of_pages at todo ≡ end → end ≤ at → todo ≡ []
-none_left [] at end up_to high = refl
-none_left (p ∷ more) at end up_to high =
-    let far = end_above more (at + page_sectors p) in absurd (omega (arith, up_to, high, far))
-
-module _ {c : Content} {end : ℕ} {pages : List Page} {at k : ℕ} (was : HasCounted c end pages at k) where
-  -- a page more was counted
-  pub page_counted : at < end → (deeds : PageDeeds) (ended next more : ℕ)
-      → ((p : Page) → HasPage c at end p → IsRead deeds p × (ended ≡ at + page_sectors p)) → next ≡ ended
-      → more ≡ k + many_deeds deeds → HasCounted c end pages next more
-  page_counted low deeds ended next more read at_next many =
-      let x = one_left c was.todo at end was.written was.good was.up_to low in
-      let is = read x.0 x.3 in
-      let here : next ≡ at + page_sectors x.0 = at_next ∙ is.1 in
-      record {
-        todo = x.1;
-        written = subst (λ n. HasPages c n x.1) (sym here) (subst (HasPages c at) x.2 was.written).1;
-        good = (subst AreGood x.2 was.good).1;
-        up_to = ap (λ n. end_of_pages n x.1) here ∙ sym (ap (end_of_pages at) x.2) ∙ was.up_to;
-        counted = let long = ap (λ l. length (all_deeds l)) x.2 in
-            let both = length-append (deeds_in x.0) (all_deeds x.1) in
-            let read_of = read_many deeds x.0 is.0 in
-            omega (arith, many, read_of, long, both, was.counted);
-      }
-
-  -- all of them were
-  pub all_counted : end ≤ at → k ≡ length (all_deeds pages)
-  all_counted high =
-      let none = ap (λ l. length (all_deeds l)) (none_left was.todo at end was.up_to high) in
-      omega (arith, none, was.counted)
 
 -- ---- the journal in use
 

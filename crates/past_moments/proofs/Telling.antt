@@ -7,10 +7,10 @@ use Rattle.event_bytes.specs.declared.event.Event.{Event}
 use Rattle.document_filing.specs.Bringing.{Documents}
 use Rattle.desktop_definitions.specs.Desktop.{Desktop}
 use Rattle.desk_journal.specs.View.{StoreView}
-use Rattle.past_pages.specs.Page.{of_events, of_import, of_turn, Page}
+use Rattle.past_pages.specs.Page.{of_copy, of_events, of_import, of_turn, Page}
 use Rattle.past_pages.specs.Reading.{IsRead}
 use Rattle.past_pages.specs.declared.pages.PageDeeds.{PageDeeds}
-use Rattle.past_pages.specs.declared.pages.PageDeeds.TheVariants.{Events, Import, Turn}
+use Rattle.past_pages.specs.declared.pages.PageDeeds.TheVariants.{Events, FarTurn, Import, Mark, Turn}
 use Rattle.desk_past.specs.Deeds.{PastDeed, after_deed, after_deeds, all_posted, brought, posted, turned}
 use Rattle.desk_past.specs.Past.{deeds_in, all_deeds, moment}
 use Rattle.desk_past.specs.Going.{LiesInPart}
@@ -98,6 +98,8 @@ abbrev pub AreEvents : PageDeeds → List Event → Type 0
 AreEvents (Events events) items = events.items ≡ items
 AreEvents (Import documents) items = ⊥
 AreEvents (Turn to) items = ⊥
+AreEvents FarTurn items = ⊥
+AreEvents Mark items = ⊥
 
 -- the events of a page, as deeds
 get_page : (deeds : PageDeeds) (page : Page) (items : List Event) (i : ℕ) (event : Event) → AreEvents deeds items
@@ -106,14 +108,20 @@ get_page (Events events) (of_events version all) items i event are read is =
     get_posted all i event (ap (λ l. slice_get l i) (sym read ∙ are) ∙ is)
 get_page (Events events) (of_import version documents) items i event are read is = absurd read
 get_page (Events events) (of_turn version k to) items i event are read is = absurd read
+get_page (Events events) (of_copy version false sectors to) items i event are read is = absurd read
+get_page (Events events) (of_copy version true sectors to) items i event are read is = absurd read
 get_page (Import documents) page items i event are read is = absurd are
 get_page (Turn to) page items i event are read is = absurd are
+get_page FarTurn page items i event are read is = absurd are
+get_page Mark page items i event are read is = absurd are
 
 -- it says that these documents came
 abbrev pub AreDocuments : PageDeeds → Documents → Type 0
 AreDocuments (Events events) items = ⊥
 AreDocuments (Import documents) items = documents.items ≡ items
 AreDocuments (Turn to) items = ⊥
+AreDocuments FarTurn items = ⊥
+AreDocuments Mark items = ⊥
 
 get_import : (deeds : PageDeeds) (page : Page) (items : Documents) → AreDocuments deeds items → IsRead deeds page
     → slice_get (deeds_in page) 0 ≡ Some (brought items)
@@ -121,12 +129,35 @@ get_import (Events events) page items are read = absurd are
 get_import (Import documents) (of_events version all) items are read = absurd read
 get_import (Import documents) (of_import version all) items are read = ap (λ l. Some (brought l)) (sym read ∙ are)
 get_import (Import documents) (of_turn version k to) items are read = absurd read
+get_import (Import documents) (of_copy version false sectors to) items are read = absurd read
+get_import (Import documents) (of_copy version true sectors to) items are read = absurd read
 get_import (Turn to) page items are read = absurd are
+get_import FarTurn page items are read = absurd are
+get_import Mark page items are read = absurd are
 
-get_turn : (page : Page) (to : ℕ) → IsRead (Turn to) page → (desktop : Desktop) × (slice_get (deeds_in page) 0 ≡ Some (turned desktop))
-get_turn (of_events version all) to read = absurd read
-get_turn (of_import version all) to read = absurd read
-get_turn (of_turn version k desktop) to read = (desktop, refl)
+-- it says that the desktop was turned
+abbrev pub IsTurned : PageDeeds → Type 0
+IsTurned (Events events) = ⊥
+IsTurned (Import documents) = ⊥
+IsTurned (Turn to) = Unit {0}
+IsTurned FarTurn = Unit {0}
+IsTurned Mark = ⊥
+
+get_turn : (deeds : PageDeeds) (page : Page) → IsTurned deeds → IsRead deeds page
+    → (desktop : Desktop) × (slice_get (deeds_in page) 0 ≡ Some (turned desktop))
+get_turn (Events events) page is read = absurd is
+get_turn (Import documents) page is read = absurd is
+get_turn (Turn to) (of_events version all) is read = absurd read
+get_turn (Turn to) (of_import version all) is read = absurd read
+get_turn (Turn to) (of_turn version k desktop) is read = (desktop, refl)
+get_turn (Turn to) (of_copy version false sectors desktop) is read = absurd read
+get_turn (Turn to) (of_copy version true sectors desktop) is read = absurd read
+get_turn FarTurn (of_events version all) is read = absurd read
+get_turn FarTurn (of_import version all) is read = absurd read
+get_turn FarTurn (of_turn version k desktop) is read = absurd read
+get_turn FarTurn (of_copy version false sectors desktop) is read = absurd read
+get_turn FarTurn (of_copy version true sectors desktop) is read = (desktop, refl)
+get_turn Mark page is read = absurd is
 
 -- ---- the deed that led to a moment
 
@@ -145,7 +176,7 @@ module _ {D : Type 0} (d : Ghosts D) {store : StoreView D} where
       (λ j. slice_get (deeds_front d past is.front is.todo is.parts j) (at j))
       ∙ get_behind (all_deeds is.front) (all_deeds is.todo ++ all_posted past.keeps.remembers.standing.events) i
 
-  deed_in_page : (past : PastOf d store) (place next : Place) (deeds : PageDeeds) (is : IsPageIn d past place deeds next)
+  deed_in_page : (past : PastOf d store) (place next : Place) (deeds : PageDeeds) (is : IsPageIn d past place (IsRead deeds) next)
       (i : ℕ) → i < length (deeds_in is.page)
       → slice_get past.deeds (place.k + i - past.start.before) ≡ slice_get (deeds_in is.page) i
   deed_in_page past place next deeds is i low =
@@ -163,10 +194,10 @@ module _ {D : Type 0} (d : Ghosts D) {store : StoreView D} where
 
   pub deed_event : (place next : Place) (deeds : PageDeeds) (items : List Event) (k i : ℕ) (event : Event)
       → AreEvents deeds items → place.k < k → i ≡ k - 1 - place.k → slice_get items i ≡ Some event
-      → IsPageOf d place deeds next store → IsDeedAt d k (posted event) store
+      → IsPageOf d place (IsRead deeds) next store → IsDeedAt d k (posted event) store
   deed_event place next deeds items k i event are low at is page = λ past lies.
       let here = page past lies in
-      let got = get_page deeds here.page items i event are here.read is in
+      let got = get_page deeds here.page items i event are here.is is in
       let few = got_low (deeds_in here.page) i (posted event) got in
       let count = here.count in
       let same : k - 1 - past.start.before ≡ place.k + i - past.start.before = omega (arith, at, low) in (
@@ -175,10 +206,10 @@ module _ {D : Type 0} (d : Ghosts D) {store : StoreView D} where
       )
 
   pub deed_import : (place next : Place) (documents : Documents) (deeds : PageDeeds) (k i : ℕ) → AreDocuments deeds documents
-      → place.k < k → i ≡ k - 1 - place.k → i ≡ 0 → IsPageOf d place deeds next store → IsDeedAt d k (brought documents) store
+      → place.k < k → i ≡ k - 1 - place.k → i ≡ 0 → IsPageOf d place (IsRead deeds) next store → IsDeedAt d k (brought documents) store
   deed_import place next documents deeds k i are low at none page = λ past lies.
       let here = page past lies in
-      let got = get_import deeds here.page documents are here.read in
+      let got = get_import deeds here.page documents are here.is in
       let few = got_low (deeds_in here.page) 0 (brought documents) got in
       let count = here.count in
       let same : k - 1 - past.start.before ≡ place.k + 0 - past.start.before = omega (arith, at, low, none) in (
@@ -235,11 +266,11 @@ module _ {D : Type 0} (d : Ghosts D) {store : StoreView D} where
       deed_told past k here deed words (was past lies).is (led past lies).1 line
 
   -- and of a turn
-  pub turn_words : (place next : Place) (deeds : PageDeeds) (to k i : ℕ) (words : List ℕ) → deeds ≡ Turn to → place.k < k
-      → i ≡ k - 1 - place.k → i ≡ 0 → IsPageOf d place deeds next store → words ≡ turn_line → IsDeedOf d k words store
-  turn_words place next deeds to k i words are low at none page line = λ past lies.
+  pub turn_words : (place next : Place) (deeds : PageDeeds) (k i : ℕ) (words : List ℕ) → IsTurned deeds → place.k < k
+      → i ≡ k - 1 - place.k → i ≡ 0 → IsPageOf d place (IsRead deeds) next store → words ≡ turn_line → IsDeedOf d k words store
+  turn_words place next deeds k i words turns low at none page line = λ past lies.
       let here = page past lies in
-      let got = get_turn here.page to (subst (λ x. IsRead x here.page) are here.read) in
+      let got = get_turn deeds here.page turns here.is in
       let few = got_low (deeds_in here.page) 0 (turned got.0) got.1 in
       let same : k - 1 - past.start.before ≡ place.k + 0 - past.start.before = omega (arith, at, low, none) in
       line ∙ sym (ap (told_at (moment past.start past.deeds (k - 1)))

@@ -1,25 +1,29 @@
 -- Places of a past, one behind another, and what the desktop was there. `d` is what is known of a disk.
 use Rattle.std.proofs.Common.{◌≡◌, ◌+◌, ◌-◌, ◌<◌, ◌≤◌, ℕ, List, [], ◌∷◌, ◌++◌, length, take, refl, sym, ◌∙◌, ap}
-use Rattle.std.proofs.Common.{subst, arith, length-append}
+use Rattle.std.proofs.Common.{subst, arith, length-append, true, false}
+use Rattle.std.specs.Prelude.{Bool}
 use Rattle.std.proofs.lemmas.List.{take-append-le, take_all}
 use Rattle.std.proofs.Math.Seq.{take-append-add}
 use Rattle.sector_disk.specs.declared.disk.Disk.{Ghosts}
+use Rattle.sector_disk.specs.Stored.{HoldsBytes}
 use Rattle.sector_disk.specs.Trail.{Content, now}
 use Rattle.desktop_definitions.specs.Desktop.{Desktop}
 use Rattle.desktop_definitions.specs.Step.{steps}
 use Rattle.desk_journal.specs.View.{StoreView}
-use Rattle.past_pages.specs.Page.{Page, of_events, of_import, of_turn, page_sectors}
-use Rattle.past_pages.specs.Reading.{HasPage, IsRead}
+use Rattle.past_pages.specs.Copies.{Sectors}
+use Rattle.past_pages.specs.Page.{Page, of_copy, of_events, of_import, of_turn, page_bytes, page_sectors}
+use Rattle.past_pages.specs.Reading.{HasCopy, HasPage, IsKindOf, IsRead, kind_count}
 use Rattle.past_pages.specs.declared.pages.PageDeeds.{PageDeeds}
-use Rattle.past_pages.specs.declared.pages.PageDeeds.TheVariants.{Turn}
+use Rattle.past_pages.specs.declared.pages.PageKind.{PageKind}
+use Rattle.past_pages.specs.declared.pages.PageKind.TheVariants as which
 use Rattle.desk_past.specs.Deeds.{PastDeed, after_deeds, all_posted}
 use Rattle.desk_past.specs.Past.{HasPages, deeds_in, end_of_pages}
 use Rattle.desk_past.specs.Past.{AreGood, AreTurns, HasMoment, IsTurn, Start, all_deeds, first_page, moment}
 use Rattle.desk_past.specs.Reading.{many_deeds}
 use Rattle.desk_past.specs.Turning.{PastOf}
 use Rattle.desk_past.proofs.Carrying.{end_above}
-use Rattle.desk_past.proofs.Legs.{deeds_of_both}
-use Rattle.desk_past.proofs.Moments.{after_both, after_posted, joined, many_posted, nil_right, posted_first}
+use Rattle.desk_past.proofs.Legs.{kind_many}
+use Rattle.desk_past.proofs.Moments.{after_both, after_posted, deeds_of_both, joined, many_posted, nil_right, posted_first}
 use Rattle.desk_past.proofs.Stepping.{read_many}
 use Rattle.past_moments.specs.Moments.{IsPageIn, IsPlaceIn}
 use Rattle.past_moments.specs.declared.extent.Place.{Place}
@@ -48,14 +52,54 @@ turns_behind start (p ∷ front) todo lead turns =
     (turns_behind start front todo (lead ++ deeds_in p) turns.1)
 
 -- what a turn leads to
-turned_to : (start : Start) (p : Page) (lead : List PastDeed) (before : Desktop) (to : ℕ) → IsRead (Turn to) p
+turned_to : (start : Start) (p : Page) (lead : List PastDeed) (before : Desktop) (to : ℕ) → IsKindOf (which.Turn to) p
     → IsTurn start lead p → HasMoment start lead to × (after_deeds before (deeds_in p) ≡ moment start lead to)
-turned_to start (of_events version events) lead before to read turn = absurd read
-turned_to start (of_import version documents) lead before to read turn = absurd read
-turned_to start (of_turn version k desktop) lead before to read turn = (
-  subst (HasMoment start lead) (sym read) turn.0,
-  turn.1 ∙ ap (moment start lead) (sym read),
+turned_to start (of_events version events) lead before to is turn = absurd is
+turned_to start (of_import version documents) lead before to is turn = absurd is
+turned_to start (of_turn version k desktop) lead before to is turn = (
+  subst (HasMoment start lead) (sym is) turn.0,
+  turn.1 ∙ ap (moment start lead) (sym is),
 )
+turned_to start (of_copy version false sectors desktop) lead before to is turn = absurd is
+turned_to start (of_copy version true sectors desktop) lead before to is turn = absurd is
+
+-- the page has a desktop, to which it leads
+pub record LeadsToCopy (start : Start) (lead : List PastDeed) (p : Page) : Type 0 where
+  pub version : ℕ
+  pub far : Bool
+  pub sectors : Sectors
+  pub to : Desktop
+  pub is : p ≡ of_copy version far sectors to
+  pub leads : after_deeds (after_deeds start.desktop lead) (deeds_in p) ≡ to
+
+pub mark_leads : (start : Start) (p : Page) (lead : List PastDeed) → IsKindOf which.Mark p → IsTurn start lead p
+    → LeadsToCopy start lead p
+mark_leads start (of_events version events) lead is turn = absurd is
+mark_leads start (of_import version documents) lead is turn = absurd is
+mark_leads start (of_turn version k desktop) lead is turn = absurd is
+mark_leads start (of_copy version false sectors desktop) lead is turn = record {
+  version = version;
+  far = false;
+  sectors = sectors;
+  to = desktop;
+  is = refl;
+  leads = sym turn;
+}
+mark_leads start (of_copy version true sectors desktop) lead is turn = absurd is
+
+pub far_leads : (start : Start) (p : Page) (lead : List PastDeed) → IsKindOf which.FarTurn p → LeadsToCopy start lead p
+far_leads start (of_events version events) lead is = absurd is
+far_leads start (of_import version documents) lead is = absurd is
+far_leads start (of_turn version k desktop) lead is = absurd is
+far_leads start (of_copy version false sectors desktop) lead is = absurd is
+far_leads start (of_copy version true sectors desktop) lead is = record {
+  version = version;
+  far = true;
+  sectors = sectors;
+  to = desktop;
+  is = refl;
+  leads = refl;
+}
 
 joined_pages : (a b c : List Page) → (a ++ b) ++ c ≡ a ++ (b ++ c)
 joined_pages [] b c = refl
@@ -128,22 +172,34 @@ module _ {D : Type 0} (d : Ghosts D) {store : StoreView D} (past : PastOf d stor
             let far = end_above more (at + page_sectors p) in
             (p, more, refl, record { held = held.0; good = good.0; within = omega (arith, far, up_to) })
 
-  pub page_read : (place next : Place) (deeds : PageDeeds) (is : IsPlaceIn d past place) (p : Page) (more : List Page)
-      → is.todo ≡ p ∷ more → IsRead deeds p → next.at ≡ place.at + page_sectors p → next.k ≡ place.k + many_deeds deeds
-      → IsPageIn d past place deeds next
-  page_read place next deeds is p more first read at count = record {
+  page_found : (place next : Place) (such : Page → Type 0) (is : IsPlaceIn d past place) (p : Page) (more : List Page)
+      → is.todo ≡ p ∷ more → such p → next.at ≡ place.at + page_sectors p → next.k ≡ place.k + length (deeds_in p)
+      → IsPageIn d past place such next
+  page_found place next such is p more first page at count = record {
     front = is.front;
     page = p;
     todo = more;
     parts = is.parts ∙ ap (λ l. is.front ++ l) first;
     at = is.at;
     count = is.count;
-    read = read;
+    is = page;
     next_at = at;
-    next_count = count ∙ ap (λ n. place.k + n) (read_many deeds p read);
+    next_count = count;
   }
 
-  module _ (place next : Place) (deeds : PageDeeds) (is : IsPageIn d past place deeds next) where
+  pub page_read : (place next : Place) (deeds : PageDeeds) (is : IsPlaceIn d past place) (p : Page) (more : List Page)
+      → is.todo ≡ p ∷ more → IsRead deeds p → next.at ≡ place.at + page_sectors p → next.k ≡ place.k + many_deeds deeds
+      → IsPageIn d past place (IsRead deeds) next
+  page_read place next deeds is p more first read at count = page_found place next (IsRead deeds) is p more first read at
+      (count ∙ ap (λ n. place.k + n) (read_many deeds p read))
+
+  pub front_read : (place next : Place) (kind : PageKind) (is : IsPlaceIn d past place) (p : Page) (more : List Page)
+      → is.todo ≡ p ∷ more → IsKindOf kind p → next.at ≡ place.at + page_sectors p → next.k ≡ place.k + kind_count kind
+      → IsPageIn d past place (IsKindOf kind) next
+  front_read place next kind is p more first read at count = page_found place next (IsKindOf kind) is p more first read at
+      (count ∙ ap (λ n. place.k + n) (kind_many kind p read))
+
+  module _ (place next : Place) (such : Page → Type 0) (is : IsPageIn d past place such next) where
     front_more : all_deeds (is.front ++ is.page ∷ []) ≡ all_deeds is.front ++ deeds_in is.page
     front_more = deeds_of_both is.front (is.page ∷ []) ∙ ap (λ l. all_deeds is.front ++ l) (nil_right (deeds_in is.page))
 
@@ -181,20 +237,53 @@ module _ {D : Type 0} (d : Ghosts D) {store : StoreView D} (past : PastOf d stor
               ∙ ap (after_deeds (front_done is.front)) (take_all (length (deeds_in is.page)) (deeds_in is.page) (omega arith)),
         )
 
+    -- what it leads to, if it is a turn or has a desktop
+    pub turn_in : IsTurn past.start (all_deeds is.front) is.page
+    turn_in = (turns_behind past.start is.front (is.page ∷ is.todo) []
+    (subst (AreTurns past.start []) is.parts past.keeps.remembers.past.turns)).0
+
     -- behind a turn the desktop is what it was at its moment
-    pub moment_turned : (to : ℕ) → deeds ≡ Turn to → moment past.start past.deeds next.k ≡ moment past.start past.deeds to
-    moment_turned to are =
-        let r = past.keeps.remembers in
-        let rest = all_deeds (is.page ∷ is.todo) ++ all_posted r.standing.events in
-        let turns = turns_behind past.start is.front (is.page ∷ is.todo) []
-        (subst (AreTurns past.start []) is.parts r.past.turns) in
-        let fact = turned_to past.start is.page (all_deeds is.front) (front_done is.front) to
-        (subst (λ x. IsRead x is.page) are is.read) turns.0 in
+    pub moment_turned : (to : ℕ) → IsKindOf (which.Turn to) is.page
+        → moment past.start past.deeds next.k ≡ moment past.start past.deeds to
+    moment_turned to kind =
+        let rest = all_deeds (is.page ∷ is.todo) ++ all_posted past.keeps.remembers.standing.events in
+        let fact = turned_to past.start is.page (all_deeds is.front) (front_done is.front) to kind turn_in in
         moment_next.1 ∙ fact.1 ∙ ap (after_deeds past.start.desktop) (
         sym (take-append-le (to - past.start.before) (all_deeds is.front) rest
         (omega (arith, fact.0.low, fact.0.high)))
         ∙ ap (take (to - past.start.before)) (sym (deeds_front is.front (is.page ∷ is.todo) is.parts))
         )
+
+    -- it stands there
+    page_held : HasPage (now (d.trail store.disk)).reads place.at past.keeps.remembers.standing.past.next is.page
+    page_held =
+        let r = past.keeps.remembers in
+        let first = first_page past.start in
+        let c = (now (d.trail store.disk)).reads in
+        let held = held_both is.front (is.page ∷ is.todo) c first (subst (HasPages c first) is.parts r.past.written.1) in
+        let up_to : end_of_pages (end_of_pages first is.front + page_sectors is.page) is.todo ≡ r.standing.past.next =
+        sym (ends_both is.front (is.page ∷ is.todo) first) ∙ ap (end_of_pages first) (sym is.parts) ∙ r.past.up_to in
+        let far = end_above is.todo (end_of_pages first is.front + page_sectors is.page) in
+        let at = is.at in
+        record {
+          held = subst (λ n. HoldsBytes c n (page_bytes is.page)) (sym is.at) held.0;
+          good = (good_both is.front (is.page ∷ is.todo) (subst AreGood is.parts r.past.good)).0;
+          within = omega (arith, far, up_to, at);
+        }
+
+    -- behind a page with a desktop it is that desktop
+    pub copy_in : LeadsToCopy past.start (all_deeds is.front) is.page
+        → HasCopy (now (d.trail store.disk)).reads place.at past.keeps.remembers.standing.past.next
+        (moment past.start past.deeds next.k)
+    copy_in copy =
+        let c = (now (d.trail store.disk)).reads in
+        let end = past.keeps.remembers.standing.past.next in
+        subst (HasCopy c place.at end) (sym (moment_next.1 ∙ copy.leads)) (record {
+          version = copy.version;
+          far = copy.far;
+          sectors = copy.sectors;
+          page = subst (HasPage c place.at end) copy.is page_held;
+        })
 
   -- behind the last page no other one begins
   pub none_todo : (place : Place) (is : IsPlaceIn d past place) (end : ℕ)

@@ -3,14 +3,14 @@ ghost use Rattle.std.specs.Prelude.{◌≡◌, ◌+◌, ◌-◌, ◌<◌, ◌≤
 ghost use Rattle.sector_disk.specs.Trail.{now};
 ghost use Rattle.store_layout.specs.declared.layout.TheConstants.{STORE_SECTORS};
 ghost use Rattle.past_pages.specs.Page.{Page};
-ghost use Rattle.past_pages.specs.Reading.{IsOnlyReadFrom};
+ghost use Rattle.past_pages.specs.Reading.{IsKindOf, IsOnlyReadFrom, IsRead, kind_count};
 ghost use Rattle.desk_past.specs.Past.{HasPages, end_of_pages, AreGood, all_deeds};
 ghost use Rattle.desk_past.specs.Reading.{many_deeds};
 ghost use Rattle.past_moments.specs.Moments.{IsExtentOf, IsPageOf, IsPagePlace};
 
 use desk_journal::{Error, STORE_SECTORS, Store};
 use event_bytes::Event;
-use past_pages::{PageDeeds, PageRead, page_in, part_at};
+use past_pages::{PageDeeds, PageFront, PageKind, PageRead, front_in, page_in, part_at};
 use sector_disk::Disk;
 use std::alloc::{AllocError, Global};
 use store_layout::{PastEnd, standing_law};
@@ -43,22 +43,32 @@ impl Place {
         let k = self.k.checked_add(many_in(&page.deeds))?;
         Some(Place { at: page.next, k })
     }
+
+    /// The same of a page whose front was read.
+    fn behind_front(self, page: PageFront) -> Option<Place>
+        ensures { IfSome result (λ p. (p.at ≡ page.next)
+            × (p.k ≡ self.k + kind_count page.kind)) }
+    {
+        let k = self.k.checked_add(page.kind.count() as u64)?;
+        Some(Place { at: page.next, k })
+    }
 }
 
-/// How much a page says was done: an import is one deed, and so is a turn.
+/// How much a page says was done: an import is one deed, and so is a turn; a mark is none.
 fn many_in(deeds: &PageDeeds) -> u64
     ensures { result ≡ many_deeds deeds.now }
 {
     match deeds {
         PageDeeds::Events(events) => events.len() as u64,
-        PageDeeds::Import(_) | PageDeeds::Turn(_) => 1,
+        PageDeeds::Import(_) | PageDeeds::Turn(_) | PageDeeds::FarTurn => 1,
+        PageDeeds::Mark => 0,
     }
 }
 
 /// How many deeds the pages have from sector `first` up to sector `end`. None where one is missing, or where they can't be
 /// counted.
 ///
-/// Errors: those of `page_in`.
+/// Errors: those of `front_in`.
 fn count_pages<D: Disk>(
     alloc: Global,
     store: &mut Store<D>,
@@ -75,10 +85,10 @@ fn count_pages<D: Disk>(
     store.shows_what_crashes_leave();
     let mut here = Place { at: first, k: 0 };
     while here.at < end {
-        let Some(page) = page_in(alloc, store, here.at, end)? else {
+        let Some(page) = front_in(alloc, store, here.at, end)? else {
             return Ok(None);
         };
-        let Some(next) = here.behind(&page) else {
+        let Some(next) = here.behind_front(page) else {
             return Ok(None);
         };
         here = next;
@@ -169,6 +179,33 @@ impl Extent {
         place.at >= self.end
     }
 
+    /// The kind of the page at a place, and the place behind it. None where no page stands there.
+    ///
+    /// Errors: those of `front_in`.
+    pub fn front_at<D: Disk>(
+        &self,
+        alloc: Global,
+        store: &mut Store<D>,
+        place: Place,
+    ) -> Result<Option<(PageKind, Place)>, Error>
+        requires { store.old.must_reopen ≡ false }
+        ensures page { IfOk result (λ found. IfSome found (λ x.
+            IsExtentOf D.Disk self.now store.old → IsPagePlace D.Disk place store.old
+            → IsPageOf D.Disk place (IsKindOf x.0) x.1 store.old)) }
+        ensures later { IfOk result (λ found. IfSome found (λ x. (place.at < x.1.at)
+            × (x.1.at ≤ self.now.end))) }
+        ensures still { IsOnlyReadFrom D.Disk store.old store.new }
+    {
+        store.shows_what_crashes_leave();
+        let Some(page) = front_in(alloc, store, place.at, self.end)? else {
+            return Ok(None);
+        };
+        match place.behind_front(page) {
+            None => Ok(None),
+            Some(next) => Ok(Some((page.kind, next))),
+        }
+    }
+
     /// What the page at a place says was done, and the place behind it. None where no page stands there.
     ///
     /// Errors: those of `page_in`.
@@ -181,7 +218,7 @@ impl Extent {
         requires { store.old.must_reopen ≡ false }
         ensures page { IfOk result (λ found. IfSome found (λ x.
             IsExtentOf D.Disk self.now store.old → IsPagePlace D.Disk place store.old
-            → IsPageOf D.Disk place x.0 x.1 store.old)) }
+            → IsPageOf D.Disk place (IsRead x.0) x.1 store.old)) }
         ensures later { IfOk result (λ found. IfSome found (λ x. (place.at < x.1.at)
             × (x.1.at ≤ self.now.end))) }
         ensures still { IsOnlyReadFrom D.Disk store.old store.new }

@@ -5,21 +5,30 @@ ghost use Rattle.past_pages.specs.Page.{Page};
 ghost use Rattle.past_pages.specs.Reading.{IsOnlyReadFrom, IsRead};
 ghost use Rattle.desk_past.specs.Deeds.{after_deeds, brought};
 ghost use Rattle.desk_past.specs.Past.{deeds_in};
-ghost use Rattle.past_moments.specs.Moments.{IsExtentOf, IsDesktopAt, IsPagePlace, IsSameMoment, leg_behind, of_memory};
+ghost use Rattle.past_moments.specs.Moments.{GoesFrom, IsExtentOf, IsDesktopAt, IsPagePlace, leg_behind, of_memory};
 
 use crate::extent::{Extent, Place};
 use desk_journal::{Document, Error, Store};
 use desk_past::post_all;
 use event_bytes::Event;
-use past_pages::PageDeeds;
+use past_pages::{PageDeeds, PageKind};
 use sector_disk::{Disk, MemoryDisk};
 use std::alloc::Global;
 
-/// The last part of the way to a moment, and the moment to which the turn before it leads. None: no turn comes before.
+/// From where a leg goes: from a moment that is kept, from the one to which a turn leads, or from the desktop that the page in a
+/// sector has.
+#[derive(Clone, Copy, Debug, PartialEq, Eq)]
+pub(crate) enum Source {
+    Kept,
+    Moment(u64),
+    Copy(u32),
+}
+
+/// The last part of the way to a moment, and from where it goes.
 #[derive(Clone, Copy)]
 pub(crate) struct Leg {
     pub place: Place,
-    pub from: Option<u64>,
+    pub from: Source,
 }
 
 /// What was made of a disk in memory. Its faults are want of memory.
@@ -32,22 +41,27 @@ pub fn of_memory<T: Drop>(made: Result<T, Error>) -> Result<T, Error>
     }
 }
 
-/// The last leg behind a page that ends at this place: behind a turn another one begins.
-fn leg_behind(leg: Leg, deeds: &PageDeeds, place: Place) -> Leg
-    ensures { result ≡ leg_behind leg deeds.now place }
+/// The last leg behind a page in sector `at` that ends at this place: behind a turn another one begins, and so it does behind a
+/// desktop.
+fn leg_behind(leg: Leg, kind: PageKind, at: u32, place: Place) -> Leg
+    ensures { result ≡ leg_behind leg kind at place }
 {
-    match deeds {
-        PageDeeds::Turn(to) => Leg {
+    match kind {
+        PageKind::Turn(to) => Leg {
             place,
-            from: Some(*to),
+            from: Source::Moment(to),
         },
-        PageDeeds::Events(_) | PageDeeds::Import(_) => leg,
+        PageKind::FarTurn | PageKind::Mark => Leg {
+            place,
+            from: Source::Copy(at),
+        },
+        PageKind::Events(_) | PageKind::Import => leg,
     }
 }
 
 /// The last leg of the way from a place to moment `k`. None where a page is missing.
 ///
-/// Errors: those of `page_at`.
+/// Errors: those of `front_at`.
 pub(crate) fn last_leg<D: Disk>(
     alloc: Global,
     store: &mut Store<D>,
@@ -59,25 +73,28 @@ pub(crate) fn last_leg<D: Disk>(
     ensures place { IfOk result (λ found. IfSome found (λ leg.
         IsExtentOf D.Disk extent.now store.old → IsPagePlace D.Disk place store.old
         → IsPagePlace D.Disk leg.place store.old)) }
-    ensures turned { IfOk result (λ found. IfSome found (λ leg. IfSome leg.from (λ from.
+    ensures from { IfOk result (λ found. IfSome found (λ leg.
         IsExtentOf D.Disk extent.now store.old → IsPagePlace D.Disk place store.old
-        → IsSameMoment D.Disk leg.place.k from store.old))) }
+        → GoesFrom D.Disk leg.place leg.from store.old)) }
     ensures still { IsOnlyReadFrom D.Disk store.old store.new }
 {
     store.shows_what_crashes_leave();
     let mut here = place;
-    let mut leg = Leg { place, from: None };
+    let mut leg = Leg {
+        place,
+        from: Source::Kept,
+    };
     while here.at < extent.end && here.k < k {
-        let Some((deeds, next)) = extent.page_at(alloc, store, here)? else {
+        let Some((kind, next)) = extent.front_at(alloc, store, here)? else {
             return Ok(None);
         };
+        leg = leg_behind(leg, kind, here.at, next);
         here = next;
-        leg = leg_behind(leg, &deeds, here);
     }
     Ok(Some(leg))
 }
 
-/// Does all that a page says once more. False where that is a turn, which can't be done so.
+/// Does all that a page says once more, which is nothing for a mark. False where that is a turn, which can't be done so.
 ///
 /// Errors: those of `post_all` and `bring`.
 pub(crate) fn do_all(
@@ -97,7 +114,8 @@ pub(crate) fn do_all(
             bring(alloc, shown, documents.as_slice())?;
             Ok(true)
         }
-        PageDeeds::Turn(_) => Ok(false),
+        PageDeeds::Turn(_) | PageDeeds::FarTurn => Ok(false),
+        PageDeeds::Mark => Ok(true),
     }
 }
 
@@ -151,7 +169,9 @@ fn do_front(
 {
     match deeds {
         PageDeeds::Events(events) => post_front(alloc, shown, events.as_slice(), count),
-        PageDeeds::Import(_) | PageDeeds::Turn(_) => Ok(false),
+        PageDeeds::Import(_) | PageDeeds::Turn(_) | PageDeeds::FarTurn | PageDeeds::Mark => {
+            Ok(false)
+        }
     }
 }
 

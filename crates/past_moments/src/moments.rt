@@ -5,16 +5,17 @@ ghost use Rattle.desktop_definitions.specs.Step.{step};
 ghost use Rattle.past_pages.specs.Reading.{IsOnlyReadFrom};
 ghost use Rattle.desk_past.specs.Deeds.{after_deeds, brought};
 ghost use Rattle.told_pasts.specs.Words.{event_line, import_line, turn_line};
-ghost use Rattle.past_moments.specs.Moments.{AreMomentsOf, IsDeedOf, IsExtentOf, IsLastOf, IsMarkOf, IsDesktopAt, IsPagePlace, IsSameMoment, IsToldOf};
+ghost use Rattle.past_moments.specs.Moments.{AreMomentsOf, GoesFrom, IsDeedOf, IsExtentOf, IsLastOf, IsMarkOf, IsDesktopAt, IsPagePlace, IsSameMoment, IsToldOf};
+ghost use Rattle.past_moments.specs.declared.legs.Source.TheVariants as sources;
 
 use crate::extent::{Extent, Place, extent_of};
-use crate::legs::{bring, do_all, do_part, last_leg, of_memory};
+use crate::legs::{Source, bring, do_all, do_part, last_leg, of_memory};
 use crate::marks::{Mark, Marks};
 use crate::words::import_words;
 use desk_journal::{Document, Error, Store};
 use desk_past::{copy_of, moment, present_law};
 use event_bytes::Event;
-use past_pages::PageDeeds;
+use past_pages::{PageDeeds, copy_in};
 use sector_disk::{Disk, MemoryDisk};
 use std::alloc::Global;
 use store_layout::standing_law;
@@ -103,10 +104,10 @@ impl Moments {
         }
     }
 
-    /// A moment in memory from which no turn leads to moment `k`: one that is kept, or the one behind the last turn. None
-    /// where a page is missing.
+    /// A moment in memory from which no turn leads to moment `k`: one that is kept, the one behind the last turn, or that of the
+    /// last page with a desktop. None where a page is missing.
     ///
-    /// Errors: those of `copy_before`, `last_leg` and `moment`.
+    /// Errors: those of `copy_before`, `last_leg`, `moment` and `copy_in`.
     fn unturned_before<D: Disk>(
         &mut self,
         alloc: Global,
@@ -128,8 +129,33 @@ impl Moments {
             return Ok(None);
         };
         match leg.from {
-            None => self.marks.copy_before(alloc, store, k),
-            Some(from) => self.behind_turn(alloc, store, leg.place, from),
+            Source::Kept => self.marks.copy_before(alloc, store, k),
+            Source::Moment(from) => self.behind_turn(alloc, store, leg.place, from),
+            Source::Copy(at) => self.behind_copy(alloc, store, leg.place, at),
+        }
+    }
+
+    /// The moment of a place behind the page with a desktop in sector `at`. None where none stands there.
+    ///
+    /// Errors: those of `copy_in`.
+    fn behind_copy<D: Disk>(
+        &self,
+        alloc: Global,
+        store: &mut Store<D>,
+        place: Place,
+        at: u32,
+    ) -> Result<Option<Mark>, Error>
+        requires { store.old.must_reopen ≡ false }
+        ensures mark { IfOk result (λ found. IfSome found (λ mark.
+            AreMomentsOf D.Disk self.now store.old → IsPagePlace D.Disk place store.old
+            → GoesFrom D.Disk place (sources.Copy at) store.old
+            → IsMarkOf D.Disk mark store.new)) }
+        ensures still { IsOnlyReadFrom D.Disk store.old store.new }
+    {
+        store.shows_what_crashes_leave();
+        match copy_in(alloc, store, at, self.extent.end)? {
+            None => Ok(None),
+            Some(shown) => Ok(Some(Mark { place, shown })),
         }
     }
 
@@ -204,6 +230,7 @@ impl Moments {
         requires { store.old.must_reopen ≡ false }
         ensures mark { IfOk result (λ found. IfSome found (λ mark.
             AreMomentsOf D.Disk self.old store.old → IsMarkOf D.Disk mark store.new)) }
+        ensures low { IfOk result (λ found. IfSome found (λ mark. mark.place.k ≤ k)) }
         ensures are { OnOk result (AreMomentsOf D.Disk self.old store.old
             → AreMomentsOf D.Disk self.new store.new) }
         ensures still { IsOnlyReadFrom D.Disk store.old store.new }
@@ -216,7 +243,8 @@ impl Moments {
         where_done(mark, done)
     }
 
-    /// Goes on from a mark by whole pages, and keeps it as the nearest one. False where a page is missing.
+    /// Goes on from a mark by whole pages, and keeps it as the nearest one. False where a page is missing, or where the mark is
+    /// behind moment `k`.
     ///
     /// Errors: those of `go_whole` and `keep_near`.
     fn go_near<D: Disk>(
@@ -229,6 +257,7 @@ impl Moments {
         requires { store.old.must_reopen ≡ false }
         ensures mark { IfOk result (λ done. done ≡ true → AreMomentsOf D.Disk self.old store.old
             → IsMarkOf D.Disk mark.old store.old → IsMarkOf D.Disk mark.new store.new) }
+        ensures low { IfOk result (λ done. done ≡ true → mark.new.place.k ≤ k) }
         ensures are { OnOk result (AreMomentsOf D.Disk self.old store.old
             → IsMarkOf D.Disk mark.old store.old → AreMomentsOf D.Disk self.new store.new) }
         ensures still { IsOnlyReadFrom D.Disk store.old store.new }
@@ -237,7 +266,7 @@ impl Moments {
             return Ok(false);
         }
         self.marks.keep_near(alloc, store, mark)?;
-        Ok(true)
+        Ok(mark.place.k <= k)
     }
 
     /// Moment `k` in memory, with the place of the page that has the deed behind it. None where a page is missing.
@@ -407,6 +436,8 @@ impl Moments {
                 PageDeeds::Import(documents) => {
                     told_import(alloc, &mut mark.shown, documents.as_slice(), index)
                 }
+                PageDeeds::FarTurn => self.come_back(alloc, store, mark, k, index),
+                PageDeeds::Mark => Ok(None),
                 PageDeeds::Turn(_) => self.come_back(alloc, store, mark, k, index),
             },
         }

@@ -61,7 +61,9 @@ fn start_in(deeds: &PageDeeds, count: usize) -> usize
 {
     match deeds {
         PageDeeds::Events(events) => step_start(events.as_slice(), count),
-        PageDeeds::Import(_) | PageDeeds::Turn(_) => count.saturating_sub(1),
+        PageDeeds::Import(_) | PageDeeds::Turn(_) | PageDeeds::FarTurn | PageDeeds::Mark => {
+            count.saturating_sub(1)
+        }
     }
 }
 
@@ -71,7 +73,9 @@ fn end_in(deeds: &PageDeeds, count: usize) -> usize
 {
     match deeds {
         PageDeeds::Events(events) => step_end(events.as_slice(), count),
-        PageDeeds::Import(_) | PageDeeds::Turn(_) => count.saturating_add(1),
+        PageDeeds::Import(_) | PageDeeds::Turn(_) | PageDeeds::FarTurn | PageDeeds::Mark => {
+            count.saturating_add(1)
+        }
     }
 }
 

@@ -5,3 +5,4 @@ pub mod Alike
 pub mod PageReads
 pub mod DocumentReads
 pub mod Laid
+pub mod CopyReads

@@ -2,7 +2,7 @@
 use Rattle.std.proofs.Common.{◌≡◌, ◌+◌, ◌*◌, ◌^◌, ◌<◌, ◌≤◌, ℕ, zero, suc, List, [], ◌∷◌, ◌++◌, length, take, drop, refl}
 use Rattle.std.proofs.Common.{sym, ◌∙◌, ap, arith, length-append}
 use Rattle.std.specs.declared.option.Option.{Option}
-use Rattle.std.specs.Prelude.{Some, None}
+use Rattle.std.specs.Prelude.{Some, None, false, true}
 use Rattle.std.specs.Int.{from_be_bytes, to_be_bytes, w32, w64}
 use Rattle.std.proofs.lemmas.Nat.{from_be_bytes-to_be_bytes_4, from_be_bytes-to_be_bytes_8}
 use Rattle.sector_disk.specs.declared.disk.TheConstants.{SECTOR_BYTES}
@@ -15,8 +15,11 @@ use Rattle.document_filing.specs.Bringing.{Documents}
 use Rattle.store_layout.specs.declared.layout.TheConstants.{LAYOUT}
 use Rattle.store_slots.specs.Bodies.{spellings}
 use Rattle.desktop_definitions.specs.Desktop.{Desktop}
-use Rattle.past_pages.specs.declared.page.TheConstants.{EVENTS_PAGE, IMPORT_PAGE, MOST_SPELLED, TURN_PAGE}
-use Rattle.past_pages.specs.Page.{Page, of_events, of_import, of_turn, behind_length, document_spellings, number}
+use Rattle.past_pages.specs.declared.page.TheConstants.{EVENTS_PAGE, FAR_PAGE, IMPORT_PAGE, MARK_PAGE}
+use Rattle.past_pages.specs.declared.page.TheConstants.{MOST_SPELLED, TURN_PAGE}
+use Rattle.past_pages.specs.Copies.{Sectors}
+use Rattle.past_pages.specs.Page.{Page, of_copy, of_events, of_import, of_turn, behind_length, document_spellings}
+use Rattle.past_pages.specs.Page.{number}
 use Rattle.past_pages.specs.Page.{page_body, page_bytes, page_count, page_kind, page_sectors, page_version}
 use Rattle.past_pages.specs.Page.{AreDoable, AreDocuments, AreEvents, IsGoodPage}
 use Rattle.past_pages.proofs.StillReads.{page_there}
@@ -43,6 +46,8 @@ pub small_kind : (p : Page) → page_kind p < 2 ^ 32
 small_kind (of_events version events) = omega arith
 small_kind (of_import version documents) = omega arith
 small_kind (of_turn version k to) = omega arith
+small_kind (of_copy version false sectors to) = omega arith
+small_kind (of_copy version true sectors to) = omega arith
 
 four : (n : ℕ) → length (number n) ≡ 4
 four n = refl
@@ -132,6 +137,10 @@ of_events_page X (of_import version documents) kind count bytes rest one is many
     absurd (omega (arith, one, is))
 of_events_page X (of_turn version k to) kind count bytes rest one is many valid spelled f =
     absurd (omega (arith, one, is))
+of_events_page X (of_copy version false sectors to) kind count bytes rest one is many valid spelled f =
+    absurd (omega (arith, one, is))
+of_events_page X (of_copy version true sectors to) kind count bytes rest one is many valid spelled f =
+    absurd (omega (arith, one, is))
 
 -- of a page of an import
 pub of_import_page : (X : Page → Type 0) (p : Page) (kind count : ℕ) (bytes rest : List ℕ) → kind ≡ IMPORT_PAGE
@@ -143,6 +152,10 @@ of_import_page X (of_events version events) kind count bytes rest two is many va
 of_import_page X (of_import version documents) kind count bytes rest two is many valid spelled f =
     f version documents (sym many) valid spelled
 of_import_page X (of_turn version k to) kind count bytes rest two is many valid spelled f =
+    absurd (omega (arith, two, is))
+of_import_page X (of_copy version false sectors to) kind count bytes rest two is many valid spelled f =
+    absurd (omega (arith, two, is))
+of_import_page X (of_copy version true sectors to) kind count bytes rest two is many valid spelled f =
     absurd (omega (arith, two, is))
 
 -- of a page of a turn: eight bytes tell its moment
@@ -169,6 +182,27 @@ of_turn_page X (of_import version documents) kind bytes rest three is valid spel
     (omega (arith, three, is))
 of_turn_page X (of_turn version k to) kind bytes rest three is valid spelled f =
     f version k to (turn_told k bytes rest valid spelled) (turn_long k bytes rest spelled)
+of_turn_page X (of_copy version false sectors to) kind bytes rest three is valid spelled f = absurd
+    (omega (arith, three, is))
+of_turn_page X (of_copy version true sectors to) kind bytes rest three is valid spelled f = absurd
+    (omega (arith, three, is))
+
+-- of a mark, and of a far turn
+pub of_mark_page : (X : Page → Type 0) (p : Page) (kind : ℕ) → kind ≡ MARK_PAGE → kind ≡ page_kind p
+    → ((version : ℕ) (sectors : Sectors) (to : Desktop) → X (of_copy version false sectors to)) → X p
+of_mark_page X (of_events version events) kind four is f = absurd (omega (arith, four, is))
+of_mark_page X (of_import version documents) kind four is f = absurd (omega (arith, four, is))
+of_mark_page X (of_turn version k to) kind four is f = absurd (omega (arith, four, is))
+of_mark_page X (of_copy version false sectors to) kind four is f = f version sectors to
+of_mark_page X (of_copy version true sectors to) kind four is f = absurd (omega (arith, four, is))
+
+pub of_far_page : (X : Page → Type 0) (p : Page) (kind : ℕ) → kind ≡ FAR_PAGE → kind ≡ page_kind p
+    → ((version : ℕ) (sectors : Sectors) (to : Desktop) → X (of_copy version true sectors to)) → X p
+of_far_page X (of_events version events) kind five is f = absurd (omega (arith, five, is))
+of_far_page X (of_import version documents) kind five is f = absurd (omega (arith, five, is))
+of_far_page X (of_turn version k to) kind five is f = absurd (omega (arith, five, is))
+of_far_page X (of_copy version false sectors to) kind five is f = absurd (omega (arith, five, is))
+of_far_page X (of_copy version true sectors to) kind five is f = f version sectors to
 
 -- which stands in one sector
 pub turn_sectors : (p : Page) → page_kind p ≡ TURN_PAGE → page_sectors p ≡ 1
@@ -176,14 +210,19 @@ turn_sectors (of_events version events) is = absurd (omega (arith, is))
 turn_sectors (of_import version documents) is = absurd (omega (arith, is))
 turn_sectors (of_turn version k to) is =
     let long = page_long (of_turn version k to) in omega (arith, long, eight k)
+turn_sectors (of_copy version false sectors to) is = absurd (omega (arith, is))
+turn_sectors (of_copy version true sectors to) is = absurd (omega (arith, is))
 
 -- there is no other one
 pub of_no_page : (p : Page) (kind : ℕ) (bytes rest : List ℕ) → ¬ (kind ≡ EVENTS_PAGE) → ¬ (kind ≡ IMPORT_PAGE)
-    → (kind ≡ TURN_PAGE → length bytes < 8) → kind ≡ page_kind p → bytes ≡ page_body p ++ rest → ⊥
-of_no_page (of_events version events) kind bytes rest one two short is spelled = one is
-of_no_page (of_import version documents) kind bytes rest one two short is spelled = two is
-of_no_page (of_turn version k to) kind bytes rest one two short is spelled =
-    let few = short is in omega (arith, few, turn_long k bytes rest spelled)
+    → (kind ≡ TURN_PAGE → length bytes < 8) → ¬ (kind ≡ MARK_PAGE) → ¬ (kind ≡ FAR_PAGE) → kind ≡ page_kind p
+    → (kind ≡ TURN_PAGE → bytes ≡ page_body p ++ rest) → ⊥
+of_no_page (of_events version events) kind bytes rest one two short four five is spelled = one is
+of_no_page (of_import version documents) kind bytes rest one two short four five is spelled = two is
+of_no_page (of_turn version k to) kind bytes rest one two short four five is spelled =
+    let few = short is in omega (arith, few, turn_long k bytes rest (spelled is))
+of_no_page (of_copy version false sectors to) kind bytes rest one two short four five is spelled = four is
+of_no_page (of_copy version true sectors to) kind bytes rest one two short four five is spelled = five is
 
 -- ---- events
 

@@ -1,4 +1,6 @@
+pub mod Copies
 pub mod Page
+pub mod Marks
 pub mod Reading
 pub mod Sectors
 pub mod Laying

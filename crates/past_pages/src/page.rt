@@ -26,15 +26,21 @@ pub const IMPORT_PAGE: u32 = 2;
 /// The number with which a page of a turn begins.
 pub const TURN_PAGE: u32 = 3;
 
-/// How many bytes stand before the first event or document of a page.
+/// The number with which a page begins that has what the desktop was there.
+pub const MARK_PAGE: u32 = 4;
+
+/// The number with which a page of a turn begins that has the desktop to which it leads.
+pub const FAR_PAGE: u32 = 5;
+
+/// How many bytes stand before the first event, document or sector of a page.
 pub const PAGE_FRONT: u32 = 16;
 
-/// In how many bytes the events or documents of a page may be spelled.
+/// In how many bytes the events, documents or sectors of a page may be spelled.
 pub const MOST_SPELLED: usize = 0xFFFF_0000;
 
-/// The bytes of a page of a kind, whose events or documents are spelled so. `NoMemory` where these are more than a page
-/// may have, too.
-fn page_of(
+/// The bytes of a page of a kind, whose events, documents or sectors are spelled so. `NoMemory` where these are more than a
+/// page may have, too.
+pub(crate) fn page_of(
     alloc: Global,
     kind: u32,
     version: u32,

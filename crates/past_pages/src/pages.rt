@@ -8,12 +8,14 @@ ghost use Rattle.store_layout.specs.declared.layout.TheConstants.{LAYOUT};
 ghost use Rattle.store_slots.specs.Bodies.{spellings};
 ghost use Rattle.store_slots.specs.Errors.{OfDesktop};
 ghost use Rattle.desk_journal.specs.Looking.{OnlyLooks};
-ghost use Rattle.past_pages.specs.declared.page.TheConstants.{EVENTS_PAGE, IMPORT_PAGE, PAGE_FRONT, TURN_PAGE};
+ghost use Rattle.past_pages.specs.declared.page.TheConstants.{EVENTS_PAGE, FAR_PAGE, IMPORT_PAGE, MARK_PAGE, PAGE_FRONT, TURN_PAGE};
 ghost use Rattle.past_pages.specs.Page.{Page, page_body, page_count, page_kind, page_sectors, AreDoable, AreEvents};
 ghost use Rattle.past_pages.specs.Reading.{HasPage, IsKindOf, IsOnlyReadFrom, IsRead, kind_count};
 
 use crate::documents::documents_in;
-use crate::page::{EVENTS_PAGE, IMPORT_PAGE, PAGE_FRONT, TURN_PAGE, sectors_for};
+use crate::page::{
+    EVENTS_PAGE, FAR_PAGE, IMPORT_PAGE, MARK_PAGE, PAGE_FRONT, TURN_PAGE, sectors_for,
+};
 use crate::sectors::bytes_at;
 use byteorder::{BigEndian, ByteOrder};
 use desk_journal::{Document, Error, Store};
@@ -22,12 +24,15 @@ use sector_disk::{Disk, NoMemory};
 use std::alloc::Global;
 use store_layout::{JOURNAL_EVENTS, LAYOUT};
 
-/// What a page says was done: events that were posted, an import, or a turn to a moment.
+/// What a page says was done: events that were posted, an import, a turn to a moment, or one to the desktop that the page has.
+/// A mark has what the desktop was there, and no deed.
 #[derive(Drop)]
 pub enum PageDeeds {
     Events(Vec<Event>),
     Import(Vec<Document>),
     Turn(u64),
+    FarTurn,
+    Mark,
 }
 
 /// A page that was read: what it says was done, and the sector behind it.
@@ -37,22 +42,26 @@ pub struct PageRead {
     pub next: u32,
 }
 
-/// What kind of page it is: of so many events that were posted, of an import, or of a turn to a moment.
+/// What kind of page it is: of so many events that were posted, of an import, of a turn to a moment or to the desktop that the
+/// page has, or a mark.
 #[derive(Clone, Copy, Debug, PartialEq, Eq)]
 pub enum PageKind {
     Events(u32),
     Import,
     Turn(u64),
+    FarTurn,
+    Mark,
 }
 
 impl PageKind {
-    /// How many deeds such a page has: an import is one deed, and so is a turn.
+    /// How many deeds such a page has: an import is one deed, and so is a turn; a mark has none.
     pub fn count(self) -> u32
         ensures { result ≡ kind_count self }
     {
         match self {
             PageKind::Events(count) => count,
-            PageKind::Import | PageKind::Turn(_) => 1,
+            PageKind::Import | PageKind::Turn(_) | PageKind::FarTurn => 1,
+            PageKind::Mark => 0,
         }
     }
 }
@@ -64,17 +73,17 @@ pub struct PageFront {
     pub next: u32,
 }
 
-/// What stands before the events or documents of a page: its kind, how many there are, and in how many bytes they are
+/// What stands before the events, documents or sectors of a page: its kind, how many there are, and in how many bytes they are
 /// spelled.
 #[derive(Clone, Copy)]
-struct Front {
-    kind: u32,
-    count: u32,
-    spelled: u32,
+pub(crate) struct Front {
+    pub kind: u32,
+    pub count: u32,
+    pub spelled: u32,
 }
 
 /// The front of a page of the newest version, which these bytes are. None where they are none.
-fn front_of(bytes: &[u8]) -> Option<Front>
+pub(crate) fn front_of(bytes: &[u8]) -> Option<Front>
     requires { length bytes.now ≡ PAGE_FRONT }
     ensures kind { IfSome result (λ f. f.kind ≡ from_be_bytes w32 (take 4 bytes.now)) }
     ensures count { IfSome result (λ f. f.count ≡ from_be_bytes w32 (take 4 (drop 8 bytes.now))) }
@@ -134,6 +143,10 @@ fn deeds_of(alloc: Global, front: Front, bytes: &[u8]) -> Result<Option<PageDeed
         }
     } else if front.kind == TURN_PAGE && bytes.len() >= 8 {
         Ok(Some(PageDeeds::Turn(BigEndian::read_u64(&bytes[..8]))))
+    } else if front.kind == MARK_PAGE {
+        Ok(Some(PageDeeds::Mark))
+    } else if front.kind == FAR_PAGE {
+        Ok(Some(PageDeeds::FarTurn))
     } else {
         Ok(None)
     }
@@ -151,6 +164,10 @@ fn kind_of(front: Front, bytes: &[u8]) -> Option<PageKind>
         Some(PageKind::Import)
     } else if front.kind == TURN_PAGE && bytes.len() >= 8 {
         Some(PageKind::Turn(BigEndian::read_u64(&bytes[..8])))
+    } else if front.kind == MARK_PAGE {
+        Some(PageKind::Mark)
+    } else if front.kind == FAR_PAGE {
+        Some(PageKind::FarTurn)
     } else {
         None
     }

@@ -15,9 +15,11 @@ pub const PART_SECTORS: u32 = 32_768;
 /// How many sectors a disk has that has room for a past: those of a store, two that are for pairs of disks, and 40 parts.
 pub const PAST_SECTORS: u32 = PARTS + 40 * PART_SECTORS;
 
-/// Into how many sectors of pages a part is filled, before the next one begins: so many are done once more in memory in a
-/// third of a second.
-pub const FULL_PART: u32 = 512;
+/// Into how many sectors of pages a part is filled, before the next one begins.
+pub const FULL_PART: u32 = 8_192;
+
+/// How many of these are kept for other pages than marks: so many have a part's letters, whatever its marks take.
+pub const BARE_PART: u32 = 512;
 
 /// For how many sectors of pages a part has room at least that isn't full.
 pub const LEAST_ROOM: u32 = PART_SECTORS - STORE_SECTORS - FULL_PART;

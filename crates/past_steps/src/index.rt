@@ -6,16 +6,17 @@ ghost use Rattle.past_steps.specs.Steps.{IsPartInUse};
 
 use desk_journal::{Error, STORE_SECTORS, Store};
 use event_bytes::Event;
-use past_pages::{PageKind, Part, front_in, part_at};
+use past_pages::{FULL_PART, PageKind, Part, front_in, part_at};
 use sector_disk::Disk;
 use std::alloc::{AllocError, Global};
 use store_layout::PastEnd;
 
-/// How many sectors behind the start of a part are read at most: a step is to take no longer than a key may.
-const MOST_SECTORS: u32 = 4096;
+/// How many sectors behind the start of a part are read at most: a step is to take no longer than a key may. A part that
+/// isn't full has no more.
+const MOST_SECTORS: u32 = FULL_PART;
 
-/// How many deeds are done once more in memory before a step, at most, for the same reason: as many as the pages of a part can
-/// have that is full with 512 sectors.
+/// How many deeds are done once more in memory before a step, at most, for the same reason: behind the last page with a
+/// desktop, or behind the start where there is none.
 const MOST_DONE_AGAIN: u64 = 131_072;
 
 /// A page: the sector in which it stands, how many deeds of the pages came before it, and how many it has.
@@ -25,6 +26,13 @@ pub(crate) struct Entry {
     pub before: u64,
     pub count: u64,
     pub kind: PageKind,
+}
+
+impl Entry {
+    /// Whether the page has a desktop.
+    fn has_desktop(self) -> bool {
+        matches!(self.kind, PageKind::Mark | PageKind::FarTurn)
+    }
 }
 
 /// The page of the deed right before a moment, and how many of its deeds came before that.
@@ -38,12 +46,12 @@ pub(crate) struct Found {
 impl Found {
     /// Whether it has events or an import, and no turn.
     fn is_done(self) -> bool {
-        !matches!(self.kind, PageKind::Turn(_))
+        !matches!(self.kind, PageKind::Turn(_) | PageKind::FarTurn)
     }
 }
 
-/// The pages of a past that have deeds, oldest first, the sector from which the part begins in which they stand, and the
-/// one behind them; how many deeds came before them, and before the journal in use; and the events of that.
+/// The pages of a past that have deeds or a desktop, oldest first, the sector from which the part begins in which they
+/// stand, and the one behind them; how many deeds came before them, and before the journal in use; and the events of that.
 #[derive(Drop)]
 pub(crate) struct Index {
     pub entries: Vec<Entry>,
@@ -81,16 +89,16 @@ fn entry_at<D: Disk>(
     }
 }
 
-/// The page that has deeds is one more.
+/// The page that has deeds, or a desktop, is one more.
 fn add(entries: &mut Vec<Entry>, entry: Entry) -> Result<(), AllocError> {
-    if entry.count > 0 {
+    if entry.count > 0 || entry.has_desktop() {
         entries.push(entry)?;
     }
     Ok(())
 }
 
-/// The pages from sector `first` up to sector `end` that have deeds, each with how many came before it in these pages. None
-/// where one is missing.
+/// The pages from sector `first` up to sector `end` that have deeds or a desktop, each with how many came before it in
+/// these pages. None where one is missing.
 ///
 /// Errors: those of `front_in`; `NoMemory`.
 fn entries_in<D: Disk>(
@@ -220,9 +228,22 @@ impl Index {
         })
     }
 
-    /// Whether so few deeds came before moment `k` since the part began that they can be done again before a step.
+    /// How many deeds came before moment `k` since the part began, or since the last page with a desktop before it.
+    fn since_desktop(&self, k: u64) -> u64 {
+        let n = k.saturating_sub(self.start);
+        let mut last = 0;
+        for entry in self.entries.as_slice() {
+            let end = entry.before.saturating_add(entry.count);
+            if entry.has_desktop() && end <= n {
+                last = end;
+            }
+        }
+        n.saturating_sub(last)
+    }
+
+    /// Whether so few of them did that they can be done again before a step.
     pub fn is_near(&self, k: u64) -> bool {
-        k.saturating_sub(self.start) <= MOST_DONE_AGAIN
+        self.since_desktop(k) <= MOST_DONE_AGAIN
     }
 
     /// How many deeds there are.

@@ -221,7 +221,7 @@ module _ {D : Type 0} (d : Ghosts D) where
     scenes = λ is. (Some v'.shown, scenes_on does.0 usable quiet (shown is));
   }
   does_turned Leaves old mid new v v' v'' held held' usable quiet still knows shown does = λ is.
-      let turn = does (knows is) in turned mid still v'.shown (shown is) turn.0 turn.1 turn.2
+      turned mid still v'.shown (shown is) (does (knows is))
 
   -- first it was only read
   pub leaves_after : {old mid new : StoreView D} {held held' : Option (List ℕ)} → IsOnlyReadFrom d old mid
@@ -232,7 +232,7 @@ module _ {D : Type 0} (d : Ghosts D) where
   pub viewed_after : {old mid new : StoreView D} {held held' : Option (List ℕ)} → IsOnlyReadFrom d old mid
       → IsViewed d mid new held held' → IsViewed d old new held held'
   viewed_after still (looked read last scenes) = looked (still_both d still read) last scenes
-  viewed_after still (turned at read k scenes to was comes) = turned at (still_both d still read) k scenes to was comes
+  viewed_after still (turned at read k scenes comes) = turned at (still_both d still read) k scenes comes
 
   -- scenes came first
   pub viewed_behind : {old mid new : StoreView D} {a : Option ℕ} {held some' held' : Option (List ℕ)}
@@ -241,8 +241,8 @@ module _ {D : Type 0} (d : Ghosts D) where
   viewed_behind usable quiet still first (looked read last scenes) =
       let both = scenes_both (scenes_on read usable quiet first) scenes in
       looked (still_both d still read) both.0 both.1
-  viewed_behind usable quiet still first (turned at read k scenes to was comes) =
-      turned at (still_both d still read) k (scenes_last k (scenes_on read usable quiet first) scenes refl) to was comes
+  viewed_behind usable quiet still first (turned at read k scenes comes) =
+      turned at (still_both d still read) k (scenes_last k (scenes_on read usable quiet first) scenes refl) comes
 
   leaves_behind : {old mid new : StoreView D} {a : Option ℕ} {held some' held' : Option (List ℕ)}
       → mid.must_reopen ≡ false → (d.honest mid.disk → IsQuiet d mid) → IsOnlyReadFrom d old mid

@@ -15,11 +15,9 @@ use Rattle.desktop_definitions.specs.Desktop.{Desktop}
 use Rattle.desktop_definitions.specs.Shown.{shown_screen}
 use Rattle.desk_journal.specs.Device.{IsOnlyRead}
 use Rattle.desk_journal.specs.Errors.{Error, NoMemory}
-use Rattle.desk_journal.specs.Gathering.{GatheredView}
 use Rattle.desk_journal.specs.View.{StoreView}
 use Rattle.past_pages.specs.Reading.{IsOnlyReadFrom}
-use Rattle.desk_past.specs.Turning.{ComesToMoment}
-use Rattle.past_moments.specs.Moments.{IsDesktopAt, IsLastOf}
+use Rattle.past_moments.specs.Moments.{IsLastOf}
 use Rattle.past_looks.specs.Looking.{IsLookerOf, IsSeenAt, ComesBackTo, LeavesMoment, SaysBelow}
 use Rattle.past_looks.specs.Words.{moment_line}
 use Rattle.terminal_clipboards.specs.Clips.{clip_of}
@@ -106,13 +104,12 @@ module _ {D : Type 0} (d : Ghosts D) where
 
   -- ---- what becomes of the store, and what a writer took meanwhile
 
-  -- It is only read; or it is read first, and then turned to the desktop of the moment that the last scene shows.
+  -- It is only read; or it is read first, and then turned back to the moment that the last scene shows.
   pub data IsViewed (old new : StoreView D) (held held' : Option (List ℕ)) : Type 0 where
     looked : IsOnlyReadFrom d old new → (last : Option ℕ) → TakesScenes new last held held'
         → IsViewed old new held held'
     turned : (mid : StoreView D) → IsOnlyReadFrom d old mid → (k : ℕ)
-        → TakesScenes mid (Some k) held held' → (to : GatheredView)
-        → IsDesktopAt d k to.desktop mid → ComesToMoment d k to mid new
+        → TakesScenes mid (Some k) held held' → ComesBackTo d k mid new
         → IsViewed old new held held'
 
   -- Whatever is returned: it is only read; or it is read first, and then so it is, with the moment that the last scene shows.

@@ -1,11 +1,11 @@
 -- Pages that are counted one after another.
 use Rattle.std.proofs.Common.{◌≡◌, ◌+◌, ◌<◌, ◌≤◌, ℕ, List, [], ◌∷◌, length, refl, sym, ◌∙◌, ap, subst}
-use Rattle.std.proofs.Common.{arith, length-append}
+use Rattle.std.proofs.Common.{arith, length-append, true, false}
 use Rattle.sector_disk.specs.Trail.{Content}
-use Rattle.past_pages.specs.Page.{Page, of_events, of_import, of_turn, page_sectors}
+use Rattle.past_pages.specs.Page.{Page, of_copy, of_events, of_import, of_turn, page_sectors}
 use Rattle.past_pages.specs.Reading.{HasPage, IsRead}
 use Rattle.past_pages.specs.declared.pages.PageDeeds.{PageDeeds}
-use Rattle.past_pages.specs.declared.pages.PageDeeds.TheVariants.{Events, Import, Turn}
+use Rattle.past_pages.specs.declared.pages.PageDeeds.TheVariants.{Events, FarTurn, Import, Mark, Turn}
 use Rattle.desk_past.specs.Past.{HasPages, deeds_in, end_of_pages, AreGood, all_deeds}
 use Rattle.desk_past.specs.Reading.{many_deeds}
 use Rattle.desk_past.proofs.Carrying.{end_above}
@@ -29,12 +29,28 @@ many_read : (deeds : PageDeeds) (p : Page) → IsRead deeds p → many_deeds dee
 many_read (Events events) (of_events version all) is = ap length is ∙ sym (many_posted all)
 many_read (Events events) (of_import version all) is = absurd is
 many_read (Events events) (of_turn version k to) is = absurd is
+many_read (Events events) (of_copy version false sectors to) is = absurd is
+many_read (Events events) (of_copy version true sectors to) is = absurd is
 many_read (Import documents) (of_events version all) is = absurd is
 many_read (Import documents) (of_import version all) is = refl
 many_read (Import documents) (of_turn version k to) is = absurd is
+many_read (Import documents) (of_copy version false sectors to) is = absurd is
+many_read (Import documents) (of_copy version true sectors to) is = absurd is
 many_read (Turn n) (of_events version all) is = absurd is
 many_read (Turn n) (of_import version all) is = absurd is
 many_read (Turn n) (of_turn version k to) is = refl
+many_read (Turn n) (of_copy version false sectors to) is = absurd is
+many_read (Turn n) (of_copy version true sectors to) is = absurd is
+many_read Mark (of_events version all) is = absurd is
+many_read Mark (of_import version all) is = absurd is
+many_read Mark (of_turn version k to) is = absurd is
+many_read Mark (of_copy version false sectors to) is = refl
+many_read Mark (of_copy version true sectors to) is = absurd is
+many_read FarTurn (of_events version all) is = absurd is
+many_read FarTurn (of_import version all) is = absurd is
+many_read FarTurn (of_turn version k to) is = absurd is
+many_read FarTurn (of_copy version false sectors to) is = absurd is
+many_read FarTurn (of_copy version true sectors to) is = refl
 
 -- before the end one is left
 pub some_left : (todo : List Page) (at end : ℕ) → end_of_pages at todo ≡ end → at < end

@@ -86,13 +86,14 @@ pub fn takes_back<D: Disk>(alloc: Global, store: &mut Store<D>, count: u32) -> R
     Ok(taken.len() == count as usize)
 }
 
-/// How much a page says was done: an import is one deed, and so is a turn.
+/// How much a page says was done: an import is one deed, and so is a turn; a mark is none.
 fn many_of(deeds: &PageDeeds) -> u64
     ensures { result ≡ many_deeds deeds.now }
 {
     match deeds {
         PageDeeds::Events(events) => events.len() as u64,
-        PageDeeds::Import(_) | PageDeeds::Turn(_) => 1,
+        PageDeeds::Import(_) | PageDeeds::Turn(_) | PageDeeds::FarTurn => 1,
+        PageDeeds::Mark => 0,
     }
 }
 

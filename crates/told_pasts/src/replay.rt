@@ -1,13 +1,13 @@
 //! Pages that are told, each over a store in memory in which the deeds before it were done once more.
 ghost use Rattle.std.specs.Prelude.{◌≡◌, ◌∷◌, ◌++◌, [], List, Some, None, false, IfErr, IfOk, OnOk};
 ghost use Rattle.desktop_definitions.specs.Desktop.{Desktop};
-ghost use Rattle.past_pages.specs.Page.{Page};
-ghost use Rattle.past_pages.specs.Reading.{IsOnlyReadFrom, IsRead};
+ghost use Rattle.past_pages.specs.Reading.{IsOnlyReadFrom};
 ghost use Rattle.desk_past.specs.Deeds.{PastDeed, all_posted, brought, turned};
-ghost use Rattle.desk_past.specs.Past.{deeds_in, HasMoment, IsTurn, Start, all_deeds, moment as moment_of};
+ghost use Rattle.desk_past.specs.Past.{deeds_in, HasMoment, Start, all_deeds, moment as moment_of};
 ghost use Rattle.told_pasts.specs.Reaching.{HasReach};
 ghost use Rattle.told_pasts.specs.Stopping.{StopsAs, as_in_memory};
-ghost use Rattle.told_pasts.specs.Telling.{IsToldOver, IsToShow, IsAmid};
+ghost use Rattle.told_pasts.specs.Telling.{HasDesktop, IsAmid, IsAtPage, IsToldOver, IsToShow};
+ghost use Rattle.told_pasts.specs.Words.{turn_line};
 
 use crate::line::Line;
 use crate::reach::Reach;
@@ -15,7 +15,7 @@ use crate::telling::{add_import, add_lines, push_line};
 use desk_journal::{Document, Error, Store};
 use desk_past::moment;
 use event_bytes::Event;
-use past_pages::{PageDeeds, PageRead, page_in};
+use past_pages::{PageDeeds, PageRead, copy_in, page_in};
 use sector_disk::{Disk, MemoryDisk};
 use std::alloc::{AllocError, Global};
 
@@ -66,6 +66,42 @@ pub(crate) fn turn_if_due<D: Disk>(
     Ok(())
 }
 
+/// Adds the line of a turn.
+fn push_turn(alloc: Global, lines: &mut Vec<Line>) -> Result<(), AllocError>
+    ensures { OnOk result (lines.new.items ≡ lines.old.items ++ (turn_line ∷ [])) }
+{
+    let line = Vec::from_slice(alloc, b"turn back to an earlier moment")?;
+    push_line(lines, line)
+}
+
+/// Adds the line of a turn to the desktop that the page in sector `at` has, which the store in memory shows then.
+///
+/// Errors: those of `copy_in`; `Damaged` where none stands there.
+fn add_far_turn<D: Disk>(
+    alloc: Global,
+    store: &mut Store<D>,
+    at: u32,
+    replay: &mut Replay,
+    lines: &mut Vec<Line>,
+) -> Result<(), Error>
+    requires { store.old.must_reopen ≡ false }
+    ensures told { OnOk result ((h : HasDesktop D.Disk store.old at) (start : Start)
+        (deeds : List PastDeed) (here : Desktop) → IsToldOver start deeds here
+        (turned h.to ∷ []) replay.new.due replay.new.shown.desktop lines.old.items
+        lines.new.items) }
+    ensures still { OnOk result (IsOnlyReadFrom D.Disk store.old store.new) }
+    ensures stops { StopsAs D.Disk (HasDesktop D.Disk store.old at) result store.old store.new }
+{
+    push_turn(alloc, lines)?;
+    let end = store.sectors();
+    let Some(shown) = copy_in(alloc, store, at, end)? else {
+        return Err(Error::Damaged(at));
+    };
+    replay.shown = shown;
+    replay.due = None;
+    Ok(())
+}
+
 /// Adds the line of a turn to a moment, which is due then.
 fn add_turn(
     alloc: Global,
@@ -78,8 +114,7 @@ fn add_turn(
         → IsToldOver start deeds here (turned to ∷ []) replay.new.due replay.new.shown.desktop
         lines.old.items lines.new.items) }
 {
-    let line = Vec::from_slice(alloc, b"turn back to an earlier moment")?;
-    push_line(lines, line)?;
+    push_turn(alloc, lines)?;
     replay.due = Some(k);
     Ok(())
 }
@@ -135,25 +170,25 @@ fn add_documents<D: Disk>(
     in_memory(add_import(alloc, &mut replay.shown, documents, lines))
 }
 
-/// Adds the lines of what was done. That is done then; a turn is due then.
+/// Adds the lines of what the page in sector `at` says was done. That is done then; a turn to a moment is due then.
 ///
-/// Errors: those of `turn_if_due`; `NoMemory`; `Worn`.
+/// Errors: those of `turn_if_due` and `add_far_turn`; `NoMemory`; `Worn`.
 fn add_deeds<D: Disk>(
     alloc: Global,
     store: &mut Store<D>,
     base: u32,
+    at: u32,
     replay: &mut Replay,
     deeds: &PageDeeds,
     lines: &mut Vec<Line>,
 ) -> Result<(), Error>
     requires { store.old.must_reopen ≡ false }
-    ensures told { OnOk result ((a : IsAmid D.Disk store.old base replay.old.due
-        replay.old.shown.desktop) → (p : Page) → IsRead deeds.now p
-        → IsTurn a.past.start a.past.deeds p → IsToldOver a.past.start a.past.deeds a.here
-        (deeds_in p) replay.new.due replay.new.shown.desktop
-        lines.old.items lines.new.items) }
+    ensures told { OnOk result ((a : IsAtPage D.Disk store.old base at deeds.now replay.old.due
+        replay.old.shown.desktop) → IsToldOver a.amid.past.start a.amid.past.deeds a.amid.here
+        (deeds_in a.page) replay.new.due replay.new.shown.desktop lines.old.items
+        lines.new.items) }
     ensures still { OnOk result (IsOnlyReadFrom D.Disk store.old store.new) }
-    ensures stops { StopsAs D.Disk (IsAmid D.Disk store.old base replay.old.due
+    ensures stops { StopsAs D.Disk (IsAtPage D.Disk store.old base at deeds.now replay.old.due
         replay.old.shown.desktop) result store.old store.new }
 {
     match deeds {
@@ -167,32 +202,34 @@ fn add_deeds<D: Disk>(
         PageDeeds::Import(documents) => {
             add_documents(alloc, store, base, replay, documents.as_slice(), lines)
         }
+        PageDeeds::FarTurn => add_far_turn(alloc, store, at, replay, lines),
+        PageDeeds::Mark => Ok(()),
     }
 }
 
-/// Adds the lines of what a page says was done, as `add_deeds` does, and returns the sector behind the page.
+/// Adds the lines of what the page in sector `at` says was done, as `add_deeds` does, and returns the sector behind it.
 ///
 /// Errors: those of `add_deeds`.
 fn add_page<D: Disk>(
     alloc: Global,
     store: &mut Store<D>,
     base: u32,
+    at: u32,
     replay: &mut Replay,
     page: PageRead,
     lines: &mut Vec<Line>,
 ) -> Result<u32, Error>
     requires { store.old.must_reopen ≡ false }
     ensures next { IfOk result (λ next. next ≡ page.next) }
-    ensures told { OnOk result ((a : IsAmid D.Disk store.old base replay.old.due
-        replay.old.shown.desktop) → (p : Page) → IsRead page.deeds p
-        → IsTurn a.past.start a.past.deeds p → IsToldOver a.past.start a.past.deeds a.here
-        (deeds_in p) replay.new.due replay.new.shown.desktop
-        lines.old.items lines.new.items) }
+    ensures told { OnOk result ((a : IsAtPage D.Disk store.old base at page.deeds replay.old.due
+        replay.old.shown.desktop) → IsToldOver a.amid.past.start a.amid.past.deeds a.amid.here
+        (deeds_in a.page) replay.new.due replay.new.shown.desktop lines.old.items
+        lines.new.items) }
     ensures still { OnOk result (IsOnlyReadFrom D.Disk store.old store.new) }
-    ensures stops { StopsAs D.Disk (IsAmid D.Disk store.old base replay.old.due
+    ensures stops { StopsAs D.Disk (IsAtPage D.Disk store.old base at page.deeds replay.old.due
         replay.old.shown.desktop) result store.old store.new }
 {
-    add_deeds(alloc, store, base, replay, &page.deeds, lines)?;
+    add_deeds(alloc, store, base, at, replay, &page.deeds, lines)?;
     Ok(page.next)
 }
 
@@ -224,7 +261,7 @@ pub(crate) fn add_pages<D: Disk>(
         let Some(page) = page_in(alloc, store, at, reach.next)? else {
             return Err(Error::Damaged(at));
         };
-        let next = add_page(alloc, store, reach.part.base, replay, page, lines)?;
+        let next = add_page(alloc, store, reach.part.base, at, replay, page, lines)?;
         at = next;
     }
     Ok(())

@@ -18,6 +18,8 @@ for k; do
         continue
     fi
     read=$(bash "$here/shown.sh" "$(wc -l < rest)" "$OBERON" play moment.disk < rest)
-    if [ "$is" = "$wanted" ] && [ "$read" = "$wanted" ]; then good=$((good + 1)); else bad=$((bad + 1)) && echo "$k differs"; fi
+    MARKS=1 python3 "$here/reader.py" a.disk "$sectors" "$k" moment.disk rest
+    marked=$(bash "$here/shown.sh" "$(wc -l < rest)" "$OBERON" play moment.disk < rest)
+    if [ "$is" = "$wanted" ] && [ "$read" = "$wanted" ] && [ "$marked" = "$wanted" ]; then good=$((good + 1)); else bad=$((bad + 1)) && echo "$k differs"; fi
 done
 echo "$good moments agree, $bad differ, $gone are gone"

@@ -2,7 +2,9 @@
 """reader.py FILE SECTORS K DISK SCRIPT: the desktop of moment K of the store in FILE, a disk of so many sectors (`sitting`: of as
 many as a sitting's), as docs/PAST.md and docs/STORE.md tell: a store DISK to start from, and what leads from there as lines of a
 script; an import of N documents is a line `import N`, and a line `document NAME TEXT` for each. It returns 1 where no past
-leads there."""
+leads there. Where MARKS is set in the environment the store is the last mark before that, if there is one: both must lead to the
+same."""
+import os
 import sys
 
 SECTOR, STORE, PART, SITTING = 1024, 15621, 32768, 1326343
@@ -97,7 +99,29 @@ def turn_in(data, count):
     return [number(data[16:24])] * count, 24
 
 
-READERS = {1: events_in, 2: import_in, 3: turn_in}
+class Copy:
+    """A desktop in a page, as the sectors of a store; far: the desktop was turned to it."""
+
+    def __init__(self, far, sectors):
+        self.far, self.sectors = far, sectors
+
+    def store(self):
+        data = bytearray(STORE * SECTOR)
+        for n, held in self.sectors:
+            data[n * SECTOR:(n + 1) * SECTOR] = held
+        return data
+
+
+def copy_in(far):
+    def read(data, count):
+        sectors = [(number(data[at:at + 4]), data[at + 4:at + 4 + SECTOR]) for at in range(16, 16 + count * (4 + SECTOR), 4 + SECTOR)]
+        if any(n >= STORE for n, _ in sectors):
+            raise Gone('a sector that no store has')
+        return [Copy(far, sectors)], 16 + count * (4 + SECTOR)
+    return read
+
+
+READERS = {1: events_in, 2: import_in, 3: turn_in, 4: copy_in(False), 5: copy_in(True)}
 
 
 def journal(disk, base, slot):
@@ -111,7 +135,7 @@ def journal(disk, base, slot):
 
 def pages(disk, at, end):
     """What the pages from one sector up to another one say was done, page by page: each event, and each import, as lines; of a turn
-    the moment."""
+    the moment, or the desktop; and marks."""
     while at < end:
         front = disk.at(at)
         kind, version, count, length = (number(front[4 * k:4 * k + 4]) for k in range(4))
@@ -127,10 +151,32 @@ def pages(disk, at, end):
         raise Gone('a page beyond the end')
 
 
-def way_to(deeds):
-    """The deeds that lead from the start to where these lead: those before the moment of the last turn, and those behind it."""
-    turns = [place for place, deed in enumerate(deeds) if isinstance(deed, int)]
-    return way_to(deeds[:deeds[turns[-1]]]) + deeds[turns[-1] + 1:] if turns else deeds
+def is_deed(item):
+    return not isinstance(item, Copy) or item.far
+
+
+def behind(items, count):
+    """The items up to the one behind which so many deeds came, and marks right behind that."""
+    found, done = [], 0
+    for item in items:
+        if is_deed(item) and done == count:
+            break
+        found.append(item)
+        done += is_deed(item)
+    return found
+
+
+def way_to(items, count):
+    """What leads to the moment behind so many deeds: a desktop to start from, or None for the start, and lines."""
+    items = behind(items, count)
+    for place in reversed(range(len(items))):
+        item, rest = items[place], [it for it in items[place + 1:] if isinstance(it, list)]
+        if isinstance(item, int):
+            copy, before = way_to(items[:place], item)
+            return copy, before + rest
+        if isinstance(item, Copy) and (item.far or 'MARKS' in os.environ):
+            return item, rest
+    return None, [it for it in items if isinstance(it, list)]
 
 
 def part_with(sectors, next_):
@@ -155,7 +201,8 @@ def span_with(disk, sectors, now, k):
 
 
 def moment(disk, sectors, k):
-    """From which sector on a store is to be copied, the slot whose journal is to be emptied, and the lines from there."""
+    """From which sector on a store is to be copied, or a desktop; the slot whose journal is to be emptied; and the lines from
+    there."""
     now = Slot(disk, 0)
     if k >= now.before:
         lines = journal(disk, 0, now.slot)
@@ -170,13 +217,14 @@ def moment(disk, sectors, k):
         if before.epoch >= start.epoch:
             raise Gone('it is older than the part, and the one before has begun anew')
         return base, start, own[:k - start.before]
-    deeds = [deed for page in pages(disk, base + STORE, told.next) for deed in page]
-    if first + len(deeds) != told.before:
+    items = [item for page in pages(disk, base + STORE, told.next) for item in page]
+    if first + sum(map(is_deed, items)) != told.before:
         raise Gone('the numbers do not agree')
-    done = [deed - first if isinstance(deed, int) else deed for deed in deeds[:k - first]]
-    if any(isinstance(deed, int) and not 0 <= deed <= place for place, deed in enumerate(done)):
+    done = [item - first if isinstance(item, int) else item for item in behind(items, k - first)]
+    if any(isinstance(item, int) and not 0 <= item <= sum(map(is_deed, done[:place])) for place, item in enumerate(done)):
         raise Gone('a turn to a moment that the part does not have')
-    return base, None, [line for deed in way_to(done) for line in deed]
+    copy, lines = way_to(done, k - first)
+    return copy or base, None, [line for deed in lines for line in deed]
 
 
 def main(path, sectors, k, to, script):
@@ -187,7 +235,7 @@ def main(path, sectors, k, to, script):
         print(gone, file=sys.stderr)
         return 1
     with open(to, 'wb') as file:
-        data = bytearray(disk.at(base, STORE))
+        data = base.store() if isinstance(base, Copy) else bytearray(disk.at(base, STORE))
         if slot:
             gate = 5 + 512 * slot.slot
             data[gate * SECTOR:(gate + 1) * SECTOR] = bytes(SECTOR)

@@ -28,11 +28,16 @@ returns-clause-any_moment g c = λ honest start deeds desktop keeps.
 
 pub returns-clause-written : goal.returns-clause-written
 returns-clause-written g c = IfOk-weaker c.write_page_at.result _ _
-    (λ end fact. IfSome_then end fact (λ n written honest start deeds desktop keeps.
-    told_still g.D.Disk keeps honest (c.shows_what_crashes_leave.ensures.quiet keeps.usable honest) c.past.new.self
-    c.past.ensures.looks.disk (c.past.ensures.looks.usable ∙ keeps.usable) _
-    (c.in_ok-told.ensures.told honest keeps.remembers.standing keeps.remembers.past.stands)
-    (written (c.past.ensures.looks.disk.device.still honest) start deeds desktop))) c.write_page_at.ensures.written
+    (λ end fact. IfSome_then end fact (λ n written. (
+      λ honest s at.
+          let later = written.0 in
+          let next = ap (λ (x : PastEnd). x.next) (c.in_ok-told.ensures.told honest s at) in omega (arith, later, next),
+      λ honest start deeds desktop keeps.
+          told_still g.D.Disk keeps honest (c.shows_what_crashes_leave.ensures.quiet keeps.usable honest) c.past.new.self
+          c.past.ensures.looks.disk (c.past.ensures.looks.usable ∙ keeps.usable) _
+          (c.in_ok-told.ensures.told honest keeps.remembers.standing keeps.remembers.past.stands)
+          (written.1 (c.past.ensures.looks.disk.device.still honest) start deeds desktop),
+    ))) c.write_page_at.ensures.written
 
 pub returns-clause-none : goal.returns-clause-none
 returns-clause-none g c = IfOk-weaker c.write_page_at.result _ _

@@ -47,26 +47,29 @@ returns-clause-any_moment g c = λ honest start deeds desktop keeps told.
     c.write_behind.ensures.only c.write_behind.ensures.any_moment
 
 pub returns-clause-written : goal.returns-clause-written
-returns-clause-written g c = λ honest start deeds desktop keeps told.
-    let d = g.D.Disk in
-    let run = c.page_read.ensures.looks.disk in
-    let usable = c.page_read.ensures.usable ∙ keeps.usable in
-    let same = (rw c.in-Some.is at c.in_ok-bytes.ensures.page) honest keeps.remembers.standing keeps.remembers.past.stands in
-    let is = shown_as (now (d.trail c.args.store.now.disk)) keeps.remembers.standing c.standing_law.ensures
-    (c.info.ensures.durable keeps.usable honest) keeps.remembers.past.stands in
-    let info_is = ap (ok_of c.in_ok-info.info) (sym c.in_ok-info.was ∙ c.info.ensures.value keeps.usable) in
-    read_then_page d c.page_read.new.store c.write_behind.new.self keeps honest
-    (c.shows_what_crashes_leave.ensures.quiet keeps.usable honest) run usable
-    (c.shows_what_crashes_leave-2.ensures.quiet usable (run.device.still honest)) _ _ (ap (λ x. x.next) told)
-    c.write_behind.ensures.only c.in-Some-end_behind.next c.in_ok-write_behind.ensures.ok
-    (c.as_slice.ensures.value ∙ same)
-    (subst (λ l. length l < 2 ^ 32) (sym c.as_slice.ensures.value) (rw c.in-Some.is at c.in_ok-bytes.ensures.short))
-    (page_ends_at c.args.told.next c.in-Some-end_behind.next.next c.len.result (journal_of keeps.remembers.standing)
-    c.in-Some-end_behind.ensures.count
-    (c.len.ensures ∙ c.in-Some.bytes.ok.0) same)
-    (search (rules, arith))
-    (counts_on _ _ keeps.remembers.standing _ (sym (ap (λ x. x.before) told)) c.in-Some-end_behind.ensures.before
-    (is.events ∙ sym (ap (λ x. x.events) info_is)))
+returns-clause-written g c = (
+  let later = c.in-Some-end_behind.ensures.later in omega (arith, later),
+  λ honest start deeds desktop keeps told.
+      let d = g.D.Disk in
+      let run = c.page_read.ensures.looks.disk in
+      let usable = c.page_read.ensures.usable ∙ keeps.usable in
+      let same = (rw c.in-Some.is at c.in_ok-bytes.ensures.page) honest keeps.remembers.standing keeps.remembers.past.stands in
+      let is = shown_as (now (d.trail c.args.store.now.disk)) keeps.remembers.standing c.standing_law.ensures
+      (c.info.ensures.durable keeps.usable honest) keeps.remembers.past.stands in
+      let info_is = ap (ok_of c.in_ok-info.info) (sym c.in_ok-info.was ∙ c.info.ensures.value keeps.usable) in
+      read_then_page d c.page_read.new.store c.write_behind.new.self keeps honest
+      (c.shows_what_crashes_leave.ensures.quiet keeps.usable honest) run usable
+      (c.shows_what_crashes_leave-2.ensures.quiet usable (run.device.still honest)) _ _ (ap (λ x. x.next) told)
+      c.write_behind.ensures.only c.in-Some-end_behind.next c.in_ok-write_behind.ensures.ok
+      (c.as_slice.ensures.value ∙ same)
+      (subst (λ l. length l < 2 ^ 32) (sym c.as_slice.ensures.value) (rw c.in-Some.is at c.in_ok-bytes.ensures.short))
+      (page_ends_at c.args.told.next c.in-Some-end_behind.next.next c.len.result (journal_of keeps.remembers.standing)
+      c.in-Some-end_behind.ensures.count
+      (c.len.ensures ∙ c.in-Some.bytes.ok.0) same)
+      (search (rules, arith))
+      (counts_on _ _ keeps.remembers.standing _ (sym (ap (λ x. x.before) told)) c.in-Some-end_behind.ensures.before
+      (is.events ∙ sym (ap (λ x. x.events) info_is))),
+)
 
 pub returns-in_default-clause-any_moment : goal.returns-in_default-clause-any_moment
 returns-in_default-clause-any_moment g c = λ honest start deeds desktop keeps told.

@@ -1,17 +1,14 @@
-use Rattle.std.proofs.Common.{◌≡◌, ◌+◌, ◌<◌, ◌∙◌, ◌^◌, arith, length, refl, rules, subst, sym, ◌≤◌}
+use Rattle.std.proofs.Common.{◌≡◌, ◌+◌, ◌<◌, ◌∙◌, arith, length, refl, subst, sym, ◌≤◌}
 use Rattle.std.specs.Prelude.{Err}
 use Rattle.std.proofs.lemmas.Bool.{false≢true}
 use Rattle.std.proofs.lemmas.Result.{err_from_is_err_and, IfErr-weaker, IfOk-weaker}
-use Rattle.sector_disk.specs.Trail.{now}
-use Rattle.store_layout.specs.declared.layout.TheConstants.{STORE_SECTORS}
-use Rattle.past_pages.proofs.Failing.{error_from, none_failed}
+use Rattle.past_pages.specs.Laying.{StandsFrom}
+use Rattle.past_pages.proofs.Failing.{error_from, failing_on, none_failed}
 use Rattle.past_pages.proofs.StillReads.{still_both, still_reads}
-use Rattle.desk_past.specs.Past.{HasPages}
-use Rattle.desk_past.proofs.Gone.{all_done, done_to, start_stands, still_honest, told_end, told_pages, told_room}
-use Rattle.desk_past.proofs.Former.{calm_on}
-use Rattle.desk_past.proofs.InMemory.{calm_from, doing_no_fault, back_no_fault, fails_none, laying_of_back, laying_of_doing}
-use Rattle.desk_past.proofs.InMemory.{laying_of_reads, laying_of_steps, steps_of_doing, steps_of_reads, stop_from}
-use Rattle.desk_past.proofs.Opened.{if_some_then}
+use Rattle.desk_past.specs.Past.{HasStart}
+use Rattle.desk_past.proofs.Gone.{start_stands, told_end, told_pages, told_room, way_gone, way_there}
+use Rattle.desk_past.proofs.InMemory.{fails_none, laying_of_reads, steps_of_reads, stop_from}
+use Rattle.desk_past.proofs.Opened.{if_some_at, if_some_then, some_at, some_then}
 use Rattle.desk_past.proofs.reading.in_pages.Goals.{then-told-sectors-via-then-told-sectors, then-told-sectors-via-else-told-sectors+then-told-lt-STORE_SECTORS, then-told-sectors-via-else-told-sectors+else-told-lt-STORE_SECTORS+then-base-told}
 use Rattle.desk_past.proofs.reading.in_pages.Goals as goal
 
@@ -29,19 +26,13 @@ returns-then-told-sectors-clause-is_one g c = λ honest other start pages has is
 
 pub returns-in_default-clause-is_one : goal.returns-in_default-clause-is_one
 returns-in_default-clause-is_one g c = λ honest other start pages has is low high.
-    let t = has.written.0 in
-    let shown = c.in_ok-shown.ensures.shown honest other t.standing (start_stands t c.args.base is) in
-    let large = (rw c.in_default.is at c.in_ok-first.ensures.sum) shown.honest t.standing shown.shows in
-    omega (arith, large, t.counted, low, c.ranges.k.fits)
+    (rw c.in_default.is at c.in_ok-first.ensures.before) honest pages (told_pages has c.args.base is) has.good
+    (told_end has c.args.base is) start.before has.counted
 
 pub returns-in_default-clause-ahead : goal.returns-in_default-clause-ahead
 returns-in_default-clause-ahead g c = λ honest other start pages has is low asked high.
-    let t = has.written.0 in
-    let shown = c.in_ok-shown.ensures.shown honest other t.standing (start_stands t c.args.base is) in
-    let large = (rw c.in_default.is at c.in_ok-first.ensures.sum) shown.honest t.standing shown.shows in
-    let counted = has.counted in
-    let fits : c.args.told.before < 2 ^ 64 = search rules in
-    absurd (omega (arith, large, t.counted, counted, fits))
+    (rw c.in_default.is at c.in_ok-first.ensures.before) honest pages (told_pages has c.args.base is) has.good
+    (told_end has c.args.base is) start.before has.counted
 
 -- ---- before the start
 
@@ -58,189 +49,134 @@ returns-then-told-sectors-clause-ahead g c = λ honest other start pages has is 
     ]
 
 pub returns-then-k-first-clause-is_one : goal.returns-then-k-first-clause-is_one
-returns-then-k-first-clause-is_one g c = IfOk-weaker c.in_start.result _ _ (λ found fact honest other start pages has is low high.
-    let t = has.written.0 in
-    let shown = c.in_ok-shown.ensures.shown honest other t.standing (start_stands t c.args.base is) in
-    let first = (rw c.in-Some.is at c.in_ok-first.ensures.sum) shown.honest t.standing shown.shows in
-    absurd (omega (arith, first, t.counted, low, c.if-k-first.true))) c.in_start.ensures.is_one
+returns-then-k-first-clause-is_one g c = IfOk-weaker c.before_start.result _ _
+    (λ found fact honest other start pages has is low high.
+    let first = (rw c.in-Some.is at c.in_ok-first.ensures.before) honest pages (told_pages has c.args.base is) has.good
+    (told_end has c.args.base is) start.before has.counted in
+    absurd (omega (arith, first, low, c.if-k-first.true))) c.before_start.ensures.is_one
 
 pub returns-then-k-first-clause-ahead : goal.returns-then-k-first-clause-ahead
-returns-then-k-first-clause-ahead g c = IfOk-weaker c.in_start.result _ _ (λ found fact honest other start pages has is low asked high.
+returns-then-k-first-clause-ahead g c = IfOk-weaker c.before_start.result _ _
+    (λ found fact honest other start pages has is low asked high.
     let t = has.written.0 in
-    let shown = c.in_ok-shown.ensures.shown honest other t.standing (start_stands t c.args.base is) in
-    fact t.standing (c.in_ok-first.ensures.shows t.standing shown) asked high (omega (arith, low, t.counted)))
-    c.in_start.ensures.is_one
+    let still = c.before_pages.ensures.still in
+    let reads = still_reads g.D.Disk still (c.shows_what_crashes_leave.ensures.quiet c.requires.usable honest) honest in
+    fact (still.left.disk.device.still honest) other t.standing
+    (subst (λ x. StandsFrom x c.args.base t.standing) (sym reads) (start_stands t c.args.base is)) asked high
+    (omega (arith, low, t.counted))) c.before_start.ensures.is_one
 
 pub returns-then-k-first-clause-there : goal.returns-then-k-first-clause-there
-returns-then-k-first-clause-there g c = IfOk-weaker c.in_start.result _ _ (λ found fact. if_some_then found fact
+returns-then-k-first-clause-there g c = IfOk-weaker c.before_start.result _ _ (λ found fact. if_some_then found fact
     (λ back asked honest other unasked start pages has is high. absurd (false≢true (sym unasked ∙ asked))))
-    c.in_start.ensures.there
+    c.before_start.ensures.there
 
 pub returns-then-k-first-clause-still : goal.returns-then-k-first-clause-still
-returns-then-k-first-clause-still g c = c.opened_at.ensures.still
+returns-then-k-first-clause-still g c = still_both g.D.Disk c.before_pages.ensures.still c.before_start.ensures.still
 
 pub returns-then-k-first-clause-faults : goal.returns-then-k-first-clause-faults
-returns-then-k-first-clause-faults g c = calm_on c.in_start.result c.in_start.ensures.errors laying_of_back back_no_fault
-    (none_failed c.in_ok-shown.ensures.faults)
+returns-then-k-first-clause-faults g c = failing_on c.before_start.ensures.faults (λ e named. named)
+    (none_failed c.in_ok-first.ensures.faults)
 
 pub returns-then-k-first-clause-stops : goal.returns-then-k-first-clause-stops
-returns-then-k-first-clause-stops g c = IfErr-weaker c.in_start.result _ _ (λ e stops honest other start has is.
-    let shown = c.in_ok-shown.ensures.shown honest other has.standing (start_stands has c.args.base is) in
-    steps_of_doing e (stops has.standing (c.in_ok-first.ensures.shows has.standing shown))) c.in_start.ensures.stops
+returns-then-k-first-clause-stops g c = IfErr-weaker c.before_start.result _ _ (λ e stops honest other start has is.
+    let still = c.before_pages.ensures.still in
+    let reads = still_reads g.D.Disk still (c.shows_what_crashes_leave.ensures.quiet c.requires.usable honest) honest in
+    stops (still.left.disk.device.still honest) other has.standing
+    (subst (λ x. StandsFrom x c.args.base has.standing) (sym reads) (start_stands has c.args.base is)))
+    c.before_start.ensures.stops
 
 -- it isn't before the start
 
 pub returns-in_default-2-clause-ahead : goal.returns-in_default-2-clause-ahead
 returns-in_default-2-clause-ahead g c = λ honest other start pages has is low asked high.
-    let t = has.written.0 in
-    let shown = c.in_ok-shown.ensures.shown honest other t.standing (start_stands t c.args.base is) in
-    let first = (rw c.in-Some.is at c.in_ok-first.ensures.sum) shown.honest t.standing shown.shows in
-    absurd (omega (arith, first, t.counted, low, c.if-k-first.false))
-
-pub returns-then-not-branch-clause-ahead : goal.returns-then-not-branch-clause-ahead
-returns-then-not-branch-clause-ahead g c = λ honest other start pages has is low asked high.
-    let t = has.written.0 in
-    let shown = c.in_ok-shown.ensures.shown honest other t.standing (start_stands t c.args.base is) in
-    let first = (rw c.in-Some.is at c.in_ok-first.ensures.sum) shown.honest t.standing shown.shows in
-    absurd (omega (arith, first, t.counted, low, c.if-k-first.false))
+    let first = (rw c.in-Some.is at c.in_ok-first.ensures.before) honest pages (told_pages has c.args.base is) has.good
+    (told_end has c.args.base is) start.before has.counted in
+    absurd (omega (arith, first, low, c.if-k-first.false))
 
 pub returns-clause-ahead : goal.returns-clause-ahead
-returns-clause-ahead g c = λ honest other start pages has is low asked high.
-    let t = has.written.0 in
-    let shown = c.in_ok-shown.ensures.shown honest other t.standing (start_stands t c.args.base is) in
-    let first = (rw c.in-Some.is at c.in_ok-first.ensures.sum) shown.honest t.standing shown.shows in
-    absurd (omega (arith, first, t.counted, low, c.if-k-first.false))
+returns-clause-ahead g c = IfOk-weaker c.gone.result _ _ (λ found led honest other start pages has is low asked high.
+    let first = (rw c.in-Some.is at c.in_ok-first.ensures.before) honest pages (told_pages has c.args.base is) has.good
+    (told_end has c.args.base is) start.before has.counted in
+    absurd (omega (arith, first, low, c.if-k-first.false))) c.gone.ensures.led
 
-pub returns-in_err-legs-clause-still : goal.returns-in_err-legs-clause-still
-returns-in_err-legs-clause-still g c = still_both g.D.Disk c.opened_at.ensures.still c.legs_to.ensures.still
-
-pub returns-in_err-go_legs-clause-still : goal.returns-in_err-go_legs-clause-still
-returns-in_err-go_legs-clause-still g c = still_both g.D.Disk
-    (still_both g.D.Disk c.opened_at.ensures.still c.legs_to.ensures.still) c.go_legs.ensures.still
+pub returns-in_err-way-clause-still : goal.returns-in_err-way-clause-still
+returns-in_err-way-clause-still g c = still_both g.D.Disk c.before_pages.ensures.still c.way_to.ensures.still
 
 pub returns-in_default-2-clause-still : goal.returns-in_default-2-clause-still
-returns-in_default-2-clause-still g c = still_both g.D.Disk c.opened_at.ensures.still c.legs_to.ensures.still
-
-pub returns-then-not-branch-clause-still : goal.returns-then-not-branch-clause-still
-returns-then-not-branch-clause-still g c = still_both g.D.Disk
-    (still_both g.D.Disk c.opened_at.ensures.still c.legs_to.ensures.still) c.go_legs.ensures.still
+returns-in_default-2-clause-still g c = still_both g.D.Disk c.before_pages.ensures.still c.way_to.ensures.still
 
 pub returns-clause-still : goal.returns-clause-still
 returns-clause-still g c = still_both g.D.Disk
-    (still_both g.D.Disk c.opened_at.ensures.still c.legs_to.ensures.still) c.go_legs.ensures.still
+    (still_both g.D.Disk c.before_pages.ensures.still c.way_to.ensures.still) c.gone.ensures.still
 
 pub returns-in_default-2-clause-is_one : goal.returns-in_default-2-clause-is_one
 returns-in_default-2-clause-is_one g c = λ honest other start pages has is low high.
-    let d = g.D.Disk in
-    let t = has.written.0 in
-    let shown = c.in_ok-shown.ensures.shown honest other t.standing (start_stands t c.args.base is) in
-    let first = (rw c.in-Some.is at c.in_ok-first.ensures.sum) shown.honest t.standing shown.shows in
-    let still = c.opened_at.ensures.still in
-    let quiet = c.shows_what_crashes_leave.ensures.quiet c.requires.usable honest in
-    let same = still_reads d still quiet honest in
-    let counted = has.counted in
-    absurd ((rw c.in_default-2.is at c.in_ok-legs.ensures.ways) (still.left.disk.device.still honest) start pages
-    (sym (first ∙ t.counted))
-    (subst (λ x. HasPages x (c.args.base + STORE_SECTORS) pages) (sym same) (told_pages has c.args.base is))
-    has.good has.turns (told_end has c.args.base is)
-    (omega (arith, first, t.counted, counted, high)))
-
-pub returns-then-not-branch-clause-is_one : goal.returns-then-not-branch-clause-is_one
-returns-then-not-branch-clause-is_one g c = λ honest other start pages has is low high.
-    let t = has.written.0 in
-    let shown = c.in_ok-shown.ensures.shown honest other t.standing (start_stands t c.args.base is) in
-    let first = (rw c.in-Some.is at c.in_ok-first.ensures.sum) shown.honest t.standing shown.shows in
-    let all = all_done g.D.Disk g.E.Disk has c.args.base is honest
-    (c.shows_what_crashes_leave.ensures.quiet c.requires.usable honest) c.opened_at.ensures.still c.legs_to.ensures.still
-    c.in-Some.first c.args.k (first ∙ t.counted) high c.in-Some-2.legs.items
-    (rw c.in-Some-2.is at c.in_ok-legs.ensures.ways) c.in_ok-go_legs.ensures.led in
-    absurd (let wrong : ⊥ = cc (all, c.if-not-branch.true) in wrong)
+    let first = (rw c.in-Some.is at c.in_ok-first.ensures.before) honest pages (told_pages has c.args.base is) has.good
+    (told_end has c.args.base is) start.before has.counted in
+    way_there g.D.Disk has c.args.base is honest (c.shows_what_crashes_leave.ensures.quiet c.requires.usable honest)
+    c.before_pages.ensures.still c.in-Some.first c.args.k first high (λ s p. ⊥)
+    (rw c.in_default-2.is at c.in_ok-way.ensures.ways)
 
 pub returns-clause-is_one : goal.returns-clause-is_one
-returns-clause-is_one g c = λ honest other start pages has is low high.
-    let t = has.written.0 in
-    let shown = c.in_ok-shown.ensures.shown honest other t.standing (start_stands t c.args.base is) in
-    let first = (rw c.in-Some.is at c.in_ok-first.ensures.sum) shown.honest t.standing shown.shows in
-    done_to g.D.Disk g.E.Disk has c.args.base is honest
-    (c.shows_what_crashes_leave.ensures.quiet c.requires.usable honest) c.opened_at.ensures.still c.legs_to.ensures.still
-    c.in-Some.first c.args.k (first ∙ t.counted) high c.in-Some-2.legs.items
-    (rw c.in-Some-2.is at c.in_ok-legs.ensures.ways) c.in_ok-go_legs.ensures.led
-    (c.in_ok-first.ensures.still.left.disk.device.still shown.honest)
-    (c.in_ok-first.ensures.still.left.desktop shown.honest ∙ shown.desktop ∙ t.is)
+returns-clause-is_one g c = IfOk-weaker c.gone.result _ _ (λ found led honest other start pages has is low high.
+    let first = (rw c.in-Some.is at c.in_ok-first.ensures.before) honest pages (told_pages has c.args.base is) has.good
+    (told_end has c.args.base is) start.before has.counted in
+    some_then found
+    (way_gone g.D.Disk has c.args.base is honest (c.shows_what_crashes_leave.ensures.quiet c.requires.usable honest)
+    c.before_pages.ensures.still c.in-Some.first c.args.k first high g.E.Disk c.way_to.ensures.still
+    c.in-Some-2.way.legs.items c.in-Some-2.way.from found (rw c.in-Some-2.is at c.in_ok-way.ensures.ways)
+    (λ h. led h other))
+    (λ shown to. to.1)) c.gone.ensures.led
 
 pub returns-clause-there : goal.returns-clause-there
-returns-clause-there g c = λ honest other unasked start pages has is high.
-    let t = has.written.0 in
-    let shown = c.in_ok-shown.ensures.shown honest other t.standing (start_stands t c.args.base is) in
-    let first = (rw c.in-Some.is at c.in_ok-first.ensures.sum) shown.honest t.standing shown.shows in
-    let low : start.before ≤ c.args.k = omega (arith, first, t.counted, c.if-k-first.false) in (
+returns-clause-there g c = IfOk-weaker c.gone.result _ _ (λ found led. if_some_at found
+    (λ shown at honest other unasked start pages has is high.
+    let first = (rw c.in-Some.is at c.in_ok-first.ensures.before) honest pages (told_pages has c.args.base is) has.good
+    (told_end has c.args.base is) start.before has.counted in
+    let low : start.before ≤ c.args.k = omega (arith, first, c.if-k-first.false) in (
       low,
-      still_honest g.D.Disk g.E.Disk has c.args.base is honest
-          (c.shows_what_crashes_leave.ensures.quiet c.requires.usable honest) c.opened_at.ensures.still c.legs_to.ensures.still
-          c.in-Some.first c.args.k (first ∙ t.counted) high c.in-Some-2.legs.items
-          (rw c.in-Some-2.is at c.in_ok-legs.ensures.ways) c.in_ok-go_legs.ensures.led
-          (c.in_ok-first.ensures.still.left.disk.device.still shown.honest),
-    )
-
-pub returns-in_err-shown-clause-faults : goal.returns-in_err-shown-clause-faults
-returns-in_err-shown-clause-faults g c =
-    let p = err_from_is_err_and c.from_residual.result c.from_residual.ensures.1 in
-    let failed : c.opened_at.result ≡ Err p.0 = cc (p.1, p.2, c.in_err-shown.was) in
-    error_from c.opened_at.ensures.faults (λ e named. named) refl failed p.1
-
-pub returns-in_err-shown-clause-stops : goal.returns-in_err-shown-clause-stops
-returns-in_err-shown-clause-stops g c =
-    let p = err_from_is_err_and c.from_residual.result c.from_residual.ensures.1 in
-    let failed : c.opened_at.result ≡ Err p.0 = cc (p.1, p.2, c.in_err-shown.was) in
-    stop_from c.opened_at.ensures.stops (λ e stops honest other start has is. stops honest other
-    has.standing (start_stands has c.args.base is)) failed p.1
+      (some_at
+          (way_gone g.D.Disk has c.args.base is honest (c.shows_what_crashes_leave.ensures.quiet c.requires.usable honest)
+          c.before_pages.ensures.still c.in-Some.first c.args.k first high g.E.Disk c.way_to.ensures.still
+          c.in-Some-2.way.legs.items c.in-Some-2.way.from found (rw c.in-Some-2.is at c.in_ok-way.ensures.ways)
+          (λ h. led h other)) at).0,
+    ))) c.gone.ensures.led
 
 pub returns-in_err-first-clause-faults : goal.returns-in_err-first-clause-faults
 returns-in_err-first-clause-faults g c =
-    let p = err_from_is_err_and c.from_residual-in_err-first.result c.from_residual-in_err-first.ensures.1 in
-    let failed : c.many_before.result ≡ Err p.0 = cc (p.1, p.2, c.in_err-first.was) in
-    calm_from c.many_before.ensures.errors laying_of_doing doing_no_fault (none_failed c.in_ok-shown.ensures.faults) failed p.1
+    let p = err_from_is_err_and c.from_residual.result c.from_residual.ensures.1 in
+    let failed : c.before_pages.result ≡ Err p.0 = cc (p.1, p.2, c.in_err-first.was) in
+    error_from c.before_pages.ensures.faults laying_of_reads refl failed p.1
 
 pub returns-in_err-first-clause-stops : goal.returns-in_err-first-clause-stops
 returns-in_err-first-clause-stops g c =
-    let p = err_from_is_err_and c.from_residual-in_err-first.result c.from_residual-in_err-first.ensures.1 in
-    let failed : c.many_before.result ≡ Err p.0 = cc (p.1, p.2, c.in_err-first.was) in
-    stop_from c.many_before.ensures.errors (λ e named honest other start has is. steps_of_doing e named)
-    failed p.1
+    let p = err_from_is_err_and c.from_residual.result c.from_residual.ensures.1 in
+    let failed : c.before_pages.result ≡ Err p.0 = cc (p.1, p.2, c.in_err-first.was) in
+    stop_from c.before_pages.ensures.faults.errors (λ e named honest other start has is. steps_of_reads e named) failed p.1
 
-pub returns-in_err-legs-clause-faults : goal.returns-in_err-legs-clause-faults
-returns-in_err-legs-clause-faults g c =
-    let p = err_from_is_err_and c.from_residual-in_err-legs.result c.from_residual-in_err-legs.ensures.1 in
-    let failed : c.legs_to.result ≡ Err p.0 = cc (p.1, p.2, c.in_err-legs.was) in
-    error_from c.legs_to.ensures.faults laying_of_reads (none_failed c.in_ok-shown.ensures.faults) failed p.1
+pub returns-in_err-way-clause-faults : goal.returns-in_err-way-clause-faults
+returns-in_err-way-clause-faults g c =
+    let p = err_from_is_err_and c.from_residual-in_err-way.result c.from_residual-in_err-way.ensures.1 in
+    let failed : c.way_to.result ≡ Err p.0 = cc (p.1, p.2, c.in_err-way.was) in
+    error_from c.way_to.ensures.faults laying_of_reads (none_failed c.in_ok-first.ensures.faults) failed p.1
 
-pub returns-in_err-legs-clause-stops : goal.returns-in_err-legs-clause-stops
-returns-in_err-legs-clause-stops g c =
-    let p = err_from_is_err_and c.from_residual-in_err-legs.result c.from_residual-in_err-legs.ensures.1 in
-    let failed : c.legs_to.result ≡ Err p.0 = cc (p.1, p.2, c.in_err-legs.was) in
-    stop_from c.legs_to.ensures.faults.errors (λ e named honest other start has is. steps_of_reads e named)
-    failed p.1
+pub returns-in_err-way-clause-stops : goal.returns-in_err-way-clause-stops
+returns-in_err-way-clause-stops g c =
+    let p = err_from_is_err_and c.from_residual-in_err-way.result c.from_residual-in_err-way.ensures.1 in
+    let failed : c.way_to.result ≡ Err p.0 = cc (p.1, p.2, c.in_err-way.was) in
+    stop_from c.way_to.ensures.faults.errors (λ e named honest other start has is. steps_of_reads e named) failed p.1
 
-pub returns-in_err-go_legs-clause-faults : goal.returns-in_err-go_legs-clause-faults
-returns-in_err-go_legs-clause-faults g c =
-    let p = err_from_is_err_and c.from_residual-in_err-go_legs.result c.from_residual-in_err-go_legs.ensures.1 in
-    let failed : c.go_legs.result ≡ Err p.0 = cc (p.1, p.2, c.in_err-go_legs.was) in
-    error_from c.go_legs.ensures.faults laying_of_steps
-    (none_failed c.in_ok-legs.ensures.faults ∙ none_failed c.in_ok-shown.ensures.faults) failed p.1
-
-pub returns-in_err-go_legs-clause-stops : goal.returns-in_err-go_legs-clause-stops
-returns-in_err-go_legs-clause-stops g c =
-    let p = err_from_is_err_and c.from_residual-in_err-go_legs.result c.from_residual-in_err-go_legs.ensures.1 in
-    let failed : c.go_legs.result ≡ Err p.0 = cc (p.1, p.2, c.in_err-go_legs.was) in
-    stop_from c.go_legs.ensures.faults.errors (λ e named honest other start has is. named) failed p.1
+pub returns-clause-stops : goal.returns-clause-stops
+returns-clause-stops g c = IfErr-weaker c.gone.result _ _ (λ e stops honest other start has is.
+    let still = still_both g.D.Disk c.before_pages.ensures.still c.way_to.ensures.still in
+    let reads = still_reads g.D.Disk still (c.shows_what_crashes_leave.ensures.quiet c.requires.usable honest) honest in
+    stops (still.left.disk.device.still honest) other start (subst (λ x. HasStart x start) (sym reads) has) is)
+    c.gone.ensures.stops
 
 pub returns-in_default-2-clause-faults : goal.returns-in_default-2-clause-faults
-returns-in_default-2-clause-faults g c = fails_none (none_failed c.in_ok-legs.ensures.faults ∙ none_failed c.in_ok-shown.ensures.faults)
-
-pub returns-then-not-branch-clause-faults : goal.returns-then-not-branch-clause-faults
-returns-then-not-branch-clause-faults g c = fails_none
-    (none_failed c.in_ok-go_legs.ensures.faults ∙ none_failed c.in_ok-legs.ensures.faults ∙ none_failed c.in_ok-shown.ensures.faults)
+returns-in_default-2-clause-faults g c = fails_none
+    (none_failed c.in_ok-way.ensures.faults ∙ none_failed c.in_ok-first.ensures.faults)
 
 pub returns-clause-faults : goal.returns-clause-faults
-returns-clause-faults g c = fails_none
-    (none_failed c.in_ok-go_legs.ensures.faults ∙ none_failed c.in_ok-legs.ensures.faults ∙ none_failed c.in_ok-shown.ensures.faults)
+returns-clause-faults g c = failing_on c.gone.ensures.faults (λ e named. named)
+    (none_failed c.in_ok-way.ensures.faults ∙ none_failed c.in_ok-first.ensures.faults)

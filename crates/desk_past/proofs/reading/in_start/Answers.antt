@@ -1,29 +1,21 @@
-use Rattle.std.proofs.Common.{◌≡◌, ◌+◌, ◌-◌, ◌∙◌, ap, arith, inl, inr, length, subst, sym, take}
+use Rattle.std.proofs.Common.{◌≡◌, ◌+◌, ◌-◌, ◌∙◌, ap, arith, inl, inr, length, take}
 use Rattle.std.specs.Prelude.{Err}
-use Rattle.std.proofs.lemmas.Bool.{false≢true}
 use Rattle.std.proofs.lemmas.Result.{err_from_is_err_and, IfErr-weaker, IfOk-weaker}
 use Rattle.desktop_definitions.specs.Step.{steps_in}
 use Rattle.desk_past.proofs.InMemory.{stop_from}
-use Rattle.desk_past.proofs.Opened.{if_some_then, some_then}
+use Rattle.desk_past.proofs.Opened.{some_then}
 use Rattle.desk_past.proofs.reading.in_start.Goals as goal
 
-pub returns-then-not-asked-clause-is_one : goal.returns-then-not-asked-clause-is_one
-returns-then-not-asked-clause-is_one g c = λ t shown asked low high. absurd (false≢true (sym c.if-not-asked.true ∙ asked))
-
 pub returns-then-k-told-clause-is_one : goal.returns-then-k-told-clause-is_one
-returns-then-k-told-clause-is_one g c = λ t shown asked low high.
+returns-then-k-told-clause-is_one g c = λ t shown low high.
     let told = ap (λ p. p.before) (c.in_ok-told.ensures.told t shown) in
     absurd (omega (arith, told, low, c.if-k-told.true))
 
 pub returns-clause-is_one : goal.returns-clause-is_one
-returns-clause-is_one g c = IfOk-weaker c.back_to.result _ _ (λ found fact t shown asked low high.
+returns-clause-is_one g c = IfOk-weaker c.back_to.result _ _ (λ found fact t shown low high.
     let told = ap (λ p. p.before) (c.in_ok-told.ensures.told t shown) in
     some_then found (fact t (c.told_in.ensures.still t shown) (omega (arith, told, low, high)))
     (λ back eq. eq ∙ ap (λ n. steps_in t.version t.start (take (c.args.k - n) t.events)) told)) c.back_to.ensures.is_one
-
-pub returns-clause-there : goal.returns-clause-there
-returns-clause-there g c = IfOk-weaker c.back_to.result _ _ (λ found fact. if_some_then found fact
-    (λ back there. c.if-not-asked.false)) c.back_to.ensures.there
 
 pub returns-in_err-told-clause-errors : goal.returns-in_err-told-clause-errors
 returns-in_err-told-clause-errors g c =

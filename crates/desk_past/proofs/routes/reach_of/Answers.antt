@@ -1,9 +1,10 @@
 use Rattle.std.proofs.Common.{◌≡◌, ◌<◌, ◌≤◌, ◌∙◌, arith, refl, subst, sym}
-use Rattle.std.specs.Prelude.{Err, IfSome}
+use Rattle.std.specs.Prelude.{Err}
 use Rattle.std.proofs.lemmas.Result.{err_from_is_err_and}
 use Rattle.past_pages.specs.Reading.{HasPage}
 use Rattle.past_pages.proofs.Failing.{error_from, none_failed}
 use Rattle.past_pages.proofs.StillReads.{still_both, still_none, still_reads}
+use Rattle.desk_past.specs.Routes.{LeadsBack}
 use Rattle.desk_past.proofs.Legs.{none_passed, one_left, page_on, reached}
 use Rattle.desk_past.proofs.routes.reach_of.Goals as goal
 
@@ -50,7 +51,7 @@ pub returns-clause-reached : goal.returns-clause-reached
 returns-clause-reached g c = λ honest start pages same held good turns ends room.
     let i = c.loop-left.invariant.reaching honest start pages same held good turns ends room in (
       reached i (omega (arith, c.loop-left-test.false)),
-      subst (λ n. IfSome c.loop-left.reach.from (λ to. (n ≤ to) × (to < c.args.k))) same i.earlier,
+      subst (λ n. LeadsBack n c.args.k c.loop-left.reach.from) same i.earlier,
     )
 
 pub returns-in_err-page-clause-still : goal.returns-in_err-page-clause-still

@@ -1,7 +1,7 @@
-use Rattle.std.proofs.Common.{arith, subst, sym}
+use Rattle.std.proofs.Common.{◌∙◌, arith, subst, sym}
 use Rattle.past_pages.specs.Reading.{HasPage}
 use Rattle.past_pages.proofs.StillReads.{still_looked, still_none, still_reads}
-use Rattle.past_moments.proofs.Counting.{all_counted, none_counted, page_counted}
+use Rattle.desk_past.proofs.Fronts.{all_counted, front_counted, none_counted}
 use Rattle.past_moments.proofs.extent.count_pages.Goals as goal
 
 pub loop-here-init : goal.loop-here-init
@@ -12,61 +12,31 @@ loop-here-init g c = record {
 
 pub returns-in_err-page-clause-still : goal.returns-in_err-page-clause-still
 returns-in_err-page-clause-still g c =
-    still_looked g.D.Disk c.page_in.result c.loop-here.invariant.still c.page_in.ensures.looks
+    still_looked g.D.Disk c.front_in.result c.loop-here.invariant.still c.front_in.ensures.looks
 
 pub returns-in_default-clause-still : goal.returns-in_default-clause-still
 returns-in_default-clause-still g c =
-    still_looked g.D.Disk c.page_in.result c.loop-here.invariant.still c.page_in.ensures.looks
+    still_looked g.D.Disk c.front_in.result c.loop-here.invariant.still c.front_in.ensures.looks
 
 pub returns-clause-whole : goal.returns-clause-whole
 returns-clause-whole g c = λ honest pages held good ends room.
     all_counted (c.loop-here.invariant.counted honest pages held good ends room) (omega (arith, c.loop-here-test.false))
 
-pub returns-in_default-behind-clause-still : goal.returns-in_default-behind-clause-still
-returns-in_default-behind-clause-still g c =
-    still_looked g.D.Disk c.page_in.result c.loop-here.invariant.still c.page_in.ensures.looks
+pub returns-in_default-behind_front-clause-still : goal.returns-in_default-behind_front-clause-still
+returns-in_default-behind_front-clause-still g c =
+    still_looked g.D.Disk c.front_in.result c.loop-here.invariant.still c.front_in.ensures.looks
 
 pub loop-here-preserved : goal.loop-here-preserved
 loop-here-preserved g c =
     let i = c.loop-here.invariant in
-    let behind = rw c.in-Some-behind.is at c.behind.ensures in
+    let behind = rw c.in-Some-behind_front.is at c.behind_front.ensures in
     record {
-      still = still_looked g.D.Disk c.page_in.result i.still c.page_in.ensures.looks;
+      still = still_looked g.D.Disk c.front_in.result i.still c.front_in.ensures.looks;
       counted = λ honest pages held good ends room.
           let reads = still_reads g.D.Disk i.still (c.shows_what_crashes_leave.ensures.quiet c.requires honest) honest in
-          page_counted (i.counted honest pages held good ends room) c.loop-here-test.true c.in-Some.page.deeds
-          c.in-Some.page.next c.in-Some-behind.next.at c.in-Some-behind.next.k
-          (λ p page. (rw c.in-Some.is at c.in_ok-page.ensures.found) (i.still.left.disk.device.still honest) p
+          front_counted (i.counted honest pages held good ends room) c.loop-here-test.true c.in-Some.page.kind
+          c.in-Some-behind_front.next.at c.in-Some-behind_front.next.k
+          (λ p page. let is = (rw c.in-Some.is at c.in_ok-page.ensures.found) (i.still.left.disk.device.still honest) p
           (subst (λ r. HasPage r c.loop-here.here.at c.args.end p) (sym reads) page)
-          (omega (arith, room, i.still.left.disk.device.as_large))) behind.0 behind.1;
-    }
-
-pub loop-here-preserved-in-Some-behind : goal.loop-here-preserved-in-Some-behind
-loop-here-preserved-in-Some-behind g c =
-    let i = c.loop-here.invariant in
-    let behind = rw c.in-Some-behind.is at c.behind.ensures in
-    record {
-      still = still_looked g.D.Disk c.page_in.result i.still c.page_in.ensures.looks;
-      counted = λ honest pages held good ends room.
-          let reads = still_reads g.D.Disk i.still (c.shows_what_crashes_leave.ensures.quiet c.requires honest) honest in
-          page_counted (i.counted honest pages held good ends room) c.loop-here-test.true c.in-Some.page.deeds
-          c.in-Some.page.next c.in-Some-behind.next.at c.in-Some-behind.next.k
-          (λ p page. (rw c.in-Some.is at c.in_ok-page.ensures.found) (i.still.left.disk.device.still honest) p
-          (subst (λ r. HasPage r c.loop-here.here.at c.args.end p) (sym reads) page)
-          (omega (arith, room, i.still.left.disk.device.as_large))) behind.0 behind.1;
-    }
-
-pub loop-here-preserved-in-Some-behind-2 : goal.loop-here-preserved-in-Some-behind-2
-loop-here-preserved-in-Some-behind-2 g c =
-    let i = c.loop-here.invariant in
-    let behind = rw c.in-Some-behind.is at c.behind.ensures in
-    record {
-      still = still_looked g.D.Disk c.page_in.result i.still c.page_in.ensures.looks;
-      counted = λ honest pages held good ends room.
-          let reads = still_reads g.D.Disk i.still (c.shows_what_crashes_leave.ensures.quiet c.requires honest) honest in
-          page_counted (i.counted honest pages held good ends room) c.loop-here-test.true c.in-Some.page.deeds
-          c.in-Some.page.next c.in-Some-behind.next.at c.in-Some-behind.next.k
-          (λ p page. (rw c.in-Some.is at c.in_ok-page.ensures.found) (i.still.left.disk.device.still honest) p
-          (subst (λ r. HasPage r c.loop-here.here.at c.args.end p) (sym reads) page)
-          (omega (arith, room, i.still.left.disk.device.as_large))) behind.0 behind.1;
+          (omega (arith, room, i.still.left.disk.device.as_large)) in (is.0, behind.0 ∙ is.1)) behind.1;
     }

@@ -1,7 +1,6 @@
 use Rattle.std.proofs.Common.{◌-◌}
-use Rattle.std.specs.Prelude.{IfSome}
 use Rattle.past_pages.specs.Reading.{IsOnlyReadFrom}
-use Rattle.past_moments.specs.Moments.{IsExtentOf, IsPagePlace, IsSameMoment}
+use Rattle.past_moments.specs.Moments.{GoesFrom, IsExtentOf, IsPagePlace}
 use Rattle.past_moments.proofs.legs.last_leg.Given as goal
 
 -- nothing is written to the store, and the last leg so far begins at such a place
@@ -12,8 +11,8 @@ invariant-loop-here g l = record {
       → IsPagePlace g.D.Disk l.here l.fn.store;
   leg : IsExtentOf g.D.Disk l.extent l.fn.store → IsPagePlace g.D.Disk l.fn.place l.fn.store
       → IsPagePlace g.D.Disk l.leg.place l.fn.store;
-  turned : IsExtentOf g.D.Disk l.extent l.fn.store → IsPagePlace g.D.Disk l.fn.place l.fn.store
-      → IfSome l.leg.from (λ from. IsSameMoment g.D.Disk l.leg.place.k from l.fn.store);
+  from : IsExtentOf g.D.Disk l.extent l.fn.store → IsPagePlace g.D.Disk l.fn.place l.fn.store
+      → GoesFrom g.D.Disk l.leg.place l.leg.from l.fn.store;
 }
 
 abbrev pub decreases-loop-here : goal.decreases-loop-here

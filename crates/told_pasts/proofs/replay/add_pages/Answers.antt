@@ -5,10 +5,8 @@ use Rattle.sector_disk.specs.Trail.{now}
 use Rattle.past_pages.specs.Reading.{HasPage}
 use Rattle.past_pages.proofs.Failing.{none_failed}
 use Rattle.past_pages.proofs.StillReads.{still_both, still_none, still_reads}
-use Rattle.desk_past.specs.Deeds.{after_deeds}
-use Rattle.desk_past.proofs.TurnedBack.{past_behind}
 use Rattle.told_pasts.proofs.Reached.{its_end, its_pages, its_room}
-use Rattle.told_pasts.proofs.Replayed.{all_told, no_page_told, page_leads, page_left, page_there, page_told, past_leads}
+use Rattle.told_pasts.proofs.Replayed.{all_told, at_page, no_page_told, page_left, page_there, page_told, past_leads}
 use Rattle.told_pasts.proofs.Stops.{looks_stop, stops_later, stops_missing, stops_none}
 use Rattle.told_pasts.proofs.replay.add_pages.Goals as goal
 
@@ -38,12 +36,8 @@ loop-at-preserved g c =
           (subst (λ r. HasPage r c.loop-at.at c.args.reach.next left.0) (sym same) (page_there was left.0 left.1 left.2))
           (let room = its_room d h in omega (arith, room, i.still.left.disk.device.as_large)) in
           page_told was left.0 left.1 left.2
-          (c.in_ok-next.ensures.told (record {
-            past = past_behind d there quiet h.past;
-            at = sym h.numbers.base;
-            here = after_deeds h.past.start.desktop was.done;
-            shows = was.told.shows;
-          }) left.0 read.0 (page_leads was left.0 left.1 left.2)) (c.in_ok-next.ensures.next ∙ read.1);
+          (c.in_ok-next.ensures.told (at_page d there quiet h was c.in-Some.page.deeds left.0 left.1 left.2 read.0))
+          (c.in_ok-next.ensures.next ∙ read.1);
     }
 
 pub returns-in_err-page-clause-stops : goal.returns-in_err-page-clause-stops
@@ -77,13 +71,15 @@ returns-in_err-next-clause-stops g c =
     stops_later d c.in_ok-page.ensures.still.usable (none_failed c.in_ok-page.ensures.looks.faults ∙ i.calm)
     c.add_page.ensures.stops (λ known.
     let h = known.0 in
-    let was = i.told h known.1 in record {
-      past = past_behind d (still_both d i.still c.in_ok-page.ensures.still)
-          c.shows_what_crashes_leave.ensures.quiet h.past;
-      at = sym h.numbers.base;
-      here = after_deeds h.past.start.desktop was.done;
-      shows = was.told.shows;
-    }) failed p.1
+    let quiet = c.shows_what_crashes_leave.ensures.quiet in
+    let was = i.told h known.1 in
+    let left = page_left was c.loop-at-test.true in
+    let same = still_reads d i.still (quiet h.past.keeps.usable h.past.honest) h.past.honest in
+    let read = (rw c.in-Some.is at c.in_ok-page.ensures.found) (i.still.left.disk.device.still h.past.honest) left.0
+    (subst (λ r. HasPage r c.loop-at.at c.args.reach.next left.0) (sym same) (page_there was left.0 left.1 left.2))
+    (let room = its_room d h in omega (arith, room, i.still.left.disk.device.as_large)) in
+    at_page d (still_both d i.still c.in_ok-page.ensures.still) quiet h was c.in-Some.page.deeds left.0 left.1 left.2
+    read.0) failed p.1
 
 pub returns-clause-told : goal.returns-clause-told
 returns-clause-told g c = λ h shows. all_told (c.loop-at.invariant.told h shows) (omega (arith, c.loop-at-test.false))

@@ -1,7 +1,6 @@
-use Rattle.std.proofs.Common.{◌∙◌, ◌++◌, ◌∷◌, [], ap, refl}
+use Rattle.std.proofs.Common.{refl}
 use Rattle.told_pasts.proofs.Replayed.{turn_told}
 use Rattle.told_pasts.proofs.replay.add_turn.Goals as goal
 
 pub returns : goal.returns
-returns c = λ start deeds here to within is. turn_told within is refl
-    (c.in_ok-push_line.ensures ∙ ap (λ l. c.args.lines.now.items ++ l ∷ []) c.in_ok-line.ensures.items)
+returns c = λ start deeds here to within is. turn_told within is refl c.in_ok-push_turn.ensures

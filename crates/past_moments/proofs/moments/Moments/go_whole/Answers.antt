@@ -1,4 +1,5 @@
 use Rattle.std.proofs.Common.{◌∙◌, ap, arith, refl}
+use Rattle.past_pages.specs.Reading.{IsRead}
 use Rattle.past_pages.proofs.StillReads.{still_both, still_none}
 use Rattle.past_moments.specs.declared.extent.Place.{Place}
 use Rattle.past_moments.specs.declared.marks.Mark.{Mark}
@@ -27,7 +28,7 @@ loop-alloc-preserved g c =
     record {
       still = still;
       mark = λ are is. mark_next d mark c.leave.new.mark c.in-Some.next c.in-Some.deeds (i.mark are is)
-          (page_back d i.still quiet mark.place c.in-Some.deeds c.in-Some.next
+          (page_back d i.still quiet mark.place (IsRead c.in-Some.deeds) c.in-Some.next
           (page (extent_on d i.still c.requires quiet self.extent (i.are are is).extent)
           (place_on d i.still c.requires quiet mark.place (i.mark are is).place)))
           c.leave.ensures.place (λ p read. c.leave.ensures.shown ∙ done p read);
@@ -37,7 +38,7 @@ loop-alloc-preserved g c =
             (marks_on d still c.requires quiet self.marks (i.are are is).marks)
             (mark_on d still c.requires quiet moved
             (mark_next d mark moved c.in-Some.next c.in-Some.deeds (i.mark are is)
-            (page_back d i.still quiet mark.place c.in-Some.deeds c.in-Some.next
+            (page_back d i.still quiet mark.place (IsRead c.in-Some.deeds) c.in-Some.next
             (page (extent_on d i.still c.requires quiet self.extent (i.are are is).extent)
             (place_on d i.still c.requires quiet mark.place (i.mark are is).place)))
             refl done)));
@@ -58,7 +59,7 @@ loop-alloc-preserved-in_ok-leave g c =
     record {
       still = still;
       mark = λ are is. mark_next d mark c.leave.new.mark c.in-Some.next c.in-Some.deeds (i.mark are is)
-          (page_back d i.still quiet mark.place c.in-Some.deeds c.in-Some.next
+          (page_back d i.still quiet mark.place (IsRead c.in-Some.deeds) c.in-Some.next
           (page (extent_on d i.still c.requires quiet self.extent (i.are are is).extent)
           (place_on d i.still c.requires quiet mark.place (i.mark are is).place)))
           c.leave.ensures.place (λ p read. c.leave.ensures.shown ∙ done p read);
@@ -68,7 +69,7 @@ loop-alloc-preserved-in_ok-leave g c =
             (marks_on d still c.requires quiet self.marks (i.are are is).marks)
             (mark_on d still c.requires quiet moved
             (mark_next d mark moved c.in-Some.next c.in-Some.deeds (i.mark are is)
-            (page_back d i.still quiet mark.place c.in-Some.deeds c.in-Some.next
+            (page_back d i.still quiet mark.place (IsRead c.in-Some.deeds) c.in-Some.next
             (page (extent_on d i.still c.requires quiet self.extent (i.are are is).extent)
             (place_on d i.still c.requires quiet mark.place (i.mark are is).place)))
             refl done)));
@@ -89,7 +90,7 @@ loop-alloc-preserved-in_ok-leave-2 g c =
     record {
       still = still;
       mark = λ are is. mark_next d mark c.leave.new.mark c.in-Some.next c.in-Some.deeds (i.mark are is)
-          (page_back d i.still quiet mark.place c.in-Some.deeds c.in-Some.next
+          (page_back d i.still quiet mark.place (IsRead c.in-Some.deeds) c.in-Some.next
           (page (extent_on d i.still c.requires quiet self.extent (i.are are is).extent)
           (place_on d i.still c.requires quiet mark.place (i.mark are is).place)))
           c.leave.ensures.place (λ p read. c.leave.ensures.shown ∙ done p read);
@@ -99,7 +100,7 @@ loop-alloc-preserved-in_ok-leave-2 g c =
             (marks_on d still c.requires quiet self.marks (i.are are is).marks)
             (mark_on d still c.requires quiet moved
             (mark_next d mark moved c.in-Some.next c.in-Some.deeds (i.mark are is)
-            (page_back d i.still quiet mark.place c.in-Some.deeds c.in-Some.next
+            (page_back d i.still quiet mark.place (IsRead c.in-Some.deeds) c.in-Some.next
             (page (extent_on d i.still c.requires quiet self.extent (i.are are is).extent)
             (place_on d i.still c.requires quiet mark.place (i.mark are is).place)))
             refl done)));

@@ -1,6 +1,7 @@
-use Rattle.std.proofs.Common.{refl, subst, sym}
+use Rattle.std.proofs.Common.{◌≤◌, refl, subst, sym}
 use Rattle.past_pages.proofs.StillReads.{still_both}
 use Rattle.past_moments.specs.Moments.{IsMarkOf}
+use Rattle.past_moments.specs.declared.marks.Mark.{Mark}
 use Rattle.past_moments.proofs.Kept.{done_then, found_then}
 use Rattle.past_moments.proofs.moments.Moments.page_before.Goals as goal
 
@@ -9,6 +10,11 @@ returns-clause-mark g c = found_then c.where_done.result (λ mark fact. λ are.
     subst (λ m. IsMarkOf g.D.Disk m c.go_near-done.new.store) (sym fact.0)
     ((rw fact.1 at c.go_near-done.ensures.mark) refl (c.unturned_before.ensures.are are)
     ((rw c.in-Some.is at c.in_ok-mark.ensures.mark) are))) c.where_done.ensures.is
+
+pub returns-clause-low : goal.returns-clause-low
+returns-clause-low g c = found_then c.where_done.result (λ mark fact.
+    subst (λ (m : Mark). m.place.k ≤ c.args.k) (sym fact.0) ((rw fact.1 at c.go_near-done.ensures.low) refl))
+    c.where_done.ensures.is
 
 pub returns-clause-are : goal.returns-clause-are
 returns-clause-are g c = done_then c.go_near-done.result c.where_done.result _ _
