@@ -3,7 +3,7 @@ use Rattle.sector_disk.specs.Trail.{now}
 use Rattle.past_pages.specs.Page.{Page}
 use Rattle.past_pages.specs.Reading.{IsOnlyReadFrom}
 use Rattle.desk_past.specs.Past.{HasPages, end_of_pages, AreGood}
-use Rattle.past_moments.proofs.Counting.{HasCounted}
+use Rattle.desk_past.proofs.Fronts.{HasCounted}
 use Rattle.past_moments.proofs.extent.count_pages.Given as goal
 
 -- nothing is written to the store, and the pages before this sector have been counted
