@@ -240,7 +240,7 @@ module _ {D : Type 0} (d : Ghosts D) {store : StoreView D} (past : PastOf d stor
     -- what it leads to, if it is a turn or has a desktop
     pub turn_in : IsTurn past.start (all_deeds is.front) is.page
     turn_in = (turns_behind past.start is.front (is.page ∷ is.todo) []
-    (subst (AreTurns past.start []) is.parts past.keeps.remembers.past.turns)).0
+        (subst (AreTurns past.start []) is.parts past.keeps.remembers.past.turns)).0
 
     -- behind a turn the desktop is what it was at its moment
     pub moment_turned : (to : ℕ) → IsKindOf (which.Turn to) is.page
