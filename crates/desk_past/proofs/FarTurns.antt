@@ -8,14 +8,13 @@ use Rattle.desk_journal.specs.Behind.{GoesToNextWith, LeavesNextWith, StaysBehin
 use Rattle.desk_journal.specs.Gathering.{GatheredView}
 use Rattle.desk_journal.specs.Turning.{IsTurnedTo, LeavesThisOrThat}
 use Rattle.desk_journal.specs.View.{StoreView, IsDurable}
-use Rattle.past_pages.specs.Copies.{Sectors}
 use Rattle.past_pages.specs.Marks.{IsCopyPage}
 use Rattle.past_pages.specs.Page.{Page, IsGoodPage, copy_of, page_bytes}
 use Rattle.past_pages.specs.Reading.{IsOnlyReadFrom, IsQuiet}
 use Rattle.desk_past.specs.Ahead.{CanAdd, IsAhead}
 use Rattle.desk_past.specs.Deeds.{PastDeed, turned}
 use Rattle.desk_past.specs.Past.{KeepsAll, Start}
-use Rattle.desk_past.specs.Turning.{CanTurnFar, HasTurnedFar, KeepsTurned, LeavesFar, LeavesTurned, PastOf, WasThenAt}
+use Rattle.desk_past.specs.Turning.{CanAddCopy, CanTurnFar, HasTurnedFar, KeepsTurned, LeavesFar, LeavesTurned, PastOf, WasThenAt}
 use Rattle.desk_past.proofs.OverPages.{LeavesDone, keeps_over, moments_over}
 use Rattle.desk_past.proofs.Remembering.{read_moments}
 use Rattle.desk_past.proofs.TurnWays.{shown_behind, turned_then}
@@ -83,8 +82,7 @@ module _ {D : Type 0} (d : Ghosts D) {old mid : StoreView D} (still : IsOnlyRead
 
   -- there was no room for the page
   pub none_far_can : (k : ℕ) (to : Desktop) → WasThenAt d k to old
-      → (((past : PastOf d mid) × ((sectors : Sectors) → IsGoodPage (copy_of true sectors to)
-      → CanAdd d (copy_of true sectors to) past.keeps)) → ⊥) → CanTurnFar d k old → ⊥
+      → (((past : PastOf d mid) × CanAddCopy d to past) → ⊥) → CanTurnFar d k old → ⊥
   none_far_can k to was none can =
       let is : can.to ≡ to = elim can.there [
         | inl at ↦ at.is ∙ sym (was.in_use can.past can.lies at.there)
@@ -92,9 +90,9 @@ module _ {D : Type 0} (d : Ghosts D) {old mid : StoreView D} (still : IsOnlyRead
       ] in
       none (
         past_behind d still quiet can.past,
-        λ sectors good.
+        λ sectors few good.
             add_still d can.past.keeps can.past.honest (quiet can.past.keeps.usable can.past.honest) still
             (copy_of true sectors to)
             (subst (λ x. CanAdd d (copy_of true sectors x) can.past.keeps) is
-            (can.add sectors (subst (λ x. IsGoodPage (copy_of true sectors x)) (sym is) good))),
+            (can.add sectors few (subst (λ x. IsGoodPage (copy_of true sectors x)) (sym is) good))),
       )

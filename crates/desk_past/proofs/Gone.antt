@@ -81,8 +81,8 @@ module _ {D : Type 0} (d : Ghosts D) {start : Start} {told : PastEnd} {pages : L
       → IsWay (now (d.trail mid.disk)).reads told.next start (all_deeds pages) k legs from)
       → (d.honest far.disk → (start : Start) → HasStart (now (d.trail far.disk)).reads start → start.base ≡ base
       → (deeds : List PastDeed) (k : ℕ) → IsWay (now (d.trail far.disk)).reads told.next start deeds k legs from
-      → IsSomeAnd found (λ shown. (e.honest shown.disk) × (shown.desktop ≡ moment start deeds k)))
-      → IsSomeAnd found (λ shown. (e.honest shown.disk) × (shown.desktop ≡ moment start (all_deeds pages) k))
+      → IsSomeAnd found (ShowsCopy e (moment start deeds k)))
+      → IsSomeAnd found (ShowsCopy e (moment start (all_deeds pages) k))
   way_gone e {far = far} more legs from found ways led =
       let both : IsOnlyReadFrom d old far = still_both d still more in
       let reads = still_reads d both quiet honest in
@@ -103,9 +103,9 @@ start_shown e has same shows = record {
 
 pub led_to : {E : Type 0} (e : Ghosts E) {c : Content} {end : ℕ} {start : Start} {deeds : List PastDeed} {k : ℕ}
     {legs : List Leg} {from : Origin} {shown new : StoreView E} (way : IsWay c end start deeds k legs from)
-    → ShowsCopy e way.was shown → IsLed e way.done shown new
-    → (e.honest new.disk) × (new.desktop ≡ moment start deeds k)
-led_to e way shows led = (
-  led.still shows.honest,
-  led.desktop shows.honest ∙ ap (λ x. after_deeds x way.done) shows.desktop ∙ sym way.leads,
-)
+    → ShowsCopy e way.was shown → IsLed e way.done shown new → ShowsCopy e (moment start deeds k) new
+led_to e way shows led = record {
+  usable = led.usable shows.usable;
+  honest = led.still shows.honest;
+  desktop = led.desktop shows.honest ∙ ap (λ x. after_deeds x way.done) shows.desktop ∙ sym way.leads;
+}

@@ -470,7 +470,7 @@ none_gone e deeds store are = record {
   more = deeds;
   all = refl;
   others = are;
-  led = record { still = λ h. h; desktop = λ h. refl };
+  led = record { usable = λ u. u; still = λ h. h; desktop = λ h. refl };
 }
 
 module _ {E : Type 0} (e : Ghosts E) {c : Content} {end : ℕ} {legs : List Leg} {deeds : List PastDeed}
@@ -493,6 +493,7 @@ module _ {E : Type 0} (e : Ghosts E) {c : Content} {end : ℕ} {legs : List Leg}
           all = was.all ∙ ap (λ l. was.done ++ l) x.2 ∙ sym (joined was.done x.0 x.1);
           others = x.4;
           led = record {
+            usable = λ u. led.usable (was.led.usable u);
             still = λ h. led.still (was.led.still h);
             desktop = λ h. led.desktop (was.led.still h) ∙ ap (λ d. after_deeds d x.0) (was.led.desktop h)
                 ∙ sym (after_both old.desktop was.done x.0);

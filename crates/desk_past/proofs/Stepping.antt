@@ -57,6 +57,7 @@ pub record HasStepped {E : Type 0} (e : Ghosts E) (c : Content) (end count : ℕ
   pub up_to : end_of_pages at todo ≡ end
   pub all : done ++ all_deeds todo ≡ all_deeds pages
   pub counted : length done + left ≡ count
+  pub usable : old.must_reopen ≡ false → new.must_reopen ≡ false
   pub still : e.honest old.disk → e.honest new.disk
   pub desktop : e.honest old.disk → new.desktop ≡ after_deeds old.desktop done
 
@@ -71,6 +72,7 @@ none_stepped e count pages store written good up_to = record {
   up_to = up_to;
   all = refl;
   counted = omega arith;
+  usable = λ u. u;
   still = λ h. h;
   desktop = λ h. refl;
 }
@@ -110,6 +112,7 @@ module _ {E : Type 0} (e : Ghosts E) {c : Content} {end count : ℕ} {pages : Li
     up_to = ap (λ n. end_of_pages n more) behind ∙ sym (ap (end_of_pages at) is) ∙ was.up_to;
     all = joined was.done (deeds_in p) (all_deeds more) ∙ sym (ap (λ l. was.done ++ all_deeds l) is) ∙ was.all;
     counted = let long = ap length same in omega (arith, fewer, was.counted, long, length-append was.done (deeds_in p));
+    usable = λ u. led.usable (was.usable u);
     still = λ h. led.still (was.still h);
     desktop = λ h. led.desktop (was.still h) ∙ (λ i. after_deeds (was.desktop h i) (same i))
         ∙ sym (after_both old.desktop was.done (deeds_in p));
@@ -134,6 +137,7 @@ module _ {E : Type 0} (e : Ghosts E) {c : Content} {end count : ℕ} {pages : Li
       → IsLed e (take left (deeds_in p)) mid new → left ≤ length (deeds_in p)
       → IsLed e (take count (all_deeds pages)) old new
   last_stepped p more is led few = record {
+    usable = λ u. led.usable (was.usable u);
     still = λ h. led.still (was.still h);
     desktop = λ h. led.desktop (was.still h) ∙ ap (λ x. after_deeds x (take left (deeds_in p))) (was.desktop h)
         ∙ sym (after_both old.desktop was.done (take left (deeds_in p)))
@@ -212,6 +216,7 @@ pub all_stepped : {E : Type 0} (e : Ghosts E) {c : Content} {end count : ℕ} {p
     {old new : StoreView E} (was : HasStepped e c end count pages at left old new) → left ≡ 0
     → IsLed e (take count (all_deeds pages)) old new
 all_stepped e {count = count} {old = old} was none = record {
+  usable = was.usable;
   still = was.still;
   desktop = λ honest. was.desktop honest
       ∙ ap (after_deeds old.desktop) (sym (append-nil was.done))
@@ -229,18 +234,21 @@ module _ {E : Type 0} (e : Ghosts E) {old new : StoreView E} where
       → ((version : ℕ) (documents : Documents) → IsRead all (of_import version documents) → ⊥)
       → ((version k : ℕ) (to : Desktop) → IsRead all (of_turn version k to) → ⊥)
       → ((version : ℕ) (far : Bool) (sectors : Sectors) (to : Desktop) → IsRead all (of_copy version far sectors to) → ⊥)
-      → IsRead all p → events ≡ take count items → IsLedOn e events old new → IsLed e (take count (deeds_in p)) old new
-  led_events {events = events} all (of_events version page) count items same other others copies read first led = record {
+      → IsRead all p → events ≡ take count items → IsLedOn e events old new
+      → (old.must_reopen ≡ false → new.must_reopen ≡ false) → IsLed e (take count (deeds_in p)) old new
+  led_events {events = events} all (of_events version page) count items same other others copies read first led usable = record {
+    usable = usable;
     still = led.still;
     desktop = λ h. led.desktop h
         ∙ ap (steps old.desktop) (first ∙ ap (take count) (same version page read))
         ∙ sym (after_posted old.desktop (take count page))
         ∙ ap (after_deeds old.desktop) (sym (posted_first count page));
   }
-  led_events all (of_import version documents) count items same other others copies read first led =
+  led_events all (of_import version documents) count items same other others copies read first led usable =
       absurd (other version documents read)
-  led_events all (of_turn version k to) count items same other others copies read first led = absurd (others version k to read)
-  led_events all (of_copy version far sectors to) count items same other others copies read first led =
+  led_events all (of_turn version k to) count items same other others copies read first led usable =
+      absurd (others version k to read)
+  led_events all (of_copy version far sectors to) count items same other others copies read first led usable =
       absurd (copies version far sectors to read)
 
   -- an import is one deed
@@ -258,6 +266,7 @@ module _ {E : Type 0} (e : Ghosts E) {old new : StoreView E} where
   led_import all (of_copy version far sectors to) count documents other same others copies read one still done =
       absurd (copies version far sectors to read)
   led_import all (of_import version page) count documents other same others copies read one still done = record {
+    usable = λ u. done.usable;
     still = still;
     desktop = λ h. ap (λ (o : Outcome). o.desktop) (done.brought.done h)
         ∙ ap (λ l. after_deeds old.desktop (brought l ∷ [])) (same version page read)
@@ -268,6 +277,7 @@ module _ {E : Type 0} (e : Ghosts E) {old new : StoreView E} where
 pub led_none : {E : Type 0} (e : Ghosts E) (store : StoreView E) (p : Page) (count : ℕ) → count ≡ 0
     → IsLed e (take count (deeds_in p)) store store
 led_none e store p count none = record {
+  usable = λ u. u;
   still = λ h. h;
   desktop = λ h. ap (λ n. after_deeds store.desktop (take n (deeds_in p))) (sym none);
 }

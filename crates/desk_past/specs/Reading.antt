@@ -42,6 +42,7 @@ many_deeds FarTurn = 1
 -- from the one store to the other this was done
 pub record IsLed {D : Type 0} (d : Ghosts D) (deeds : List PastDeed) (old new : StoreView D)
     : Type 0 where
+  pub usable : old.must_reopen ≡ false → new.must_reopen ≡ false
   pub still : d.honest old.disk → d.honest new.disk
   pub desktop : d.honest old.disk → new.desktop ≡ after_deeds old.desktop deeds
 

@@ -1,8 +1,9 @@
 -- A turn of a store with a past to one of its moments. `d` is what is known of a disk.
-use Rattle.std.specs.Prelude.{◌≡◌, ◌⊎◌, ◌++◌, ◌∷◌, [], ℕ, List, true}
+use Rattle.std.specs.Prelude.{◌≡◌, ◌⊎◌, ◌++◌, ◌∷◌, ◌≤◌, [], ℕ, List, length, true}
 use Rattle.sector_disk.specs.declared.disk.Disk.{Ghosts}
 use Rattle.sector_disk.specs.Trail.{LeavesOnly}
 use Rattle.desktop_definitions.specs.Desktop.{Desktop}
+use Rattle.store_layout.specs.declared.layout.TheConstants.{STORE_SECTORS}
 use Rattle.desk_journal.specs.Gathering.{GatheredView}
 use Rattle.desk_journal.specs.Turning.{IsTurnedTo, LeavesThisOrThat}
 use Rattle.desk_journal.specs.Undoing.{IsLeft}
@@ -108,6 +109,11 @@ module _ {D : Type 0} (d : Ghosts D) where
     pub shows : IsTurnedTo d to old new
     pub past : (past : PastOf old) → KeepsTurned to.desktop past new
 
+  -- there is room for each page of a far turn to this desktop that has it as no more sectors than a store has
+  abbrev pub CanAddCopy : Desktop → {store : StoreView D} → PastOf store → Type 0
+  CanAddCopy to past = (sectors : Sectors) → length sectors ≤ STORE_SECTORS
+      → IsGoodPage (copy_of true sectors to) → CanAdd d (copy_of true sectors to) past.keeps
+
   -- the past in use, or a part before, has such a moment, and there is room for a page with its desktop
   pub record CanTurnFar (k : ℕ) (store : StoreView D) : Type 0 where
     pub past : PastOf store
@@ -116,5 +122,4 @@ module _ {D : Type 0} (d : Ghosts D) where
     pub there : WasAt k to past
         ⊎ (spans : List (Start × List Page)) × (are : SpansOf d past.keeps spans)
         × WasInSpans d past.keeps spans are k to
-    pub add : (sectors : Sectors) → IsGoodPage (copy_of true sectors to)
-        → CanAdd d (copy_of true sectors to) past.keeps
+    pub add : CanAddCopy to past

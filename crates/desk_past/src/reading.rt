@@ -10,7 +10,7 @@ ghost use Rattle.store_slots.specs.Errors.{OfDesktop, OfLook};
 ghost use Rattle.desk_journal.specs.Device.{IsOnlyRead};
 ghost use Rattle.desk_journal.specs.Undoing.{IsLedOn, IsLeft, ShowsStanding};
 ghost use Rattle.past_pages.specs.Page.{Page};
-ghost use Rattle.past_pages.specs.Laying.{StandsFrom, IsBlankRoom};
+ghost use Rattle.past_pages.specs.Laying.{HasStoreRoom, StandsFrom, IsBlankRoom};
 ghost use Rattle.past_pages.specs.Reading.{IsOnlyReadFrom, IsRead};
 ghost use Rattle.desk_past.specs.Deeds.{PastDeed};
 ghost use Rattle.desk_past.specs.Errors.{OfDoing, OfGoingBack, OfLaying, OfMoment, OfSteps};
@@ -139,6 +139,8 @@ pub fn copy_of<D: Disk>(alloc: Global, store: &mut Store<D>) -> Result<Store<Mem
 /// Errors: those of `posted`.
 pub fn post_all<E: Disk>(alloc: Global, shown: &mut Store<E>, events: &[Event]) -> Result<(), Error>
     ensures led { OnOk result (IsLedOn E.Disk events.now shown.old shown.new) }
+    ensures usable { OnOk result (shown.old.must_reopen ≡ false
+        → shown.new.must_reopen ≡ false) }
     ensures errors { IfErr result OfDoing }
 {
     for event in events {
@@ -440,8 +442,7 @@ fn gone<D: Disk, E: Disk + Drop>(
         → (start : Start) → HasStart (now (D.trail store.old.disk)).reads start
         → start.base ≡ base → (deeds : List PastDeed) (k : ℕ)
         → IsWay (now (D.trail store.old.disk)).reads end start deeds k way.legs.items way.from
-        → IsSomeAnd found (λ shown. E.honest shown.disk
-        × (shown.desktop ≡ moment_of start deeds k))) }
+        → IsSomeAnd found (ShowsCopy E.Disk (moment_of start deeds k))) }
     ensures still { IsOnlyReadFrom D.Disk store.old store.new }
     ensures faults { FailsAs Error.Fault OfLaying result (D.failures store.old.disk)
         (D.failures store.new.disk) }
@@ -472,8 +473,7 @@ fn before_start<D: Disk, E: Disk + Drop>(
     disk: E,
 ) -> Result<Option<Store<E>>, Error>
     requires usable { store.old.must_reopen ≡ false }
-    requires numbered { base + STORE_SECTORS < 2 ^ 32 }
-    requires there { base + STORE_SECTORS ≤ D.size store.old.disk }
+    requires start { HasStoreRoom (D.size store.old.disk) base }
     requires blank { IsBlankRoom E.Disk disk }
     ensures is_one { IfOk result (λ found. D.honest store.old.disk → E.honest disk
         → (t : Standing) → StandsFrom (now (D.trail store.old.disk)).reads base t

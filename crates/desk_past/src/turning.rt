@@ -8,16 +8,15 @@ ghost use Rattle.desk_journal.specs.Posting.{AnswersMustReopen};
 ghost use Rattle.desk_journal.specs.Turning.{IsTurnedTo, LeavesThisOrThat};
 ghost use Rattle.desk_journal.specs.Undoing.{IsLeft};
 ghost use Rattle.past_pages.specs.Reading.{IsOnlyReadFrom};
-ghost use Rattle.past_pages.specs.Copies.{Sectors};
 ghost use Rattle.past_pages.specs.Marks.{IsCopyPage};
-ghost use Rattle.past_pages.specs.Page.{IsGoodPage, copy_of, turn_of};
-ghost use Rattle.desk_past.specs.Ahead.{CanAdd, IsAhead};
+ghost use Rattle.past_pages.specs.Page.{turn_of};
+ghost use Rattle.desk_past.specs.Ahead.{IsAhead};
 ghost use Rattle.desk_past.specs.Errors.{OfMoment};
 ghost use Rattle.desk_past.specs.Going.{LiesInPart};
 ghost use Rattle.desk_past.specs.Keeping.{CanTurn};
 ghost use Rattle.desk_past.specs.Past.{HasMoment};
 ghost use Rattle.desk_past.specs.Turning.{CanTurnTo, ComesToMoment, HasTurnedBack, PastOf, StaysUnturned, TurnsBack, TurnsTo};
-ghost use Rattle.desk_past.specs.Turning.{CanTurnFar, HasTurnedFar, KeepsTurned, LeavesTurned, TurnsFar, WasAt, WasThenAt};
+ghost use Rattle.desk_past.specs.Turning.{CanAddCopy, CanTurnFar, HasTurnedFar, KeepsTurned, LeavesTurned, TurnsFar, WasAt, WasThenAt};
 ghost use Rattle.desk_past.specs.Writing.{AreAhead, UsesAhead};
 
 use crate::ahead::{Ahead, page_ahead};
@@ -226,9 +225,7 @@ fn turn_with<D: Disk>(
     ensures done { IfOk result (λ done. done ≡ true → IsTurnedTo D.Disk to store.old store.new
         × ((past : PastOf D.Disk store.old) → KeepsTurned D.Disk to.desktop past store.new)) }
     ensures not_done { IfOk result (λ done. done ≡ false → StaysUnturned D.Disk
-        ((past : PastOf D.Disk store.old) × ((sectors : Sectors)
-        → IsGoodPage (copy_of true sectors to.desktop)
-        → CanAdd D.Disk (copy_of true sectors to.desktop) past.keeps))
+        ((past : PastOf D.Disk store.old) × CanAddCopy D.Disk to.desktop past)
         store.old store.new) }
     ensures usable { OnOk result (store.new.must_reopen ≡ false) }
     ensures left { IfErr result (λ _. store.new.must_reopen ≡ false

@@ -1,5 +1,5 @@
 -- Pages with a desktop, as they are made and read.
-use Rattle.std.specs.Prelude.{◌≡◌, ◌⊎◌, ◌≤◌, ◌<◌, ℕ, Bool, List, false}
+use Rattle.std.specs.Prelude.{◌≡◌, ◌⊎◌, ◌≤◌, ◌<◌, ℕ, Bool, List, false, length}
 use Rattle.sector_disk.specs.Trail.{Content, now}
 use Rattle.sector_disk.specs.declared.disk.Disk.{Ghosts}
 use Rattle.desktop_definitions.specs.Desktop.{Desktop}
@@ -18,10 +18,11 @@ pub record HasSpelled (c : Content) (bytes : List ℕ) : Type 0 where
   pub are : AreSectors sectors
   pub same : (n : ℕ) → n < STORE_SECTORS → laid_sectors sectors n ≡ c n
 
--- these bytes are a page of this kind that has this desktop
+-- these bytes are a page of this kind that has this desktop, as no more sectors than a store has
 pub record IsCopyPage (far : Bool) (to : Desktop) (bytes : List ℕ) : Type 0 where
   pub sectors : Sectors
   pub are : bytes ≡ page_bytes (copy_of far sectors to)
+  pub few : length sectors ≤ STORE_SECTORS
   pub good : IsGoodPage (copy_of far sectors to)
 
 -- no store stands there, or a damaged one

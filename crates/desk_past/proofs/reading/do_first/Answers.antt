@@ -11,7 +11,8 @@ returns-in_ok-post_all-in-Events-clause-done g c = λ p read free. (
   led_events g.E.Disk c.args.deeds.now p c.args.count c.in-Events.events.items
       (λ version page is. (rw c.in-Events.is at is)) (λ version page is. (rw c.in-Events.is at is))
       (λ version k to is. (rw c.in-Events.is at is)) (λ version far sectors to is. (rw c.in-Events.is at is)) read
-      (c.split_at.ensures.front ∙ ap (take c.args.count) c.as_slice.ensures.value) c.in_ok-post_all-in-Events.ensures.led,
+      (c.split_at.ensures.front ∙ ap (take c.args.count) c.as_slice.ensures.value) c.in_ok-post_all-in-Events.ensures.led
+      c.in_ok-post_all-in-Events.ensures.usable,
 )
 
 pub returns-in_ok-brought-in-Import-clause-done : goal.returns-in_ok-brought-in-Import-clause-done

@@ -126,7 +126,7 @@ returns-clause-is_one g c = IfOk-weaker c.gone.result _ _ (λ found led honest o
     c.before_pages.ensures.still c.in-Some.first c.args.k first high g.E.Disk c.way_to.ensures.still
     c.in-Some-2.way.legs.items c.in-Some-2.way.from found (rw c.in-Some-2.is at c.in_ok-way.ensures.ways)
     (λ h. led h other))
-    (λ shown to. to.1)) c.gone.ensures.led
+    (λ shown to. to.desktop)) c.gone.ensures.led
 
 pub returns-clause-there : goal.returns-clause-there
 returns-clause-there g c = IfOk-weaker c.gone.result _ _ (λ found led. if_some_at found
@@ -139,7 +139,7 @@ returns-clause-there g c = IfOk-weaker c.gone.result _ _ (λ found led. if_some_
           (way_gone g.D.Disk has c.args.base is honest (c.shows_what_crashes_leave.ensures.quiet c.requires.usable honest)
           c.before_pages.ensures.still c.in-Some.first c.args.k first high g.E.Disk c.way_to.ensures.still
           c.in-Some-2.way.legs.items c.in-Some-2.way.from found (rw c.in-Some-2.is at c.in_ok-way.ensures.ways)
-          (λ h. led h other)) at).0,
+          (λ h. led h other)) at).honest,
     ))) c.gone.ensures.led
 
 pub returns-in_err-first-clause-faults : goal.returns-in_err-first-clause-faults

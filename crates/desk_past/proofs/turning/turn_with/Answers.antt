@@ -39,7 +39,7 @@ returns-in_default-clause-not_done g c = λ _. record {
       let copy = c.requires.0 in
       (rw c.in_default.is at c.in_ok-ahead.ensures.none) can.0.honest can.0.start can.0.deeds can.0.desktop
       (copy_of true copy.sectors c.args.to.desktop) can.0.keeps (c.as_slice.ensures.value ∙ copy.are) copy.good
-      (can.1 copy.sectors copy.good);
+      (can.1 copy.sectors copy.few copy.good);
 }
 
 pub returns-in_default-clause-device : goal.returns-in_default-clause-device

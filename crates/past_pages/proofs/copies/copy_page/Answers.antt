@@ -21,6 +21,7 @@ returns c = made c.page_of.result c.page_of.ensures.bytes c.page_of.ensures.few 
       sectors = has.sectors;
       are = is ∙ (λ i. number (c.copy_kind.ensures i) ++ (number LAYOUT ++ (number (counts i)
           ++ (number (length (spelled i)) ++ spelled i))));
+      few = let short = c.in_ok-sectors.ensures.short in omega (arith, short, all, long);
       good = record {
         newest = refl;
         few = omega (arith, few, cut, long);
