@@ -41,7 +41,8 @@ parts_apart size base end base' end' one two =
       ]
     ]
 
-pub same_end : (size base end base' end' : ℕ) → IsPastPart size base end → IsPastPart size base' end' → base ≡ base' → end ≡ end'
+pub same_end : (size base end base' end' : ℕ) → IsPastPart size base end → IsPastPart size base' end' → base ≡ base'
+    → end ≡ end'
 same_end size base end base' end' one two same =
     let ends = one.ends in let ends' = two.ends in omega (arith, ends, ends', same)
 
@@ -58,7 +59,8 @@ one_part size next base end base' end' one two here there =
     ]
 
 -- a part is beside, or pages go on in it
-pub beside_not : (size next from base end : ℕ) → IsPartBeside size next from → IsPastPart size base end → GoesOnIn base end next
+pub beside_not : (size next from base end : ℕ) → IsPartBeside size next from → IsPastPart size base end
+    → GoesOnIn base end next
     → ¬ (from ≡ base)
 beside_not size next from base end there part goes same =
     let ends = part.ends in
@@ -77,7 +79,8 @@ lies_beside size next from there base end part low high =
 
 -- ---- the part at a place
 
-pub at_place : (size place : ℕ) → place < part_count size → IsPastPart size (part_base place) (part_base place + PART_SECTORS)
+pub at_place : (size place : ℕ) → place < part_count size → IsPastPart size (part_base place)
+    (part_base place + PART_SECTORS)
 at_place size place low = record {
   place = place;
   begins = refl;

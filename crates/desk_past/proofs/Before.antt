@@ -26,7 +26,8 @@ module _ {D : Type 0} (d : Ghosts D) {old mid : StoreView D} (still : IsOnlyRead
           standing = keeps.remembers.standing;
           pages = keeps.remembers.pages;
           past = subst (λ (x : ℕ × Content). HoldsPast x.0 start keeps.remembers.standing keeps.remembers.pages x.1)
-              (λ i. (still.left.disk.device.as_large i, still_reads d still (quiet before) before i)) keeps.remembers.past;
+              (λ i. (still.left.disk.device.as_large i, still_reads d still (quiet before) before i))
+              keeps.remembers.past;
           all = keeps.remembers.all;
           is = keeps.remembers.is;
         };

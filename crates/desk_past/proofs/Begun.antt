@@ -96,10 +96,12 @@ module _ {D : Type 0} (d : Ghosts D) (base : ℕ) where
   spares_write from limit low high only quiet = spared_write d base STORE_SECTORS from limit low high only quiet
 
   pub spares_then : {old mid : StoreView D} (new : StoreView D) → IsSameDevice d old.disk mid.disk
-      → mid.must_reopen ≡ false → SparesOthers d base old mid → SparesOthers d base mid new → SparesOthers d base old new
+      → mid.must_reopen ≡ false → SparesOthers d base old mid → SparesOthers d base mid new
+      → SparesOthers d base old new
   spares_then new device closed first second = spared_then d base STORE_SECTORS new device closed first second
 
-  pub spares_keeps : {old new : StoreView D} → STORE_SECTORS ≤ base → SparesOthers d base old new → KeepsStanding d old new
+  pub spares_keeps : {old new : StoreView D} → STORE_SECTORS ≤ base → SparesOthers d base old new
+      → KeepsStanding d old new
   spares_keeps behind spares = spared_keeps d base STORE_SECTORS behind spares
 
   pub spares_shows : {old new : StoreView D} → STORE_SECTORS ≤ base → SparesOthers d base old new
@@ -158,7 +160,8 @@ module _ {D : Type 0} (d : Ghosts D) where
     events = done.events;
   }
 
-  pub aside_both : {old mid new : StoreView D} → IsSameDevice d old.disk mid.disk → IsAside d old mid → IsAside d mid new
+  pub aside_both : {old mid new : StoreView D} → IsSameDevice d old.disk mid.disk → IsAside d old mid
+      → IsAside d mid new
       → IsAside d old new
   aside_both device first second = record {
     usable = second.usable;
@@ -188,7 +191,8 @@ module _ {D : Type 0} (d : Ghosts D) where
       → (old.must_reopen ≡ false → IsDurable d old) → SparesOthers d base old new → LeavesDesktop d old new
   desktop_kept base old new behind durable spares = desktop_spared d base STORE_SECTORS old new behind durable spares
 
-  pub desktop_then : {old mid : StoreView D} (new : StoreView D) → IsSameDevice d old.disk mid.disk → LeavesDesktop d old mid
+  pub desktop_then : {old mid : StoreView D} (new : StoreView D) → IsSameDevice d old.disk mid.disk
+      → LeavesDesktop d old mid
       → IsAside d old mid → LeavesDesktop d mid new → LeavesDesktop d old new
   desktop_then {old = old} {mid = mid} new device first aside second usable honest =
       chained (first usable honest)
@@ -200,8 +204,10 @@ end_at next before = record { next = next; before = before }
 
 -- ---- the start that was copied
 
--- `c` is the content behind a checkpoint of a store whose start was copied, or in the midst of it; `x` was there before it.
-module _ (size base : ℕ) (x c : Content) (s : Standing) (room : base + STORE_SECTORS ≤ size) (behind : STORE_SECTORS ≤ base)
+-- `c` is the content behind a checkpoint of a store whose start was copied, or in the midst of it; `x` was there before
+-- it.
+module _ (size base : ℕ) (x c : Content) (s : Standing) (room : base + STORE_SECTORS ≤ size)
+    (behind : STORE_SECTORS ≤ base)
     (same : (n : ℕ) → n < STORE_SECTORS → x (base + n) ≡ x n)
     (still : (n : ℕ) → STORE_SECTORS ≤ n → c n ≡ x n) (at : Stands size x s) where
   pub stands_there : StandsFrom c base s
@@ -252,8 +258,10 @@ module _ {D : Type 0} (d : Ghosts D) {start : Start} {deeds : List PastDeed} {de
   -- the past is there at each moment up to this one
   there : LeavesOnly (d.trail old.disk) (d.trail mid.disk)
       (λ c. Stands (d.size old.disk) c keeps.remembers.standing × HoldsPages c start keeps.remembers.pages)
-  there = both_leave (spares_keeps d base behind spares keeps.usable honest keeps.remembers.standing keeps.remembers.past.stands)
-      (weakened (spares.moments keeps.usable honest) (λ c same. written_stays keeps.remembers.pages (now (d.trail old.disk)).reads c start
+  there = both_leave (spares_keeps d base behind spares keeps.usable honest keeps.remembers.standing
+      keeps.remembers.past.stands)
+      (weakened (spares.moments keeps.usable honest)
+      (λ c same. written_stays keeps.remembers.pages (now (d.trail old.disk)).reads c start
       (λ n low high. same n (λ within. elim apart [
         | inl before ↦ omega (arith, before, low, within.1)
         | inr after ↦ omega (arith, after, high, within.0, keeps.remembers.past.up_to)
@@ -268,14 +276,16 @@ module _ {D : Type 0} (d : Ghosts D) {start : Start} {deeds : List PastDeed} {de
   at_mid = at_last there (now (d.trail mid.disk)).reads (read_is_an_image (now (d.trail mid.disk)))
 
   shows_mid : ShowsStanding d mid keeps.remembers.standing
-  shows_mid = subst (λ n. Stands n (now (d.trail mid.disk)).reads keeps.remembers.standing) (sym device.as_large) at_mid.0
+  shows_mid = subst (λ n. Stands n (now (d.trail mid.disk)).reads keeps.remembers.standing) (sym device.as_large)
+      at_mid.0
 
   -- a checkpoint begins the next past
   module _ (usable : mid.must_reopen ≡ false) (quiet : IsQuiet d mid) (new : StoreView D)
       (room : base + STORE_SECTORS ≤ d.size old.disk) (within : StaysWithin d mid.disk new.disk)
       (same : (n : ℕ) → n < STORE_SECTORS
       → (now (d.trail mid.disk)).reads (base + n) ≡ (now (d.trail mid.disk)).reads n)
-      (before : ℕ) (end : PastEnd) (counted : before ≡ keeps.remembers.standing.past.before + length keeps.remembers.standing.events)
+      (before : ℕ) (end : PastEnd) (counted : before ≡ keeps.remembers.standing.past.before + length
+      keeps.remembers.standing.events)
       (next : end.next ≡ base + STORE_SECTORS) (told : end.before ≡ before) where
     before_is : before ≡ start.before + length deeds
     before_is = let all = ap length keeps.remembers.all in
@@ -287,15 +297,19 @@ module _ {D : Type 0} (d : Ghosts D) {start : Start} {deeds : List PastDeed} {de
         → Stands (d.size old.disk) c (renewed_from end keeps.remembers.standing)
         → GoesOnFrom (d.size old.disk) base start deeds desktop c
     goes_on_there c still anew = record {
-      anew = begun_there (d.size old.disk) base (now (d.trail mid.disk)).reads c keeps.remembers.standing room behind same still
-          at_mid.0 desktop (start.before + length deeds) end keeps.remembers.is (sym before_is ∙ counted) next (told ∙ before_is) anew;
-      former = former_there (d.size old.disk) base (now (d.trail mid.disk)).reads c keeps.remembers.standing room behind same
+      anew = begun_there (d.size old.disk) base (now (d.trail mid.disk)).reads c keeps.remembers.standing room behind
+          same still
+          at_mid.0 desktop (start.before + length deeds) end keeps.remembers.is (sym before_is ∙ counted) next
+          (told ∙ before_is) anew;
+      former = former_there (d.size old.disk) base (now (d.trail mid.disk)).reads c keeps.remembers.standing room behind
+          same
           still at_mid.0 (remembers_on keeps.remembers refl at_mid.0 at_mid.1);
     }
 
     pub begins_anew : LeavesNext d (renewed_from end) mid new
         → LeavesOnly (d.trail old.disk) (d.trail new.disk)
-        (λ c. Remembers (d.size old.disk) start deeds desktop c ⊎ GoesOnFrom (d.size old.disk) base start deeds desktop c)
+        (λ c. Remembers (d.size old.disk) start deeds desktop c ⊎ GoesOnFrom (d.size old.disk) base start deeds desktop
+        c)
     begins_anew renewed =
         let at_each : LeavesOnly (d.trail mid.disk) (d.trail new.disk)
         (λ c. (n : ℕ) → STORE_SECTORS ≤ n → c n ≡ (now (d.trail mid.disk)).reads n) =
@@ -307,7 +321,8 @@ module _ {D : Type 0} (d : Ghosts D) {start : Start} {deeds : List PastDeed} {de
         (λ c x. elim x.0 [
           | inl anew ↦ inr (goes_on_there c x.1
               (subst (λ n. Stands n c (renewed_from end keeps.remembers.standing)) device.as_large anew))
-          | inr was ↦ inl (remembers_on keeps.remembers refl (subst (λ n. Stands n c keeps.remembers.standing) device.as_large was)
+          | inr was ↦ inl (remembers_on keeps.remembers refl
+              (subst (λ n. Stands n c keeps.remembers.standing) device.as_large was)
               (written_stays keeps.remembers.pages (now (d.trail mid.disk)).reads c start
               (λ n low high. x.1 n (omega (arith, low, keeps.behind))) at_mid.1))
         ]))
@@ -322,11 +337,14 @@ module _ {D : Type 0} (d : Ghosts D) {start : Start} {deeds : List PastDeed} {de
 
 -- ---- a past that begins where there was none
 
-module _ {D : Type 0} (d : Ghosts D) (old new : StoreView D) (base before : ℕ) (end : PastEnd) (honest : d.honest old.disk)
-    (behind : STORE_SECTORS ≤ base) (room : base + STORE_SECTORS ≤ d.size old.disk) (within : StaysWithin d old.disk new.disk)
+module _ {D : Type 0} (d : Ghosts D) (old new : StoreView D) (base before : ℕ) (end : PastEnd)
+    (honest : d.honest old.disk)
+    (behind : STORE_SECTORS ≤ base) (room : base + STORE_SECTORS ≤ d.size old.disk)
+    (within : StaysWithin d old.disk new.disk)
     (same : (n : ℕ) → n < STORE_SECTORS → (now (d.trail old.disk)).reads (base + n) ≡ (now (d.trail old.disk)).reads n)
     (s : Standing) (at : ShowsStanding d old s) (counted : before ≡ s.past.before + length s.events) where
-  abbrev pub has_begun : (desktop : Desktop) → desktop_of s ≡ desktop → end.next ≡ base + STORE_SECTORS → end.before ≡ before
+  abbrev pub has_begun : (desktop : Desktop) → desktop_of s ≡ desktop → end.next ≡ base + STORE_SECTORS
+      → end.before ≡ before
       → new.must_reopen ≡ false → ShowsNext d (renewed_from end) old new
       → KeepsAll d (begun_at desktop before base) [] desktop new
   has_begun desktop is next told usable shows = record {
@@ -336,6 +354,7 @@ module _ {D : Type 0} (d : Ghosts D) (old new : StoreView D) (base before : ℕ)
         (omega (arith, room, within.as_large)) behind same
         (λ n far. reads_stay (d.trail old.disk) (d.trail new.disk) (within.moments honest) n
         (λ low. omega (arith, low, far)))
-        (subst (λ n. Stands n (now (d.trail old.disk)).reads s) (sym within.as_large) at) desktop before end is counted next
+        (subst (λ n. Stands n (now (d.trail old.disk)).reads s) (sym within.as_large) at) desktop before end is counted
+        next
         told (shows honest s at);
   }

@@ -35,7 +35,8 @@ pages_stay (p ∷ pages) c c' at same has =
     )
 
 -- one page more
-pub end_on : (pages : List Page) (at : ℕ) (p : Page) → end_of_pages at (pages ++ p ∷ []) ≡ end_of_pages at pages + page_sectors p
+pub end_on : (pages : List Page) (at : ℕ) (p : Page) → end_of_pages at (pages ++ p ∷ []) ≡ end_of_pages at
+    pages + page_sectors p
 end_on [] at p = refl
 end_on (q ∷ pages) at p = end_on pages (at + page_sectors q) p
 
@@ -45,7 +46,8 @@ pages_on [] c at p has held = (held, tt)
 pages_on (q ∷ pages) c at p has held = (has.0, pages_on pages c (at + page_sectors q) p has.1 held)
 
 -- more pages
-pub end_both : (pages more : List Page) (at : ℕ) → end_of_pages at (pages ++ more) ≡ end_of_pages (end_of_pages at pages) more
+pub end_both : (pages more : List Page) (at : ℕ) → end_of_pages at (pages ++ more) ≡ end_of_pages
+    (end_of_pages at pages) more
 end_both [] more at = refl
 end_both (q ∷ pages) more at = end_both pages more (at + page_sectors q)
 
@@ -76,9 +78,11 @@ written_stays pages c c' start same has =
     )
 
 -- at each moment a crash leaves them, where no sector of theirs is touched
-pub written_kept : {area : ℕ → Type 0} {old new : Trail} (pages : List Page) (start : Start) → STORE_SECTORS ≤ start.base
+pub written_kept : {area : ℕ → Type 0} {old new : Trail} (pages : List Page) (start : Start)
+    → STORE_SECTORS ≤ start.base
     → ((n : ℕ) → STORE_SECTORS ≤ n → (now old).pending n ≡ false) → Touches area old new
-    → ((n : ℕ) → start.base ≤ n → n < end_of_pages (first_page start) pages → ¬ area n) → HoldsPages (now old).reads start pages
+    → ((n : ℕ) → start.base ≤ n → n < end_of_pages (first_page start) pages → ¬ area n)
+    → HoldsPages (now old).reads start pages
     → LeavesOnly old new (λ c. HoldsPages c start pages)
 written_kept {old = old} pages start far quiet run out has = record {
   later = run.later;
@@ -156,7 +160,8 @@ spelled_short p =
     let spelled = behind (number (length (page_body p))) (page_body p) in
     let some = behind (number (page_count p)) (behind_length (page_body p)) in
     let version = behind (number (page_version p)) (number (page_count p) ++ behind_length (page_body p)) in
-    let all = behind (number (page_kind p)) (number (page_version p) ++ (number (page_count p) ++ behind_length (page_body p))) in
+    let all = behind (number (page_kind p)) (number (page_version p) ++
+    (number (page_count p) ++ behind_length (page_body p))) in
     omega (arith, spelled, some, version, all)
 
 pub good_journal : {size : ℕ} (c : Content) (s : Standing) → Stands size c s → s.version ≡ LAYOUT

@@ -69,8 +69,10 @@ newest_shown c base t at = elim (cases_lt t.slot 1) [
       elim (true_or_false (is_open (c (base + slot_gate 1)))) [
         | inl opened ↦
             let older = (at.other 1 (omega (arith, here)) opened).1 in
-            subst (λ (o : Option Head). IsSomeAnd o (SaysSo t)) (sym ((λ i. newer (open_at c base 0 live i) (open_at c base 1 opened i))
-            ∙ newer_first (head_of (c (base + slot_head 0))) (head_of (c (base + slot_head 1))) (omega (arith, older, says.0))))
+            subst (λ (o : Option Head). IsSomeAnd o (SaysSo t))
+            (sym ((λ i. newer (open_at c base 0 live i) (open_at c base 1 opened i))
+            ∙ newer_first (head_of (c (base + slot_head 0))) (head_of (c (base + slot_head 1)))
+            (omega (arith, older, says.0))))
             says
         | inr shut ↦
             subst (λ (o : Option Head). IsSomeAnd o (SaysSo t))
@@ -86,8 +88,10 @@ newest_shown c base t at = elim (cases_lt t.slot 1) [
       elim (true_or_false (is_open (c (base + slot_gate 0)))) [
         | inl opened ↦
             let older = (at.other 0 (omega (arith, here)) opened).1 in
-            subst (λ (o : Option Head). IsSomeAnd o (SaysSo t)) (sym ((λ i. newer (open_at c base 0 opened i) (open_at c base 1 live i))
-            ∙ newer_second (head_of (c (base + slot_head 0))) (head_of (c (base + slot_head 1))) (omega (arith, older, says.0))))
+            subst (λ (o : Option Head). IsSomeAnd o (SaysSo t))
+            (sym ((λ i. newer (open_at c base 0 opened i) (open_at c base 1 live i))
+            ∙ newer_second (head_of (c (base + slot_head 0))) (head_of (c (base + slot_head 1)))
+            (omega (arith, older, says.0))))
             says
         | inr shut ↦
             subst (λ (o : Option Head). IsSomeAnd o (SaysSo t))
@@ -116,14 +120,17 @@ SaysOfAll size told epoch found c = (span : Start × List Page) → (is : IsSpan
     → IsOlderThan (start_shows is).epoch epoch → IsSomeAnd found (SaysOfSpan is)
 
 -- a moment of the spans is one of the first of them, or one of the others
-pub first_or_others : {size : ℕ} {c : Content} {told : PastEnd} {epoch k : ℕ} {was : Desktop} → HasSpans size c told epoch k was
+pub first_or_others : {size : ℕ} {c : Content} {told : PastEnd} {epoch k : ℕ} {was : Desktop}
+    → HasSpans size c told epoch k was
     → (span : Start × List Page) × (is : IsSpan size told span c) × IsOlderThan (start_shows is).epoch epoch
-    × ((WasIn k was is × (k < span.0.before → (next : Start × List Page) × (more : IsSpan size (start_shows is).past next c)
+    × ((WasIn k was is × (k < span.0.before → (next : Start × List Page) × (more : IsSpan size (start_shows is).past
+    next c)
     × IsOlderThan (start_shows more).epoch (start_shows is).epoch))
     ⊎ ((k < (start_shows is).past.before) × HasSpans size c (start_shows is).past (start_shows is).epoch k was))
 first_or_others ([], are, wrong) = absurd wrong
 first_or_others (span ∷ [], are, inl here) = (span, are.0, are.1, inl (here.0, λ ahead. absurd (here.1 ahead)))
-first_or_others (span ∷ (next ∷ spans), are, inl here) = (span, are.0, are.1, inl (here.0, λ ahead. (next, are.2.0, are.2.1)))
+first_or_others (span ∷ (next ∷ spans), are, inl here) =
+    (span, are.0, are.1, inl (here.0, λ ahead. (next, are.2.0, are.2.1)))
 first_or_others (span ∷ spans, are, inr there) = (span, are.0, are.1, inr (there.0, (spans, are.2, there.1)))
 
 is_there : {T : Type 0} (P : T → Type 0) (o : Option T) → IsSomeAnd o P → (x : T) × (o ≡ Some x)
@@ -135,13 +142,15 @@ pub spans_on : {size : ℕ} {told told' : PastEnd} {epoch epoch' : ℕ} {found :
     → SaysOfAll size told epoch found c → told ≡ told' → epoch ≡ epoch' → (next : Start × List Page)
     → (more : IsSpan size told' next c) → IsOlderThan (start_shows more).epoch epoch' → (b : Begun) × (found ≡ Some b)
 spans_on {size = size} {found = found} {c = c} says is same next more older =
-    is_there (SaysOfSpan more) found (subst (λ (x : PastEnd × ℕ). SaysOfAll size x.0 x.1 found c) (λ i. (is i, same i)) says next more older)
+    is_there (SaysOfSpan more) found (subst (λ (x : PastEnd × ℕ). SaysOfAll size x.0 x.1 found c) (λ i. (is i, same i))
+    says next more older)
 
 pub is_some_of : {T : Type 0} (o : Option T) (b : Bool) → b ≡ is_some o → (x : T) × (o ≡ Some x) → b ≡ true
 is_some_of o b is there = is ∙ ap is_some there.1
 
 -- a moment of spans comes before where they end
-pub before_told : (size k : ℕ) (c : Content) (told : PastEnd) (epoch : ℕ) (was : Desktop) (spans : List (Start × List Page))
+pub before_told : (size k : ℕ) (c : Content) (told : PastEnd) (epoch : ℕ) (was : Desktop)
+    (spans : List (Start × List Page))
     (are : AreSpans size c epoch told spans) → WasThen size c epoch told spans are k was → k < told.before
 before_told size k c told epoch was [] are wrong = absurd wrong
 before_told size k c told epoch was (span ∷ spans) are (inl here) = here.0.high
@@ -164,7 +173,8 @@ module _ {D : Type 0} (d : Ghosts D) {start : Start} {deeds : List PastDeed} {de
   }
 
   -- its moments are those of one span
-  pub was_in_use : (k : ℕ) → start.before ≤ k → k < told.before → HasSpans (d.size store.disk) (now (d.trail store.disk)).reads
+  pub was_in_use : (k : ℕ) → start.before ≤ k → k < told.before
+      → HasSpans (d.size store.disk) (now (d.trail store.disk)).reads
       told NO_EPOCH k (moment start (all_deeds keeps.remembers.pages) k)
   was_in_use k low high = (
     (start, keeps.remembers.pages) ∷ [],

@@ -20,7 +20,8 @@ use Rattle.desk_past.proofs.Sparing.{but_wider}
 
 -- what was read from the one place is held at the other
 pub copied_from : (base from count : ℕ) (was c : Content) (bytes : List ℕ)
-    → bytes ≡ stored was from (SECTOR_BYTES * count) → HoldsBytes c (base + from) bytes → HasCopies base from count was c
+    → bytes ≡ stored was from (SECTOR_BYTES * count) → HoldsBytes c (base + from) bytes
+    → HasCopies base from count was c
 copied_from base from count was c bytes is held = λ n within j low.
     let k : ℕ = n - from in
     let there : base + from + k ≡ base + n = omega (arith, within.0) in
@@ -52,7 +53,8 @@ copies_on base from count more was c first second = λ n within.
 
 module _ {D : Type 0} (d : Ghosts D) where
   -- a wider stretch is spared less
-  pub spared_wider : (base limit : ℕ) {old new : StoreView D} (from count : ℕ) → base ≤ from → from + count ≤ base + limit
+  pub spared_wider : (base limit : ℕ) {old new : StoreView D} (from count : ℕ) → base ≤ from
+      → from + count ≤ base + limit
       → SparesAllBut d from count old new → SparesAllBut d base limit old new
   spared_wider base limit from count low high spares = but_wider d (InRange base limit)
       (λ honest n within. (omega (arith, low, within.0), omega (arith, high, within.1))) spares
@@ -62,4 +64,5 @@ module _ {D : Type 0} (d : Ghosts D) where
       → old.must_reopen ≡ false → d.honest old.disk → (n : ℕ) → ¬ area n
       → (now (d.trail new.disk)).reads n ≡ (now (d.trail old.disk)).reads n
   spared_reads {new = new} spares usable honest n out =
-      at_last (spares.moments usable honest) (now (d.trail new.disk)).reads (read_is_an_image (now (d.trail new.disk))) n out
+      at_last (spares.moments usable honest) (now (d.trail new.disk)).reads (read_is_an_image (now (d.trail new.disk)))
+      n out

@@ -115,7 +115,8 @@ all_passed : (size : ℕ) (c : Content) (epoch : ℕ) (told : PastEnd) (base : �
     → IsFirstOf size c number end spans are base
 all_passed size c epoch told base none is number end [] are passed = tt
 all_passed size c epoch told base none is number end (span ∷ spans) are (inl here) =
-    absurd (subst (λ (x : PastEnd × ℕ). NoneEnds size c x.1 x.0) (λ i. (sym here.1 i, sym here.0 i)) none span are.0 are.1)
+    absurd (subst (λ (x : PastEnd × ℕ). NoneEnds size c x.1 x.0) (λ i. (sym here.1 i, sym here.0 i)) none span are.0
+    are.1)
 all_passed size c epoch told base none is number end (span ∷ spans) are (inr passed) = (
   elim passed.0 [
     | inl here ↦ inl here.0
@@ -134,5 +135,6 @@ first_found size c epoch told (Some base) none is number end spans are passed so
     all_passed size c epoch told base none is number end spans are passed
 first_found size c epoch told None none is number end [] are passed some = absurd some
 first_found size c epoch told None none is number end (span ∷ spans) are (inl here) some =
-    absurd (subst (λ (x : PastEnd × ℕ). NoneEnds size c x.1 x.0) (λ i. (sym here.1 i, sym here.0 i)) none span are.0 are.1)
+    absurd (subst (λ (x : PastEnd × ℕ). NoneEnds size c x.1 x.0) (λ i. (sym here.1 i, sym here.0 i)) none span are.0
+    are.1)
 first_found size c epoch told None none is number end (span ∷ spans) are (inr passed) some = absurd passed.0

@@ -57,7 +57,8 @@ module _ {D : Type 0} (d : Ghosts D) where
   -- ---- a start that stays
 
   pub spares_start : (base from count : ℕ) {old new : StoreView D} → STORE_SECTORS ≤ from
-      → (base + STORE_SECTORS ≤ from) ⊎ (from + count ≤ base) → SparesAllBut d from count old new → SparesStart d base old new
+      → (base + STORE_SECTORS ≤ from) ⊎ (from + count ≤ base) → SparesAllBut d from count old new
+      → SparesStart d base old new
   spares_start base from count behind apart spares = record {
     moments = λ usable honest. weakened (spares.moments usable honest) (λ c same n kept. same n (λ inside. elim kept [
       | inl low ↦ omega (arith, low, inside.0, behind)
@@ -79,8 +80,10 @@ module _ {D : Type 0} (d : Ghosts D) where
 
   -- ---- a past that has begun, and stays
 
-  module _ {base : ℕ} {old mid : StoreView D} (new : StoreView D) (begun : HasBegun d base old mid) (honest : d.honest mid.disk)
-      (device : IsSameDevice d mid.disk new.disk) (usable : new.must_reopen ≡ false) (spares : SparesStart d base mid new) where
+  module _ {base : ℕ} {old mid : StoreView D} (new : StoreView D) (begun : HasBegun d base old mid)
+      (honest : d.honest mid.disk)
+      (device : IsSameDevice d mid.disk new.disk) (usable : new.must_reopen ≡ false)
+      (spares : SparesStart d base mid new) where
     pub same_there : (n : ℕ) → (n < STORE_SECTORS) ⊎ InRange base STORE_SECTORS n
         → (now (d.trail new.disk)).reads n ≡ (now (d.trail mid.disk)).reads n
     same_there n kept = at_last (spares.moments begun.keeps.usable honest) (now (d.trail new.disk)).reads
@@ -107,7 +110,8 @@ module _ {D : Type 0} (d : Ghosts D) where
       next = begun.next;
       copies = copies_as base 0 STORE_SECTORS (now (d.trail old.disk)).reads (now (d.trail old.disk)).reads
           (now (d.trail mid.disk)).reads (now (d.trail new.disk)).reads
-          (λ n within. same_there (base + n) (inr (omega arith, omega (arith, within.1)))) (λ n within. refl) begun.copies;
+          (λ n within. same_there (base + n) (inr (omega arith, omega (arith, within.1)))) (λ n within. refl)
+          begun.copies;
     }
 
 -- ---- all parts
@@ -152,7 +156,8 @@ module _ {D : Type 0} (d : Ghosts D) where
       let second = device.still (still.left.disk.device.still honest) in
       let now_begun = still_begun d new begun second device' usable spares in
       let kept = subst (λ desktop. (k : KeepsAll d (begun_at desktop begun.before base) [] desktop new)
-      × (k.remembers.standing.past.next ≡ base + STORE_SECTORS)) (still.left.desktop honest) (now_begun.keeps, now_begun.next) in
+      × (k.remembers.standing.past.next ≡ base + STORE_SECTORS)) (still.left.desktop honest)
+      (now_begun.keeps, now_begun.next) in
       record {
         base = base;
         end = base + PART_SECTORS;

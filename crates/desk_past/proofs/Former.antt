@@ -44,7 +44,8 @@ back_high base n c high = ap (λ (b : Bool). if b then c (base + n) else c n) (l
 
 -- a call within the store leaves it
 pub former_within : {size base : ℕ} {start : Start} {deeds : List PastDeed} {desktop : Desktop} (c c' : Content)
-    → STORE_SECTORS ≤ base → ((n : ℕ) → STORE_SECTORS ≤ n → c' n ≡ c n) → RemembersFormer size base start deeds desktop c
+    → STORE_SECTORS ≤ base → ((n : ℕ) → STORE_SECTORS ≤ n → c' n ≡ c n) → RemembersFormer size base start deeds desktop
+    c
     → RemembersFormer size base start deeds desktop c'
 former_within {size = size} {base = base} {start = start} {deeds = deeds} {desktop = desktop} c c' behind same r =
     let back : (n : ℕ) → copied_back base c n ≡ copied_back base c' n = λ n. elim (cases_lt n STORE_SECTORS) [
@@ -131,13 +132,16 @@ span_stays d start deeds desktop old new honest keeps lies only told span is apa
                   let within = is.within in
                   let inside : n < is.end = omega (arith, high, up_to, within) in
                   elim there [
-                    | inl ahead ↦ apart_part (d.size old.disk) start.base lies.end span.0.base is.end next n lies.part far
+                    | inl ahead ↦ apart_part (d.size old.disk) start.base lies.end span.0.base is.end next n lies.part
+                        far
                         lies.within is.part apart low inside ahead
                     | inr first ↦
                         let begun = first.within in
-                        elim (parts_apart (d.size old.disk) span.0.base is.end first.base (first.base + PART_SECTORS) is.part
+                        elim (parts_apart (d.size old.disk) span.0.base is.end first.base (first.base + PART_SECTORS)
+                        is.part
                         first.oldest.there.part) [
-                          | inl here ↦ young (subst (λ b. IsOldest (d.size old.disk) next b reads) (sym here) first.oldest)
+                          | inl here ↦ young (subst (λ b. IsOldest (d.size old.disk) next b reads) (sym here)
+                              first.oldest)
                           | inr beside ↦ elim beside [
                             | inl below ↦ omega (arith, below, inside, begun.0)
                             | inr above ↦ omega (arith, above, low, begun.1)
@@ -170,8 +174,10 @@ module _ {size base : ℕ} {start : Start} {deeds : List PastDeed} {desktop : De
       (λ n low high. sym (back_high base n c (omega (arith, low, far)))) has.remembers.past.written
 
 -- what a store shows it shows behind a look
-pub looked_shows : {E T : Type 0} (e : Ghosts E) {old new : StoreView E} (result : Result T Error) → OnlyLooks e result old new
-    → (old.must_reopen ≡ false → e.honest old.disk → IsQuiet e old) → (t : Standing) → ShowsNow e t old → ShowsNow e t new
+pub looked_shows : {E T : Type 0} (e : Ghosts E) {old new : StoreView E} (result : Result T Error)
+    → OnlyLooks e result old new
+    → (old.must_reopen ≡ false → e.honest old.disk → IsQuiet e old) → (t : Standing) → ShowsNow e t old
+    → ShowsNow e t new
 looked_shows e {old = old} {new = new} result looks quiet t was = record {
   usable = looks.usable ∙ was.usable;
   honest = looks.disk.device.still was.honest;

@@ -18,7 +18,8 @@ use Rattle.desk_past.specs.Going.{BeginsIn, BeginsNow, CanGoOn, IsDueOutset, IsI
 
 -- ---- epochs
 
-pub slot_there : (c : Content) (base slot epoch : ℕ) (gate head : List ℕ) (opens : Bool) → gate ≡ c (base + slot_gate slot)
+pub slot_there : (c : Content) (base slot epoch : ℕ) (gate head : List ℕ) (opens : Bool)
+    → gate ≡ c (base + slot_gate slot)
     → head ≡ c (base + slot_head slot) → opens ≡ is_open gate → epoch ≡ (if opens then (head_of head).epoch else 0)
     → epoch ≡ slot_epoch c base slot
 slot_there c base slot epoch gate head opens gate_is head_is told is =
@@ -33,7 +34,8 @@ start_there c base epoch first second label has label_is first_is second_is told
 -- ---- parts
 
 -- where the one part in which pages can go on is known, what can go on does so there
-pub at_part : (size next base end epoch : ℕ) (c : Content) (can : CanGoOn size next c) → base ≡ can.at.base → end ≡ can.at.end
+pub at_part : (size next base end epoch : ℕ) (c : Content) (can : CanGoOn size next c) → base ≡ can.at.base
+    → end ≡ can.at.end
     → epoch ≡ start_epoch c base → (0 < epoch) × (next + LEAST_ROOM ≤ end)
 at_part size next base end epoch c can same last is = (
   subst (λ n. 0 < n) (sym (is ∙ ap (start_epoch c) same)) can.start,
@@ -46,7 +48,8 @@ module _ (asked : Bool) (size next : ℕ) (c : Content) where
   pub wanted_there : IsInPart size next → IsWanted asked size next c
   wanted_there there = inr (inr there)
 
-  pub wanted_started : (asked ≡ true → ⊥) → (IsInPart size next → ⊥) → IsWanted asked size next c → IsStartedSomewhere size c
+  pub wanted_started : (asked ≡ true → ⊥) → (IsInPart size next → ⊥) → IsWanted asked size next c
+      → IsStartedSomewhere size c
   wanted_started unasked nowhere (inl is) = absurd (unasked is)
   wanted_started unasked nowhere (inr (inl some)) = some
   wanted_started unasked nowhere (inr (inr there)) = absurd (nowhere there)
@@ -78,7 +81,8 @@ module _ {D : Type 0} (d : Ghosts D) where
       → AreUncounted d mid → AreUncounted d old
   uncounted_then still quiet honest too_many s at = too_many s (still_shows d still quiet honest s at)
 
-  pub due_begun : (asked : Bool) (old : StoreView D) (s : Standing) (outset : Outset) → (outset ≡ Absent → AreUncounted d old)
+  pub due_begun : (asked : Bool) (old : StoreView D) (s : Standing) (outset : Outset)
+      → (outset ≡ Absent → AreUncounted d old)
       → (outset ≡ GoesOn → ⊥) → IsDueOutset d asked old s Begins → IsDueOutset d asked old s outset
   due_begun asked old s Absent absent never due = λ parts wanted. absent refl
   due_begun asked old s GoesOn absent never due = absurd (never refl)

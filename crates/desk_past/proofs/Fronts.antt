@@ -27,7 +27,8 @@ none_counted pages at written good up_to = record {
   counted = omega arith;
 }
 
-one_left : (c : Content) (todo : List Page) (at end : ℕ) → HasPages c at todo → AreGood todo → end_of_pages at todo ≡ end
+one_left : (c : Content) (todo : List Page) (at end : ℕ) → HasPages c at todo → AreGood todo
+    → end_of_pages at todo ≡ end
     → at < end → (p : Page) × (more : List Page) × (todo ≡ p ∷ more) × HasPage c at end p
 one_left c [] at end held good up_to low = absurd (omega (arith, up_to, low))
 one_left c (p ∷ more) at end held good up_to low =

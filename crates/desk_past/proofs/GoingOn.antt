@@ -57,7 +57,8 @@ module _ {D : Type 0} (d : Ghosts D) where
         chained (weakened (read_moments d keeps honest quiet mid still.left.disk) (λ c was. inl was))
         (apart_still d keeps honest quiet mid still.left.disk still.usable base apart (λ now_keeps now_apart.
         weakened (subst (λ n. LeavesOnly (d.trail mid.disk) (d.trail new.disk)
-        (λ c. Remembers n start deeds desktop c ⊎ GoesOnFrom n base start deeds desktop c)) still.left.disk.device.as_large
+        (λ c. Remembers n start deeds desktop c ⊎ GoesOnFrom n base start deeds desktop c))
+        still.left.disk.device.as_large
         (forgets (still.left.disk.device.still honest) start deeds desktop now_keeps now_apart))
         (λ c x. elim x [
           | inl was ↦ inl was

@@ -58,7 +58,8 @@ module _ {size : ℕ} {start : Start} {told : PastEnd} {pages : List Page} {c : 
 
 -- the store was read up to `mid` before the way was found, and up to `far` before it was gone
 module _ {D : Type 0} (d : Ghosts D) {start : Start} {told : PastEnd} {pages : List Page} {old mid : StoreView D}
-    (has : HoldsTold (d.size old.disk) start told pages (now (d.trail old.disk)).reads) (base : ℕ) (is : start.base ≡ base)
+    (has : HoldsTold (d.size old.disk) start told pages (now (d.trail old.disk)).reads) (base : ℕ)
+    (is : start.base ≡ base)
     (honest : d.honest old.disk) (quiet : IsQuiet d old) (still : IsOnlyReadFrom d old mid) (first k : ℕ)
     (first_is : first ≡ start.before) (high : k < told.before) where
   -- what is known of the way to a moment of some pages is known of the way to moment k
@@ -74,7 +75,8 @@ module _ {D : Type 0} (d : Ghosts D) {start : Start} {told : PastEnd} {pages : L
       has.good has.turns (told_end has base is) (omega (arith, first_is, counted, high))
 
   -- it leads to what the desktop was then
-  pub way_gone : {E : Type 0} (e : Ghosts E) {far : StoreView D} → IsOnlyReadFrom d mid far → (legs : List Leg) (from : Origin)
+  pub way_gone : {E : Type 0} (e : Ghosts E) {far : StoreView D} → IsOnlyReadFrom d mid far
+      → (legs : List Leg) (from : Origin)
       (found : Option (StoreView E)) → (d.honest mid.disk → (start : Start) (pages : List Page) → start.before ≡ first
       → HasPages (now (d.trail mid.disk)).reads (base + STORE_SECTORS) pages → AreGood pages → AreTurns start [] pages
       → end_of_pages (base + STORE_SECTORS) pages ≡ told.next → k ≤ first + length (all_deeds pages)

@@ -130,7 +130,8 @@ error_calm {e = e} {P = P} {Q = Q} {old = old} {new = new} has wider never same 
     (calm_answer (Err e) {P = P} has wider never same)
 
 -- what counted none
-pub fails_none : {T : Type 0} {x : T} {Q : Error → Type 0} {old new : ℕ} → new ≡ old → FailsAs {T = T} Fault Q (Ok x) old new
+pub fails_none : {T : Type 0} {x : T} {Q : Error → Type 0} {old new : ℕ} → new ≡ old
+    → FailsAs {T = T} Fault Q (Ok x) old new
 fails_none same = record {
   rose = λ fault. let wrong : ⊥ = cc fault in absurd wrong;
   calm = λ fine. same;
@@ -190,7 +191,8 @@ module _ {D : Type 0} (d : Ghosts D) where
 
   -- an undo that finds that the store must be opened again
   pub undo_refused : {T U : Type 0} {told : Result U Error} {x : U} {e : Error} {answer : Result T Error}
-      (store : StoreView D) → (store.must_reopen ≡ false → told ≡ Ok x) → (store.must_reopen ≡ true → told ≡ Err MustReopen)
+      (store : StoreView D) → (store.must_reopen ≡ false → told ≡ Ok x)
+      → (store.must_reopen ≡ true → told ≡ Err MustReopen)
       → told ≡ Err e → answer ≡ Err e → UsesDevice d OfUndo answer store store
   undo_refused {T = T} {e = e} {answer = answer} store value closed failed is = elim (true_or_false store.must_reopen) [
     | inl must ↦ let looks = looks_closed d {T = T} store must in

@@ -96,7 +96,8 @@ module _ {D : Type 0} (d : Ghosts D) where
     };
   }
 
-  pub looks_passed : {A T : Type 0} (error : Error) (result : Result T Error) (old new : StoreView D) → result ≡ Err error
+  pub looks_passed : {A T : Type 0} (error : Error) (result : Result T Error) (old new : StoreView D)
+      → result ≡ Err error
       → OnlyLooks {T = A} d (Err error) old new → OnlyLooks d result old new
   looks_passed {A = A} {T = T} error result old new is looks =
       subst (λ (r : Result T Error). OnlyLooks d r old new) (sym is) (looks_failed {A = A} {T = T} error old new looks)
@@ -152,7 +153,8 @@ module _ {D : Type 0} (d : Ghosts D) where
   looked_twice first second = looked (looked_on first second)
 
   -- a `?` passes its error on
-  pub broken : {A T : Type 0} {answer : Result A Error} {result : Result T Error} {error : Error} {old new : StoreView D}
+  pub broken : {A T : Type 0} {answer : Result A Error} {result : Result T Error} {error : Error}
+      {old new : StoreView D}
       → OnlyLooks d answer old new → answer ≡ Err error → IsErrAnd result (λ e. e ≡ error) → OnlyLooks d result old new
   broken {A = A} {result = result} {error = error} {old = old} {new = new} looks failed is =
       let p = err_from_is_err_and result is in

@@ -205,18 +205,23 @@ module _ (law : BeginLaw) (standing : StandingLaw) (start : Start) (deeds : List
       other_kind (of_copy version false sectors to) (of_import version' documents') rest (λ is. omega (arith, is)) same
   page_of_front (of_copy version false sectors to) (of_turn version' k' to') rest good good' turn turn' same =
       other_kind (of_copy version false sectors to) (of_turn version' k' to') rest (λ is. omega (arith, is)) same
-  page_of_front (of_copy version false sectors to) (of_copy version' false sectors' to') rest good good' turn turn' same =
+  page_of_front (of_copy version false sectors to) (of_copy version' false sectors' to') rest good good' turn turn'
+      same =
       copy_of_front false version version' sectors sectors' to to' rest good good' same
-  page_of_front (of_copy version false sectors to) (of_copy version' true sectors' to') rest good good' turn turn' same =
-      other_kind (of_copy version false sectors to) (of_copy version' true sectors' to') rest (λ is. omega (arith, is)) same
+  page_of_front (of_copy version false sectors to) (of_copy version' true sectors' to') rest good good' turn turn'
+      same =
+      other_kind (of_copy version false sectors to) (of_copy version' true sectors' to') rest (λ is. omega (arith, is))
+      same
   page_of_front (of_copy version true sectors to) (of_events version' events') rest good good' turn turn' same =
       other_kind (of_copy version true sectors to) (of_events version' events') rest (λ is. omega (arith, is)) same
   page_of_front (of_copy version true sectors to) (of_import version' documents') rest good good' turn turn' same =
       other_kind (of_copy version true sectors to) (of_import version' documents') rest (λ is. omega (arith, is)) same
   page_of_front (of_copy version true sectors to) (of_turn version' k' to') rest good good' turn turn' same =
       other_kind (of_copy version true sectors to) (of_turn version' k' to') rest (λ is. omega (arith, is)) same
-  page_of_front (of_copy version true sectors to) (of_copy version' false sectors' to') rest good good' turn turn' same =
-      other_kind (of_copy version true sectors to) (of_copy version' false sectors' to') rest (λ is. omega (arith, is)) same
+  page_of_front (of_copy version true sectors to) (of_copy version' false sectors' to') rest good good' turn turn'
+      same =
+      other_kind (of_copy version true sectors to) (of_copy version' false sectors' to') rest (λ is. omega (arith, is))
+      same
   page_of_front (of_copy version true sectors to) (of_copy version' true sectors' to') rest good good' turn turn' same =
       copy_of_front true version version' sectors sectors' to to' rest good good' same
 
@@ -228,7 +233,8 @@ front_of c at l l' held held' le =
     (ap (take (length l)) (sym (stored_held c at l' held')) ∙ take-stored c at (length l') (length l) le
     ∙ stored_held c at l held)
 
-page_same : BeginLaw → StandingLaw → (start : Start) (deeds : List PastDeed) (c : Content) (at : ℕ) (p p' : Page) → IsGoodPage p
+page_same : BeginLaw → StandingLaw → (start : Start) (deeds : List PastDeed) (c : Content) (at : ℕ) (p p' : Page)
+    → IsGoodPage p
     → IsGoodPage p' → IsTurn start deeds p → IsTurn start deeds p' → HoldsBytes c at (page_bytes p)
     → HoldsBytes c at (page_bytes p') → p ≡ p'
 page_same law standing start deeds c at p p' good good' turn turn' held held' =
@@ -240,7 +246,8 @@ page_same law standing start deeds c at p p' good good' turn turn' held held' =
     ]
 
 -- pages that end in the same sector are the same, one after another: each takes a sector at least
-pages_same : BeginLaw → StandingLaw → (start : Start) (deeds : List PastDeed) (c : Content) (at : ℕ) (pages pages' : List Page)
+pages_same : BeginLaw → StandingLaw → (start : Start) (deeds : List PastDeed) (c : Content) (at : ℕ)
+    (pages pages' : List Page)
     → AreGood pages → AreGood pages' → AreTurns start deeds pages → AreTurns start deeds pages'
     → end_of_pages at pages ≡ end_of_pages at pages' → HasPages c at pages → HasPages c at pages' → pages ≡ pages'
 pages_same law standing start deeds c at [] [] good good' turns turns' ends has has' = refl
@@ -250,7 +257,8 @@ pages_same law standing start deeds c at (p ∷ l) [] good good' turns turns' en
     absurd (let far = end_above l (at + page_sectors p) in omega (arith, ends, far))
 pages_same law standing start deeds c at (p ∷ l) (p' ∷ l') good good' turns turns' ends has has' =
     let first = page_same law standing start deeds c at p p' good.0 good'.0 turns.0 turns'.0 has.0 has'.0 in
-    λ i. first i ∷ pages_same law standing start (deeds ++ deeds_in p) c (at + page_sectors p) l l' good.1 good'.1 turns.1
+    λ i. first i ∷ pages_same law standing start (deeds ++ deeds_in p) c (at + page_sectors p) l l' good.1 good'.1
+    turns.1
     (subst (λ q. AreTurns start (deeds ++ deeds_in q) l') (sym first) turns'.1)
     (ends ∙ ap (λ q. end_of_pages (at + page_sectors q) l') (sym first)) has.1
     (subst (λ q. HasPages c (at + page_sectors q) l') (sym first) has'.1) i
@@ -258,7 +266,8 @@ pages_same law standing start deeds c at (p ∷ l) (p' ∷ l') good good' turns 
 pub one_past : BeginLaw → StandingLaw → OnePastLaw
 one_past law standing size start deeds deeds' desktop desktop' c r r' =
     let same = standing size c r.standing r'.standing r.past.stands r'.past.stands in
-    let pages = pages_same law standing start [] c (first_page start) r.pages r'.pages r.past.good r'.past.good r.past.turns
+    let pages = pages_same law standing start [] c (first_page start) r.pages r'.pages r.past.good r'.past.good
+    r.past.turns
     r'.past.turns
     (r.past.up_to ∙ ap (λ x. x.past.next) same ∙ sym r'.past.up_to) r.past.written.1 r'.past.written.1 in (
       sym r.all ∙ (λ i. all_deeds (pages i) ++ all_posted (same i).events) ∙ r'.all,

@@ -66,7 +66,8 @@ copied_stands e {m = m} c t at large same =
 
 module _ {E : Type 0} (e : Ghosts E) (law : StandingLaw) where
   -- a store that was opened shows what stood there
-  pub stands_shows : {m : E} {store : StoreView E} (t : Standing) → Stands (e.size m) (now (e.trail m)).reads t → e.honest m
+  pub stands_shows : {m : E} {store : StoreView E} (t : Standing) → Stands (e.size m) (now (e.trail m)).reads t
+      → e.honest m
       → IsOpened e m store → IsConfined e.size e.honest e.trail Nowhere m store.disk → ShowsNow e t store
   stands_shows {m = m} {store = store} t stands honest opened run =
       let found = opened.found honest in

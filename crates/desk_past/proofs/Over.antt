@@ -157,11 +157,13 @@ module _ {D : Type 0} (d : Ghosts D) where
       pub spans_still : {X : Type 0} (new : StoreView D) (run : IsOnlyRead d old.disk new.disk)
           (usable : new.must_reopen ≡ false) (spans : List (Start × List Page)) (are : SpansOf d was spans) (k : ℕ)
           (at : Desktop) → WasInSpans d was spans are k at
-          → ((keeps : KeepsAll d start deeds desktop new) → (are : SpansOf d keeps spans) → WasInSpans d keeps spans are k at → X)
+          → ((keeps : KeepsAll d start deeds desktop new) → (are : SpansOf d keeps spans)
+          → WasInSpans d keeps spans are k at → X)
           → X
       unfolding read_keeps
       spans_still new run usable spans are k at there f =
-          let image = at_last (run.unwritten honest) (now (d.trail new.disk)).reads (read_is_an_image (now (d.trail new.disk))) in
+          let image = at_last (run.unwritten honest) (now (d.trail new.disk)).reads
+          (read_is_an_image (now (d.trail new.disk))) in
           let told = was.remembers.standing.past in
           let moved = subst (λ (x : ℕ × Content). (are : AreSpans x.0 x.1 NO_EPOCH told spans)
           × WasThen x.0 x.1 NO_EPOCH told spans are k at)
@@ -176,11 +178,13 @@ module _ {D : Type 0} (d : Ghosts D) where
 
   -- ---- a past that has begun behind it
 
-  pub begun_behind_it : {start : Start} {deeds : List PastDeed} {desktop : Desktop} (old : StoreView D) {new : StoreView D} (base : ℕ)
+  pub begun_behind_it : {start : Start} {deeds : List PastDeed} {desktop : Desktop} (old : StoreView D)
+      {new : StoreView D} (base : ℕ)
       → d.size new.disk ≡ d.size old.disk → new.must_reopen ≡ false → STORE_SECTORS ≤ base
       → GoesOnFrom (d.size old.disk) base start deeds desktop (now (d.trail new.disk)).reads
       → HasBegunBehind d start deeds desktop [] desktop new
-  begun_behind_it {start = start} {deeds = deeds} {desktop = desktop} old {new = new} base large usable behind goes = record {
+  begun_behind_it {start = start} {deeds = deeds} {desktop = desktop} old {new = new} base large usable behind
+      goes = record {
     base = base;
     keeps = record {
       usable = usable;
@@ -188,7 +192,8 @@ module _ {D : Type 0} (d : Ghosts D) where
       remembers = subst (λ n. Remembers n (begun_at desktop (start.before + length deeds) base) [] desktop
           (now (d.trail new.disk)).reads) (sym large) goes.anew;
     };
-    former = subst (λ n. RemembersFormer n base start deeds desktop (now (d.trail new.disk)).reads) (sym large) goes.former;
+    former = subst (λ n. RemembersFormer n base start deeds desktop (now (d.trail new.disk)).reads) (sym large)
+        goes.former;
   }
 
   -- at each moment of reads the past is there, and behind them it is there or goes on
@@ -211,7 +216,8 @@ module _ {D : Type 0} (d : Ghosts D) where
     former_there : LeavesOnly (d.trail mid.disk) (d.trail new.disk)
         (RemembersFormer (d.size mid.disk) begun.base start deeds desktop)
     former_there = weakened
-        (spared (λ c. (n : ℕ) → STORE_SECTORS ≤ n → c n ≡ (now (d.trail mid.disk)).reads n) quiet (within.moments honest)
+        (spared (λ c. (n : ℕ) → STORE_SECTORS ≤ n → c n ≡ (now (d.trail mid.disk)).reads n) quiet
+        (within.moments honest)
         (λ c same n far. same n (λ low. omega (arith, low, far))))
         (λ c same. former_within (now (d.trail mid.disk)).reads c begun.keeps.behind same begun.former)
 
@@ -245,7 +251,8 @@ module _ {D : Type 0} (d : Ghosts D) where
       → LeavesOnly (d.trail mid.disk) (d.trail new.disk) (λ c. Remembers (d.size mid.disk) start deeds desktop c
       ⊎ Remembers (d.size mid.disk) start (deeds ++ posted event ∷ []) (step desktop event).desktop c)
       ⊎ LeavesOnly (d.trail mid.disk) (d.trail new.disk) (λ c. (base : ℕ)
-      × (GoesOnFrom (d.size mid.disk) base start deeds desktop c ⊎ GoesOnBy (d.size mid.disk) base start deeds desktop event c))
+      × (GoesOnFrom (d.size mid.disk) base start deeds desktop c ⊎ GoesOnBy (d.size mid.disk) base start deeds desktop
+      event c))
       → LeavesOnly (d.trail old.disk) (d.trail new.disk) (λ c. Remembers (d.size old.disk) start deeds desktop c
       ⊎ Remembers (d.size old.disk) start (deeds ++ posted event ∷ []) (step desktop event).desktop c
       ⊎ ((base : ℕ) × (GoesOnFrom (d.size old.disk) base start deeds desktop c
@@ -257,7 +264,8 @@ module _ {D : Type 0} (d : Ghosts D) where
       ])) (elim second [
         | inl same ↦ weakened (subst (λ n. LeavesOnly (d.trail mid.disk) (d.trail new.disk)
             (λ c. Remembers n start deeds desktop c
-            ⊎ Remembers n start (deeds ++ posted event ∷ []) (step desktop event).desktop c)) large same) (λ c x. elim x [
+            ⊎ Remembers n start (deeds ++ posted event ∷ []) (step desktop event).desktop c)) large same)
+            (λ c x. elim x [
               | inl was ↦ inl was
               | inr more ↦ inr (inl more)
             ])

@@ -33,7 +33,8 @@ use Rattle.desk_past.specs.Deeds.{PastDeed, posted, after_deeds, all_posted}
 use Rattle.desk_past.proofs.Moments.{deeds_of_both, joined, many_posted, nil_right, posted_both, stepped_on}
 use Rattle.desk_past.proofs.Turns.{marks_deeds, marks_good, marks_on, marks_turns, turns_then}
 
-pub moved_past : {size size' : ℕ} {start : Start} {s : Standing} {pages : List Page} {c c' : Content} → size' ≡ size → c' ≡ c
+pub moved_past : {size size' : ℕ} {start : Start} {s : Standing} {pages : List Page} {c c' : Content} → size' ≡ size
+    → c' ≡ c
     → HoldsPast size start s pages c → HoldsPast size' start s pages c'
 moved_past {start = start} {s = s} {pages = pages} large same past =
     subst (λ (x : ℕ × Content). HoldsPast x.0 start s pages x.1) (λ i. (sym large i, sym same i)) past
@@ -55,7 +56,8 @@ abbrev ended : {size size' : ℕ} {start : Start} {s : Standing} {pages : List P
     → Stands size' c' (renewed_from end s)
     → HoldsPages c' start (pages ++ journal_of s ∷ marks)
     → HoldsPast size' start (renewed_from end s) (pages ++ journal_of s ∷ marks) c'
-ended {start = start} {s = s} {pages = pages} {c = c} past desktop marks are is end next before short room stands written =
+ended {start = start} {s = s} {pages = pages} {c = c} past desktop marks are is end next before short room stands
+    written =
     let stepped = stepped_on start.desktop pages s s.events past.newest past.leads in
     record {
       stands = stands;
@@ -128,7 +130,8 @@ module _ {D : Type 0} (d : Ghosts D) {start : Start} {deeds : List PastDeed} {de
   unfoldable pub read_keeps : {new : StoreView D} → IsOnlyRead d old.disk new.disk → new.must_reopen ≡ false
       → KeepsAll d start deeds desktop new
   read_keeps {new = new} run usable =
-      let image = at_last (run.unwritten honest) (now (d.trail new.disk)).reads (read_is_an_image (now (d.trail new.disk))) in
+      let image = at_last (run.unwritten honest) (now (d.trail new.disk)).reads
+      (read_is_an_image (now (d.trail new.disk))) in
       record {
         usable = usable;
         behind = was.behind;
@@ -303,7 +306,8 @@ module _ {D : Type 0} (d : Ghosts D) {start : Start} {deeds : List PastDeed} {de
       → HasNewPage d start deeds desktop past new
   unfolding read_keeps
   new_page_still new run usable =
-      let image = at_last (run.unwritten honest) (now (d.trail new.disk)).reads (read_is_an_image (now (d.trail new.disk))) in
+      let image = at_last (run.unwritten honest) (now (d.trail new.disk)).reads
+      (read_is_an_image (now (d.trail new.disk))) in
       record {
         keeps = read_keeps d was.keeps honest quiet {new = new} run usable;
         marks = was.marks;
@@ -337,7 +341,8 @@ module _ {D : Type 0} (d : Ghosts D) {start : Start} {deeds : List PastDeed} {de
         (λ c x. remembers_on rest refl x.0 x.1)
 
     held_before : HasPages (now (d.trail new.disk)).reads rest.standing.past.next so_far
-    held_before = pages_stay so_far (now (d.trail old.disk)).reads (now (d.trail new.disk)).reads rest.standing.past.next
+    held_before = pages_stay so_far (now (d.trail old.disk)).reads (now (d.trail new.disk)).reads
+        rest.standing.past.next
         (λ n low high. still_reads (d.trail old.disk) (d.trail new.disk) (only.moments honest) n
         (λ within. omega (arith, high, within.0, at, was.up_to))) was.held
 
@@ -377,8 +382,10 @@ module _ {D : Type 0} (d : Ghosts D) {start : Start} {deeds : List PastDeed} {de
   pub read_then_moments : KeepsStanding d mid new → LeavesAll d start deeds desktop old new
   unfolding read_keeps
   read_then_moments keeps = chained (read_moments d was honest quiet mid run)
-      (subst (λ n. LeavesOnly (d.trail mid.disk) (d.trail new.disk) (Remembers n start deeds desktop)) run.device.as_large
-      (page_moments d (read_keeps d was honest quiet {new = mid} run usable) (run.device.still honest) still new from limit at only keeps))
+      (subst (λ n. LeavesOnly (d.trail mid.disk) (d.trail new.disk) (Remembers n start deeds desktop))
+      run.device.as_large
+      (page_moments d (read_keeps d was honest quiet {new = mid} run usable) (run.device.still honest) still new from
+      limit at only keeps))
 
   pub read_then_page : {bytes : List ℕ} (end : PastEnd) → IsWrittenBehind d from bytes mid new
       → bytes ≡ page_bytes (journal_of was.remembers.standing) → length bytes < 2 ^ 32

@@ -96,7 +96,8 @@ read_quiet d old new run quiet honest =
 pub read_shows : {D : Type 0} (d : Ghosts D) (old new : StoreView D) → IsOnlyRead d old.disk new.disk → IsQuiet d old
     → d.honest old.disk → (s : Standing) → ShowsStanding d old s → ShowsStanding d new s
 read_shows d old new run quiet honest s at =
-    let same = at_last (run.unwritten honest) (now (d.trail new.disk)).reads (read_is_an_image (now (d.trail new.disk))) in
+    let same = at_last (run.unwritten honest) (now (d.trail new.disk)).reads
+    (read_is_an_image (now (d.trail new.disk))) in
     subst (λ (x : ℕ × Content). Stands x.0 x.1 s)
     (λ i. (sym run.device.as_large i, λ n. sym (same n (quiet n)) i)) at
 
@@ -139,7 +140,8 @@ module _ {D : Type 0} (d : Ghosts D) where
 
   -- what is written goes by what the head tells
   pub only_as : {part ahead : ℕ → ℕ → Type 0} {old new : StoreView D} → WritesOnly d part old new
-      → (d.honest old.disk → (s : Standing) → ShowsStanding d old s → (n : ℕ) → part s.past.next n → ahead s.past.next n)
+      → (d.honest old.disk → (s : Standing) → ShowsStanding d old s → (n : ℕ) → part s.past.next n
+      → ahead s.past.next n)
       → WritesOnly d ahead old new
   only_as only inside = record {
     spared = λ s at. but_wider d _ (λ honest n either. elim either [
@@ -154,13 +156,15 @@ module _ {D : Type 0} (d : Ghosts D) where
       → (old.must_reopen ≡ false → mid.must_reopen ≡ false) → WritesOnly d ahead mid new → WritesOnly d ahead old new
   only_behind_read {old = old} {mid = mid} new run quiet in_use rest = record {
     spared = λ s at. record {
-      moments = λ usable honest. (but_then d _ {old = old} {mid = mid} new run.device (in_use usable) (but_read d _ run quiet)
+      moments = λ usable honest. (but_then d _ {old = old} {mid = mid} new run.device (in_use usable)
+          (but_read d _ run quiet)
           (rest.spared s (read_shows d old mid run (quiet usable honest) honest s at))).moments usable honest;
     };
   }
 
   -- a call, and then another one that touches only the sectors of the store
-  pub only_then_within : {ahead : ℕ → ℕ → Type 0} {old mid : StoreView D} (new : StoreView D) → IsSameDevice d old.disk mid.disk
+  pub only_then_within : {ahead : ℕ → ℕ → Type 0} {old mid : StoreView D} (new : StoreView D)
+      → IsSameDevice d old.disk mid.disk
       → (old.must_reopen ≡ false → mid.must_reopen ≡ false)
       → (mid.must_reopen ≡ false → d.honest mid.disk → IsQuiet d mid)
       → WritesOnly d ahead old mid → StaysWithin d mid.disk new.disk → WritesOnly d ahead old new
@@ -178,7 +182,8 @@ module _ {D : Type 0} (d : Ghosts D) where
       → WritesOnly d ahead old new
   only_within_read {old = old} mid new run quiet in_use within = record {
     spared = λ s at. record {
-      moments = λ usable honest. (but_then d _ {old = old} {mid = mid} new run.device (in_use usable) (but_read d _ run quiet)
+      moments = λ usable honest. (but_then d _ {old = old} {mid = mid} new run.device (in_use usable)
+          (but_read d _ run quiet)
           (but_touched d _ (λ _ n low. inl low) within
           (λ _ _. read_quiet d old mid run (quiet usable honest) honest))).moments usable honest;
     };
@@ -188,11 +193,13 @@ module _ {D : Type 0} (d : Ghosts D) where
   pub only_behind_reads : {ahead : ℕ → ℕ → Type 0} {old : StoreView D} (mid new : StoreView D) (from limit : ℕ)
       → IsOnlyRead d old.disk mid.disk → (old.must_reopen ≡ false → d.honest old.disk → IsQuiet d old)
       → (old.must_reopen ≡ false → mid.must_reopen ≡ false)
-      → (d.honest old.disk → (s : Standing) → ShowsStanding d old s → (n : ℕ) → InRange from limit n → ahead s.past.next n)
+      → (d.honest old.disk → (s : Standing) → ShowsStanding d old s → (n : ℕ) → InRange from limit n
+      → ahead s.past.next n)
       → StaysBehind d from limit mid.disk new.disk → WritesOnly d ahead old new
   only_behind_reads {old = old} mid new from limit run quiet in_use inside within = record {
     spared = λ s at. record {
-      moments = λ usable honest. (but_then d _ {old = old} {mid = mid} new run.device (in_use usable) (but_read d _ run quiet)
+      moments = λ usable honest. (but_then d _ {old = old} {mid = mid} new run.device (in_use usable)
+          (but_read d _ run quiet)
           (but_touched d _ (λ _ n either. elim either [
             | inl low ↦ inl low
             | inr there ↦ inr (inside honest s at n there)

@@ -233,10 +233,12 @@ module _ {E : Type 0} (e : Ghosts E) {old new : StoreView E} where
       → ((version : ℕ) (page : List Event) → IsRead all (of_events version page) → items ≡ page)
       → ((version : ℕ) (documents : Documents) → IsRead all (of_import version documents) → ⊥)
       → ((version k : ℕ) (to : Desktop) → IsRead all (of_turn version k to) → ⊥)
-      → ((version : ℕ) (far : Bool) (sectors : Sectors) (to : Desktop) → IsRead all (of_copy version far sectors to) → ⊥)
+      → ((version : ℕ) (far : Bool) (sectors : Sectors) (to : Desktop) → IsRead all (of_copy version far sectors to)
+      → ⊥)
       → IsRead all p → events ≡ take count items → IsLedOn e events old new
       → (old.must_reopen ≡ false → new.must_reopen ≡ false) → IsLed e (take count (deeds_in p)) old new
-  led_events {events = events} all (of_events version page) count items same other others copies read first led usable = record {
+  led_events {events = events} all (of_events version page) count items same other others copies read first led
+      usable = record {
     usable = usable;
     still = led.still;
     desktop = λ h. led.desktop h
@@ -256,7 +258,8 @@ module _ {E : Type 0} (e : Ghosts E) {old new : StoreView E} where
       → ((version : ℕ) (page : List Event) → IsRead all (of_events version page) → ⊥)
       → ((version : ℕ) (page : Documents) → IsRead all (of_import version page) → documents ≡ page)
       → ((version k : ℕ) (to : Desktop) → IsRead all (of_turn version k to) → ⊥)
-      → ((version : ℕ) (far : Bool) (sectors : Sectors) (to : Desktop) → IsRead all (of_copy version far sectors to) → ⊥)
+      → ((version : ℕ) (far : Bool) (sectors : Sectors) (to : Desktop) → IsRead all (of_copy version far sectors to)
+      → ⊥)
       → IsRead all p → count ≡ 1 → (e.honest old.disk → e.honest new.disk) → AreBrought e documents reply old new
       → IsLed e (take count (deeds_in p)) old new
   led_import all (of_events version events) count documents other same others copies read one still done =
@@ -295,8 +298,10 @@ pub led_turn : (all : PageDeeds) (p : Page) (count : ℕ)
 led_turn all (of_events version page) count events documents marks read some free = events version page read
 led_turn all (of_import version page) count events documents marks read some free = documents version page read
 led_turn all (of_turn version k to) count events documents marks read some free = turn_first count to some free
-led_turn all (of_copy version false sectors to) count events documents marks read some free = marks version sectors to read
-led_turn all (of_copy version true sectors to) count events documents marks read some free = turn_first count to some free
+led_turn all (of_copy version false sectors to) count events documents marks read some free = marks version sectors to
+    read
+led_turn all (of_copy version true sectors to) count events documents marks read some free = turn_first count to some
+    free
 
 -- ---- moments
 

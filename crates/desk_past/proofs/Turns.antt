@@ -56,7 +56,8 @@ marks_deeds desktop (p ∷ marks) are =
     ap (λ q. deeds_in q ++ all_deeds marks) are.1 ∙ marks_deeds desktop marks are.3
 
 -- the desktop of each is that to which the deeds before it led
-pub marks_turns : (start : Start) (deeds : List PastDeed) (desktop : Desktop) (marks : List Page) → AreMarkPages desktop marks
+pub marks_turns : (start : Start) (deeds : List PastDeed) (desktop : Desktop) (marks : List Page)
+    → AreMarkPages desktop marks
     → desktop ≡ after_deeds start.desktop deeds → AreTurns start deeds marks
 marks_turns start deeds desktop [] are same = tt
 marks_turns start deeds desktop (p ∷ marks) are same =

@@ -105,7 +105,8 @@ module _ {D : Type 0} (d : Ghosts D) {start : Start} {deeds : List PastDeed} {de
         )
 
     pub others_kept : {back : List Event} → IsTakenBack d count back old new
-        → (left : List PastDeed) × (before : Desktop) × (left ++ all_posted back ≡ deeds) × KeepsAll d start left before new
+        → (left : List PastDeed) × (before : Desktop) × (left ++ all_posted back ≡ deeds) × KeepsAll d start left before
+        new
     others_kept {back = back} taken =
         let x = taken.back honest s was.remembers.past.stands in
         let same = rest_within back s x.0 (omega (arith, taken.few, low, many)) x.1.leaves.is_rest in (

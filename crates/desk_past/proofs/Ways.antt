@@ -160,7 +160,8 @@ module _ {D : Type 0} (d : Ghosts D) where
       unchanged = λ refused. let at = worn.only refused in worn.unchanged refused ∙ same_at_last at.0 at.1;
     }
 
-    pub reopen_then : (answer : Result Reply Error) → AnswersMustReopen answer mid new → AnswersMustReopen answer old new
+    pub reopen_then : (answer : Result Reply Error) → AnswersMustReopen answer mid new
+        → AnswersMustReopen answer old new
     reopen_then answer reopen = record {
       only = λ refused. sym made.usable ∙ reopen.only refused;
       always = λ must. reopen.always (made.usable ∙ must);

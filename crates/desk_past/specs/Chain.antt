@@ -1,5 +1,5 @@
--- A past over several parts: each one begins behind the one before it, which stands where it stood. `d` is what is known of
--- a disk.
+-- A past over several parts: each one begins behind the one before it, which stands where it stood. `d` is what is
+-- known of a disk.
 use Rattle.std.specs.Prelude.{◌≡◌, ◌⊎◌, ◌+◌, ◌<◌, ◌≤◌, ℕ, List, [], ◌∷◌, nat_lt, true}
 use Rattle.std.specs.Prelude.{if◌then◌else◌, length, IfSome, IsSomeAnd, Option, Some, None}
 use Rattle.sector_disk.specs.Trail.{Content, LeavesOnly, now}
@@ -38,16 +38,16 @@ start_shows is = is.holds.written.0.standing
 abbrev pub IsOlderThan : ℕ → ℕ → Type 0
 IsOlderThan number epoch = (number < epoch) ⊎ (epoch ≡ NO_EPOCH)
 
--- The spans of a past, the last one first, up to where this is told. The start of each is older than that of the one behind
--- it, and the first one older than this epoch.
+-- The spans of a past, the last one first, up to where this is told. The start of each is older than that of the one
+-- behind it, and the first one older than this epoch.
 abbrev pub AreSpans : ℕ → Content → ℕ → PastEnd → List (Start × List Page) → Type 0
 AreSpans size c epoch told [] = Unit {0}
 AreSpans size c epoch told (span ∷ spans) = (is : IsSpan size told span c)
     × IsOlderThan (start_shows is).epoch epoch
     × AreSpans size c (start_shows is).epoch (start_shows is).past spans
 
--- At moment k of a span the desktop was this one: behind its start by its pages, and before that by the journal that the
--- start has.
+-- At moment k of a span the desktop was this one: behind its start by its pages, and before that by the journal that
+-- the start has.
 pub record WasIn {size : ℕ} {told : PastEnd} {span : Start × List Page} {c : Content} (k : ℕ)
     (was : Desktop) (is : IsSpan size told span c)
     : Type 0 where
@@ -61,8 +61,8 @@ abbrev pub HasSpan : List (Start × List Page) → Type 0
 HasSpan [] = ⊥
 HasSpan (span ∷ spans) = Unit {0}
 
--- At moment k of a past over several parts the desktop was this one, in the last span that has such a moment. What comes
--- before the start of a span is of the one before it.
+-- At moment k of a past over several parts the desktop was this one, in the last span that has such a moment. What
+-- comes before the start of a span is of the one before it.
 abbrev pub WasThen : (size : ℕ) (c : Content) (epoch : ℕ) (told : PastEnd)
     (spans : List (Start × List Page)) → AreSpans size c epoch told spans → ℕ → Desktop → Type 0
 WasThen size c epoch told [] are k was = ⊥
@@ -134,8 +134,8 @@ newer (Some one) (Some other) = if nat_lt one.epoch other.epoch then Some other 
 
 -- ---- spans that stay
 
--- A call on a store whose past lies in a part, which writes ahead there, or in a start of the oldest part, leaves each span of
--- another part but that one, at every moment.
+-- A call on a store whose past lies in a part, which writes ahead there, or in a start of the oldest part, leaves each
+-- span of another part but that one, at every moment.
 abbrev pub SpanStaysLaw : {D : Type 0} → Ghosts D → Type 0
 SpanStaysLaw {D} d = (start : Start) (deeds : List PastDeed) (desktop : Desktop)
     (old new : StoreView D) → d.honest old.disk → (keeps : KeepsAll d start deeds desktop old)

@@ -51,8 +51,8 @@ module _ {D : Type 0} (d : Ghosts D) where
     pub same : IsSameDevice d old.disk new.disk
     pub faults : FailsAs Fault OfCall answer (d.failures old.disk) (d.failures new.disk)
 
-  -- Before an event: what the store shows stays. Either nothing was done, or a checkpoint was made that was due, or there
-  -- was no room for the page before it, and the journal is the same one.
+  -- Before an event: what the store shows stays. Either nothing was done, or a checkpoint was made that was due, or
+  -- there was no room for the page before it, and the journal is the same one.
   pub record IsWayMade (old new : StoreView D) : Type 0 where
     pub usable : new.must_reopen ≡ old.must_reopen
     pub desktop : d.honest old.disk → new.desktop ≡ old.desktop
@@ -69,8 +69,8 @@ module _ {D : Type 0} (d : Ghosts D) where
     pub inside : end ≤ d.size store.disk
     pub few : keeps.remembers.standing.past.before + length keeps.remembers.standing.events < 2 ^ 64
 
-  -- The past lies in a part that isn't full: there is such room before its last sectors. An epoch comes behind the one in
-  -- use.
+  -- The past lies in a part that isn't full: there is such room before its last sectors. An epoch comes behind the one
+  -- in use.
   pub record CanKeep {start : Start} {deeds : List PastDeed} {desktop : Desktop}
       {store : StoreView D} (keeps : KeepsAll d start deeds desktop store)
       : Type 0 where
@@ -80,8 +80,8 @@ module _ {D : Type 0} (d : Ghosts D) where
     pub later : ¬ (store.epoch ≡ LAST_EPOCH)
 
   -- Nothing is forgotten where the past goes on in its part, if a checkpoint is due: at every moment of the call a
-  -- crash leaves all deeds from before it, and the desktop to which they led, or these and the event that is posted, and
-  -- the desktop after that.
+  -- crash leaves all deeds from before it, and the desktop to which they led, or these and the event that is posted,
+  -- and the desktop after that.
   abbrev pub KeepsOn : Event → StoreView D → StoreView D → Type 0
   KeepsOn event old new = d.honest old.disk → (start : Start) (deeds : List PastDeed)
       (desktop : Desktop) → (keeps : KeepsAll d start deeds desktop old)
@@ -100,8 +100,8 @@ module _ {D : Type 0} (d : Ghosts D) where
 
   -- ---- from one part to the next
 
-  -- The past lies in a part, full or not, and there is another one. Its deeds can be counted, and an epoch comes behind the
-  -- one in use.
+  -- The past lies in a part, full or not, and there is another one. Its deeds can be counted, and an epoch comes behind
+  -- the one in use.
   pub record CanGoOver {start : Start} {deeds : List PastDeed} {desktop : Desktop}
       {store : StoreView D} (keeps : KeepsAll d start deeds desktop store)
       : Type 0 where
@@ -110,7 +110,8 @@ module _ {D : Type 0} (d : Ghosts D) where
     pub few : keeps.remembers.standing.past.before + length keeps.remembers.standing.events < 2 ^ 64
     pub later : ¬ (store.epoch ≡ LAST_EPOCH)
 
-  -- A past has begun behind this one, which stands in another part. These deeds were done since, and lead to that desktop.
+  -- A past has begun behind this one, which stands in another part. These deeds were done since, and lead to that
+  -- desktop.
   pub record HasBegunBehind (start : Start) (deeds : List PastDeed) (desktop : Desktop)
       (more : List PastDeed) (after : Desktop) (store : StoreView D)
       : Type 0 where
@@ -124,8 +125,8 @@ module _ {D : Type 0} (d : Ghosts D) where
   GoesOnOver start deeds desktop store = KeepsAll d start deeds desktop store
       ⊎ HasBegunBehind start deeds desktop [] desktop store
 
-  -- Nothing is forgotten, in whichever part the past goes on, if a checkpoint is due: at every moment of the call a crash
-  -- leaves all deeds from before it, and the event or not, in the part in use, or over that one and the next.
+  -- Nothing is forgotten, in whichever part the past goes on, if a checkpoint is due: at every moment of the call a
+  -- crash leaves all deeds from before it, and the event or not, in the part in use, or over that one and the next.
   abbrev pub KeepsOver : Event → StoreView D → StoreView D → Type 0
   KeepsOver event old new = d.honest old.disk → (start : Start) (deeds : List PastDeed)
       (desktop : Desktop) → (keeps : KeepsAll d start deeds desktop old)

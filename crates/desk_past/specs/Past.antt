@@ -77,8 +77,8 @@ abbrev pub AreGood : List Page → Type 0
 AreGood [] = Unit {0}
 AreGood (p ∷ pages) = IsGoodPage p × AreGood pages
 
--- A turn that comes behind these deeds leads to what the desktop was at its moment, and a mark has the desktop to which they
--- led. A far turn leads to any desktop, which its page has.
+-- A turn that comes behind these deeds leads to what the desktop was at its moment, and a mark has the desktop to which
+-- they led. A far turn leads to any desktop, which its page has.
 abbrev pub IsTurn : Start → List PastDeed → Page → Type 0
 IsTurn start deeds (of_events version events) = Unit {0}
 IsTurn start deeds (of_import version documents) = Unit {0}
@@ -140,8 +140,8 @@ AreMarkPages desktop [] = Unit {0}
 AreMarkPages desktop (p ∷ pages) = (sectors : Sectors) × (p ≡ copy_of false sectors desktop)
     × IsGoodPage p × AreMarkPages desktop pages
 
--- The same, and behind those pages stand the page of the journal in use, and marks or none, up to this end, which don't count
--- yet.
+-- The same, and behind those pages stand the page of the journal in use, and marks or none, up to this end, which don't
+-- count yet.
 pub record HasNewPage {D : Type 0} (d : Ghosts D) (start : Start) (deeds : List PastDeed)
     (desktop : Desktop) (end : PastEnd) (store : StoreView D)
     : Type 0 where
@@ -163,7 +163,8 @@ abbrev pub LeavesAll : {D : Type 0} → Ghosts D → Start → List PastDeed →
 LeavesAll d start deeds desktop old new = LeavesOnly (d.trail old.disk) (d.trail new.disk)
     (Remembers (d.size old.disk) start deeds desktop)
 
--- Some of the last events are taken back, at most so many: at every moment of the call a crash leaves the others, or all.
+-- Some of the last events are taken back, at most so many: at every moment of the call a crash leaves the others, or
+-- all.
 abbrev pub UndoesSome : {D : Type 0} → Ghosts D → ℕ → StoreView D → StoreView D → Type 0
 UndoesSome d count old new = d.honest old.disk → (start : Start) (deeds : List PastDeed)
     (desktop : Desktop) → KeepsAll d start deeds desktop old

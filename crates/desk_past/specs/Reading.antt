@@ -16,8 +16,8 @@ use Rattle.past_pages.specs.declared.pages.PageKind.TheVariants as which
 use Rattle.desk_past.specs.Deeds.{PastDeed, after_deeds}
 use Rattle.desk_past.specs.Past.{end_of_pages, AreGood, AreTurns, HoldsPages, Start, all_deeds, first_page}
 
--- The content has a start and the pages behind it, up to the sector of which this tells, and as many deeds as it says came
--- before that.
+-- The content has a start and the pages behind it, up to the sector of which this tells, and as many deeds as it says
+-- came before that.
 pub record HoldsTold (size : ℕ) (start : Start) (told : PastEnd) (pages : List Page) (c : Content)
     : Type 0 where
   pub written : HoldsPages c start pages

@@ -1,5 +1,5 @@
--- The way to a moment: from the start, from the moment to which a turn led last, or from the desktop that a page has, by deeds
--- none of which is a turn.
+-- The way to a moment: from the start, from the moment to which a turn led last, or from the desktop that a page has,
+-- by deeds none of which is a turn.
 use Rattle.std.specs.Prelude.{◌≡◌, ◌≤◌, ◌<◌, ℕ, List, [], ◌∷◌, ◌++◌, length, take}
 use Rattle.sector_disk.specs.Trail.{Content}
 use Rattle.desktop_definitions.specs.Desktop.{Desktop}
@@ -57,8 +57,8 @@ pub record IsReached (c : Content) (end : ℕ) (start : Start) (deeds : List Pas
   pub is_leg : IsLeg c end leg done
   pub leads : moment start deeds k ≡ after_deeds was done
 
--- What becomes of the last leg behind a page in sector `here` that ends at this one, where so many deeds are left: behind a
--- turn another one begins, and so it does behind a desktop.
+-- What becomes of the last leg behind a page in sector `here` that ends at this one, where so many deeds are left:
+-- behind a turn another one begins, and so it does behind a desktop.
 abbrev pub IsPassed : Page → ℕ → ℕ → ℕ → Leg → Origin → Leg → Origin → Type 0
 IsPassed (of_events version events) here at left old before leg from =
     (leg ≡ old) × (from ≡ before)

@@ -38,8 +38,8 @@ module _ {D : Type 0} (d : Ghosts D) where
     pub was : WasAt k to past
     pub add : CanAdd d (turn_of k to) past.keeps
 
-  -- At every moment of the call a crash leaves all deeds from before it, and the desktop to which they led, or these and
-  -- a turn, and this desktop.
+  -- At every moment of the call a crash leaves all deeds from before it, and the desktop to which they led, or these
+  -- and a turn, and this desktop.
   abbrev pub LeavesTurned : Desktop → {old : StoreView D} → PastOf old → StoreView D → Type 0
   LeavesTurned to {old = old} past new = LeavesOnly (d.trail old.disk) (d.trail new.disk)
       (λ c. Remembers (d.size old.disk) past.start past.deeds past.desktop c
@@ -90,8 +90,8 @@ module _ {D : Type 0} (d : Ghosts D) where
         → (spans : List (Start × List Page)) (are : SpansOf d past.keeps spans) (was : Desktop)
         → WasInSpans d past.keeps spans are k was → to ≡ was
 
-  -- At every moment of the call a crash leaves what there was, or the desktop of that moment, and of a past all deeds, or
-  -- these and the turn.
+  -- At every moment of the call a crash leaves what there was, or the desktop of that moment, and of a past all deeds,
+  -- or these and the turn.
   pub record LeavesFar (k : ℕ) (old new : StoreView D) : Type 0 where
     pub to : Desktop
     pub was : WasThenAt k to old

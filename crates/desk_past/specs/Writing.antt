@@ -1,4 +1,5 @@
--- Where a call on a store with a past writes: behind the pages that count, in their part. `d` is what is known of a disk.
+-- Where a call on a store with a past writes: behind the pages that count, in their part. `d` is what is known of a
+-- disk.
 use Rattle.std.specs.Prelude.{◌≡◌, ◌⊎◌, ◌+◌, ◌<◌, ◌≤◌, ℕ, List, Result}
 use Rattle.sector_disk.specs.declared.disk.Disk.{Ghosts}
 use Rattle.sector_disk.specs.Faults.{FailsAs}
@@ -50,8 +51,8 @@ module _ {D : Type 0} (d : Ghosts D) where
     pub spared : (s : Standing) → ShowsStanding d old s
         → SparesBut d (λ n. (n < STORE_SECTORS) ⊎ ahead s.past.next n) old new
 
-  -- A call on a store with a past, whatever it returns: the device is the same one, Fault comes exactly where a failure of
-  -- it was counted, each error is one of the call's, and behind the store no sector is written but these.
+  -- A call on a store with a past, whatever it returns: the device is the same one, Fault comes exactly where a failure
+  -- of it was counted, each error is one of the call's, and behind the store no sector is written but these.
   pub record UsesOnly {T : Type 0} (ahead : ℕ → ℕ → Type 0) (OfCall : Error → Type 0)
       (answer : Result T Error) (old new : StoreView D)
       : Type 0 where

@@ -84,16 +84,19 @@ module _ (c : Content) (n : ℕ) {bytes more : List ℕ} (sector : List ℕ) (lo
   sector_on : more ≡ bytes ++ sector_spelling (n, sector) → IsSpelledTo c (n + 1) more
   sector_on put = record {
     sectors = was.sectors ++ (n, sector) ∷ [];
-    spelled = put ∙ ap (λ l. l ++ sector_spelling (n, sector)) was.spelled ∙ sym (spelled_behind was.sectors (n, sector));
+    spelled = put ∙ ap (λ l. l ++ sector_spelling (n, sector)) was.spelled
+        ∙ sym (spelled_behind was.sectors (n, sector));
     are = are_behind was.sectors (n, sector) was.are low long;
     same = λ k below. laid_behind blank_disk was.sectors (n, sector) k ∙ elim (cases_lt k n) [
-      | inl before ↦ chosen_else k n sector (laid_sectors was.sectors k) (λ here. omega (arith, before, here)) ∙ was.same k before
+      | inl before ↦ chosen_else k n sector (laid_sectors was.sectors k) (λ here. omega (arith, before, here))
+          ∙ was.same k before
       | inr not_before ↦ (let here : k ≡ n = omega (arith, below, not_before) in
           subst (λ m. (if m == n then sector else laid_sectors was.sectors m) ≡ c m) (sym here)
           (chosen_here n sector (laid_sectors was.sectors n) ∙ is))
     ];
     rest = λ k behind. laid_behind blank_disk was.sectors (n, sector) k
-        ∙ chosen_else k n sector (laid_sectors was.sectors k) (λ here. omega (arith, behind, here)) ∙ was.rest k (omega (arith, behind));
+        ∙ chosen_else k n sector (laid_sectors was.sectors k) (λ here. omega (arith, behind, here))
+        ∙ was.rest k (omega (arith, behind));
   }
 
   pub spelled_on : (sector ≡ replicate SECTOR_BYTES 0) × (more ≡ bytes) ⊎ (more ≡ bytes ++ sector_spelling (n, sector))
@@ -103,7 +106,8 @@ module _ (c : Content) (n : ℕ) {bytes more : List ℕ} (sector : List ℕ) (lo
     | inr on ↦ sector_on on
   ]
 
-pub all_spelled : (c : Content) (n : ℕ) {bytes : List ℕ} → IsSpelledTo c n bytes → STORE_SECTORS ≤ n → HasSpelled c bytes
+pub all_spelled : (c : Content) (n : ℕ) {bytes : List ℕ} → IsSpelledTo c n bytes → STORE_SECTORS ≤ n
+    → HasSpelled c bytes
 all_spelled c n was all = record {
   sectors = was.sectors;
   spelled = was.spelled;
@@ -119,7 +123,8 @@ short_on n sector {bytes = bytes} {more = more} long put short = elim put [
   | inl none ↦ (let same = ap length none.1 in omega (arith, same, short))
   | inr on ↦ (let all = ap length on in
       let four : length (number n) ≡ 4 = refl in
-      omega (arith, all, short, long, four, length-append (number n) sector, length-append bytes (sector_spelling (n, sector))))
+      omega (arith, all, short, long, four, length-append (number n) sector, length-append bytes
+      (sector_spelling (n, sector))))
 ]
 
 -- two facts of what returned Ok
@@ -140,7 +145,8 @@ spelling_long sector long =
     let four : length (number sector.0) ≡ 4 = refl in
     omega (arith, long, four, length-append (number sector.0) sector.1)
 
-pub sectors_long : (sectors : Sectors) → AreSectors sectors → length (sector_spellings sectors) ≡ SPELLED * length sectors
+pub sectors_long : (sectors : Sectors) → AreSectors sectors → length (sector_spellings sectors) ≡ SPELLED * length
+    sectors
 sectors_long [] are = refl
 sectors_long (x ∷ sectors) are =
     let more = sectors_long sectors are.2 in

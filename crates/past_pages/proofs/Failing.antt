@@ -111,7 +111,8 @@ module _ {D : Type 0} (d : Ghosts D) where
         (λ e is fault. let wrong : ⊥ = cc (is, fault) in wrong) refl;
   }
 
-  pub looks_none : {T : Type 0} (x : T) (store : StoreView D) → store.must_reopen ≡ false → OnlyLooks d (Ok x) store store
+  pub looks_none : {T : Type 0} (x : T) (store : StoreView D) → store.must_reopen ≡ false
+      → OnlyLooks d (Ok x) store store
   looks_none x store usable = record {
     desktop = λ honest. refl;
     kept = refl;

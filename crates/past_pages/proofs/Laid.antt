@@ -79,7 +79,8 @@ module _ (source : Content) (base : ℕ) where
       }
 
   -- the image and the characters that a head names, where so many sectors of both were laid
-  pub head_laid : {old mid new : Content} {from from' image full : ℕ} (slot : ℕ) (h : Head) → slot < SLOTS → IsGoodHead h
+  pub head_laid : {old mid new : Content} {from from' image full : ℕ} (slot : ℕ) (h : Head) → slot < SLOTS
+      → IsGoodHead h
       → HasLaid source base from image old mid → from ≡ image_at slot → h.extent ≤ SECTOR_BYTES * image
       → HasLaid source base from' full mid new → from' ≡ area_start h.area → full ≡ full_sectors h.written
       → HasLaidHead source base slot h new
@@ -129,7 +130,8 @@ module _ (source : Content) (base : ℕ) {blank first second new : Content}
 
   slot_laid : (slot : ℕ) → slot < SLOTS → IsGoodHead (head (λ n. source (base + n)) slot)
       → HasLaidHead source base slot (head (λ n. source (base + n)) slot) new
-  slot_laid zero two good = head_stays source base 0 (head (λ n. source (base + n)) 0) two good other.stays (one.named good)
+  slot_laid zero two good = head_stays source base 0 (head (λ n. source (base + n)) 0) two good other.stays
+      (one.named good)
   slot_laid (suc zero) two good = other.named good
   slot_laid (suc (suc n)) two good = absurd (omega (arith, two))
 

@@ -70,7 +70,8 @@ module _ {D : Type 0} (d : Ghosts D) where
     usable = look.usable ∙ so_far.usable;
   }
 
-  pub still_both : {old mid new : StoreView D} → IsOnlyReadFrom d old mid → IsOnlyReadFrom d mid new → IsOnlyReadFrom d old new
+  pub still_both : {old mid new : StoreView D} → IsOnlyReadFrom d old mid → IsOnlyReadFrom d mid new
+      → IsOnlyReadFrom d old new
   still_both first second = record {
     left = record {
       desktop = λ honest. second.left.desktop (first.left.disk.device.still honest) ∙ first.left.desktop honest;

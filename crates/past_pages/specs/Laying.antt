@@ -1,5 +1,5 @@
--- A store that is laid on another disk, part by part. `source` is what stands on the one disk, where the store begins in
--- sector `base`, and `old` and `new` what the other one reads before and after.
+-- A store that is laid on another disk, part by part. `source` is what stands on the one disk, where the store begins
+-- in sector `base`, and `old` and `new` what the other one reads before and after.
 use Rattle.std.specs.Prelude.{◌≡◌, ◌⊎◌, ◌+◌, ◌*◌, ◌<◌, ◌≤◌, ◌^◌, ℕ, replicate}
 use Rattle.sector_disk.specs.Trail.{Content, now}
 use Rattle.sector_disk.specs.declared.disk.TheConstants.{SECTOR_BYTES}

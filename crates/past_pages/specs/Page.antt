@@ -1,5 +1,5 @@
--- A page: the events of one journal, the documents of an import, a turn, or a desktop, as they stand in sectors behind a
--- store.
+-- A page: the events of one journal, the documents of an import, a turn, or a desktop, as they stand in sectors behind
+-- a store.
 use Rattle.std.specs.Prelude.{◌≡◌, ◌+◌, ◌<◌, ◌≤◌, ◌^◌, ℕ, Bool, false, true, List, [], ◌∷◌, ◌++◌, length, IsTrue}
 use Rattle.std.specs.Int.{w32, w64, to_be_bytes}
 use Rattle.std.specs.List.{list_all}
@@ -17,8 +17,8 @@ use Rattle.past_pages.specs.declared.page.TheConstants.{EVENTS_PAGE, FAR_PAGE, I
 use Rattle.past_pages.specs.declared.page.TheConstants.{MOST_SPELLED, TURN_PAGE}
 
 -- The events that a journal had when its epoch ended, the documents of an import, the moment to which the desktop was
--- turned, with what it was then, or a desktop as the sectors of a store that shows it; and the version by which they were
--- stepped, brought or written. A page with a desktop is a mark, or a far turn to it.
+-- turned, with what it was then, or a desktop as the sectors of a store that shows it; and the version by which they
+-- were stepped, brought or written. A page with a desktop is a mark, or a far turn to it.
 pub data Page : Type 0 where
   of_events : ℕ → List Event → Page
   of_import : ℕ → Documents → Page

@@ -50,7 +50,8 @@ module _ {D : Type 0} (d : Ghosts D) where
 
   -- an event more: its line, and then the event
   pub one_told : {old mid new : StoreView D} {event : Event} {reply : Reply} {lines more : List (List ℕ)}
-      {line : List ℕ} → IsLeft d old mid → (d.honest old.disk → line ≡ event_line old.desktop event) → more ≡ lines ++ line ∷ []
+      {line : List ℕ} → IsLeft d old mid → (d.honest old.disk → line ≡ event_line old.desktop event)
+      → more ≡ lines ++ line ∷ []
       → IsSameDevice d mid.disk new.disk → IsAcknowledged d event reply mid new
       → IsToldOn d (posted event ∷ []) lines more old new
   one_told {old = old} {mid = mid} {new = new} {event = event} {lines = lines} left is added device ok =
@@ -64,7 +65,8 @@ module _ {D : Type 0} (d : Ghosts D) where
 
   pub next_told : {old between mid new : StoreView D} (events : List Event) (k : ℕ) {event : Event} {reply : Reply}
       {first lines more : List (List ℕ)} {line : List ℕ}
-      → IsToldOn d (all_posted (take k events)) first lines old between → IsLeft d between mid → (d.honest between.disk → line ≡ event_line between.desktop event)
+      → IsToldOn d (all_posted (take k events)) first lines old between → IsLeft d between mid
+      → (d.honest between.disk → line ≡ event_line between.desktop event)
       → more ≡ lines ++ line ∷ [] → IsSameDevice d mid.disk new.disk → k < length events
       → event ≡ get_or events k event → IsAcknowledged d event reply mid new
       → IsToldOn d (all_posted (take (k + 1) events)) first more old new

@@ -240,7 +240,8 @@ module _ {start : Start} {deeds : List PastDeed} {here : Desktop} {due : Option 
       → ((version : ℕ) (all : List Event) → IsRead read (of_events version all) → events ≡ all)
       → ((version : ℕ) (all : Documents) → IsRead read (of_import version all) → ⊥)
       → ((version k : ℕ) (to : Desktop) → IsRead read (of_turn version k to) → ⊥)
-      → ((version : ℕ) (far : Bool) (sectors : Sectors) (to : Desktop) → IsRead read (of_copy version far sectors to) → ⊥)
+      → ((version : ℕ) (far : Bool) (sectors : Sectors) (to : Desktop) → IsRead read (of_copy version far sectors to)
+      → ⊥)
       → IsRead read p
       → IsToldOver start deeds here (all_posted events) due shown some more
       → IsToldOver start deeds here (deeds_in p) due shown some more
@@ -255,7 +256,8 @@ module _ {start : Start} {deeds : List PastDeed} {here : Desktop} {due : Option 
       → ((version : ℕ) (all : List Event) → IsRead read (of_events version all) → ⊥)
       → ((version : ℕ) (all : Documents) → IsRead read (of_import version all) → documents ≡ all)
       → ((version k : ℕ) (to : Desktop) → IsRead read (of_turn version k to) → ⊥)
-      → ((version : ℕ) (far : Bool) (sectors : Sectors) (to : Desktop) → IsRead read (of_copy version far sectors to) → ⊥)
+      → ((version : ℕ) (far : Bool) (sectors : Sectors) (to : Desktop) → IsRead read (of_copy version far sectors to)
+      → ⊥)
       → IsRead read p
       → IsToldOver start deeds here (brought documents ∷ []) due shown some more
       → IsToldOver start deeds here (deeds_in p) due shown some more
@@ -270,7 +272,8 @@ module _ {start : Start} {deeds : List PastDeed} {here : Desktop} {due : Option 
       → ((version : ℕ) (all : List Event) → IsRead read (of_events version all) → ⊥)
       → ((version : ℕ) (all : Documents) → IsRead read (of_import version all) → ⊥)
       → ((version m : ℕ) (to : Desktop) → IsRead read (of_turn version m to) → k ≡ m)
-      → ((version : ℕ) (far : Bool) (sectors : Sectors) (to : Desktop) → IsRead read (of_copy version far sectors to) → ⊥)
+      → ((version : ℕ) (far : Bool) (sectors : Sectors) (to : Desktop) → IsRead read (of_copy version far sectors to)
+      → ⊥)
       → IsRead read p → GoesBack start deeds p
       → ((to : Desktop) → HasMoment start deeds k → to ≡ moment start deeds k
       → IsToldOver start deeds here (turned to ∷ []) due shown some more)
@@ -320,5 +323,6 @@ pub far_told : {start : Start} {deeds : List PastDeed} {here to : Desktop} (all 
     {shown : Desktop} {some more : List (List ℕ)} → all ≡ turned to ∷ []
     → IsToldOver start deeds here (turned to ∷ []) due shown some more
     → IsToldOver start deeds here all due shown some more
-far_told {start = start} {deeds = deeds} {here = here} all {due = due} {shown = shown} {some = some} {more = more} same told =
+far_told {start = start} {deeds = deeds} {here = here} all {due = due} {shown = shown} {some = some} {more = more} same
+    told =
     subst (λ l. IsToldOver start deeds here l due shown some more) (sym same) told

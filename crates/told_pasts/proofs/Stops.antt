@@ -202,7 +202,8 @@ module _ {D : Type 0} (d : Ghosts D) {old : StoreView D} where
     faults = faults;
     reopen = reopen;
     stops = IfErr-weaker answer _ _
-        (λ e named known. named known.0.honest known.0.start known.0.deeds known.0.desktop known.0.keeps known.1 known.2) stops;
+        (λ e named known. named known.0.honest known.0.start known.0.deeds known.0.desktop known.0.keeps known.1
+        known.2) stops;
   }
 
   pub history_stops : {T : Type 0} (answer : Result T Error) {new : StoreView D}

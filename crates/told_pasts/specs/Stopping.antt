@@ -7,8 +7,8 @@ use Rattle.store_slots.specs.declared.error.Error.TheVariants.{Fault, MustReopen
 use Rattle.desk_journal.specs.View.{StoreView}
 use Rattle.desk_past.specs.Errors.{OfMoment, OfSteps}
 
--- Failures of the device are counted, and MustReopen comes only of a store that must be opened again. Where that much is
--- known of the store neither a start nor a page is missing.
+-- Failures of the device are counted, and MustReopen comes only of a store that must be opened again. Where that much
+-- is known of the store neither a start nor a page is missing.
 pub record StopsAs {D T : Type 0} (d : Ghosts D) (known : Type 0) (result : Result T Error)
     (old new : StoreView D)
     : Type 0 where

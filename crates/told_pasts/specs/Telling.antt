@@ -22,8 +22,8 @@ pub record IsToldOn {D : Type 0} (d : Ghosts D) (deeds : List PastDeed) (some mo
 
 -- ---- deeds among which there are turns
 
--- A store in memory is to show this desktop before the next deed of a past: it shows it, or a turn is due to a moment at
--- which that was the desktop.
+-- A store in memory is to show this desktop before the next deed of a past: it shows it, or a turn is due to a moment
+-- at which that was the desktop.
 abbrev pub IsToShow : Start → List PastDeed → Option ℕ → Desktop → Desktop → Type 0
 IsToShow start deeds None shown here = shown ≡ here
 IsToShow start deeds (Some k) shown here =
@@ -62,8 +62,8 @@ pub record HasDesktop {D : Type 0} (d : Ghosts D) (store : StoreView D) (at : �
   pub to : Desktop
   pub there : HasCopy (now (d.trail store.disk)).reads at (d.size store.disk) to
 
--- From this desktop on these deeds were told: their lines came behind some lines, and the store in memory is to show what
--- they lead to.
+-- From this desktop on these deeds were told: their lines came behind some lines, and the store in memory is to show
+-- what they lead to.
 pub record IsToldOver (start : Start) (deeds : List PastDeed) (here : Desktop)
     (told : List PastDeed) (due : Option ℕ) (shown : Desktop) (some more : List (List ℕ))
     : Type 0 where

@@ -14,7 +14,8 @@ returns-in-Ok-clause-shows g c = λ t shown.
     record {
       usable = still.usable;
       honest = still.left.disk.device.still shown.honest;
-      shows = still_shows g.E.Disk still (c.shows_what_crashes_leave.ensures.quiet shown.usable shown.honest) shown.honest t
+      shows = still_shows g.E.Disk still (c.shows_what_crashes_leave.ensures.quiet shown.usable shown.honest)
+          shown.honest t
           shown.shows;
       desktop = still.left.desktop shown.honest ∙ shown.desktop;
     }

@@ -84,7 +84,8 @@ returns-clause-begun g c = λ is.
     record {
       anew = λ honest.
           let second = device.still honest in
-          let shows = c.shows_what_crashes_leave.ensures.durable usable honest (now (d.trail c.args.store.now.disk)).reads
+          let shows = c.shows_what_crashes_leave.ensures.durable usable honest
+          (now (d.trail c.args.store.now.disk)).reads
           (read_is_an_image (now (d.trail c.args.store.now.disk))) in
           record {
             before = c.in-Some.before;
@@ -92,8 +93,10 @@ returns-clause-begun g c = λ is.
                 (end_at (c.args.base + STORE_SECTORS) c.in-Some.before) second
                 c.requires.behind (omega (arith, c.requires.room, device.as_large)) within
                 (started.same honest) shows.standing
-                (spares_shows d c.args.base c.requires.behind c.make_start.ensures.others device usable honest shows.standing
-                shows.stands) (started.counted honest shows.standing shows.stands) c.args.store.now.desktop shows.is refl refl
+                (spares_shows d c.args.base c.requires.behind c.make_start.ensures.others device usable honest
+                shows.standing
+                shows.stands) (started.counted honest shows.standing shows.stands) c.args.store.now.desktop shows.is
+                refl refl
                 c.in_ok-checkpoint_with.ensures.ok.usable c.in_ok-checkpoint_with.ensures.next.shows;
             next = refl;
             copies = λ n low. held_as

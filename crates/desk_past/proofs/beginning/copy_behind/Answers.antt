@@ -28,11 +28,13 @@ pub copy_some-requires-clause-start : goal.copy_some-requires-clause-start
 copy_some-requires-clause-start g c = record {
   behind = c.requires.start.behind;
   numbered = c.requires.start.numbered;
-  room = omega (arith, c.requires.start.room, c.write_behind.ensures.only.as_large, c.copy_rest.ensures.device.same.as_large);
+  room = omega (arith, c.requires.start.room, c.write_behind.ensures.only.as_large,
+      c.copy_rest.ensures.device.same.as_large);
 }
 
 pub returns-in_err-write_behind-clause-others : goal.returns-in_err-write_behind-clause-others
-returns-in_err-write_behind-clause-others g c = spares_write g.D.Disk c.args.base c.args.base 1 (omega arith) (omega arith)
+returns-in_err-write_behind-clause-others g c = spares_write g.D.Disk c.args.base c.args.base 1 (omega arith)
+    (omega arith)
     c.write_behind.ensures.only c.shows_what_crashes_leave.ensures.quiet
 
 pub returns-in_err-copy_rest-clause-others : goal.returns-in_err-copy_rest-clause-others
@@ -73,15 +75,18 @@ returns-clause-copied g c = on_ok_weaker c.copy_some.result (λ last honest.
     let mid1 = (now (d.trail c.write_behind.new.self.disk)).reads in
     let mid2 = (now (d.trail c.copy_rest.new.store.disk)).reads in
     let c' = (now (d.trail c.copy_some.new.store.disk)).reads in
-    let wrote : SparesOthers d base c.args.store.now c.write_behind.new.self = spares_write d base base 1 (omega arith) (omega arith) c.write_behind.ensures.only
+    let wrote : SparesOthers d base c.args.store.now c.write_behind.new.self = spares_write d base base 1 (omega arith)
+    (omega arith) c.write_behind.ensures.only
     c.shows_what_crashes_leave.ensures.quiet in
     let label : HasCopies base 0 1 was c' = copies_as base 0 1 mid2 was c' c' (λ n within. refl)
     (λ n within. sym (spared_reads d c.copy_rest.ensures.others c.in_ok-write_behind.ensures.ok.usable second n
     (λ inside. omega (arith, inside.0, behind, within.1))
-    ∙ spared_reads d wrote c.requires.usable honest n (λ inside. omega (arith, inside.0, behind, within.1)))) (last third) in
+    ∙ spared_reads d wrote c.requires.usable honest n (λ inside. omega (arith, inside.0, behind, within.1))))
+    (last third) in
     let rest : HasCopies base 1 (STORE_SECTORS - 1) was c' = copies_as base 1 (STORE_SECTORS - 1) mid1 was mid2 c'
     (λ n within. spared_reads d c.copy_some.ensures.only c.in_ok-copy_rest.ensures.aside.usable third (base + n)
     (λ inside. omega (arith, inside.1, within.0)))
-    (λ n within. sym (spared_reads d wrote c.requires.usable honest n (λ inside. omega (arith, inside.0, behind, within.1))))
+    (λ n within. sym (spared_reads d wrote c.requires.usable honest n
+    (λ inside. omega (arith, inside.0, behind, within.1))))
     (c.in_ok-copy_rest.ensures.copied second) in
     copies_on base 0 1 (STORE_SECTORS - 1) was c' label rest) c.copy_some.ensures.copied

@@ -44,7 +44,8 @@ returns-in_err-copy_some-clause-only g c =
     let d = g.D.Disk in
     let at = c.args.base + c.args.from in
     let still = c.is_copied.ensures.still in
-    spared_then d at c.args.count {mid = c.is_copied.new.store} c.copy_some.new.store still.left.disk.device still.usable
+    spared_then d at c.args.count {mid = c.is_copied.new.store} c.copy_some.new.store still.left.disk.device
+    still.usable
     (spared_read d at c.args.count still.left.disk c.shows_what_crashes_leave.ensures.quiet) c.copy_some.ensures.only
 
 pub returns-clause-only : goal.returns-clause-only
@@ -52,7 +53,8 @@ returns-clause-only g c =
     let d = g.D.Disk in
     let at = c.args.base + c.args.from in
     let still = c.is_copied.ensures.still in
-    spared_then d at c.args.count {mid = c.is_copied.new.store} c.copy_some.new.store still.left.disk.device still.usable
+    spared_then d at c.args.count {mid = c.is_copied.new.store} c.copy_some.new.store still.left.disk.device
+    still.usable
     (spared_read d at c.args.count still.left.disk c.shows_what_crashes_leave.ensures.quiet) c.copy_some.ensures.only
 
 pub returns-clause-aside : goal.returns-clause-aside

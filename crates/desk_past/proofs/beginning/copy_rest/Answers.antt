@@ -38,7 +38,8 @@ loop-done-preserved g c =
       device = same_both d i.device c.copy_changed.ensures.device.same;
       calm = search rules;
       others = spares_then d base c.copy_changed.new.store i.device i.aside.usable i.others
-          (spared_wider d base STORE_SECTORS (base + at) count (omega arith) (omega (arith, c.min-count.ensures, i.most)) only);
+          (spared_wider d base STORE_SECTORS (base + at) count (omega arith)
+          (omega (arith, c.min-count.ensures, i.most)) only);
       aside = aside_both d i.device i.aside c.in_ok-copy_changed.ensures.aside;
       copied = λ honest.
           let second = i.device.still honest in
@@ -46,7 +47,8 @@ loop-done-preserved g c =
           let mid = (now (d.trail c.loop-done.store.disk)).reads in
           let c' = (now (d.trail c.copy_changed.new.store.disk)).reads in
           let first : HasCopies base 1 (at - 1) was c' = copies_as base 1 (at - 1) was was mid c'
-          (λ n within. spared_reads d only i.aside.usable second (base + n) (λ inside. omega (arith, within.1, inside.0, i.some)))
+          (λ n within. spared_reads d only i.aside.usable second (base + n)
+          (λ inside. omega (arith, within.1, inside.0, i.some)))
           (λ n within. refl) (i.copied honest) in
           let more : HasCopies base at count was c' = copies_as base at count mid was c' c' (λ n within. refl)
           (λ n within. sym (spared_reads d i.others c.requires.usable honest n (λ inside.

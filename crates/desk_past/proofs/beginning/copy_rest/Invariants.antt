@@ -15,7 +15,8 @@ invariant-loop-done g l = record {
   calm : g.D.Disk.failures l.store.disk ≡ g.D.Disk.failures l.fn.store.disk;
   others : SparesOthers g.D.Disk l.base l.fn.store l.store;
   aside : IsAside g.D.Disk l.fn.store l.store;
-  copied : g.D.Disk.honest l.fn.store.disk → HasCopies l.base 1 (l.done - 1) (now (g.D.Disk.trail l.fn.store.disk)).reads
+  copied : g.D.Disk.honest l.fn.store.disk → HasCopies l.base 1 (l.done - 1)
+      (now (g.D.Disk.trail l.fn.store.disk)).reads
       (now (g.D.Disk.trail l.store.disk)).reads;
 }
 

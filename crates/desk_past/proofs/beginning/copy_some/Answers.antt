@@ -26,7 +26,8 @@ returns-in_err-write_behind-clause-only g c =
     let d = g.D.Disk in
     let at = c.args.base + c.args.from in
     let still = c.bytes_at.ensures.still in
-    spared_then d at c.args.count {mid = c.bytes_at.new.store} c.write_behind.new.self still.left.disk.device still.usable
+    spared_then d at c.args.count {mid = c.bytes_at.new.store} c.write_behind.new.self still.left.disk.device
+    still.usable
     (spared_read d at c.args.count still.left.disk c.shows_what_crashes_leave.ensures.quiet)
     (spared_write d at c.args.count at c.args.count (omega arith) (omega arith) c.write_behind.ensures.only
     c.shows_what_crashes_leave-2.ensures.quiet)
@@ -36,7 +37,8 @@ returns-clause-only g c =
     let d = g.D.Disk in
     let at = c.args.base + c.args.from in
     let still = c.bytes_at.ensures.still in
-    spared_then d at c.args.count {mid = c.bytes_at.new.store} c.write_behind.new.self still.left.disk.device still.usable
+    spared_then d at c.args.count {mid = c.bytes_at.new.store} c.write_behind.new.self still.left.disk.device
+    still.usable
     (spared_read d at c.args.count still.left.disk c.shows_what_crashes_leave.ensures.quiet)
     (spared_write d at c.args.count at c.args.count (omega arith) (omega arith) c.write_behind.ensures.only
     c.shows_what_crashes_leave-2.ensures.quiet)

@@ -19,7 +19,8 @@ is_copied-requires-clause-numbered g c = omega (arith, c.requires.numbered)
 
 pub is_copied-requires-clause-there : goal.is_copied-requires-clause-there
 is_copied-requires-clause-there g c =
-    omega (arith, c.requires.room, c.events_before.ensures.disk.device.as_large, c.copy_behind.ensures.device.same.as_large)
+    omega (arith, c.requires.room, c.events_before.ensures.disk.device.as_large,
+    c.copy_behind.ensures.device.same.as_large)
 
 pub returns-in_err-before-clause-others : goal.returns-in_err-before-clause-others
 returns-in_err-before-clause-others g c =
@@ -79,12 +80,14 @@ returns-clause-start g c =
     let still = c.is_copied.ensures.still in
     record {
       was = c.in_ok-before.ensures.usable;
-      aside = aside_both d device (aside_both d first (aside_read d c.in_ok-before.ensures.still) second) (aside_read d still);
+      aside = aside_both d device (aside_both d first (aside_read d c.in_ok-before.ensures.still) second)
+          (aside_read d still);
       same = λ honest n low.
           let same = still_reads d still
           (c.shows_what_crashes_leave-3.ensures.quiet second.usable (device.still honest)) (device.still honest) in
           ap (λ r. r (c.args.base + n)) same
-          ∙ c.in_ok-is_copied.ensures.same c.if-not-branch.false (device.still honest) n (omega arith, omega (arith, low))
+          ∙ c.in_ok-is_copied.ensures.same c.if-not-branch.false (device.still honest) n
+          (omega arith, omega (arith, low))
           ∙ ap (λ r. r n) (sym same);
       counted = λ honest s at. (rw c.in-Some.is at c.in_ok-before.ensures.sum) honest s at;
     }

@@ -176,7 +176,8 @@ returns-in_default-clause-device g c = uses_only g.D.Disk (search rules)
 
 pub returns-clause-device : goal.returns-clause-device
 returns-clause-device g c = uses_only g.D.Disk (search rules)
-    (only_behind_reads g.D.Disk c.pages_ahead.new.store c.bring_behind.new.self c.in-Some.ahead.from c.in-Some.ahead.limit
+    (only_behind_reads g.D.Disk c.pages_ahead.new.store c.bring_behind.new.self c.in-Some.ahead.from
+    c.in-Some.ahead.limit
     c.pages_ahead.ensures.still.left.disk c.shows_what_crashes_leave.ensures.quiet
     (λ _. c.pages_ahead.ensures.still.usable) (rw c.in-Some.is at c.in_ok-ahead.ensures.inside)
     c.bring_behind.ensures.behaves.within)

@@ -62,13 +62,15 @@ pub returns-then-k-told-clause-still : goal.returns-then-k-told-clause-still
 returns-then-k-told-clause-still g c =
     let usable : c.args.store.now.must_reopen ≡ false = search rules in
     whatever c.in_journal.result (still_both g.D.Disk
-    (still_looked g.D.Disk c.past.result (still_none g.D.Disk c.args.store.now usable) c.past.ensures.looks) c.in_journal.ensures.still)
+    (still_looked g.D.Disk c.past.result (still_none g.D.Disk c.args.store.now usable) c.past.ensures.looks)
+    c.in_journal.ensures.still)
 
 pub returns-then-k-told-clause-left : goal.returns-then-k-told-clause-left
 returns-then-k-told-clause-left g c =
     let usable : c.args.store.now.must_reopen ≡ false = search rules in
     (still_both g.D.Disk
-    (still_looked g.D.Disk c.past.result (still_none g.D.Disk c.args.store.now usable) c.past.ensures.looks) c.in_journal.ensures.still).left
+    (still_looked g.D.Disk c.past.result (still_none g.D.Disk c.args.store.now usable) c.past.ensures.looks)
+    c.in_journal.ensures.still).left
 
 pub returns-then-k-told-clause-usable : goal.returns-then-k-told-clause-usable
 returns-then-k-told-clause-usable g c =
@@ -134,7 +136,8 @@ pub returns-in_err-span-clause-left : goal.returns-in_err-span-clause-left
 returns-in_err-span-clause-left g c =
     let d = g.D.Disk in
     let usable : c.args.store.now.must_reopen ≡ false = search rules in
-    (still_both d (still_looked d c.past.result (still_none d c.args.store.now usable) c.past.ensures.looks) c.span_of.ensures.still).left
+    (still_both d (still_looked d c.past.result (still_none d c.args.store.now usable) c.past.ensures.looks)
+    c.span_of.ensures.still).left
 
 pub returns-in_err-span-clause-usable : goal.returns-in_err-span-clause-usable
 returns-in_err-span-clause-usable g c =
@@ -151,7 +154,8 @@ pub returns-in_err-span-clause-stops : goal.returns-in_err-span-clause-stops
 returns-in_err-span-clause-stops g c =
     let p = err_from_is_err_and c.from_residual-in_err-span.result c.from_residual-in_err-span.ensures.1 in
     let failed : c.span_of.result ≡ Err p.0 = cc (p.1, p.2, c.in_err-span.was) in
-    stop_from c.span_of.ensures.faults.errors (λ e named honest start deeds desktop keeps lies low. steps_of_reads e named)
+    stop_from c.span_of.ensures.faults.errors (λ e named honest start deeds desktop keeps lies low.
+    steps_of_reads e named)
     failed p.1
 
 -- ---- in a part
@@ -170,7 +174,8 @@ returns-in_default-clause-comes_back g c = λ honest start deeds desktop keeps l
       → (are : AreSpans size x NO_EPOCH c.in_ok-told.told spans)
       → WasThen size x NO_EPOCH c.in_ok-told.told spans are c.args.k was → ⊥) one quiet honest 0 0 refl
       ((rw c.in_default.is at c.in_ok-span.ensures.found) (one.left.disk.device.still honest)) in
-      let mine = was_in_use d keeps lies c.in_ok-told.told head c.args.k within.low (omega (arith, c.if-k-told.false)) in
+      let mine = was_in_use d keeps lies c.in_ok-told.told head c.args.k within.low
+      (omega (arith, c.if-k-told.false)) in
       absurd (find _ mine.0 mine.1 mine.2);
   there = tt;
 }
@@ -188,7 +193,8 @@ returns-in_default-clause-over_parts g c = λ honest start deeds desktop was kee
     → (are : AreSpans size x NO_EPOCH c.in_ok-told.told spans)
     → WasThen size x NO_EPOCH c.in_ok-told.told spans are c.args.k was → ⊥) one quiet honest 0 0 refl
     ((rw c.in_default.is at c.in_ok-span.ensures.found) (one.left.disk.device.still honest)) in
-    let mine = subst (λ (t : PastEnd). HasSpans (d.size c.args.store.now.disk) (now (d.trail c.args.store.now.disk)).reads t
+    let mine = subst (λ (t : PastEnd). HasSpans (d.size c.args.store.now.disk)
+    (now (d.trail c.args.store.now.disk)).reads t
     NO_EPOCH c.args.k was) (sym head) (spans, are, there) in
     absurd (find was mine.0 mine.1 mine.2)
 
@@ -205,20 +211,26 @@ returns-clause-comes_back g c = both_weaker c.in_pages.result c.in_pages.ensures
           let told = ap (λ (p : PastEnd). p.before) head in
           let find = as_read d (λ size n x. (was : Desktop) → (spans : List (Start × List Page))
           → (are : AreSpans size x NO_EPOCH c.in_ok-told.told spans)
-          → WasThen size x NO_EPOCH c.in_ok-told.told spans are c.args.k was → IsFoundSpan size x c.args.k was c.in-Some.span) one quiet honest 0 0 refl
+          → WasThen size x NO_EPOCH c.in_ok-told.told spans are c.args.k was → IsFoundSpan size x c.args.k was
+          c.in-Some.span) one quiet honest 0 0 refl
           ((rw c.in-Some.is at c.in_ok-span.ensures.found) (one.left.disk.device.still honest)) in
-          let mine = was_in_use d keeps lies c.in_ok-told.told head c.args.k within.low (omega (arith, c.if-k-told.false)) in
+          let mine = was_in_use d keeps lies c.in_ok-told.told head c.args.k within.low
+          (omega (arith, c.if-k-told.false)) in
           let at = find (moment start (all_deeds r.pages) c.args.k) mine.0 mine.1 mine.2 in
-          let holds = as_then d (λ size n x. HoldsTold size at.0.0 c.in-Some.span.told at.0.1 x) two quiet honest 0 0 refl at.1.holds in
+          let holds = as_then d (λ size n x. HoldsTold size at.0.0 c.in-Some.span.told at.0.1 x) two quiet honest 0 0
+          refl at.1.holds in
           let second = two.left.disk.device.still honest in
           let early = as_read d (λ size n x. (start : Start) (pages : List Page)
-          → (has : HoldsTold size start c.in-Some.span.told pages x) → start.base ≡ c.in-Some.span.base → c.args.k < start.before
+          → (has : HoldsTold size start c.in-Some.span.told pages x) → start.base ≡ c.in-Some.span.base
+          → c.args.k < start.before
           → c.in-Some.span.follows ≡ true → has.written.0.standing.past.before ≤ c.args.k
-          → IsSomeAnd found (λ shown. shown.desktop ≡ start_at has.written.0.standing c.args.k)) two quiet honest 0 0 refl
+          → IsSomeAnd found (λ shown. shown.desktop ≡ start_at has.written.0.standing c.args.k)) two quiet honest 0 0
+          refl
           (ahead second tt) in
           let there_in = at.3 in
           elim (cases_lt c.args.k at.0.0.before) [
-            | inl less ↦ some_then found (early at.0.0 at.0.1 at.1.holds at.2 less (at.4 less) there_in.low) (λ shown eq. eq ∙ sym (there_in.ahead less)
+            | inl less ↦ some_then found (early at.0.0 at.0.1 at.1.holds at.2 less (at.4 less) there_in.low)
+                (λ shown eq. eq ∙ sym (there_in.ahead less)
                 ∙ moment_in_pages r c.args.k within.low (omega (arith, told, c.if-k-told.false)))
             | inr least ↦ some_then found (fact second tt at.0.0 at.0.1 holds at.2 least there_in.high)
                 (λ shown eq. eq ∙ sym (there_in.behind least)
@@ -242,21 +254,26 @@ returns-clause-over_parts g c = both_weaker c.in_pages.result c.in_pages.ensures
     let told = ap (λ (p : PastEnd). p.before) head in
     let find = as_read d (λ size n x. (was : Desktop) → (spans : List (Start × List Page))
     → (are : AreSpans size x NO_EPOCH c.in_ok-told.told spans)
-    → WasThen size x NO_EPOCH c.in_ok-told.told spans are c.args.k was → IsFoundSpan size x c.args.k was c.in-Some.span) one quiet honest 0 0 refl
+    → WasThen size x NO_EPOCH c.in_ok-told.told spans are c.args.k was → IsFoundSpan size x c.args.k was c.in-Some.span)
+    one quiet honest 0 0 refl
     ((rw c.in-Some.is at c.in_ok-span.ensures.found) (one.left.disk.device.still honest)) in
-    let mine = subst (λ (t : PastEnd). HasSpans (d.size c.args.store.now.disk) (now (d.trail c.args.store.now.disk)).reads t
+    let mine = subst (λ (t : PastEnd). HasSpans (d.size c.args.store.now.disk)
+    (now (d.trail c.args.store.now.disk)).reads t
     NO_EPOCH c.args.k was) (sym head) (spans, are, there) in
     let at = find was mine.0 mine.1 mine.2 in
-    let holds = as_then d (λ size n x. HoldsTold size at.0.0 c.in-Some.span.told at.0.1 x) two quiet honest 0 0 refl at.1.holds in
+    let holds = as_then d (λ size n x. HoldsTold size at.0.0 c.in-Some.span.told at.0.1 x) two quiet honest 0 0 refl
+    at.1.holds in
     let second = two.left.disk.device.still honest in
     let early = as_read d (λ size n x. (start : Start) (pages : List Page)
-    → (has : HoldsTold size start c.in-Some.span.told pages x) → start.base ≡ c.in-Some.span.base → c.args.k < start.before
+    → (has : HoldsTold size start c.in-Some.span.told pages x) → start.base ≡ c.in-Some.span.base
+    → c.args.k < start.before
     → c.in-Some.span.follows ≡ true → has.written.0.standing.past.before ≤ c.args.k
     → IsSomeAnd found (λ shown. shown.desktop ≡ start_at has.written.0.standing c.args.k)) two quiet honest 0 0 refl
     (ahead second tt) in
     let there_in = at.3 in
     elim (cases_lt c.args.k at.0.0.before) [
-      | inl less ↦ some_then found (early at.0.0 at.0.1 at.1.holds at.2 less (at.4 less) there_in.low) (λ shown eq. eq ∙ sym (there_in.ahead less))
+      | inl less ↦ some_then found (early at.0.0 at.0.1 at.1.holds at.2 less (at.4 less) there_in.low)
+          (λ shown eq. eq ∙ sym (there_in.ahead less))
       | inr least ↦ some_then found (fact second tt at.0.0 at.0.1 holds at.2 least there_in.high)
           (λ shown eq. eq ∙ sym (there_in.behind least))
     ])
@@ -265,13 +282,15 @@ pub returns-in_default-clause-still : goal.returns-in_default-clause-still
 returns-in_default-clause-still g c =
     let d = g.D.Disk in
     let usable : c.args.store.now.must_reopen ≡ false = search rules in
-    (still_both d (still_looked d c.past.result (still_none d c.args.store.now usable) c.past.ensures.looks) c.span_of.ensures.still)
+    (still_both d (still_looked d c.past.result (still_none d c.args.store.now usable) c.past.ensures.looks)
+    c.span_of.ensures.still)
 
 pub returns-in_default-clause-left : goal.returns-in_default-clause-left
 returns-in_default-clause-left g c =
     let d = g.D.Disk in
     let usable : c.args.store.now.must_reopen ≡ false = search rules in
-    (still_both d (still_looked d c.past.result (still_none d c.args.store.now usable) c.past.ensures.looks) c.span_of.ensures.still).left
+    (still_both d (still_looked d c.past.result (still_none d c.args.store.now usable) c.past.ensures.looks)
+    c.span_of.ensures.still).left
 
 pub returns-in_default-clause-usable : goal.returns-in_default-clause-usable
 returns-in_default-clause-usable g c =
@@ -281,13 +300,16 @@ pub returns-clause-still : goal.returns-clause-still
 returns-clause-still g c =
     let d = g.D.Disk in
     let usable : c.args.store.now.must_reopen ≡ false = search rules in
-    whatever c.in_pages.result (still_both d (still_both d (still_looked d c.past.result (still_none d c.args.store.now usable) c.past.ensures.looks) c.span_of.ensures.still) c.in_pages.ensures.still)
+    whatever c.in_pages.result (still_both d (still_both d
+    (still_looked d c.past.result (still_none d c.args.store.now usable) c.past.ensures.looks) c.span_of.ensures.still)
+    c.in_pages.ensures.still)
 
 pub returns-clause-left : goal.returns-clause-left
 returns-clause-left g c =
     let d = g.D.Disk in
     let usable : c.args.store.now.must_reopen ≡ false = search rules in
-    (still_both d (still_both d (still_looked d c.past.result (still_none d c.args.store.now usable) c.past.ensures.looks) c.span_of.ensures.still) c.in_pages.ensures.still).left
+    (still_both d (still_both d (still_looked d c.past.result (still_none d c.args.store.now usable)
+    c.past.ensures.looks) c.span_of.ensures.still) c.in_pages.ensures.still).left
 
 pub returns-clause-usable : goal.returns-clause-usable
 returns-clause-usable g c =
@@ -315,9 +337,11 @@ returns-clause-stops g c = IfErr-weaker c.in_pages.result _ _ (λ e stops honest
     let told = ap (λ (p : PastEnd). p.before) head in
     let find = as_read d (λ size n x. (was : Desktop) → (spans : List (Start × List Page))
     → (are : AreSpans size x NO_EPOCH c.in_ok-told.told spans)
-    → WasThen size x NO_EPOCH c.in_ok-told.told spans are c.args.k was → IsFoundSpan size x c.args.k was c.in-Some.span) one quiet honest 0 0 refl
+    → WasThen size x NO_EPOCH c.in_ok-told.told spans are c.args.k was → IsFoundSpan size x c.args.k was c.in-Some.span)
+    one quiet honest 0 0 refl
     ((rw c.in-Some.is at c.in_ok-span.ensures.found) (one.left.disk.device.still honest)) in
     let mine = was_in_use d keeps lies c.in_ok-told.told head c.args.k low (omega (arith, c.if-k-told.false)) in
     let at = find (moment start (all_deeds r.pages) c.args.k) mine.0 mine.1 mine.2 in
     stops (two.left.disk.device.still honest) tt at.0.0
-    (as_then d (λ size n x. HasStart x at.0.0) two quiet honest 0 0 refl at.1.holds.written.0) at.2) c.in_pages.ensures.stops
+    (as_then d (λ size n x. HasStart x at.0.0) two quiet honest 0 0 refl at.1.holds.written.0) at.2)
+    c.in_pages.ensures.stops

@@ -14,27 +14,33 @@ use Rattle.desk_past.proofs.chain.begun_at.Goals as goal
 
 pub returns-in_err-first-clause-still : goal.returns-in_err-first-clause-still
 returns-in_err-first-clause-still g c = let d = g.D.Disk in
-    (still_both d (still_looked d c.sector_at.result (still_none d c.args.store.now c.requires.usable) c.sector_at.ensures.looks) c.open_head.ensures.still)
+    (still_both d (still_looked d c.sector_at.result (still_none d c.args.store.now c.requires.usable)
+    c.sector_at.ensures.looks) c.open_head.ensures.still)
 
 pub returns-in_err-second-clause-still : goal.returns-in_err-second-clause-still
 returns-in_err-second-clause-still g c = let d = g.D.Disk in
-    (still_both d (still_both d (still_looked d c.sector_at.result (still_none d c.args.store.now c.requires.usable) c.sector_at.ensures.looks) c.open_head.ensures.still) c.open_head-2.ensures.still)
+    (still_both d (still_both d (still_looked d c.sector_at.result (still_none d c.args.store.now c.requires.usable)
+    c.sector_at.ensures.looks) c.open_head.ensures.still) c.open_head-2.ensures.still)
 
 pub returns-then-not-has_label-clause-still : goal.returns-then-not-has_label-clause-still
 returns-then-not-has_label-clause-still g c = let d = g.D.Disk in
-    (still_both d (still_both d (still_looked d c.sector_at.result (still_none d c.args.store.now c.requires.usable) c.sector_at.ensures.looks) c.open_head.ensures.still) c.open_head-2.ensures.still)
+    (still_both d (still_both d (still_looked d c.sector_at.result (still_none d c.args.store.now c.requires.usable)
+    c.sector_at.ensures.looks) c.open_head.ensures.still) c.open_head-2.ensures.still)
 
 pub returns-in-None-clause-still : goal.returns-in-None-clause-still
 returns-in-None-clause-still g c = let d = g.D.Disk in
-    (still_both d (still_both d (still_looked d c.sector_at.result (still_none d c.args.store.now c.requires.usable) c.sector_at.ensures.looks) c.open_head.ensures.still) c.open_head-2.ensures.still)
+    (still_both d (still_both d (still_looked d c.sector_at.result (still_none d c.args.store.now c.requires.usable)
+    c.sector_at.ensures.looks) c.open_head.ensures.still) c.open_head-2.ensures.still)
 
 pub returns-in-Some-clause-still : goal.returns-in-Some-clause-still
 returns-in-Some-clause-still g c = let d = g.D.Disk in
-    (still_both d (still_both d (still_looked d c.sector_at.result (still_none d c.args.store.now c.requires.usable) c.sector_at.ensures.looks) c.open_head.ensures.still) c.open_head-2.ensures.still)
+    (still_both d (still_both d (still_looked d c.sector_at.result (still_none d c.args.store.now c.requires.usable)
+    c.sector_at.ensures.looks) c.open_head.ensures.still) c.open_head-2.ensures.still)
 
 pub returns-then-not-has_label-clause-told : goal.returns-then-not-has_label-clause-told
 returns-then-not-has_label-clause-told g c = λ honest t at.
-    absurd (false≢true (sym c.if-not-has_label.true ∙ c.has_label.ensures ∙ ap is_label (c.in_ok-label.ensures.bytes honest)
+    absurd (false≢true (sym c.if-not-has_label.true ∙ c.has_label.ensures
+    ∙ ap is_label (c.in_ok-label.ensures.bytes honest)
     ∙ at.label))
 
 pub returns-in-None-clause-told : goal.returns-in-None-clause-told
@@ -42,8 +48,10 @@ returns-in-None-clause-told g c = λ honest t at.
     let d = g.D.Disk in
     let quiet = c.shows_what_crashes_leave.ensures.quiet c.requires.usable honest in
     let reads = (now (d.trail c.args.store.now.disk)).reads in
-    let one = (still_looked d c.sector_at.result (still_none d c.args.store.now c.requires.usable) c.sector_at.ensures.looks) in
-    let two = (still_both d (still_looked d c.sector_at.result (still_none d c.args.store.now c.requires.usable) c.sector_at.ensures.looks) c.open_head.ensures.still) in
+    let one = (still_looked d c.sector_at.result (still_none d c.args.store.now c.requires.usable)
+    c.sector_at.ensures.looks) in
+    let two = (still_both d (still_looked d c.sector_at.result (still_none d c.args.store.now c.requires.usable)
+    c.sector_at.ensures.looks) c.open_head.ensures.still) in
     let first = c.in_ok-first.ensures.head (one.left.disk.device.still honest)
     ∙ ap (λ (r : Content). open_head r c.args.base 0) (still_reads d one quiet honest) in
     let second = c.in_ok-second.ensures.head (two.left.disk.device.still honest)
@@ -57,8 +65,10 @@ returns-in-Some-clause-told g c = λ honest t at.
     let d = g.D.Disk in
     let quiet = c.shows_what_crashes_leave.ensures.quiet c.requires.usable honest in
     let reads = (now (d.trail c.args.store.now.disk)).reads in
-    let one = (still_looked d c.sector_at.result (still_none d c.args.store.now c.requires.usable) c.sector_at.ensures.looks) in
-    let two = (still_both d (still_looked d c.sector_at.result (still_none d c.args.store.now c.requires.usable) c.sector_at.ensures.looks) c.open_head.ensures.still) in
+    let one = (still_looked d c.sector_at.result (still_none d c.args.store.now c.requires.usable)
+    c.sector_at.ensures.looks) in
+    let two = (still_both d (still_looked d c.sector_at.result (still_none d c.args.store.now c.requires.usable)
+    c.sector_at.ensures.looks) c.open_head.ensures.still) in
     let first = c.in_ok-first.ensures.head (one.left.disk.device.still honest)
     ∙ ap (λ (r : Content). open_head r c.args.base 0) (still_reads d one quiet honest) in
     let second = c.in_ok-second.ensures.head (two.left.disk.device.still honest)
@@ -76,7 +86,8 @@ returns-in-Some-clause-epoch g c = λ honest.
     let d = g.D.Disk in
     let quiet = c.shows_what_crashes_leave.ensures.quiet c.requires.usable honest in
     let reads = (now (d.trail c.args.store.now.disk)).reads in
-    let one = (still_looked d c.sector_at.result (still_none d c.args.store.now c.requires.usable) c.sector_at.ensures.looks) in
+    let one = (still_looked d c.sector_at.result (still_none d c.args.store.now c.requires.usable)
+    c.sector_at.ensures.looks) in
     let two = still_both d one c.open_head.ensures.still in
     let first = c.in_ok-first.ensures.head (one.left.disk.device.still honest)
     ∙ ap (λ (r : Content). open_head r c.args.base 0) (still_reads d one quiet honest) in

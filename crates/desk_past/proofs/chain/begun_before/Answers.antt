@@ -32,7 +32,8 @@ pub returns-in_default-2-clause-told : goal.returns-in_default-2-clause-told
 returns-in_default-2-clause-told g c = λ honest span is older.
     let found = c.in-Some.ensures.all span.0.base is.end
     (subst (λ n. IsPastPart n span.0.base is.end) (sym c.sectors.ensures) is.part) (span_low is) is.within in
-    absurd ((rw c.in_default-2.is at c.in_ok-begun.ensures.told) honest (start_shows is) (span_stands is c.in-Some.part.base (sym found.0)))
+    absurd ((rw c.in_default-2.is at c.in_ok-begun.ensures.told) honest (start_shows is)
+    (span_stands is c.in-Some.part.base (sym found.0)))
 
 pub returns-then-begun-epoch-clause-told : goal.returns-then-begun-epoch-clause-told
 returns-then-begun-epoch-clause-told g c = λ honest span is older.
@@ -63,4 +64,5 @@ returns-clause-inside g c =
 pub returns-clause-epoch : goal.returns-clause-epoch
 returns-clause-epoch g c = λ honest.
     (rw c.in-Some-2.is at c.in_ok-begun.ensures.epoch) honest
-    ∙ ap (start_epoch (now (g.D.Disk.trail c.args.store.now.disk)).reads) (sym (rw c.in-Some-2.is at c.in_ok-begun.ensures.at))
+    ∙ ap (start_epoch (now (g.D.Disk.trail c.args.store.now.disk)).reads)
+    (sym (rw c.in-Some-2.is at c.in_ok-begun.ensures.at))

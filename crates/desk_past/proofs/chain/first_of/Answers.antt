@@ -18,7 +18,8 @@ loop-epoch-init g c =
       calm = refl;
       inside = tt;
       found = λ honest. tt;
-      passed = λ honest spans are. passed_none (d.size c.args.store.now.disk) (now (d.trail c.args.store.now.disk)).reads
+      passed = λ honest spans are. passed_none (d.size c.args.store.now.disk)
+          (now (d.trail c.args.store.now.disk)).reads
           NO_EPOCH c.args.told None NO_EPOCH c.args.told spans are refl refl;
     }
 
@@ -38,10 +39,12 @@ returns-in_default-clause-first g c = λ honest spans are some.
     let d = g.D.Disk in
     let i = c.loop-epoch.invariant in
     let quiet = c.shows_what_crashes_leave.ensures.quiet c.requires honest in
-    let says = as_read d (λ size n x. SaysOfAll size c.loop-epoch.told c.loop-epoch.epoch None x) i.still quiet honest 0 0 refl
+    let says = as_read d (λ size n x. SaysOfAll size c.loop-epoch.told c.loop-epoch.epoch None x) i.still quiet honest 0
+    0 refl
     ((rw c.in_default.is at c.in_ok-begun.ensures.told) (i.still.left.disk.device.still honest)) in
     first_found (d.size c.args.store.now.disk) (now (d.trail c.args.store.now.disk)).reads c.loop-epoch.epoch
-    c.loop-epoch.told c.loop-epoch.first says (i.found honest) NO_EPOCH c.args.told spans are (i.passed honest spans are) some
+    c.loop-epoch.told c.loop-epoch.first says (i.found honest) NO_EPOCH c.args.told spans are
+    (i.passed honest spans are) some
 
 pub loop-epoch-preserved : goal.loop-epoch-preserved
 loop-epoch-preserved g c =
@@ -58,7 +61,8 @@ loop-epoch-preserved g c =
           ∙ ap (λ (r : Content). start_epoch r c.in-Some.begun.base) same;
       passed = λ honest spans are.
           let quiet = c.shows_what_crashes_leave.ensures.quiet c.requires honest in
-          let says = as_read d (λ size n x. SaysOfAll size c.loop-epoch.told c.loop-epoch.epoch (Some c.in-Some.begun) x)
+          let says = as_read d (λ size n x. SaysOfAll size c.loop-epoch.told c.loop-epoch.epoch (Some c.in-Some.begun)
+          x)
           i.still quiet honest 0 0 refl
           ((rw c.in-Some.is at c.in_ok-begun.ensures.told) (i.still.left.disk.device.still honest)) in
           passed_on (d.size c.args.store.now.disk) (now (d.trail c.args.store.now.disk)).reads c.loop-epoch.epoch

@@ -20,8 +20,10 @@ invariant-loop-epoch g l = record {
   found : g.D.Disk.honest l.fn.store.disk
       → IfSome l.first (λ base. l.epoch ≡ start_epoch (now (g.D.Disk.trail l.fn.store.disk)).reads base);
   passed : g.D.Disk.honest l.fn.store.disk → (spans : List (Start × List Page))
-      → (are : AreSpans (g.D.Disk.size l.fn.store.disk) (now (g.D.Disk.trail l.fn.store.disk)).reads NO_EPOCH l.fn.told spans)
-      → ArePassed (g.D.Disk.size l.fn.store.disk) (now (g.D.Disk.trail l.fn.store.disk)).reads l.epoch l.told l.first NO_EPOCH
+      → (are : AreSpans (g.D.Disk.size l.fn.store.disk) (now (g.D.Disk.trail l.fn.store.disk)).reads NO_EPOCH l.fn.told
+      spans)
+      → ArePassed (g.D.Disk.size l.fn.store.disk) (now (g.D.Disk.trail l.fn.store.disk)).reads l.epoch l.told l.first
+      NO_EPOCH
       l.fn.told spans are;
 }
 

@@ -33,15 +33,19 @@ returns-clause-inside g c =
     subst (λ n. HasStartRoom n base) c.in_ok-told.ensures.looks.disk.device.as_large room)) c.first_of.ensures.inside
 
 pub returns-clause-first : goal.returns-clause-first
-returns-clause-first g c = IfOk-weaker c.first_of.result _ _ (λ found fact honest start deeds desktop keeps spans are some.
+returns-clause-first g c = IfOk-weaker c.first_of.result _ _
+    (λ found fact honest start deeds desktop keeps spans are some.
     let d = g.D.Disk in
     let read = still_looked d c.past.result (still_none d c.args.store.now keeps.usable) c.past.ensures.looks in
     let quiet = c.shows_what_crashes_leave.ensures.quiet keeps.usable honest in
     let head = c.in_ok-told.ensures.told honest keeps.remembers.standing keeps.remembers.past.stands in
-    let find = as_read d (λ size n x. (spans : List (Start × List Page)) → (are : AreSpans size x NO_EPOCH c.in_ok-told.told spans)
-    → HasSpan spans → IsSomeAnd found (IsFirstOf size x NO_EPOCH c.in_ok-told.told spans are)) read quiet honest 0 0 refl
+    let find = as_read d (λ size n x. (spans : List (Start × List Page))
+    → (are : AreSpans size x NO_EPOCH c.in_ok-told.told spans)
+    → HasSpan spans → IsSomeAnd found (IsFirstOf size x NO_EPOCH c.in_ok-told.told spans are)) read quiet honest 0 0
+    refl
     (fact (read.left.disk.device.still honest)) in
     subst (λ (t : PastEnd). (spans : List (Start × List Page))
     → (are : AreSpans (d.size c.args.store.now.disk) (now (d.trail c.args.store.now.disk)).reads NO_EPOCH t spans)
-    → HasSpan spans → IsSomeAnd found (IsFirstOf (d.size c.args.store.now.disk) (now (d.trail c.args.store.now.disk)).reads
+    → HasSpan spans → IsSomeAnd found (IsFirstOf (d.size c.args.store.now.disk)
+    (now (d.trail c.args.store.now.disk)).reads
     NO_EPOCH t spans are)) head find spans are some) c.first_of.ensures.first

@@ -35,18 +35,21 @@ returns-in_default-clause-found g c = λ honest was spans are there.
     let d = g.D.Disk in
     let i = c.loop-epoch.invariant in
     let quiet = c.shows_what_crashes_leave.ensures.quiet c.requires honest in
-    let says = as_read d (λ size n x. SaysOfAll size c.loop-epoch.told c.loop-epoch.epoch None x) i.still quiet honest 0 0 refl
+    let says = as_read d (λ size n x. SaysOfAll size c.loop-epoch.told c.loop-epoch.epoch None x) i.still quiet honest 0
+    0 refl
     ((rw c.in_default.is at c.in_ok-begun.ensures.told) (i.still.left.disk.device.still honest)) in
     let first = first_or_others (i.there honest was (spans, are, there)) in
     absurd (says first.0 first.1 first.2)
 
 pub returns-in_err-former-clause-still : goal.returns-in_err-former-clause-still
 returns-in_err-former-clause-still g c = still_both g.D.Disk
-    (still_both g.D.Disk c.loop-epoch.invariant.still c.begun_before.ensures.still) c.begun_before-then-k-begun.ensures.still
+    (still_both g.D.Disk c.loop-epoch.invariant.still c.begun_before.ensures.still)
+    c.begun_before-then-k-begun.ensures.still
 
 pub returns-then-k-begun-clause-still : goal.returns-then-k-begun-clause-still
 returns-then-k-begun-clause-still g c = still_both g.D.Disk
-    (still_both g.D.Disk c.loop-epoch.invariant.still c.begun_before.ensures.still) c.begun_before-then-k-begun.ensures.still
+    (still_both g.D.Disk c.loop-epoch.invariant.still c.begun_before.ensures.still)
+    c.begun_before-then-k-begun.ensures.still
 
 pub returns-then-k-begun-clause-found : goal.returns-then-k-begun-clause-found
 returns-then-k-begun-clause-found g c = λ honest was spans are there.
@@ -57,7 +60,8 @@ returns-then-k-begun-clause-found g c = λ honest was spans are there.
     let says = as_read d (λ size n x. SaysOfAll size c.loop-epoch.told c.loop-epoch.epoch (Some c.in-Some.begun) x)
     i.still quiet honest 0 0 refl
     ((rw c.in-Some.is at c.in_ok-begun.ensures.told) (i.still.left.disk.device.still honest)) in
-    let former = as_read d (λ size n x. SaysOfAll size c.in-Some.begun.told c.in-Some.begun.epoch c.in_ok-former.former x)
+    let former = as_read d (λ size n x. SaysOfAll size c.in-Some.begun.told c.in-Some.begun.epoch c.in_ok-former.former
+    x)
     mid quiet honest 0 0 refl
     (c.in_ok-former.ensures.told (mid.left.disk.device.still honest)) in
     let first = first_or_others (i.there honest was (spans, are, there)) in
@@ -84,7 +88,8 @@ loop-epoch-preserved g c =
       calm = search rules;
       there = λ honest was has.
           let quiet = c.shows_what_crashes_leave.ensures.quiet c.requires honest in
-          let says = as_read d (λ size n x. SaysOfAll size c.loop-epoch.told c.loop-epoch.epoch (Some c.in-Some.begun) x)
+          let says = as_read d (λ size n x. SaysOfAll size c.loop-epoch.told c.loop-epoch.epoch (Some c.in-Some.begun)
+          x)
           i.still quiet honest 0 0 refl
           ((rw c.in-Some.is at c.in_ok-begun.ensures.told) (i.still.left.disk.device.still honest)) in
           let first = first_or_others (i.there honest was has) in
@@ -93,7 +98,8 @@ loop-epoch-preserved g c =
             | inl here ↦ let before = ap (λ (p : PastEnd). p.before) so.2 in let low = here.0.low in
                 absurd (omega (arith, low, before, c.if-k-begun.false))
             | inr others ↦ subst (λ (x : PastEnd × ℕ). HasSpans (d.size c.args.store.now.disk)
-                (now (d.trail c.args.store.now.disk)).reads x.0 x.1 c.args.k was) (λ j. (sym so.2 j, sym so.1 j)) others.1
+                (now (d.trail c.args.store.now.disk)).reads x.0 x.1 c.args.k was) (λ j. (sym so.2 j, sym so.1 j))
+                others.1
           ];
     }
 

@@ -29,12 +29,14 @@ loop-done-preserved g c =
       device = same_both d i.device c.blank_some.ensures.device.same;
       calm = search rules;
       only = spared_then d from c.args.count c.blank_some.new.store i.device i.aside.usable i.only
-          (spared_wider d from c.args.count (from + at) some (omega arith) (omega (arith, c.min-some.ensures, i.most)) only);
+          (spared_wider d from c.args.count (from + at) some (omega arith) (omega (arith, c.min-some.ensures, i.most))
+          only);
       aside = aside_both d i.device i.aside c.in_ok-blank_some.ensures.aside;
       blank = λ honest.
           let second = i.device.still honest in
           blank_on from at some (now (d.trail c.blank_some.new.store.disk)).reads
-          (blank_as from at (now (d.trail c.loop-done.store.disk)).reads (now (d.trail c.blank_some.new.store.disk)).reads (λ n within. spared_reads d only i.aside.usable second n
+          (blank_as from at (now (d.trail c.loop-done.store.disk)).reads
+          (now (d.trail c.blank_some.new.store.disk)).reads (λ n within. spared_reads d only i.aside.usable second n
           (λ inside. omega (arith, within.1, inside.0))) (i.blank honest))
           (c.in_ok-blank_some.ensures.blank second);
     }

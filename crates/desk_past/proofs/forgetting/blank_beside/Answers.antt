@@ -20,14 +20,16 @@ returns-clause-only g c =
     let d = g.D.Disk in
     let low = part_above _ _ _ c.requires.part in
     start_then d c.blank-2.new.store c.blank.ensures.device.same c.in_ok-blank.ensures.aside.usable
-    (spares_start d c.args.base PARTS (c.args.base - PARTS) (omega arith) (inr (omega (arith, low))) c.blank.ensures.only)
+    (spares_start d c.args.base PARTS (c.args.base - PARTS) (omega arith) (inr (omega (arith, low)))
+    c.blank.ensures.only)
     (spares_start d c.args.base (c.args.base + STORE_SECTORS)
     (PARTS + PART_SECTORS * c.part_count.result - (c.args.base + STORE_SECTORS))
     (omega arith) (inl (omega arith)) c.blank-2.ensures.only)
 
 pub returns-clause-aside : goal.returns-clause-aside
 returns-clause-aside g c =
-    on_ok_weaker c.blank-2.result (λ last. aside_both g.D.Disk c.blank.ensures.device.same c.in_ok-blank.ensures.aside last)
+    on_ok_weaker c.blank-2.result (λ last. aside_both g.D.Disk c.blank.ensures.device.same c.in_ok-blank.ensures.aside
+    last)
     c.blank-2.ensures.aside
 
 pub returns-clause-blank : goal.returns-clause-blank
@@ -44,6 +46,8 @@ returns-clause-blank g c = on_ok_weaker c.blank-2.result (λ last honest.
     let end_is : PARTS + PART_SECTORS * c.part_count.result ≡ parts_end (d.size c.args.store.now.disk) =
     ap (λ n. PARTS + PART_SECTORS * n) at in
     blank_around PARTS base end c' low
-    (blank_as PARTS (base - PARTS) mid c' (λ n within. spared_reads d c.blank-2.ensures.only c.in_ok-blank.ensures.aside.usable
+    (blank_as PARTS (base - PARTS) mid c' (λ n within. spared_reads d c.blank-2.ensures.only
+    c.in_ok-blank.ensures.aside.usable
     second n (λ inside. omega (arith, inside.0, within.1, low))) (c.in_ok-blank.ensures.blank honest))
-    (subst (λ e. AreBlank (base + STORE_SECTORS) (e - (base + STORE_SECTORS)) c') end_is (last second))) c.blank-2.ensures.blank
+    (subst (λ e. AreBlank (base + STORE_SECTORS) (e - (base + STORE_SECTORS)) c') end_is (last second)))
+    c.blank-2.ensures.blank

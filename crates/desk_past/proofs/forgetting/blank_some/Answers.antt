@@ -53,7 +53,8 @@ returns-in_err-write_behind-clause-only g c =
     let still = c.is_blank.ensures.still in
     spared_then d c.args.from c.args.count {mid = c.is_blank.new.store} c.write_behind.new.self still.left.disk.device
     still.usable (spared_read d c.args.from c.args.count still.left.disk c.shows_what_crashes_leave.ensures.quiet)
-    (spared_write d c.args.from c.args.count c.args.from c.args.count (omega arith) (omega arith) c.write_behind.ensures.only
+    (spared_write d c.args.from c.args.count c.args.from c.args.count (omega arith) (omega arith)
+    c.write_behind.ensures.only
     c.shows_what_crashes_leave-2.ensures.quiet)
 
 pub returns-clause-only : goal.returns-clause-only
@@ -62,7 +63,8 @@ returns-clause-only g c =
     let still = c.is_blank.ensures.still in
     spared_then d c.args.from c.args.count {mid = c.is_blank.new.store} c.write_behind.new.self still.left.disk.device
     still.usable (spared_read d c.args.from c.args.count still.left.disk c.shows_what_crashes_leave.ensures.quiet)
-    (spared_write d c.args.from c.args.count c.args.from c.args.count (omega arith) (omega arith) c.write_behind.ensures.only
+    (spared_write d c.args.from c.args.count c.args.from c.args.count (omega arith) (omega arith)
+    c.write_behind.ensures.only
     c.shows_what_crashes_leave-2.ensures.quiet)
 
 pub returns-clause-aside : goal.returns-clause-aside

@@ -27,7 +27,8 @@ begin-requires g c =
     c.in_ok-base.ensures.beside.part))
 
 pub blank_beside-requires-clause-usable : goal.blank_beside-requires-clause-usable
-blank_beside-requires-clause-usable g c = begun_usable g.D.Disk c.oldest_base.new.store c.begin.new.store _ c.in_ok-begin.ensures.turned
+blank_beside-requires-clause-usable g c = begun_usable g.D.Disk c.oldest_base.new.store c.begin.new.store _
+    c.in_ok-begin.ensures.turned
 
 pub blank_beside-requires-clause-part : goal.blank_beside-requires-clause-part
 blank_beside-requires-clause-part g c = subst (λ n. IsPastPart n c.in_ok-base.base (c.in_ok-base.base + PART_SECTORS))
@@ -47,17 +48,20 @@ returns-in_err-told-clause-any_moment g c = let d = g.D.Disk in leaves_read d c.
 pub returns-in_err-base-clause-any_moment : goal.returns-in_err-base-clause-any_moment
 returns-in_err-base-clause-any_moment g c = let d = g.D.Disk in leaves_read d c.args.store.now c.oldest_base.new.store
     c.shows_what_crashes_leave.ensures.durable c.shows_what_crashes_leave.ensures.quiet
-    (still_both d (still_looked d c.past.result (still_none d c.args.store.now c.requires) c.past.ensures.looks) c.oldest_base.ensures.still)
+    (still_both d (still_looked d c.past.result (still_none d c.args.store.now c.requires) c.past.ensures.looks)
+    c.oldest_base.ensures.still)
 
 pub returns-in_err-begin-clause-any_moment : goal.returns-in_err-begin-clause-any_moment
 returns-in_err-begin-clause-any_moment g c = let d = g.D.Disk in leaves_begun d c.begin.new.store
     c.shows_what_crashes_leave.ensures.durable c.shows_what_crashes_leave.ensures.quiet
-    (still_both d (still_looked d c.past.result (still_none d c.args.store.now c.requires) c.past.ensures.looks) c.oldest_base.ensures.still) c.begin.ensures.any_moment
+    (still_both d (still_looked d c.past.result (still_none d c.args.store.now c.requires) c.past.ensures.looks)
+    c.oldest_base.ensures.still) c.begin.ensures.any_moment
 
 pub returns-then-not-branch-clause-any_moment : goal.returns-then-not-branch-clause-any_moment
 returns-then-not-branch-clause-any_moment g c = let d = g.D.Disk in leaves_begun d c.begin.new.store
     c.shows_what_crashes_leave.ensures.durable c.shows_what_crashes_leave.ensures.quiet
-    (still_both d (still_looked d c.past.result (still_none d c.args.store.now c.requires) c.past.ensures.looks) c.oldest_base.ensures.still) c.begin.ensures.any_moment
+    (still_both d (still_looked d c.past.result (still_none d c.args.store.now c.requires) c.past.ensures.looks)
+    c.oldest_base.ensures.still) c.begin.ensures.any_moment
 
 pub returns-then-not-has_parts-clause-refused : goal.returns-then-not-has_parts-clause-refused
 returns-then-not-has_parts-clause-refused g c = λ is honest parts. absurd (false≢true (sym c.if-not-has_parts.true
@@ -66,39 +70,46 @@ returns-then-not-has_parts-clause-refused g c = λ is honest parts. absurd (fals
 pub returns-then-not-branch-clause-refused : goal.returns-then-not-branch-clause-refused
 returns-then-not-branch-clause-refused g c = λ is honest parts.
     let d = g.D.Disk in
-    let read = (still_both d (still_looked d c.past.result (still_none d c.args.store.now c.requires) c.past.ensures.looks) c.oldest_base.ensures.still) in
+    let read = (still_both d (still_looked d c.past.result (still_none d c.args.store.now c.requires)
+    c.past.ensures.looks) c.oldest_base.ensures.still) in
     uncounted_then d read (c.shows_what_crashes_leave.ensures.quiet c.requires honest) honest
     (c.in_ok-begin.ensures.refused c.if-not-branch.true (read.left.disk.device.still honest))
 
 pub returns-then-not-branch-clause-usable : goal.returns-then-not-branch-clause-usable
-returns-then-not-branch-clause-usable g c = begun_usable g.D.Disk c.oldest_base.new.store c.begin.new.store _ c.in_ok-begin.ensures.turned
+returns-then-not-branch-clause-usable g c = begun_usable g.D.Disk c.oldest_base.new.store c.begin.new.store _
+    c.in_ok-begin.ensures.turned
 
 pub returns-in_err-blank_beside-clause-any_moment : goal.returns-in_err-blank_beside-clause-any_moment
 returns-in_err-blank_beside-clause-any_moment g c =
     let d = g.D.Disk in
-    let read = (still_both d (still_looked d c.past.result (still_none d c.args.store.now c.requires) c.past.ensures.looks) c.oldest_base.ensures.still) in
+    let read = (still_both d (still_looked d c.past.result (still_none d c.args.store.now c.requires)
+    c.past.ensures.looks) c.oldest_base.ensures.still) in
     forgets_then d c.begin.new.store c.blank_beside.new.store c.in_ok-base.base
     (leaves_begun d c.begin.new.store c.shows_what_crashes_leave.ensures.durable
     c.shows_what_crashes_leave.ensures.quiet read c.begin.ensures.any_moment)
-    read c.begin.ensures.device.same (begun_usable d c.oldest_base.new.store c.begin.new.store _ c.in_ok-begin.ensures.turned)
+    read c.begin.ensures.device.same (begun_usable d c.oldest_base.new.store c.begin.new.store _
+    c.in_ok-begin.ensures.turned)
     (λ honest. (c.in_ok-begin.ensures.begun c.if-not-branch.false).anew (read.left.disk.device.still honest))
     c.blank_beside.ensures.only
 
 pub returns-clause-any_moment : goal.returns-clause-any_moment
 returns-clause-any_moment g c =
     let d = g.D.Disk in
-    let read = (still_both d (still_looked d c.past.result (still_none d c.args.store.now c.requires) c.past.ensures.looks) c.oldest_base.ensures.still) in
+    let read = (still_both d (still_looked d c.past.result (still_none d c.args.store.now c.requires)
+    c.past.ensures.looks) c.oldest_base.ensures.still) in
     forgets_then d c.begin.new.store c.blank_beside.new.store c.in_ok-base.base
     (leaves_begun d c.begin.new.store c.shows_what_crashes_leave.ensures.durable
     c.shows_what_crashes_leave.ensures.quiet read c.begin.ensures.any_moment)
-    read c.begin.ensures.device.same (begun_usable d c.oldest_base.new.store c.begin.new.store _ c.in_ok-begin.ensures.turned)
+    read c.begin.ensures.device.same (begun_usable d c.oldest_base.new.store c.begin.new.store _
+    c.in_ok-begin.ensures.turned)
     (λ honest. (c.in_ok-begin.ensures.begun c.if-not-branch.false).anew (read.left.disk.device.still honest))
     c.blank_beside.ensures.only
 
 pub returns-clause-forgotten : goal.returns-clause-forgotten
 returns-clause-forgotten g c = λ is honest.
     let d = g.D.Disk in
-    let read = (still_both d (still_looked d c.past.result (still_none d c.args.store.now c.requires) c.past.ensures.looks) c.oldest_base.ensures.still) in
+    let read = (still_both d (still_looked d c.past.result (still_none d c.args.store.now c.requires)
+    c.past.ensures.looks) c.oldest_base.ensures.still) in
     let second = read.left.disk.device.still honest in
     has_forgotten d c.args.store.now c.oldest_base.new.store c.begin.new.store c.blank_beside.new.store read
     (c.shows_what_crashes_leave.ensures.quiet c.requires honest) honest c.begin.ensures.device.same

@@ -38,7 +38,8 @@ returns-clause-is g c = λ honest.
         at = record {
           base = c.in-Some.part.base;
           end = c.in-Some.part.end;
-          part = subst (λ n. IsPastPart n c.in-Some.part.base c.in-Some.part.end) c.sectors.ensures c.in-Some.ensures.is;
+          part = subst (λ n. IsPastPart n c.in-Some.part.base c.in-Some.part.end) c.sectors.ensures
+              c.in-Some.ensures.is;
           low = c.in-Some.ensures.within.0;
           high = c.in-Some.ensures.within.1;
         };
@@ -47,7 +48,9 @@ returns-clause-is g c = λ honest.
       },
       λ can.
           let found = c.in-Some.ensures.all can.at.base can.at.end
-          (subst (λ n. IsPastPart n can.at.base can.at.end) (sym c.sectors.ensures) can.at.part) can.at.low can.at.high in
-          c.has_room.ensures.1 (at_part size c.args.next c.in-Some.part.base c.in-Some.part.end c.in_ok-epoch.epoch reads can
+          (subst (λ n. IsPastPart n can.at.base can.at.end) (sym c.sectors.ensures) can.at.part) can.at.low
+          can.at.high in
+          c.has_room.ensures.1 (at_part size c.args.next c.in-Some.part.base c.in-Some.part.end c.in_ok-epoch.epoch
+          reads can
           found.0 found.1 epoch),
     )

@@ -28,13 +28,16 @@ oldest_base-requires-clause-usable g c = c.can_go_on.ensures.still.usable
 pub oldest_base-requires-clause-parts : goal.oldest_base-requires-clause-parts
 oldest_base-requires-clause-parts g c =
     let d = g.D.Disk in
-    let still = (still_both d (still_both d (still_looked d c.past.result (still_none d c.args.store.now c.requires) c.past.ensures.looks) c.is_wanted.ensures.still) c.can_go_on.ensures.still) in
-    subst HasParts (c.sectors.ensures ∙ sym still.left.disk.device.as_large) (c.has_parts.ensures.0 c.if-not-has_parts.false)
+    let still = (still_both d (still_both d (still_looked d c.past.result (still_none d c.args.store.now c.requires)
+    c.past.ensures.looks) c.is_wanted.ensures.still) c.can_go_on.ensures.still) in
+    subst HasParts (c.sectors.ensures ∙ sym still.left.disk.device.as_large)
+    (c.has_parts.ensures.0 c.if-not-has_parts.false)
 
 pub begin_at-requires : goal.begin_at-requires
 begin_at-requires g c =
     let d = g.D.Disk in
-    let still = (still_both d (still_both d (still_looked d c.past.result (still_none d c.args.store.now c.requires) c.past.ensures.looks) c.is_wanted.ensures.still) c.can_go_on.ensures.still) in
+    let still = (still_both d (still_both d (still_looked d c.past.result (still_none d c.args.store.now c.requires)
+    c.past.ensures.looks) c.is_wanted.ensures.still) c.can_go_on.ensures.still) in
     let large = c.sectors.ensures ∙ sym still.left.disk.device.as_large in
     subst (λ n. HasStartRoom n c.in_ok-base.base) (large ∙ sym c.oldest_base.ensures.still.left.disk.device.as_large)
     (part_room c.sectors.result c.in_ok-base.base _ (omega arith)
@@ -49,7 +52,8 @@ returns-then-not-has_parts-clause-any_moment g c = let d = g.D.Disk in leaves_re
     (still_none d c.args.store.now c.requires)
 
 pub returns-then-not-has_parts-clause-none_forgotten : goal.returns-then-not-has_parts-clause-none_forgotten
-returns-then-not-has_parts-clause-none_forgotten g c = let d = g.D.Disk in forgets_read d c.args.store.now c.args.store.now
+returns-then-not-has_parts-clause-none_forgotten g c = let d = g.D.Disk in forgets_read d c.args.store.now
+    c.args.store.now
     c.shows_what_crashes_leave.ensures.quiet
     (still_none d c.args.store.now c.requires)
 
@@ -74,78 +78,101 @@ returns-in_err-told-clause-others g c = let d = g.D.Disk in
     only_read d still.left.disk c.shows_what_crashes_leave.ensures.quiet
 
 pub returns-in_err-is_wanted-clause-any_moment : goal.returns-in_err-is_wanted-clause-any_moment
-returns-in_err-is_wanted-clause-any_moment g c = let d = g.D.Disk in leaves_read d c.args.store.now c.is_wanted.new.store
+returns-in_err-is_wanted-clause-any_moment g c = let d = g.D.Disk in leaves_read d c.args.store.now
+    c.is_wanted.new.store
     c.shows_what_crashes_leave.ensures.durable c.shows_what_crashes_leave.ensures.quiet
-    (still_both d (still_looked d c.past.result (still_none d c.args.store.now c.requires) c.past.ensures.looks) c.is_wanted.ensures.still)
+    (still_both d (still_looked d c.past.result (still_none d c.args.store.now c.requires) c.past.ensures.looks)
+    c.is_wanted.ensures.still)
 
 pub returns-in_err-is_wanted-clause-none_forgotten : goal.returns-in_err-is_wanted-clause-none_forgotten
-returns-in_err-is_wanted-clause-none_forgotten g c = let d = g.D.Disk in forgets_read d c.args.store.now c.is_wanted.new.store
+returns-in_err-is_wanted-clause-none_forgotten g c = let d = g.D.Disk in forgets_read d c.args.store.now
+    c.is_wanted.new.store
     c.shows_what_crashes_leave.ensures.quiet
-    (still_both d (still_looked d c.past.result (still_none d c.args.store.now c.requires) c.past.ensures.looks) c.is_wanted.ensures.still)
+    (still_both d (still_looked d c.past.result (still_none d c.args.store.now c.requires) c.past.ensures.looks)
+    c.is_wanted.ensures.still)
 
 pub returns-in_err-is_wanted-clause-others : goal.returns-in_err-is_wanted-clause-others
 returns-in_err-is_wanted-clause-others g c = let d = g.D.Disk in
-    let still = (still_both d (still_looked d c.past.result (still_none d c.args.store.now c.requires) c.past.ensures.looks) c.is_wanted.ensures.still) in
+    let still = (still_both d (still_looked d c.past.result (still_none d c.args.store.now c.requires)
+    c.past.ensures.looks) c.is_wanted.ensures.still) in
     only_read d still.left.disk c.shows_what_crashes_leave.ensures.quiet
 
 pub returns-then-not-branch-clause-any_moment : goal.returns-then-not-branch-clause-any_moment
 returns-then-not-branch-clause-any_moment g c = let d = g.D.Disk in leaves_read d c.args.store.now c.is_wanted.new.store
     c.shows_what_crashes_leave.ensures.durable c.shows_what_crashes_leave.ensures.quiet
-    (still_both d (still_looked d c.past.result (still_none d c.args.store.now c.requires) c.past.ensures.looks) c.is_wanted.ensures.still)
+    (still_both d (still_looked d c.past.result (still_none d c.args.store.now c.requires) c.past.ensures.looks)
+    c.is_wanted.ensures.still)
 
 pub returns-then-not-branch-clause-none_forgotten : goal.returns-then-not-branch-clause-none_forgotten
-returns-then-not-branch-clause-none_forgotten g c = let d = g.D.Disk in forgets_read d c.args.store.now c.is_wanted.new.store
+returns-then-not-branch-clause-none_forgotten g c = let d = g.D.Disk in forgets_read d c.args.store.now
+    c.is_wanted.new.store
     c.shows_what_crashes_leave.ensures.quiet
-    (still_both d (still_looked d c.past.result (still_none d c.args.store.now c.requires) c.past.ensures.looks) c.is_wanted.ensures.still)
+    (still_both d (still_looked d c.past.result (still_none d c.args.store.now c.requires) c.past.ensures.looks)
+    c.is_wanted.ensures.still)
 
 pub returns-then-not-branch-clause-others : goal.returns-then-not-branch-clause-others
 returns-then-not-branch-clause-others g c = let d = g.D.Disk in
-    let still = (still_both d (still_looked d c.past.result (still_none d c.args.store.now c.requires) c.past.ensures.looks) c.is_wanted.ensures.still) in
+    let still = (still_both d (still_looked d c.past.result (still_none d c.args.store.now c.requires)
+    c.past.ensures.looks) c.is_wanted.ensures.still) in
     only_read d still.left.disk c.shows_what_crashes_leave.ensures.quiet
 
 pub returns-in_err-can_go_on-clause-any_moment : goal.returns-in_err-can_go_on-clause-any_moment
-returns-in_err-can_go_on-clause-any_moment g c = let d = g.D.Disk in leaves_read d c.args.store.now c.can_go_on.new.store
+returns-in_err-can_go_on-clause-any_moment g c = let d = g.D.Disk in leaves_read d c.args.store.now
+    c.can_go_on.new.store
     c.shows_what_crashes_leave.ensures.durable c.shows_what_crashes_leave.ensures.quiet
-    (still_both d (still_both d (still_looked d c.past.result (still_none d c.args.store.now c.requires) c.past.ensures.looks) c.is_wanted.ensures.still) c.can_go_on.ensures.still)
+    (still_both d (still_both d (still_looked d c.past.result (still_none d c.args.store.now c.requires)
+    c.past.ensures.looks) c.is_wanted.ensures.still) c.can_go_on.ensures.still)
 
 pub returns-in_err-can_go_on-clause-none_forgotten : goal.returns-in_err-can_go_on-clause-none_forgotten
-returns-in_err-can_go_on-clause-none_forgotten g c = let d = g.D.Disk in forgets_read d c.args.store.now c.can_go_on.new.store
+returns-in_err-can_go_on-clause-none_forgotten g c = let d = g.D.Disk in forgets_read d c.args.store.now
+    c.can_go_on.new.store
     c.shows_what_crashes_leave.ensures.quiet
-    (still_both d (still_both d (still_looked d c.past.result (still_none d c.args.store.now c.requires) c.past.ensures.looks) c.is_wanted.ensures.still) c.can_go_on.ensures.still)
+    (still_both d (still_both d (still_looked d c.past.result (still_none d c.args.store.now c.requires)
+    c.past.ensures.looks) c.is_wanted.ensures.still) c.can_go_on.ensures.still)
 
 pub returns-in_err-can_go_on-clause-others : goal.returns-in_err-can_go_on-clause-others
 returns-in_err-can_go_on-clause-others g c = let d = g.D.Disk in
-    let still = (still_both d (still_both d (still_looked d c.past.result (still_none d c.args.store.now c.requires) c.past.ensures.looks) c.is_wanted.ensures.still) c.can_go_on.ensures.still) in
+    let still = (still_both d (still_both d (still_looked d c.past.result (still_none d c.args.store.now c.requires)
+    c.past.ensures.looks) c.is_wanted.ensures.still) c.can_go_on.ensures.still) in
     only_read d still.left.disk c.shows_what_crashes_leave.ensures.quiet
 
 pub returns-then-branch-clause-any_moment : goal.returns-then-branch-clause-any_moment
 returns-then-branch-clause-any_moment g c = let d = g.D.Disk in leaves_read d c.args.store.now c.can_go_on.new.store
     c.shows_what_crashes_leave.ensures.durable c.shows_what_crashes_leave.ensures.quiet
-    (still_both d (still_both d (still_looked d c.past.result (still_none d c.args.store.now c.requires) c.past.ensures.looks) c.is_wanted.ensures.still) c.can_go_on.ensures.still)
+    (still_both d (still_both d (still_looked d c.past.result (still_none d c.args.store.now c.requires)
+    c.past.ensures.looks) c.is_wanted.ensures.still) c.can_go_on.ensures.still)
 
 pub returns-then-branch-clause-none_forgotten : goal.returns-then-branch-clause-none_forgotten
-returns-then-branch-clause-none_forgotten g c = let d = g.D.Disk in forgets_read d c.args.store.now c.can_go_on.new.store
+returns-then-branch-clause-none_forgotten g c = let d = g.D.Disk in forgets_read d c.args.store.now
+    c.can_go_on.new.store
     c.shows_what_crashes_leave.ensures.quiet
-    (still_both d (still_both d (still_looked d c.past.result (still_none d c.args.store.now c.requires) c.past.ensures.looks) c.is_wanted.ensures.still) c.can_go_on.ensures.still)
+    (still_both d (still_both d (still_looked d c.past.result (still_none d c.args.store.now c.requires)
+    c.past.ensures.looks) c.is_wanted.ensures.still) c.can_go_on.ensures.still)
 
 pub returns-then-branch-clause-others : goal.returns-then-branch-clause-others
 returns-then-branch-clause-others g c = let d = g.D.Disk in
-    let still = (still_both d (still_both d (still_looked d c.past.result (still_none d c.args.store.now c.requires) c.past.ensures.looks) c.is_wanted.ensures.still) c.can_go_on.ensures.still) in
+    let still = (still_both d (still_both d (still_looked d c.past.result (still_none d c.args.store.now c.requires)
+    c.past.ensures.looks) c.is_wanted.ensures.still) c.can_go_on.ensures.still) in
     only_read d still.left.disk c.shows_what_crashes_leave.ensures.quiet
 
 pub returns-in_err-base-clause-any_moment : goal.returns-in_err-base-clause-any_moment
 returns-in_err-base-clause-any_moment g c = let d = g.D.Disk in leaves_read d c.args.store.now c.oldest_base.new.store
     c.shows_what_crashes_leave.ensures.durable c.shows_what_crashes_leave.ensures.quiet
-    (still_both d (still_both d (still_both d (still_looked d c.past.result (still_none d c.args.store.now c.requires) c.past.ensures.looks) c.is_wanted.ensures.still) c.can_go_on.ensures.still) c.oldest_base.ensures.still)
+    (still_both d (still_both d (still_both d (still_looked d c.past.result (still_none d c.args.store.now c.requires)
+    c.past.ensures.looks) c.is_wanted.ensures.still) c.can_go_on.ensures.still) c.oldest_base.ensures.still)
 
 pub returns-in_err-base-clause-none_forgotten : goal.returns-in_err-base-clause-none_forgotten
-returns-in_err-base-clause-none_forgotten g c = let d = g.D.Disk in forgets_read d c.args.store.now c.oldest_base.new.store
+returns-in_err-base-clause-none_forgotten g c = let d = g.D.Disk in forgets_read d c.args.store.now
+    c.oldest_base.new.store
     c.shows_what_crashes_leave.ensures.quiet
-    (still_both d (still_both d (still_both d (still_looked d c.past.result (still_none d c.args.store.now c.requires) c.past.ensures.looks) c.is_wanted.ensures.still) c.can_go_on.ensures.still) c.oldest_base.ensures.still)
+    (still_both d (still_both d (still_both d (still_looked d c.past.result (still_none d c.args.store.now c.requires)
+    c.past.ensures.looks) c.is_wanted.ensures.still) c.can_go_on.ensures.still) c.oldest_base.ensures.still)
 
 pub returns-in_err-base-clause-others : goal.returns-in_err-base-clause-others
 returns-in_err-base-clause-others g c = let d = g.D.Disk in
-    let still = (still_both d (still_both d (still_both d (still_looked d c.past.result (still_none d c.args.store.now c.requires) c.past.ensures.looks) c.is_wanted.ensures.still) c.can_go_on.ensures.still) c.oldest_base.ensures.still) in
+    let still = (still_both d (still_both d (still_both d
+    (still_looked d c.past.result (still_none d c.args.store.now c.requires) c.past.ensures.looks)
+    c.is_wanted.ensures.still) c.can_go_on.ensures.still) c.oldest_base.ensures.still) in
     only_read d still.left.disk c.shows_what_crashes_leave.ensures.quiet
 
 pub returns-then-not-has_parts-clause-due : goal.returns-then-not-has_parts-clause-due
@@ -159,68 +186,87 @@ returns-then-not-branch-clause-due g c = λ honest s at parts wanted.
     let quiet = c.shows_what_crashes_leave.ensures.quiet c.requires honest in
     let still = (still_looked d c.past.result (still_none d c.args.store.now c.requires) c.past.ensures.looks) in
     let next = ap (λ (p : PastEnd). p.next) (c.in_ok-told.ensures.told honest s at) in
-    absurd (false≢true (sym c.if-not-branch.true ∙ (c.in_ok-is_wanted.ensures.is (still.left.disk.device.still honest)).1
+    absurd (false≢true (sym c.if-not-branch.true
+    ∙ (c.in_ok-is_wanted.ensures.is (still.left.disk.device.still honest)).1
     (as_then d (IsWanted c.args.asked) still quiet honest c.in_ok-told.told.next s.past.next next wanted)))
 
 pub returns-then-branch-clause-due : goal.returns-then-branch-clause-due
 returns-then-branch-clause-due g c = λ honest s at.
     let d = g.D.Disk in
     let quiet = c.shows_what_crashes_leave.ensures.quiet c.requires honest in
-    let still = (still_both d (still_looked d c.past.result (still_none d c.args.store.now c.requires) c.past.ensures.looks) c.is_wanted.ensures.still) in
+    let still = (still_both d (still_looked d c.past.result (still_none d c.args.store.now c.requires)
+    c.past.ensures.looks) c.is_wanted.ensures.still) in
     let next = ap (λ (p : PastEnd). p.next) (c.in_ok-told.ensures.told honest s at) in
     as_read d CanGoOn still quiet honest c.in_ok-told.told.next s.past.next next
     ((c.in_ok-can_go_on.ensures.is (still.left.disk.device.still honest)).0 c.if-branch.true)
 
 pub returns-then-branch-clause-comes : goal.returns-then-branch-clause-comes
 returns-then-branch-clause-comes g c = let d = g.D.Disk in
-    (still_both d (still_both d (still_looked d c.past.result (still_none d c.args.store.now c.requires) c.past.ensures.looks) c.is_wanted.ensures.still) c.can_go_on.ensures.still)
+    (still_both d (still_both d (still_looked d c.past.result (still_none d c.args.store.now c.requires)
+    c.past.ensures.looks) c.is_wanted.ensures.still) c.can_go_on.ensures.still)
 
 -- ---- a past begins
 
 pub returns-clause-any_moment : goal.returns-clause-any_moment
 returns-clause-any_moment g c = let d = g.D.Disk in leaves_begun d c.begin_at.new.store
     c.shows_what_crashes_leave.ensures.durable c.shows_what_crashes_leave.ensures.quiet
-    (still_both d (still_both d (still_both d (still_looked d c.past.result (still_none d c.args.store.now c.requires) c.past.ensures.looks) c.is_wanted.ensures.still) c.can_go_on.ensures.still) c.oldest_base.ensures.still) c.begin_at.ensures.any_moment
+    (still_both d (still_both d (still_both d (still_looked d c.past.result (still_none d c.args.store.now c.requires)
+    c.past.ensures.looks) c.is_wanted.ensures.still) c.can_go_on.ensures.still) c.oldest_base.ensures.still)
+    c.begin_at.ensures.any_moment
 
 pub returns-clause-none_forgotten : goal.returns-clause-none_forgotten
 returns-clause-none_forgotten g c = λ honest start deeds desktop keeps lies.
     let d = g.D.Disk in
-    let before = (still_both d (still_both d (still_looked d c.past.result (still_none d c.args.store.now c.requires) c.past.ensures.looks) c.is_wanted.ensures.still) c.can_go_on.ensures.still) in
-    let still = (still_both d (still_both d (still_both d (still_looked d c.past.result (still_none d c.args.store.now c.requires) c.past.ensures.looks) c.is_wanted.ensures.still) c.can_go_on.ensures.still) c.oldest_base.ensures.still) in
+    let before = (still_both d (still_both d (still_looked d c.past.result (still_none d c.args.store.now c.requires)
+    c.past.ensures.looks) c.is_wanted.ensures.still) c.can_go_on.ensures.still) in
+    let still = (still_both d (still_both d (still_both d
+    (still_looked d c.past.result (still_none d c.args.store.now c.requires) c.past.ensures.looks)
+    c.is_wanted.ensures.still) c.can_go_on.ensures.still) c.oldest_base.ensures.still) in
     let next = ap (λ (p : PastEnd). p.next)
     (c.in_ok-told.ensures.told honest keeps.remembers.standing keeps.remembers.past.stands) in
     forgets_begun d c.begin_at.new.store keeps honest (c.shows_what_crashes_leave.ensures.quiet keeps.usable honest)
     still c.in_ok-base.base c.begin_at.ensures.none_forgotten
     (apart_next d keeps (d.size c.args.store.now.disk) c.in_ok-told.told.next c.in_ok-base.base refl (sym next) lies
-    (lies_beside _ _ _ (subst (λ n. IsPartBeside n c.in_ok-told.told.next c.in_ok-base.base) before.left.disk.device.as_large
+    (lies_beside _ _ _ (subst (λ n. IsPartBeside n c.in_ok-told.told.next c.in_ok-base.base)
+    before.left.disk.device.as_large
     c.in_ok-base.ensures.beside)))
 
 pub returns-clause-comes : goal.returns-clause-comes
-returns-clause-comes g c = IfOk-weaker c.begin_at.result _ _ (λ outset comes. outset_then g.D.Disk c.args.store.now c.oldest_base.new.store c.begin_at.new.store outset comes
+returns-clause-comes g c = IfOk-weaker c.begin_at.result _ _
+    (λ outset comes. outset_then g.D.Disk c.args.store.now c.oldest_base.new.store c.begin_at.new.store outset comes
     (λ begins honest s at.
     let d = g.D.Disk in
     let quiet = c.shows_what_crashes_leave.ensures.quiet c.requires honest in
-    let before = (still_both d (still_both d (still_looked d c.past.result (still_none d c.args.store.now c.requires) c.past.ensures.looks) c.is_wanted.ensures.still) c.can_go_on.ensures.still) in
-    let still = (still_both d (still_both d (still_both d (still_looked d c.past.result (still_none d c.args.store.now c.requires) c.past.ensures.looks) c.is_wanted.ensures.still) c.can_go_on.ensures.still) c.oldest_base.ensures.still) in
+    let before = (still_both d (still_both d (still_looked d c.past.result (still_none d c.args.store.now c.requires)
+    c.past.ensures.looks) c.is_wanted.ensures.still) c.can_go_on.ensures.still) in
+    let still = (still_both d (still_both d (still_both d
+    (still_looked d c.past.result (still_none d c.args.store.now c.requires) c.past.ensures.looks)
+    c.is_wanted.ensures.still) c.can_go_on.ensures.still) c.oldest_base.ensures.still) in
     let next = ap (λ (p : PastEnd). p.next) (c.in_ok-told.ensures.told honest s at) in (
       c.in_ok-base.base,
       begins_then d c.begin_at.new.store still begins,
-      as_read d (λ size n. IsOldest size n c.in_ok-base.base) before quiet honest c.in_ok-told.told.next s.past.next next
+      as_read d (λ size n. IsOldest size n c.in_ok-base.base) before quiet honest c.in_ok-told.told.next s.past.next
+      next
           (c.in_ok-base.ensures.oldest (before.left.disk.device.still honest)),
     ))) c.begin_at.ensures.comes
 
 pub returns-clause-others : goal.returns-clause-others
 returns-clause-others g c =
     let d = g.D.Disk in
-    let before = (still_both d (still_both d (still_looked d c.past.result (still_none d c.args.store.now c.requires) c.past.ensures.looks) c.is_wanted.ensures.still) c.can_go_on.ensures.still) in
-    let still = (still_both d (still_both d (still_both d (still_looked d c.past.result (still_none d c.args.store.now c.requires) c.past.ensures.looks) c.is_wanted.ensures.still) c.can_go_on.ensures.still) c.oldest_base.ensures.still) in
+    let before = (still_both d (still_both d (still_looked d c.past.result (still_none d c.args.store.now c.requires)
+    c.past.ensures.looks) c.is_wanted.ensures.still) c.can_go_on.ensures.still) in
+    let still = (still_both d (still_both d (still_both d
+    (still_looked d c.past.result (still_none d c.args.store.now c.requires) c.past.ensures.looks)
+    c.is_wanted.ensures.still) c.can_go_on.ensures.still) c.oldest_base.ensures.still) in
     only_as d (only_begun d c.begin_at.new.store c.in_ok-told.told.next c.in_ok-base.base still
     c.shows_what_crashes_leave.ensures.quiet
     (λ honest. as_read d (λ size n. IsOldest size n c.in_ok-base.base) before
-    (c.shows_what_crashes_leave.ensures.quiet c.requires honest) honest c.in_ok-told.told.next c.in_ok-told.told.next refl
+    (c.shows_what_crashes_leave.ensures.quiet c.requires honest) honest c.in_ok-told.told.next c.in_ok-told.told.next
+    refl
     (c.in_ok-base.ensures.oldest (before.left.disk.device.still honest))) c.begin_at.ensures.others)
     (λ honest s at n there. subst (λ k. LiesInOldest (d.size c.args.store.now.disk)
-    (now (d.trail c.args.store.now.disk)).reads k n) (ap (λ (p : PastEnd). p.next) (c.in_ok-told.ensures.told honest s at))
+    (now (d.trail c.args.store.now.disk)).reads k n)
+    (ap (λ (p : PastEnd). p.next) (c.in_ok-told.ensures.told honest s at))
     there)
 
 pub returns-clause-due : goal.returns-clause-due
@@ -228,8 +274,11 @@ returns-clause-due g c = IfOk-weaker c.begin_at.result _ _ (λ outset comes hone
     let d = g.D.Disk in
     let quiet = c.shows_what_crashes_leave.ensures.quiet c.requires honest in
     let first = (still_looked d c.past.result (still_none d c.args.store.now c.requires) c.past.ensures.looks) in
-    let second = (still_both d (still_looked d c.past.result (still_none d c.args.store.now c.requires) c.past.ensures.looks) c.is_wanted.ensures.still) in
-    let still = (still_both d (still_both d (still_both d (still_looked d c.past.result (still_none d c.args.store.now c.requires) c.past.ensures.looks) c.is_wanted.ensures.still) c.can_go_on.ensures.still) c.oldest_base.ensures.still) in
+    let second = (still_both d (still_looked d c.past.result (still_none d c.args.store.now c.requires)
+    c.past.ensures.looks) c.is_wanted.ensures.still) in
+    let still = (still_both d (still_both d (still_both d
+    (still_looked d c.past.result (still_none d c.args.store.now c.requires) c.past.ensures.looks)
+    c.is_wanted.ensures.still) c.can_go_on.ensures.still) c.oldest_base.ensures.still) in
     let next = ap (λ (p : PastEnd). p.next) (c.in_ok-told.ensures.told honest s at) in
     due_begun d c.args.asked c.args.store.now s outset
     (λ is. uncounted_then d still quiet honest

@@ -43,7 +43,8 @@ returns-then-branch-gt0-clause-is g c = λ honest.
       λ is. record {
         base = c.part_base.result;
         end = c.part_base.result + PART_SECTORS;
-        part = subst (λ n. IsPastPart n c.part_base.result (c.part_base.result + PART_SECTORS)) c.sectors-sectors.ensures
+        part = subst (λ n. IsPastPart n c.part_base.result (c.part_base.result + PART_SECTORS))
+            c.sectors-sectors.ensures
             c.part_base.ensures.is;
         start = subst (λ n. 0 < n) epoch c.if-branch-gt0.true;
       },

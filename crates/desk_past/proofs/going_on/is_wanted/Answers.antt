@@ -22,7 +22,8 @@ returns-in_default-clause-is g c = IfOk-weaker c.is_started.result _ _ (λ is de
       λ wanted. x.1 (wanted_started c.args.asked size c.args.next (now (d.trail c.args.store.now.disk)).reads
           (λ t. false≢true (sym c.if-asked.false ∙ t))
           (λ there. c.in_default.ensures.all there.base there.end
-          (subst (λ n. IsPastPart n there.base there.end) (sym c.sectors.ensures) there.part) there.low there.high) wanted),
+          (subst (λ n. IsPastPart n there.base there.end) (sym c.sectors.ensures) there.part) there.low there.high)
+          wanted),
     )) c.is_started.ensures.is
 
 pub returns-clause-is : goal.returns-clause-is
@@ -31,7 +32,8 @@ returns-clause-is g c = λ honest. (
       (now (g.D.Disk.trail c.args.store.now.disk)).reads (record {
         base = c.in-Some._part.base;
         end = c.in-Some._part.end;
-        part = subst (λ n. IsPastPart n c.in-Some._part.base c.in-Some._part.end) c.sectors.ensures c.in-Some.ensures.is;
+        part = subst (λ n. IsPastPart n c.in-Some._part.base c.in-Some._part.end) c.sectors.ensures
+            c.in-Some.ensures.is;
         low = c.in-Some.ensures.within.0;
         high = c.in-Some.ensures.within.1;
       }),

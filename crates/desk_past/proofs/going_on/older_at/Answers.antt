@@ -23,7 +23,8 @@ start_epoch-requires g c =
 pub returns-then-goes_on_in-clause-older : goal.returns-then-goes_on_in-clause-older
 returns-then-goes_on_in-clause-older g c = λ honest. record {
   first = omega arith;
-  second = λ beside. absurd (beside (subst (λ n. GoesOnIn n (n + PART_SECTORS) c.args.next) c.part_base-base.ensures.value
+  second = λ beside. absurd (beside (subst (λ n. GoesOnIn n (n + PART_SECTORS) c.args.next)
+      c.part_base-base.ensures.value
       (c.goes_on_in.ensures.0 c.if-goes_on_in.true)));
   one = inl (refl, refl);
 }
@@ -37,7 +38,8 @@ returns-clause-beside g c =
     elim c.older.ensures.one [
       | inl this ↦ subst (λ (o : Oldest). IsPartBeside size c.args.next o.base) (sym this) c.requires.beside
       | inr that ↦ subst (λ (o : Oldest). IsPartBeside size c.args.next o.base) (sym that) (record {
-        part = subst (λ n. IsPastPart n c.part_base-base.result (c.part_base-base.result + PART_SECTORS)) c.sectors.ensures
+        part = subst (λ n. IsPastPart n c.part_base-base.result (c.part_base-base.result + PART_SECTORS))
+            c.sectors.ensures
             c.part_base-base.ensures.is;
         beside = λ goes. false≢true (sym c.if-goes_on_in.false ∙ c.goes_on_in.ensures.1 goes);
       })

@@ -41,7 +41,8 @@ older_at-requires-clause-there g c =
 
 pub older_at-requires-clause-beside : goal.older_at-requires-clause-beside
 older_at-requires-clause-beside g c =
-    subst (λ n. IsPartBeside n c.args.next c.loop-place.found.base) (sym c.loop-place.invariant.still.left.disk.device.as_large)
+    subst (λ n. IsPartBeside n c.args.next c.loop-place.found.base)
+    (sym c.loop-place.invariant.still.left.disk.device.as_large)
     c.loop-place.invariant.beside
 
 pub returns-in_err-older-clause-still : goal.returns-in_err-older-clause-still
@@ -74,7 +75,8 @@ loop-place-preserved g c =
                 let least = i.least honest n less there in let first = older.first in omega (arith, least, first)
             | inr ge ↦
                 let here : c.loop-place.place ≡ n = omega (arith, ge, low) in
-                let second = older.second (subst (λ k. ¬ GoesOnIn (part_base k) (part_base k + PART_SECTORS) c.args.next)
+                let second = older.second
+                (subst (λ k. ¬ GoesOnIn (part_base k) (part_base k + PART_SECTORS) c.args.next)
                 (sym here) there.beside) in
                 let at = ap (λ (r : Content). start_epoch r (part_base c.loop-place.place)) same
                 ∙ ap (λ k. start_epoch (now (d.trail c.args.store.now.disk)).reads (part_base k)) here in

@@ -9,32 +9,37 @@ use Rattle.desk_past.proofs.going_on.start_epoch.Goals as goal
 
 pub returns-in_err-first-clause-still : goal.returns-in_err-first-clause-still
 returns-in_err-first-clause-still g c = still_both g.D.Disk
-    (still_looked g.D.Disk c.sector_at.result (still_none g.D.Disk c.args.store.now c.requires.usable) c.sector_at.ensures.looks)
+    (still_looked g.D.Disk c.sector_at.result (still_none g.D.Disk c.args.store.now c.requires.usable)
+    c.sector_at.ensures.looks)
     c.slot_epoch.ensures.still
 
 pub returns-in_err-second-clause-still : goal.returns-in_err-second-clause-still
 returns-in_err-second-clause-still g c = still_both g.D.Disk
     (still_both g.D.Disk
-    (still_looked g.D.Disk c.sector_at.result (still_none g.D.Disk c.args.store.now c.requires.usable) c.sector_at.ensures.looks)
+    (still_looked g.D.Disk c.sector_at.result (still_none g.D.Disk c.args.store.now c.requires.usable)
+    c.sector_at.ensures.looks)
     c.slot_epoch.ensures.still) c.slot_epoch-2.ensures.still
 
 pub returns-then-has_label-clause-still : goal.returns-then-has_label-clause-still
 returns-then-has_label-clause-still g c = still_both g.D.Disk
     (still_both g.D.Disk
-    (still_looked g.D.Disk c.sector_at.result (still_none g.D.Disk c.args.store.now c.requires.usable) c.sector_at.ensures.looks)
+    (still_looked g.D.Disk c.sector_at.result (still_none g.D.Disk c.args.store.now c.requires.usable)
+    c.sector_at.ensures.looks)
     c.slot_epoch.ensures.still) c.slot_epoch-2.ensures.still
 
 pub returns-else-has_label-clause-still : goal.returns-else-has_label-clause-still
 returns-else-has_label-clause-still g c = still_both g.D.Disk
     (still_both g.D.Disk
-    (still_looked g.D.Disk c.sector_at.result (still_none g.D.Disk c.args.store.now c.requires.usable) c.sector_at.ensures.looks)
+    (still_looked g.D.Disk c.sector_at.result (still_none g.D.Disk c.args.store.now c.requires.usable)
+    c.sector_at.ensures.looks)
     c.slot_epoch.ensures.still) c.slot_epoch-2.ensures.still
 
 pub returns-then-has_label-clause-epoch : goal.returns-then-has_label-clause-epoch
 returns-then-has_label-clause-epoch g c = λ honest.
     let d = g.D.Disk in
     let quiet = c.shows_what_crashes_leave.ensures.quiet c.requires.usable honest in
-    let first = still_looked d c.sector_at.result (still_none d c.args.store.now c.requires.usable) c.sector_at.ensures.looks in
+    let first = still_looked d c.sector_at.result (still_none d c.args.store.now c.requires.usable)
+    c.sector_at.ensures.looks in
     let second = still_both d first c.slot_epoch.ensures.still in
     let reads = (now (d.trail c.args.store.now.disk)).reads in
     start_there reads c.args.base _ c.in_ok-first.first c.in_ok-second.second c.in_ok-label.label c.has_label.result
@@ -50,7 +55,8 @@ pub returns-else-has_label-clause-epoch : goal.returns-else-has_label-clause-epo
 returns-else-has_label-clause-epoch g c = λ honest.
     let d = g.D.Disk in
     let quiet = c.shows_what_crashes_leave.ensures.quiet c.requires.usable honest in
-    let first = still_looked d c.sector_at.result (still_none d c.args.store.now c.requires.usable) c.sector_at.ensures.looks in
+    let first = still_looked d c.sector_at.result (still_none d c.args.store.now c.requires.usable)
+    c.sector_at.ensures.looks in
     let second = still_both d first c.slot_epoch.ensures.still in
     let reads = (now (d.trail c.args.store.now.disk)).reads in
     start_there reads c.args.base _ c.in_ok-first.first c.in_ok-second.second c.in_ok-label.label c.has_label.result

@@ -137,7 +137,8 @@ returns-clause-begun g c = λ honest start deeds desktop keeps is can.
     ]
 
 -- the errors of a store in use
-used_here : {D T : Type 0} (d : Ghosts D) {mid new : StoreView D} (answer : Result T Error) → IsStoppedBy d answer mid new
+used_here : {D T : Type 0} (d : Ghosts D) {mid new : StoreView D} (answer : Result T Error)
+    → IsStoppedBy d answer mid new
     → CanTurn mid → FailsAs Fault OfDesktop answer (d.failures mid.disk) (d.failures new.disk)
 used_here d answer stopped can = used_fails answer stopped.faults (λ is. can.1 (stopped.worn is))
     (λ is. false≢true (sym can.0 ∙ stopped.reopen is))

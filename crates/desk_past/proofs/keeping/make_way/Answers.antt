@@ -59,7 +59,8 @@ turn_over-requires g c =
 
 pub returns-clause-any_moment : goal.returns-clause-any_moment
 returns-clause-any_moment g c = λ honest start deeds desktop keeps can.
-    c.turn_over.ensures.any_moment honest start deeds desktop keeps (can (c.can_turn.ensures.able c.if-not-can_turn.false).1)
+    c.turn_over.ensures.any_moment honest start deeds desktop keeps
+    (can (c.can_turn.ensures.able c.if-not-can_turn.false).1)
 
 pub returns-clause-none_forgotten : goal.returns-clause-none_forgotten
 returns-clause-none_forgotten g c = λ honest start deeds desktop keeps lies.
@@ -68,7 +69,8 @@ returns-clause-none_forgotten g c = λ honest start deeds desktop keeps lies.
 
 pub returns-clause-ended : goal.returns-clause-ended
 returns-clause-ended g c = on_ok_weaker c.turn_over.result (λ kept honest start deeds desktop keeps can.
-    kept honest start deeds desktop keeps (can (c.can_turn.ensures.able c.if-not-can_turn.false).1)) c.turn_over.ensures.ended
+    kept honest start deeds desktop keeps (can (c.can_turn.ensures.able c.if-not-can_turn.false).1))
+    c.turn_over.ensures.ended
 
 pub returns-clause-gone_over : goal.returns-clause-gone_over
 returns-clause-gone_over g c = on_ok_weaker c.turn_over.result (λ gone honest start deeds desktop keeps can.

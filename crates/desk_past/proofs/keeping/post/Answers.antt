@@ -19,7 +19,8 @@ returns-in_err-make_way-clause-nothing_forgotten g c = record {
       leaves_more g.D.Disk c.args.store.now c.make_way.new.store c.args.event.now
       (c.make_way.ensures.any_moment honest start deeds desktop keeps can);
   over = λ honest start deeds desktop keeps can.
-      weakened (c.make_way.ensures.none_forgotten honest start deeds desktop keeps (λ due. (can due).lies)) (λ c x. elim x [
+      weakened (c.make_way.ensures.none_forgotten honest start deeds desktop keeps (λ due. (can due).lies))
+      (λ c x. elim x [
         | inl was ↦ inl was
         | inr on ↦ inr (inr (on.0, inl on.1))
       ]);
@@ -61,7 +62,8 @@ returns-clause-nothing_forgotten g c = record {
       let d = g.D.Disk in
       let gone = c.in_ok-make_way.ensures.gone_over honest start deeds desktop keeps can in
       let second = c.make_way.ensures.device.same.still honest in
-      over_then d c.args.store.now c.make_way.new.store c.post.new.self c.args.event.now c.make_way.ensures.device.same.as_large
+      over_then d c.args.store.now c.make_way.new.store c.post.new.self c.args.event.now
+      c.make_way.ensures.device.same.as_large
       (c.make_way.ensures.none_forgotten honest start deeds desktop keeps (λ due. (can due).lies))
       (elim gone.0 [
         | inl mid ↦ inl (post_moments d mid second (c.shows_what_crashes_leave.ensures.quiet mid.usable second)
@@ -73,7 +75,8 @@ returns-clause-nothing_forgotten g c = record {
 }
 
 pub returns-clause-kept : goal.returns-clause-kept
-returns-clause-kept g c = ok_with c.post.result c.post.ensures.ok c.post.ensures.added.done (λ reply taken added. record {
+returns-clause-kept g c = ok_with c.post.result c.post.ensures.ok c.post.ensures.added.done
+    (λ reply taken added. record {
   within = λ honest start deeds desktop keeps can.
       let d = g.D.Disk in
       let mid = c.in_ok-make_way.ensures.ended honest start deeds desktop keeps can in
@@ -100,7 +103,8 @@ pub returns-in_err-make_way-clause-worn : goal.returns-in_err-make_way-clause-wo
 returns-in_err-make_way-clause-worn g c =
     let p = err_from_is_err_and c.from_residual.result c.from_residual.ensures.1 in
     worn_none g.D.Disk c.make_way.new.store c.from_residual.result c.in_err-make_way.ensures.able (λ is.
-    never c.make_way.result Worn c.make_way.ensures.device.faults.errors not_worn (cc (p.1, p.2, is, c.in_err-make_way.was)))
+    never c.make_way.result Worn c.make_way.ensures.device.faults.errors not_worn
+    (cc (p.1, p.2, is, c.in_err-make_way.was)))
 
 pub returns-in_err-make_way-clause-reopen : goal.returns-in_err-make_way-clause-reopen
 returns-in_err-make_way-clause-reopen g c =

@@ -210,7 +210,8 @@ returns-clause-any_moment g c = λ honest start deeds desktop keeps can.
     let found = c.in-Some.ensures.all start.base can.end part
     (omega (arith, behind_start d keeps, next)) (omega (arith, can.room.page, next)) in
     absurd (room_still d keeps honest quiet c.past.new.self run (c.past.ensures.looks.usable ∙ keeps.usable)
-    (can.end - LEAST_ROOM) can.room (λ mid room. c.in_ok-end_epoch.ensures.full c.if-branch.false (run.device.still honest)
+    (can.end - LEAST_ROOM) can.room (λ mid room. c.in_ok-end_epoch.ensures.full c.if-branch.false
+    (run.device.still honest)
     start deeds desktop mid (subst (λ n. HasPageRoom d (n - LEAST_ROOM) mid) (sym found.1) room)))
 
 pub returns-clause-ended : goal.returns-clause-ended
@@ -224,7 +225,8 @@ returns-clause-ended g c = on_ok_weaker c.begin_next.result (λ begun honest sta
     let found = c.in-Some.ensures.all start.base can.end part
     (omega (arith, behind_start d keeps, next)) (omega (arith, can.room.page, next)) in
     absurd (room_still d keeps honest quiet c.past.new.self run (c.past.ensures.looks.usable ∙ keeps.usable)
-    (can.end - LEAST_ROOM) can.room (λ mid room. c.in_ok-end_epoch.ensures.full c.if-branch.false (run.device.still honest)
+    (can.end - LEAST_ROOM) can.room (λ mid room. c.in_ok-end_epoch.ensures.full c.if-branch.false
+    (run.device.still honest)
     start deeds desktop mid (subst (λ n. HasPageRoom d (n - LEAST_ROOM) mid) (sym found.1) room))))
     c.begin_next.ensures.begun
 
@@ -237,7 +239,8 @@ returns-clause-none_forgotten g c = λ honest start deeds desktop keeps lies.
     let still = still_both d (still_looked d c.past.result (still_none d c.args.store.now keeps.usable)
     c.past.ensures.looks) (c.in_ok-end_epoch.ensures.still c.if-branch.false) in
     lies_still d keeps honest quiet c.end_epoch.new.store still.left.disk still.usable lies (λ mid same there.
-    forgets_behind d c.begin_next.new.store still (read_moments d keeps honest quiet c.end_epoch.new.store still.left.disk)
+    forgets_behind d c.begin_next.new.store still (read_moments d keeps honest quiet c.end_epoch.new.store
+    still.left.disk)
     (c.begin_next.ensures.none_forgotten (still.left.disk.device.still honest) start deeds desktop mid
     (same ∙ sym next) there))
 
@@ -249,7 +252,8 @@ returns-clause-gone_over g c = on_ok_weaker c.begin_next.result (λ begun honest
     (c.in_ok-told.ensures.told honest keeps.remembers.standing keeps.remembers.past.stands) in
     let still = still_both d (still_looked d c.past.result (still_none d c.args.store.now keeps.usable)
     c.past.ensures.looks) (c.in_ok-end_epoch.ensures.still c.if-branch.false) in
-    over_still d keeps honest quiet c.end_epoch.new.store still.left.disk still.usable still.left.epoch can (λ mid same over.
+    over_still d keeps honest quiet c.end_epoch.new.store still.left.disk still.usable still.left.epoch can
+    (λ mid same over.
     let behind = begun (still.left.disk.device.still honest) start deeds desktop mid (same ∙ sym next) over in
     (inr behind.0, behind.1))) c.begin_next.ensures.begun
 

@@ -33,7 +33,8 @@ returns-clause-written g c = IfOk-weaker c.write_page_at.result _ _
           let later = written.0 in
           let next = ap (λ (x : PastEnd). x.next) (c.in_ok-told.ensures.told honest s at) in omega (arith, later, next),
       λ honest start deeds desktop keeps.
-          told_still g.D.Disk keeps honest (c.shows_what_crashes_leave.ensures.quiet keeps.usable honest) c.past.new.self
+          told_still g.D.Disk keeps honest (c.shows_what_crashes_leave.ensures.quiet keeps.usable honest)
+          c.past.new.self
           c.past.ensures.looks.disk (c.past.ensures.looks.usable ∙ keeps.usable) _
           (c.in_ok-told.ensures.told honest keeps.remembers.standing keeps.remembers.past.stands)
           (written.1 (c.past.ensures.looks.disk.device.still honest) start deeds desktop),
@@ -43,7 +44,8 @@ pub returns-clause-none : goal.returns-clause-none
 returns-clause-none g c = IfOk-weaker c.write_page_at.result _ _
     (λ end fact. none_then end fact (λ still.
     read_behind g.D.Disk c.past.result c.past.ensures.looks still
-    (usable_of c.args.store.now.must_reopen c.past.ensures.looks.reopen.1 c.in_ok-told.was))) c.write_page_at.ensures.none
+    (usable_of c.args.store.now.must_reopen c.past.ensures.looks.reopen.1 c.in_ok-told.was)))
+    c.write_page_at.ensures.none
 
 pub returns-clause-full : goal.returns-clause-full
 returns-clause-full g c = IfOk-weaker c.write_page_at.result _ _

@@ -26,7 +26,8 @@ returns-in_default-end_behind-clause-any_moment g c = λ honest start deeds desk
 pub returns-in_default-end_behind-clause-none : goal.returns-in_default-end_behind-clause-none
 returns-in_default-end_behind-clause-none g c =
     let usable = usable_of c.args.store.now.must_reopen c.info.ensures.reopen c.in_ok-info.was in
-    still_left g.D.Disk (still_none g.D.Disk c.args.store.now usable) c.page_read.ensures.looks c.page_read.ensures.usable
+    still_left g.D.Disk (still_none g.D.Disk c.args.store.now usable) c.page_read.ensures.looks
+    c.page_read.ensures.usable
 
 pub returns-in_err-write_behind-clause-any_moment : goal.returns-in_err-write_behind-clause-any_moment
 returns-in_err-write_behind-clause-any_moment g c = λ honest start deeds desktop keeps told.
@@ -53,7 +54,8 @@ returns-clause-written g c = (
       let d = g.D.Disk in
       let run = c.page_read.ensures.looks.disk in
       let usable = c.page_read.ensures.usable ∙ keeps.usable in
-      let same = (rw c.in-Some.is at c.in_ok-bytes.ensures.page) honest keeps.remembers.standing keeps.remembers.past.stands in
+      let same = (rw c.in-Some.is at c.in_ok-bytes.ensures.page) honest keeps.remembers.standing
+      keeps.remembers.past.stands in
       let is = shown_as (now (d.trail c.args.store.now.disk)) keeps.remembers.standing c.standing_law.ensures
       (c.info.ensures.durable keeps.usable honest) keeps.remembers.past.stands in
       let info_is = ap (ok_of c.in_ok-info.info) (sym c.in_ok-info.was ∙ c.info.ensures.value keeps.usable) in
@@ -79,7 +81,8 @@ returns-in_default-clause-any_moment g c = λ honest start deeds desktop keeps t
 pub returns-in_default-clause-none : goal.returns-in_default-clause-none
 returns-in_default-clause-none g c =
     let usable = usable_of c.args.store.now.must_reopen c.info.ensures.reopen c.in_ok-info.was in
-    still_left g.D.Disk (still_none g.D.Disk c.args.store.now usable) c.page_read.ensures.looks c.page_read.ensures.usable
+    still_left g.D.Disk (still_none g.D.Disk c.args.store.now usable) c.page_read.ensures.looks
+    c.page_read.ensures.usable
 
 pub returns-in_err-info-clause-moments : goal.returns-in_err-info-clause-moments
 returns-in_err-info-clause-moments g c = desktop_spared g.D.Disk STORE_SECTORS 0
@@ -133,7 +136,8 @@ returns-clause-moments g c =
 
 pub returns-in_default-end_behind-clause-full : goal.returns-in_default-end_behind-clause-full
 returns-in_default-end_behind-clause-full g c = λ honest start deeds desktop keeps told room.
-    let same = (rw c.in-Some.is at c.in_ok-bytes.ensures.page) honest keeps.remembers.standing keeps.remembers.past.stands in
+    let same = (rw c.in-Some.is at c.in_ok-bytes.ensures.page) honest keeps.remembers.standing
+    keeps.remembers.past.stands in
     let is = shown_as (now (g.D.Disk.trail c.args.store.now.disk)) keeps.remembers.standing c.standing_law.ensures
     (c.info.ensures.durable keeps.usable honest) keeps.remembers.past.stands in
     let info_is = ap (ok_of c.in_ok-info.info) (sym c.in_ok-info.was ∙ c.info.ensures.value keeps.usable) in
@@ -147,7 +151,8 @@ returns-in_default-end_behind-clause-full g c = λ honest start deeds desktop ke
     c.in_default-end_behind.ensures.none
     (omega (arith, short, len))
     (omega (arith, behind_start g.D.Disk keeps, keeps.behind, next))
-    (omega (arith, ends, room.page, room.inside, next, c.min-end.ensures, c.sectors.ensures, c.page_read.ensures.looks.disk.device.as_large))
+    (omega (arith, ends, room.page, room.inside, next, c.min-end.ensures, c.sectors.ensures,
+    c.page_read.ensures.looks.disk.device.as_large))
     (omega (arith, room.few, before, count))
 
 pub returns-in_err-info-clause-device : goal.returns-in_err-info-clause-device
@@ -171,7 +176,8 @@ returns-in_err-write_behind-clause-device g c =
     let d = g.D.Disk in
     let more = c.in-Some-end_behind.ensures.later in
     let room = c.in-Some-end_behind.ensures.room in
-    uses_only d (search rules) (only_behind_read d {mid = c.page_read.new.store} c.write_behind.new.self c.page_read.ensures.looks.disk
+    uses_only d (search rules) (only_behind_read d {mid = c.page_read.new.store} c.write_behind.new.self
+    c.page_read.ensures.looks.disk
     c.shows_what_crashes_leave.ensures.quiet (λ usable. c.page_read.ensures.usable ∙ usable)
     (only_there d _ _ (λ next n there. (there.0, omega (arith, there.1, more, room, c.min-end.ensures)))
     c.write_behind.ensures.only c.shows_what_crashes_leave-2.ensures.quiet))
@@ -181,7 +187,8 @@ returns-clause-device g c =
     let d = g.D.Disk in
     let more = c.in-Some-end_behind.ensures.later in
     let room = c.in-Some-end_behind.ensures.room in
-    uses_only d (search rules) (only_behind_read d {mid = c.page_read.new.store} c.write_behind.new.self c.page_read.ensures.looks.disk
+    uses_only d (search rules) (only_behind_read d {mid = c.page_read.new.store} c.write_behind.new.self
+    c.page_read.ensures.looks.disk
     c.shows_what_crashes_leave.ensures.quiet (λ usable. c.page_read.ensures.usable ∙ usable)
     (only_there d _ _ (λ next n there. (there.0, omega (arith, there.1, more, room, c.min-end.ensures)))
     c.write_behind.ensures.only c.shows_what_crashes_leave-2.ensures.quiet))

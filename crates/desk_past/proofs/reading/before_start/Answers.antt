@@ -29,7 +29,8 @@ returns-clause-is_one g c = IfOk-weaker c.in_start.result _ _ (λ found fact hon
     fact t (c.in_ok-shown.ensures.shown honest other t at) low high) c.in_start.ensures.is_one
 
 pub returns-clause-there : goal.returns-clause-there
-returns-clause-there g c = IfOk-weaker c.in_start.result _ _ (λ found fact. if_some_always found (λ back. c.if-not-asked.false))
+returns-clause-there g c = IfOk-weaker c.in_start.result _ _
+    (λ found fact. if_some_always found (λ back. c.if-not-asked.false))
     c.in_start.ensures.is_one
 
 pub returns-clause-faults : goal.returns-clause-faults

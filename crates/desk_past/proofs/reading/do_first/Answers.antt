@@ -3,7 +3,8 @@ use Rattle.desk_past.proofs.Stepping.{led_events, led_import, led_none, led_turn
 use Rattle.desk_past.proofs.reading.do_first.Goals as goal
 
 pub returns-then-count-eq0-clause-done : goal.returns-then-count-eq0-clause-done
-returns-then-count-eq0-clause-done g c = λ p read free. (refl, led_none g.E.Disk c.args.shown.now p c.args.count c.if-count-eq0.true)
+returns-then-count-eq0-clause-done g c = λ p read free.
+    (refl, led_none g.E.Disk c.args.shown.now p c.args.count c.if-count-eq0.true)
 
 pub returns-in_ok-post_all-in-Events-clause-done : goal.returns-in_ok-post_all-in-Events-clause-done
 returns-in_ok-post_all-in-Events-clause-done g c = λ p read free. (
@@ -11,7 +12,8 @@ returns-in_ok-post_all-in-Events-clause-done g c = λ p read free. (
   led_events g.E.Disk c.args.deeds.now p c.args.count c.in-Events.events.items
       (λ version page is. (rw c.in-Events.is at is)) (λ version page is. (rw c.in-Events.is at is))
       (λ version k to is. (rw c.in-Events.is at is)) (λ version far sectors to is. (rw c.in-Events.is at is)) read
-      (c.split_at.ensures.front ∙ ap (take c.args.count) c.as_slice.ensures.value) c.in_ok-post_all-in-Events.ensures.led
+      (c.split_at.ensures.front ∙ ap (take c.args.count) c.as_slice.ensures.value)
+      c.in_ok-post_all-in-Events.ensures.led
       c.in_ok-post_all-in-Events.ensures.usable,
 )
 

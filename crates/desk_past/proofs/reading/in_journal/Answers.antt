@@ -39,7 +39,8 @@ pub returns-in_err-taken_back-clause-faults : goal.returns-in_err-taken_back-cla
 returns-in_err-taken_back-clause-faults g c =
     let p = err_from_is_err_and c.from_residual-in_err-taken_back.result c.from_residual-in_err-taken_back.ensures.1 in
     let failed : c.taken_back.result ≡ Err p.0 = cc (p.1, p.2, c.in_err-taken_back.was) in
-    calm_from c.taken_back.ensures.errors laying_of_found found_no_fault (none_failed c.in_ok-shown.ensures.faults) failed p.1
+    calm_from c.taken_back.ensures.errors laying_of_found found_no_fault (none_failed c.in_ok-shown.ensures.faults)
+    failed p.1
 
 pub returns-in_err-taken_back-clause-stops : goal.returns-in_err-taken_back-clause-stops
 returns-in_err-taken_back-clause-stops g c =

@@ -136,7 +136,8 @@ returns-clause-there g c = IfOk-weaker c.gone.result _ _ (λ found led. if_some_
     let low : start.before ≤ c.args.k = omega (arith, first, c.if-k-first.false) in (
       low,
       (some_at
-          (way_gone g.D.Disk has c.args.base is honest (c.shows_what_crashes_leave.ensures.quiet c.requires.usable honest)
+          (way_gone g.D.Disk has c.args.base is honest
+          (c.shows_what_crashes_leave.ensures.quiet c.requires.usable honest)
           c.before_pages.ensures.still c.in-Some.first c.args.k first high g.E.Disk c.way_to.ensures.still
           c.in-Some-2.way.legs.items c.in-Some-2.way.from found (rw c.in-Some-2.is at c.in_ok-way.ensures.ways)
           (λ h. led h other)) at).honest,
@@ -152,7 +153,8 @@ pub returns-in_err-first-clause-stops : goal.returns-in_err-first-clause-stops
 returns-in_err-first-clause-stops g c =
     let p = err_from_is_err_and c.from_residual.result c.from_residual.ensures.1 in
     let failed : c.before_pages.result ≡ Err p.0 = cc (p.1, p.2, c.in_err-first.was) in
-    stop_from c.before_pages.ensures.faults.errors (λ e named honest other start has is. steps_of_reads e named) failed p.1
+    stop_from c.before_pages.ensures.faults.errors (λ e named honest other start has is. steps_of_reads e named) failed
+    p.1
 
 pub returns-in_err-way-clause-faults : goal.returns-in_err-way-clause-faults
 returns-in_err-way-clause-faults g c =

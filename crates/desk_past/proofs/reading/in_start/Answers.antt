@@ -30,7 +30,8 @@ returns-in_err-told-clause-stops g c =
     stop_from c.told_in.ensures.errors (λ e named t shown. named) failed p.1
 
 pub returns-clause-stops : goal.returns-clause-stops
-returns-clause-stops g c = IfErr-weaker c.back_to.result _ _ (λ e stops t shown. stops t (c.told_in.ensures.still t shown))
+returns-clause-stops g c = IfErr-weaker c.back_to.result _ _
+    (λ e stops t shown. stops t (c.told_in.ensures.still t shown))
     c.back_to.ensures.stops
 
 pub returns-clause-errors : goal.returns-clause-errors

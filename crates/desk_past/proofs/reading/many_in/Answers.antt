@@ -29,7 +29,8 @@ returns-in_default-clause-still g c = still_both g.D.Disk c.loop-at.invariant.st
 pub returns-in_default-clause-whole : goal.returns-in_default-clause-whole
 returns-in_default-clause-whole g c = λ honest pages held good ends.
     let i = c.loop-at.invariant in
-    let reads = still_reads g.D.Disk i.still (c.shows_what_crashes_leave.ensures.quiet c.requires.usable honest) honest in
+    let reads = still_reads g.D.Disk i.still (c.shows_what_crashes_leave.ensures.quiet c.requires.usable honest)
+    honest in
     let next = one_there (i.counted honest pages held good ends) c.loop-at-test.true in
     absurd ((rw c.in_default.is at c.in_ok-page.ensures.found) (i.still.left.disk.device.still honest) next.0
     (subst (λ r. HasPage r c.loop-at.at c.args.end next.0) (sym reads) next.1))
@@ -40,7 +41,8 @@ returns-in_default-checked_add-clause-still g c = still_both g.D.Disk c.loop-at.
 pub returns-in_default-checked_add-clause-whole : goal.returns-in_default-checked_add-clause-whole
 returns-in_default-checked_add-clause-whole g c = λ honest pages held good ends.
     let i = c.loop-at.invariant in
-    let reads = still_reads g.D.Disk i.still (c.shows_what_crashes_leave.ensures.quiet c.requires.usable honest) honest in
+    let reads = still_reads g.D.Disk i.still (c.shows_what_crashes_leave.ensures.quiet c.requires.usable honest)
+    honest in
     front_many (i.counted honest pages held good ends) c.loop-at-test.true c.in-Some.page.kind c.in-Some.page.next
     (λ p page. (rw c.in-Some.is at c.in_ok-page.ensures.found) (i.still.left.disk.device.still honest) p
     (subst (λ r. HasPage r c.loop-at.at c.args.end p) (sym reads) page))
@@ -55,7 +57,8 @@ loop-at-preserved g c =
       counted = λ honest pages held good ends.
           let reads = still_reads g.D.Disk i.still (c.shows_what_crashes_leave.ensures.quiet c.requires.usable honest)
           honest in
-          front_counted (i.counted honest pages held good ends) c.loop-at-test.true c.in-Some.page.kind c.in-Some.page.next _
+          front_counted (i.counted honest pages held good ends) c.loop-at-test.true c.in-Some.page.kind
+          c.in-Some.page.next _
           (λ p page. (rw c.in-Some.is at c.in_ok-page.ensures.found) (i.still.left.disk.device.still honest) p
           (subst (λ r. HasPage r c.loop-at.at c.args.end p) (sym reads) page))
           (omega (arith, c.count.ensures, rw c.in-Some-checked_add.is at c.checked_add.ensures));

@@ -52,13 +52,15 @@ pub returns-then-k-told-clause-still : goal.returns-then-k-told-clause-still
 returns-then-k-told-clause-still g c =
     let usable : c.args.store.now.must_reopen ≡ false = search rules in
     whatever c.in_journal.result (still_both g.D.Disk
-    (still_looked g.D.Disk c.past.result (still_none g.D.Disk c.args.store.now usable) c.past.ensures.looks) c.in_journal.ensures.still)
+    (still_looked g.D.Disk c.past.result (still_none g.D.Disk c.args.store.now usable) c.past.ensures.looks)
+    c.in_journal.ensures.still)
 
 pub returns-clause-still : goal.returns-clause-still
 returns-clause-still g c =
     let usable : c.args.store.now.must_reopen ≡ false = search rules in
     whatever c.in_pages.result (still_both g.D.Disk
-    (still_looked g.D.Disk c.past.result (still_none g.D.Disk c.args.store.now usable) c.past.ensures.looks) c.in_pages.ensures.still)
+    (still_looked g.D.Disk c.past.result (still_none g.D.Disk c.args.store.now usable) c.past.ensures.looks)
+    c.in_pages.ensures.still)
 
 pub returns-then-k-told-clause-there : goal.returns-then-k-told-clause-there
 returns-then-k-told-clause-there g c = IfOk-weaker c.in_journal.result _ _ (λ found fact. if_some_then found fact
@@ -84,7 +86,8 @@ returns-clause-there g c = IfOk-weaker c.in_pages.result _ _ (λ found fact. if_
     let told = ap (λ p. p.before) head in
     let has = holds_told r _ head still.left.disk.device.as_large
     (subst (λ x. HoldsPages x start r.pages) (sym reads) r.past.written) in
-    let some = fact (still.left.disk.device.still honest) tt refl start r.pages has is (omega (arith, c.if-k-told.false)) in
+    let some = fact (still.left.disk.device.still honest) tt refl start r.pages has is
+    (omega (arith, c.if-k-told.false)) in
     moment_of_pages r c.args.k some.0 (omega (arith, told, c.if-k-told.false)))) c.in_pages.ensures.there
 
 pub returns-in_err-told-clause-left : goal.returns-in_err-told-clause-left
@@ -97,13 +100,15 @@ pub returns-then-k-told-clause-left : goal.returns-then-k-told-clause-left
 returns-then-k-told-clause-left g c =
     let usable : c.args.store.now.must_reopen ≡ false = search rules in
     (still_both g.D.Disk
-    (still_looked g.D.Disk c.past.result (still_none g.D.Disk c.args.store.now usable) c.past.ensures.looks) c.in_journal.ensures.still).left
+    (still_looked g.D.Disk c.past.result (still_none g.D.Disk c.args.store.now usable) c.past.ensures.looks)
+    c.in_journal.ensures.still).left
 
 pub returns-clause-left : goal.returns-clause-left
 returns-clause-left g c =
     let usable : c.args.store.now.must_reopen ≡ false = search rules in
     (still_both g.D.Disk
-    (still_looked g.D.Disk c.past.result (still_none g.D.Disk c.args.store.now usable) c.past.ensures.looks) c.in_pages.ensures.still).left
+    (still_looked g.D.Disk c.past.result (still_none g.D.Disk c.args.store.now usable) c.past.ensures.looks)
+    c.in_pages.ensures.still).left
 
 pub returns-then-k-told-clause-usable : goal.returns-then-k-told-clause-usable
 returns-then-k-told-clause-usable g c =
@@ -130,7 +135,8 @@ returns-then-k-told-clause-faults g c =
     failing_on c.in_journal.ensures.faults moment_of_laying (none_failed c.in_ok-told.ensures.looks.faults)
 
 pub returns-clause-faults : goal.returns-clause-faults
-returns-clause-faults g c = failing_on c.in_pages.ensures.faults moment_of_laying (none_failed c.in_ok-told.ensures.looks.faults)
+returns-clause-faults g c = failing_on c.in_pages.ensures.faults moment_of_laying
+    (none_failed c.in_ok-told.ensures.looks.faults)
 
 pub returns-in_err-disk-clause-open : goal.returns-in_err-disk-clause-open
 returns-in_err-disk-clause-open g c =

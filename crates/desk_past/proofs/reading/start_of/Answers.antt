@@ -25,13 +25,16 @@ returns-in_err-shown-clause-open g c =
 
 pub returns-in_err-many_before-clause-faults : goal.returns-in_err-many_before-clause-faults
 returns-in_err-many_before-clause-faults g c =
-    let p = err_from_is_err_and c.from_residual-in_err-many_before.result c.from_residual-in_err-many_before.ensures.1 in
+    let p = err_from_is_err_and c.from_residual-in_err-many_before.result
+    c.from_residual-in_err-many_before.ensures.1 in
     let failed : c.many_before.result ≡ Err p.0 = cc (p.1, p.2, c.in_err-many_before.was) in
-    calm_from c.many_before.ensures.errors moment_of_doing doing_no_fault (none_failed c.in_ok-shown.ensures.faults) failed p.1
+    calm_from c.many_before.ensures.errors moment_of_doing doing_no_fault (none_failed c.in_ok-shown.ensures.faults)
+    failed p.1
 
 pub returns-in_err-many_before-clause-open : goal.returns-in_err-many_before-clause-open
 returns-in_err-many_before-clause-open g c =
-    let p = err_from_is_err_and c.from_residual-in_err-many_before.result c.from_residual-in_err-many_before.ensures.1 in
+    let p = err_from_is_err_and c.from_residual-in_err-many_before.result
+    c.from_residual-in_err-many_before.ensures.1 in
     let failed : c.many_before.result ≡ Err p.0 = cc (p.1, p.2, c.in_err-many_before.was) in
     λ is. absurd (laying_no_reopen p.0 (laying_of_doing p.0 (IfErr-at_err OfDoing failed c.many_before.ensures.errors))
     (cc (p.1, is)))

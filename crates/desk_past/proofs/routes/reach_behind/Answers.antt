@@ -5,11 +5,13 @@ use Rattle.desk_past.proofs.Legs.{passed_events, passed_far, passed_import, pass
 use Rattle.desk_past.proofs.routes.reach_behind.Goals as goal
 
 pub returns-in-Events : goal.returns-in-Events
-returns-in-Events c = λ p is. passed_events _ c.args.page.next c.args.left p c.args.here c.args.reach.leg c.args.reach.from
+returns-in-Events c = λ p is. passed_events _ c.args.page.next c.args.left p c.args.here c.args.reach.leg
+    c.args.reach.from
     (subst (λ kind. IsKindOf kind p) c.in-Events.is is)
 
 pub returns-in-Import : goal.returns-in-Import
-returns-in-Import c = λ p is. passed_import c.args.page.next c.args.left p c.args.here c.args.reach.leg c.args.reach.from
+returns-in-Import c = λ p is. passed_import c.args.page.next c.args.left p c.args.here c.args.reach.leg
+    c.args.reach.from
     (subst (λ kind. IsKindOf kind p) c.in-Import.is is)
 
 pub returns-in-Turn : goal.returns-in-Turn

@@ -57,7 +57,8 @@ loop-from-preserved g c =
     record {
       still = still_both g.D.Disk i.still c.reach_of.ensures.still;
       calm = none_failed c.in_ok-reach.ensures.faults ∙ i.calm;
-      within = still_within c.in-Some.reach.from c.args.before within.1 (c.leads_back.ensures.0 c.if-not-leads_back.false);
+      within = still_within c.in-Some.reach.from c.args.before within.1
+          (c.leads_back.ensures.0 c.if-not-leads_back.false);
       way = λ honest start pages same held good turns ends room.
           let reads = still_reads g.D.Disk i.still (c.shows_what_crashes_leave.ensures.quiet c.requires.usable honest)
           honest in

@@ -65,7 +65,8 @@ returns-in_default-2-clause-none g c = λ past lies there.
     let found = part_found d past lies (c.sectors.ensures ∙ c.past.ensures.looks.disk.device.as_large) told
     c.in-Some.ensures.all in
     let later = past_behind d still c.shows_what_crashes_leave.ensures.quiet past in
-    absurd ((rw c.in_default-2.is at c.in_ok-shown.ensures.comes_back) later.honest later.start later.deeds later.desktop
+    absurd ((rw c.in_default-2.is at c.in_ok-shown.ensures.comes_back) later.honest later.start later.deeds
+    later.desktop
     later.keeps (sym found.0) there)
 
 -- ---- this is what the desktop was

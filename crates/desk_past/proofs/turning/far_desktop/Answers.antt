@@ -14,7 +14,8 @@ returns-clause-was g c = record {
       lies).is_one there;
   over_parts = λ past lies spans are was there.
       c.in_ok-to.ensures.same.0
-      ∙ (rw c.in-Some.is at c.in_ok-shown.ensures.over_parts) past.honest past.start past.deeds past.desktop was past.keeps
+      ∙ (rw c.in-Some.is at c.in_ok-shown.ensures.over_parts) past.honest past.start past.deeds past.desktop was
+      past.keeps
       spans are there;
 }
 
@@ -26,9 +27,11 @@ pub returns-in_default-clause-none : goal.returns-in_default-clause-none
 returns-in_default-clause-none g c = λ can.
     let past = can.past in
     elim can.there [
-      | inl at ↦ ((rw c.in_default.is at c.in_ok-shown.ensures.comes_back) past.honest past.start past.deeds past.desktop
+      | inl at ↦ ((rw c.in_default.is at c.in_ok-shown.ensures.comes_back) past.honest past.start past.deeds
+          past.desktop
           past.keeps can.lies).is_one at.there
-      | inr over ↦ (rw c.in_default.is at c.in_ok-shown.ensures.over_parts) past.honest past.start past.deeds past.desktop
+      | inr over ↦ (rw c.in_default.is at c.in_ok-shown.ensures.over_parts) past.honest past.start past.deeds
+          past.desktop
           can.to past.keeps over.0 over.1 over.2
     ]
 

@@ -11,7 +11,8 @@ use Rattle.desk_past.proofs.turning.turn.Goals as goal
 
 pub returns-in_err-to-clause-any_moment : goal.returns-in_err-to-clause-any_moment
 returns-in_err-to-clause-any_moment g c =
-    none_back g.D.Disk c.desktop_at.new.store c.shows_what_crashes_leave.ensures.quiet c.desktop_at.ensures.left.disk c.args.k
+    none_back g.D.Disk c.desktop_at.new.store c.shows_what_crashes_leave.ensures.quiet c.desktop_at.ensures.left.disk
+    c.args.k
 
 pub returns-in_err-to-clause-any_store : goal.returns-in_err-to-clause-any_store
 returns-in_err-to-clause-any_store g c = (
@@ -25,7 +26,8 @@ returns-in_err-to-clause-left g c = err_then c.from_residual.result (λ _. c.des
 
 pub returns-in_default-clause-any_moment : goal.returns-in_default-clause-any_moment
 returns-in_default-clause-any_moment g c =
-    none_back g.D.Disk c.desktop_at.new.store c.shows_what_crashes_leave.ensures.quiet c.desktop_at.ensures.left.disk c.args.k
+    none_back g.D.Disk c.desktop_at.new.store c.shows_what_crashes_leave.ensures.quiet c.desktop_at.ensures.left.disk
+    c.args.k
 
 pub returns-in_default-clause-any_store : goal.returns-in_default-clause-any_store
 returns-in_default-clause-any_store g c = (

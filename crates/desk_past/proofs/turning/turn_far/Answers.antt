@@ -99,5 +99,6 @@ returns-clause-device g c = record {
       c.turn_with.ensures.device.faults;
   others = only_behind_read g.D.Disk c.turn_with.new.store c.far_desktop.ensures.left.disk
       c.shows_what_crashes_leave.ensures.quiet (λ _. c.in_ok-to.ensures.still.usable)
-      (only_as_large g.D.Disk c.args.store.now c.far_desktop.ensures.left.disk.device c.turn_with.ensures.device.others);
+      (only_as_large g.D.Disk c.args.store.now c.far_desktop.ensures.left.disk.device
+      c.turn_with.ensures.device.others);
 }

@@ -128,7 +128,8 @@ returns-in_err-turn_behind-clause-device g c =
       same = same_both g.D.Disk c.turn_ahead.ensures.still.left.disk.device c.turn_behind.ensures.behaves.device;
       faults = fault_on c.turn_ahead.result _ c.turn_behind.result c.in_ok-ahead.was c.turn_ahead.ensures.faults
           c.turn_behind.ensures.behaves.faults (c.in_err-turn_behind.was ∙ ap Err fault) (cc (p.1, p.2, fault));
-      others = only_behind_reads g.D.Disk c.turn_ahead.new.store c.turn_behind.new.self c.in-Some.ahead.from c.in-Some.ahead.limit
+      others = only_behind_reads g.D.Disk c.turn_ahead.new.store c.turn_behind.new.self c.in-Some.ahead.from
+          c.in-Some.ahead.limit
           c.turn_ahead.ensures.still.left.disk c.shows_what_crashes_leave.ensures.quiet
           (λ _. c.turn_ahead.ensures.still.usable) (rw c.in-Some.is at c.in_ok-ahead.ensures.inside)
           c.turn_behind.ensures.behaves.within;

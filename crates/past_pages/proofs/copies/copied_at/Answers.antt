@@ -50,13 +50,15 @@ returns-clause-found g c = λ honest to has.
     let read = c.as_slice.ensures.value ∙ c.in_ok-first.ensures.bytes honest in
     let still = c.bytes_at.ensures.still in
     let same = still_reads d still (c.shows_what_crashes_leave.ensures.quiet c.requires.usable honest) honest in
-    let are = sectors_are at c.args.at p has.page.held has.page.good _ _ c.split_at.ensures.front read c.in-Some.front.spelled
+    let are = sectors_are at c.args.at p has.page.held has.page.good _ _ c.split_at.ensures.front read
+    c.in-Some.front.spelled
     c.in-Some-sectors_for.sectors c.in-Some.ensures.spelled c.in-Some-sectors_for.ensures.count in (
       count_is at c.args.at p has.page.held has.page.good _ _ c.split_at.ensures.front read c.in-Some.front.count
           c.in-Some.ensures.count,
       (
         drop (length (page_bytes p)) (stored at c.args.at (SECTOR_BYTES * c.in-Some-sectors_for.sectors)),
-        spelled_there at c.args.at p has.page.held has.page.good c.in_ok-bytes.bytes.items (drop 16 c.in_ok-bytes.bytes.items)
+        spelled_there at c.args.at p has.page.held has.page.good c.in_ok-bytes.bytes.items
+        (drop 16 c.in_ok-bytes.bytes.items)
             c.in-Some-sectors_for.sectors are
             (c.in_ok-bytes.ensures.bytes (still.left.disk.device.still honest)
             ∙ ap (λ r. stored r c.args.at (SECTOR_BYTES * c.in-Some-sectors_for.sectors)) same) refl,

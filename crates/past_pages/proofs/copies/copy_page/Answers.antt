@@ -26,6 +26,7 @@ returns c = made c.page_of.result c.page_of.ensures.bytes c.page_of.ensures.few 
         newest = refl;
         few = omega (arith, few, cut, long);
         short = omega (arith, few, cut);
-        valid = copy_shows (now (trail_of c.in_ok-disk.disk.calls)).reads has.sectors has.are has.same c.in_ok-disk.ensures.means;
+        valid = copy_shows (now (trail_of c.in_ok-disk.disk.calls)).reads has.sectors has.are has.same
+            c.in_ok-disk.ensures.means;
       };
     })

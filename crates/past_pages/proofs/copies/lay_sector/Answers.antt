@@ -19,7 +19,8 @@ copy_from_slice-requires g c =
 pub returns-in-Ok-clause-laid : goal.returns-in-Ok-clause-laid
 returns-in-Ok-clause-laid g c = λ honest sector sectors rest low long is.
     let bytes = c.args.bytes.now in
-    let place = place_is bytes sector rest c.split_at.result.0.now c.split_at.result.1.now low is c.split_at.ensures.front
+    let place = place_is bytes sector rest c.split_at.result.0.now c.split_at.result.1.now low is
+    c.split_at.ensures.front
     c.split_at.ensures.back c.number_in-n.result c.number_in-n.ensures in
     let held : c.copy_from_slice.new.self ≡ sector.1 = c.copy_from_slice.ensures.after
     ∙ ap (take 1024) (back_is bytes sector rest c.split_at.result.0.now c.split_at.result.1.now low is

@@ -9,7 +9,8 @@ returns-in-Ok g c = λ to shown.
     record {
       usable = opened.usable;
       honest = c.in-Ok.ensures.untouched.still shown.honest;
-      desktop = (c.finding_law.ensures (g.E.Disk.size c.args.disk) (now (g.E.Disk.trail c.args.disk)).reads).one_desktop _ _
+      desktop = (c.finding_law.ensures (g.E.Disk.size c.args.disk) (now (g.E.Disk.trail c.args.disk)).reads).one_desktop
+          _ _
           (found.standing, found.stands, found.is) shown.means;
     }
 

@@ -10,14 +10,16 @@ use Rattle.past_pages.proofs.laying.lay_slot.Goals as goal
 pub returns-in_err-lay_some-clause-still : goal.returns-in_err-lay_some-clause-still
 returns-in_err-lay_some-clause-still g c =
     still_both g.D.Disk
-    (still_looked g.D.Disk c.sector_at.result (still_none g.D.Disk c.args.store.now c.requires.usable) c.sector_at.ensures.looks)
+    (still_looked g.D.Disk c.sector_at.result (still_none g.D.Disk c.args.store.now c.requires.usable)
+    c.sector_at.ensures.looks)
     c.lay_some.ensures.still
 
 pub returns-clause-still : goal.returns-clause-still
 returns-clause-still g c =
     still_both g.D.Disk
     (still_both g.D.Disk
-    (still_looked g.D.Disk c.sector_at.result (still_none g.D.Disk c.args.store.now c.requires.usable) c.sector_at.ensures.looks)
+    (still_looked g.D.Disk c.sector_at.result (still_none g.D.Disk c.args.store.now c.requires.usable)
+    c.sector_at.ensures.looks)
     c.lay_some.ensures.still) c.lay_some-2.ensures.still
 
 pub returns-clause-laid : goal.returns-clause-laid

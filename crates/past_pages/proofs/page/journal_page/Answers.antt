@@ -12,7 +12,8 @@ returns-clause-page g c = λ honest s at. elim (true_or_false c.args.store.now.m
   | inl closed ↦ absurd (let wrong : ⊥ = cc (c.info.ensures.reopen closed, c.in_ok-info.was) in wrong)
   | inr usable ↦
       let d = g.D.Disk in
-      let is = shown_as (now (d.trail c.args.store.now.disk)) s c.standing_law.ensures (c.info.ensures.durable usable honest) at in
+      let is = shown_as (now (d.trail c.args.store.now.disk)) s c.standing_law.ensures
+      (c.info.ensures.durable usable honest) at in
       let info_is = ap (ok_of c.in_ok-info.info) (sym c.in_ok-info.was ∙ c.info.ensures.value usable) in
       let spelled = c.as_slice.ensures.value ∙ c.in_ok-events.ensures.bytes honest s at in
       c.in_ok-page_of.ensures.bytes
@@ -22,5 +23,6 @@ returns-clause-page g c = λ honest s at. elim (true_or_false c.args.store.now.m
 ]
 
 pub returns-clause-short : goal.returns-clause-short
-returns-clause-short g c = page_short (number EVENTS_PAGE) (number _) (number _) (number _) _ _ (search rules) (search rules)
+returns-clause-short g c = page_short (number EVENTS_PAGE) (number _) (number _) (number _) _ _ (search rules)
+    (search rules)
     (search rules) (search rules) c.in_ok-page_of.ensures.few c.in_ok-page_of.ensures.bytes

@@ -4,7 +4,8 @@ use Rattle.past_pages.proofs.pages.front_in.Goals as goal
 
 pub returns-then-is_err-clause-looks : goal.returns-then-is_err-clause-looks
 returns-then-is_err-clause-looks g c = looks_closed g.D.Disk c.args.store.now
-    (closed_of c.args.store.now.must_reopen c.info.result c.info.ensures.value (sym c.is_err.ensures.value ∙ c.if-is_err.true))
+    (closed_of c.args.store.now.must_reopen c.info.result c.info.ensures.value
+    (sym c.is_err.ensures.value ∙ c.if-is_err.true))
 
 pub returns-then-end-sectors-clause-looks : goal.returns-then-end-sectors-clause-looks
 returns-then-end-sectors-clause-looks g c =

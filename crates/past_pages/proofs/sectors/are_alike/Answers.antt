@@ -8,7 +8,8 @@ use Rattle.past_pages.proofs.sectors.are_alike.Goals as goal
 pub returns-in_err-copy-clause-still : goal.returns-in_err-copy-clause-still
 returns-in_err-copy-clause-still g c =
     still_looked g.D.Disk c.sector_at-2.result
-    (still_looked g.D.Disk c.sector_at.result (still_none g.D.Disk c.args.store.now c.requires.usable) c.sector_at.ensures.looks)
+    (still_looked g.D.Disk c.sector_at.result (still_none g.D.Disk c.args.store.now c.requires.usable)
+    c.sector_at.ensures.looks)
     c.sector_at-2.ensures.looks
 
 pub returns-clause-same : goal.returns-clause-same
@@ -24,7 +25,8 @@ returns-clause-same g c = λ is honest.
 pub returns-clause-still : goal.returns-clause-still
 returns-clause-still g c =
     still_looked g.D.Disk c.sector_at-2.result
-    (still_looked g.D.Disk c.sector_at.result (still_none g.D.Disk c.args.store.now c.requires.usable) c.sector_at.ensures.looks)
+    (still_looked g.D.Disk c.sector_at.result (still_none g.D.Disk c.args.store.now c.requires.usable)
+    c.sector_at.ensures.looks)
     c.sector_at-2.ensures.looks
 
 pub returns-clause-all : goal.returns-clause-all

@@ -35,7 +35,8 @@ loop-n-preserved g c =
       blank = λ honest n high low. elim (cases_lt n c.loop-n.n) [
         | inl less ↦ i.blank honest n high less
         | inr ge ↦
-            let same = still_reads d i.still (c.shows_what_crashes_leave.ensures.quiet c.requires.usable honest) honest in
+            let same = still_reads d i.still (c.shows_what_crashes_leave.ensures.quiet c.requires.usable honest)
+            honest in
             let reads = (now (d.trail c.args.store.now.disk)).reads in
             subst (λ (k : ℕ). IsBlank (reads k)) (omega (arith, low, ge))
             (λ j less. ap (λ (l : List ℕ). get_or l j 0)

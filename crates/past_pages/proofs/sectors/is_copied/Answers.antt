@@ -30,7 +30,8 @@ loop-k-preserved g c =
       same = λ honest k high low. elim (cases_lt k c.loop-k.k) [
         | inl less ↦ i.same honest k high less
         | inr ge ↦
-            let same = still_reads d i.still (c.shows_what_crashes_leave.ensures.quiet c.requires.usable honest) honest in
+            let same = still_reads d i.still (c.shows_what_crashes_leave.ensures.quiet c.requires.usable honest)
+            honest in
             let reads = (now (d.trail c.args.store.now.disk)).reads in
             subst (λ j. reads (c.args.base + j) ≡ reads j) (omega (arith, low, ge))
             (ap (λ r. r (c.args.base + c.loop-k.k)) (sym same)
@@ -46,4 +47,5 @@ returns-then-not-branch-clause-all g c = λ honest copied.
     let same = still_reads d i.still (c.shows_what_crashes_leave.ensures.quiet c.requires.usable honest) honest in
     let alike = subst (λ (r : Content). HoldsSame (r (c.args.base + c.loop-k.k)) (r c.loop-k.k)) (sym same)
     (copied c.loop-k.k (c.loop-k.invariant.low, omega (arith, c.loop-k-test.true))) in
-    absurd (false≢true (sym c.if-not-branch.true ∙ c.in_ok-are_alike.ensures.all (i.still.left.disk.device.still honest) alike))
+    absurd (false≢true (sym c.if-not-branch.true ∙ c.in_ok-are_alike.ensures.all (i.still.left.disk.device.still honest)
+    alike))

@@ -42,11 +42,13 @@ returns-clause-comes_back g c = IfOk-weaker c.any_moment.result _ _
 
 pub returns-in_default-clause-over_parts : goal.returns-in_default-clause-over_parts
 returns-in_default-clause-over_parts g c = λ past lies spans are few was there low.
-    absurd ((rw c.in_default.is at c.in_ok-reach.ensures.told) past.honest past.start past.deeds past.desktop past.keeps lies)
+    absurd ((rw c.in_default.is at c.in_ok-reach.ensures.told) past.honest past.start past.deeds past.desktop past.keeps
+    lies)
 
 pub returns-then-count-now-clause-over_parts : goal.returns-then-count-now-clause-over_parts
 returns-then-count-now-clause-over_parts g c = λ past lies spans are few was there low.
-    let told = (rw c.in-Some.is at c.in_ok-reach.ensures.told) past.honest past.start past.deeds past.desktop past.keeps lies in
+    let told = (rw c.in-Some.is at c.in_ok-reach.ensures.told) past.honest past.start past.deeds past.desktop past.keeps
+    lies in
     let up = deeds_up_to past.keeps.remembers in
     let all = c.now-now.ensures.sum (omega (arith, told.before, told.journal, up, few)) in
     absurd (omega (arith, all, told.before, told.journal, up, low, c.if-count-now.true))
@@ -54,7 +56,8 @@ returns-then-count-now-clause-over_parts g c = λ past lies spans are few was th
 pub returns-clause-over_parts : goal.returns-clause-over_parts
 returns-clause-over_parts g c = IfOk-weaker c.any_moment.result _ _ (λ found fact past lies spans are few was there low.
     let d = g.D.Disk in
-    let told = (rw c.in-Some.is at c.in_ok-reach.ensures.told) past.honest past.start past.deeds past.desktop past.keeps lies in
+    let told = (rw c.in-Some.is at c.in_ok-reach.ensures.told) past.honest past.start past.deeds past.desktop past.keeps
+    lies in
     let up = deeds_up_to past.keeps.remembers in
     let all = c.now-now.ensures.sum (omega (arith, told.before, told.journal, up, few)) in
     let k : past.start.before + length past.deeds - c.args.count ≡ c.now-now.result - c.args.count =
@@ -63,11 +66,13 @@ returns-clause-over_parts g c = IfOk-weaker c.any_moment.result _ _ (λ found fa
     let quiet = c.shows_what_crashes_leave.ensures.quiet past.keeps.usable past.honest in
     spans_still d past.keeps past.honest quiet c.reach_of.new.store still.left.disk still.usable spans are
     (c.now-now.result - c.args.count) was (subst (λ n. WasInSpans d past.keeps spans are n was) k there)
-    (λ after are' there'. fact (still.left.disk.device.still past.honest) past.start past.deeds past.desktop was after spans are'
+    (λ after are' there'. fact (still.left.disk.device.still past.honest) past.start past.deeds past.desktop was after
+    spans are'
     there')) c.any_moment.ensures.over_parts
 
 pub returns-clause-still : goal.returns-clause-still
-returns-clause-still g c = on_ok_weaker c.any_moment.result (λ still. still_both g.D.Disk c.in_ok-reach.ensures.still still)
+returns-clause-still g c = on_ok_weaker c.any_moment.result
+    (λ still. still_both g.D.Disk c.in_ok-reach.ensures.still still)
     c.any_moment.ensures.still
 
 pub returns-clause-there : goal.returns-clause-there
@@ -105,7 +110,8 @@ returns-clause-stops g c =
     let few = known.3 in
     let all = c.now-now.ensures.sum (omega (arith, told.before, told.journal, up, few)) in
     let quiet = c.shows_what_crashes_leave.ensures.quiet past.keeps.usable past.honest in
-    lies_still d past.keeps past.honest quiet c.reach_of.new.store still.left.disk still.usable known.1 (λ after same there. (
+    lies_still d past.keeps past.honest quiet c.reach_of.new.store still.left.disk still.usable known.1
+    (λ after same there. (
       record {
         start = past.start;
         deeds = past.deeds;

@@ -24,14 +24,16 @@ returns-in_default-clause-stops g c =
     let d = g.D.Disk in
     stops_missing d (none_failed c.in_ok-shown.ensures.looks.faults) (λ h.
     (rw c.in_default.is at c.in_ok-shown.ensures.found) h.honest h.to
-    (subst (λ n. HasCopy (now (d.trail c.args.store.now.disk)).reads c.args.at n h.to) (sym c.sectors-end.ensures) h.there)
+    (subst (λ n. HasCopy (now (d.trail c.args.store.now.disk)).reads c.args.at n h.to) (sym c.sectors-end.ensures)
+    h.there)
     (omega (arith, c.sectors-end.ensures)))
 
 pub returns-clause-told : goal.returns-clause-told
 returns-clause-told g c = λ h start deeds here.
     let d = g.D.Disk in
     desktop_told ((rw c.in-Some.is at c.in_ok-shown.ensures.found) h.honest h.to
-    (subst (λ n. HasCopy (now (d.trail c.args.store.now.disk)).reads c.args.at n h.to) (sym c.sectors-end.ensures) h.there)
+    (subst (λ n. HasCopy (now (d.trail c.args.store.now.disk)).reads c.args.at n h.to) (sym c.sectors-end.ensures)
+    h.there)
     (omega (arith, c.sectors-end.ensures))) refl c.in_ok-push_turn.ensures
 
 pub returns-clause-stops : goal.returns-clause-stops

@@ -32,8 +32,10 @@ loop-at-preserved g c =
           let was = i.told h shows in
           let left = page_left was c.loop-at-test.true in
           let same = still_reads d i.still (quiet h.past.keeps.usable h.past.honest) h.past.honest in
-          let read = (rw c.in-Some.is at c.in_ok-page.ensures.found) (i.still.left.disk.device.still h.past.honest) left.0
-          (subst (λ r. HasPage r c.loop-at.at c.args.reach.next left.0) (sym same) (page_there was left.0 left.1 left.2))
+          let read = (rw c.in-Some.is at c.in_ok-page.ensures.found) (i.still.left.disk.device.still h.past.honest)
+          left.0
+          (subst (λ r. HasPage r c.loop-at.at c.args.reach.next left.0) (sym same)
+          (page_there was left.0 left.1 left.2))
           (let room = its_room d h in omega (arith, room, i.still.left.disk.device.as_large)) in
           page_told was left.0 left.1 left.2
           (c.in_ok-next.ensures.told (at_page d there quiet h was c.in-Some.page.deeds left.0 left.1 left.2 read.0))

@@ -14,7 +14,8 @@ returns-in_err-events-clause-stops g c =
     let p = err_from_is_err_and c.from_residual.result c.from_residual.ensures.1 in
     let failed : c.history.result ≡ Err p.0 = cc (p.2, c.in_err-events.was) in
     stops_first g.D.Disk
-    (history_stops g.D.Disk c.history.result c.history.ensures.faults c.history.ensures.reopen.only c.history.ensures.stops)
+    (history_stops g.D.Disk c.history.result c.history.ensures.faults c.history.ensures.reopen.only
+    c.history.ensures.stops)
     (λ known. known) failed p.1
 
 pub returns-clause-told : goal.returns-clause-told

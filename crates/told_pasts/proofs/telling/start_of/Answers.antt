@@ -21,7 +21,8 @@ returns-in_err-count-clause-stops g c =
 pub returns-then-count-before-clause-is : goal.returns-then-count-before-clause-is
 returns-then-count-before-clause-is g c = λ h before.
     let some = its_count g.D.Disk h c.args.before before c.ranges.before.fits in
-    let count = c.in_ok-count.ensures.whole some.honest some.pages some.written some.good some.up_to some.room some.few in
+    let count = c.in_ok-count.ensures.whole some.honest some.pages some.written some.good some.up_to some.room
+    some.few in
     let counted = h.past.keeps.remembers.past.counted in
     let told = h.numbers.before in
     absurd (omega (arith, count, counted, told, before, c.if-count-before.true))
@@ -35,7 +36,8 @@ returns-clause-is g c = IfOk-weaker c.moment.result _ _
     let d = g.D.Disk in
     let past = h.past in
     let some = its_count d h c.args.before before c.ranges.before.fits in
-    let count = c.in_ok-count.ensures.whole some.honest some.pages some.written some.good some.up_to some.room some.few in
+    let count = c.in_ok-count.ensures.whole some.honest some.pages some.written some.good some.up_to some.room
+    some.few in
     let counted = past.keeps.remembers.past.counted in
     let told = h.numbers.before in
     let k : c.args.before - c.in_ok-count.count ≡ past.start.before = omega (arith, count, counted, told, before) in

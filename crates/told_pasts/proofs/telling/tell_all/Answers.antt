@@ -19,7 +19,8 @@ returns-in_err-add_pages-clause-stops g c =
 
 pub returns-in_err-turn_if_due-clause-stops : goal.returns-in_err-turn_if_due-clause-stops
 returns-in_err-turn_if_due-clause-stops g c =
-    let p = err_from_is_err_and c.from_residual-in_err-turn_if_due.result c.from_residual-in_err-turn_if_due.ensures.1 in
+    let p = err_from_is_err_and c.from_residual-in_err-turn_if_due.result
+    c.from_residual-in_err-turn_if_due.ensures.1 in
     let failed : c.turn_if_due.result ≡ Err p.0 = cc (p.2, c.in_err-turn_if_due.was) in
     let one = c.in_ok-add_pages.ensures.still in
     stops_later g.D.Disk one.usable (none_failed c.in_ok-add_pages.ensures.stops.faults) c.turn_if_due.ensures.stops
@@ -32,7 +33,8 @@ returns-in_err-turn_if_due-clause-stops g c =
 
 pub returns-in_err-add_journal-clause-stops : goal.returns-in_err-add_journal-clause-stops
 returns-in_err-add_journal-clause-stops g c =
-    let p = err_from_is_err_and c.from_residual-in_err-add_journal.result c.from_residual-in_err-add_journal.ensures.1 in
+    let p = err_from_is_err_and c.from_residual-in_err-add_journal.result
+    c.from_residual-in_err-add_journal.ensures.1 in
     let failed : c.add_journal.result ≡ Err p.0 = cc (p.2, c.in_err-add_journal.was) in
     let two = still_both g.D.Disk c.in_ok-add_pages.ensures.still c.in_ok-turn_if_due.ensures.still in
     stops_later g.D.Disk two.usable

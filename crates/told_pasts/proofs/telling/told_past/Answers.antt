@@ -50,7 +50,8 @@ returns-in_default-2-clause-told g c = λ honest start deeds desktop keeps lies.
     let told = (rw c.in-Some.is at c.in_ok-reach.ensures.told) honest start deeds desktop keeps lies in
     absurd ((rw c.in_default-2.is at c.in_ok-shown.ensures.is)
     (reach_behind g.D.Disk c.in_ok-reach.ensures.still c.shows_what_crashes_leave.ensures.quiet c.standing_law.ensures
-    (has_reach g.D.Disk (record { start = start; deeds = deeds; desktop = desktop; keeps = keeps; honest = honest }) told
+    (has_reach g.D.Disk (record { start = start; deeds = deeds; desktop = desktop; keeps = keeps; honest = honest })
+    told
     c.in-Some-first_of.ensures.at)) refl)
 
 pub returns-in_default-2-clause-still : goal.returns-in_default-2-clause-still

@@ -5,7 +5,8 @@ use Rattle.told_pasts.proofs.Parts.{five_parts}
 use Rattle.told_pasts.proofs.words.file_line.Goals as goal
 
 pub returns : goal.returns
-returns c = five_parts (codes "the document ") c.args.name.now (codes ", of ") (decimal c.args.count) (codes " characters")
+returns c = five_parts (codes "the document ") c.args.name.now (codes ", of ") (decimal c.args.count)
+    (codes " characters")
     (c.in_ok-extend_from_slice.ensures.items ∙ ap (λ l. l ++ c.args.name.now) c.in_ok-line.ensures.items)
     c.in_ok-extend_from_slice-2.ensures.items
     (c.in_ok-extend_from_slice-3.ensures.items
