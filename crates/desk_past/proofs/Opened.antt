@@ -44,8 +44,8 @@ pub if_some_at : {X : Type 0} {P : X → Type 0} (o : Option X) → ((x : X) →
 if_some_at (Some x) all = all x refl
 if_some_at None all = tt
 
-pub some_at : {X : Type 0} {P : X → Type 0} {o : Option X} {x : X} → IsSomeAnd o P → o ≡ Some x → P x
-some_at {P = P} has is = subst (λ found. IsSomeAnd found P) is has
+pub some_at : {X : Type 0} (P : X → Type 0) {o : Option X} {x : X} → IsSomeAnd o P → o ≡ Some x → P x
+some_at P has is = subst (λ found. IsSomeAnd found P) is has
 
 -- what is left of so many
 pub rest_is : (o : Option ℕ) (all some rest : ℕ) → SomeIff o (some ≤ all) (all - some) → rest + some ≡ all

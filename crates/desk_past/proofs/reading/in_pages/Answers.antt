@@ -5,7 +5,8 @@ use Rattle.std.proofs.lemmas.Result.{err_from_is_err_and, IfErr-weaker, IfOk-wea
 use Rattle.past_pages.specs.Laying.{StandsFrom}
 use Rattle.past_pages.proofs.Failing.{error_from, failing_on, none_failed}
 use Rattle.past_pages.proofs.StillReads.{still_both, still_reads}
-use Rattle.desk_past.specs.Past.{HasStart}
+use Rattle.past_pages.specs.Marks.{ShowsCopy}
+use Rattle.desk_past.specs.Past.{HasStart, all_deeds, moment}
 use Rattle.desk_past.proofs.Gone.{start_stands, told_end, told_pages, told_room, way_gone, way_there}
 use Rattle.desk_past.proofs.InMemory.{fails_none, laying_of_reads, steps_of_reads, stop_from}
 use Rattle.desk_past.proofs.Opened.{if_some_at, if_some_then, some_at, some_then}
@@ -135,7 +136,7 @@ returns-clause-there g c = IfOk-weaker c.gone.result _ _ (λ found led. if_some_
     (told_end has c.args.base is) start.before has.counted in
     let low : start.before ≤ c.args.k = omega (arith, first, c.if-k-first.false) in (
       low,
-      (some_at
+      (some_at (ShowsCopy g.E.Disk (moment start (all_deeds pages) c.args.k))
           (way_gone g.D.Disk has c.args.base is honest
           (c.shows_what_crashes_leave.ensures.quiet c.requires.usable honest)
           c.before_pages.ensures.still c.in-Some.first c.args.k first high g.E.Disk c.way_to.ensures.still
