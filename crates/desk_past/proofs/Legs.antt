@@ -291,15 +291,25 @@ module _ {c : Content} {end : ℕ} {start : Start} {pages : List Page} {k at lef
   after_page (of_copy version false sectors to) more is next less behind rest some turn {leg' = leg'} same =
       subst (λ (x : Origin). IsReaching c end start pages k next less leg' x) (sym same.2)
       (copy_passed (of_copy version false sectors to) more is next less behind rest to
-      (record { version = version; far = false; sectors = sectors; page = has_page (of_copy version false sectors to)
-      more is })
+      (record {
+        version = version;
+        far = false;
+        sectors = sectors;
+        page = has_page (of_copy version false sectors to)
+            more is;
+      })
       (ap (λ l. after_deeds start.desktop (was.lead ++ l)) (nil_right (all_deeds was.passed)) ∙ sym turn) some
       (omega arith) leg' same.0 same.1)
   after_page (of_copy version true sectors to) more is next less behind rest some turn {leg' = leg'} same =
       subst (λ (x : Origin). IsReaching c end start pages k next less leg' x) (sym same.2)
       (copy_passed (of_copy version true sectors to) more is next less behind rest to
-      (record { version = version; far = true; sectors = sectors; page = has_page (of_copy version true sectors to) more
-      is })
+      (record {
+        version = version;
+        far = true;
+        sectors = sectors;
+        page = has_page (of_copy version true sectors to) more
+            is;
+      })
       (ap (after_deeds start.desktop) (sym (joined was.lead (all_deeds was.passed) (turned to ∷ [])))
       ∙ after_both start.desktop (was.lead ++ all_deeds was.passed) (turned to ∷ [])) some
       (omega (arith, some)) leg' same.0 same.1)

@@ -185,16 +185,16 @@ module _ {D : Type 0} (d : Ghosts D) where
       → HasBegunBehind d start deeds desktop [] desktop new
   begun_behind_it {start = start} {deeds = deeds} {desktop = desktop} old {new = new} base large usable behind
       goes = record {
-    base = base;
-    keeps = record {
-      usable = usable;
-      behind = behind;
-      remembers = subst (λ n. Remembers n (begun_at desktop (start.before + length deeds) base) [] desktop
-          (now (d.trail new.disk)).reads) (sym large) goes.anew;
-    };
-    former = subst (λ n. RemembersFormer n base start deeds desktop (now (d.trail new.disk)).reads) (sym large)
-        goes.former;
-  }
+        base = base;
+        keeps = record {
+          usable = usable;
+          behind = behind;
+          remembers = subst (λ n. Remembers n (begun_at desktop (start.before + length deeds) base) [] desktop
+              (now (d.trail new.disk)).reads) (sym large) goes.anew;
+        };
+        former = subst (λ n. RemembersFormer n base start deeds desktop (now (d.trail new.disk)).reads) (sym large)
+            goes.former;
+      }
 
   -- at each moment of reads the past is there, and behind them it is there or goes on
   pub forgets_behind : {start : Start} {deeds : List PastDeed} {desktop : Desktop} {old mid : StoreView D}

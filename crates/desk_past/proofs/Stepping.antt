@@ -239,13 +239,13 @@ module _ {E : Type 0} (e : Ghosts E) {old new : StoreView E} where
       → (old.must_reopen ≡ false → new.must_reopen ≡ false) → IsLed e (take count (deeds_in p)) old new
   led_events {events = events} all (of_events version page) count items same other others copies read first led
       usable = record {
-    usable = usable;
-    still = led.still;
-    desktop = λ h. led.desktop h
-        ∙ ap (steps old.desktop) (first ∙ ap (take count) (same version page read))
-        ∙ sym (after_posted old.desktop (take count page))
-        ∙ ap (after_deeds old.desktop) (sym (posted_first count page));
-  }
+        usable = usable;
+        still = led.still;
+        desktop = λ h. led.desktop h
+            ∙ ap (steps old.desktop) (first ∙ ap (take count) (same version page read))
+            ∙ sym (after_posted old.desktop (take count page))
+            ∙ ap (after_deeds old.desktop) (sym (posted_first count page));
+      }
   led_events all (of_import version documents) count items same other others copies read first led usable =
       absurd (other version documents read)
   led_events all (of_turn version k to) count items same other others copies read first led usable =

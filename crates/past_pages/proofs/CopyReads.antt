@@ -123,8 +123,16 @@ short_on n sector {bytes = bytes} {more = more} long put short = elim put [
   | inl none ↦ (let same = ap length none.1 in omega (arith, same, short))
   | inr on ↦ (let all = ap length on in
       let four : length (number n) ≡ 4 = refl in
-      omega (arith, all, short, long, four, length-append (number n) sector, length-append bytes
-      (sector_spelling (n, sector))))
+      omega (
+        arith,
+        all,
+        short,
+        long,
+        four,
+        length-append (number n) sector,
+        length-append bytes
+            (sector_spelling (n, sector)),
+      ))
 ]
 
 -- two facts of what returned Ok

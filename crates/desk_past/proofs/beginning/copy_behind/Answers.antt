@@ -28,8 +28,12 @@ pub copy_some-requires-clause-start : goal.copy_some-requires-clause-start
 copy_some-requires-clause-start g c = record {
   behind = c.requires.start.behind;
   numbered = c.requires.start.numbered;
-  room = omega (arith, c.requires.start.room, c.write_behind.ensures.only.as_large,
-      c.copy_rest.ensures.device.same.as_large);
+  room = omega (
+    arith,
+    c.requires.start.room,
+    c.write_behind.ensures.only.as_large,
+    c.copy_rest.ensures.device.same.as_large,
+  );
 }
 
 pub returns-in_err-write_behind-clause-others : goal.returns-in_err-write_behind-clause-others

@@ -19,8 +19,12 @@ is_copied-requires-clause-numbered g c = omega (arith, c.requires.numbered)
 
 pub is_copied-requires-clause-there : goal.is_copied-requires-clause-there
 is_copied-requires-clause-there g c =
-    omega (arith, c.requires.room, c.events_before.ensures.disk.device.as_large,
-    c.copy_behind.ensures.device.same.as_large)
+    omega (
+      arith,
+      c.requires.room,
+      c.events_before.ensures.disk.device.as_large,
+      c.copy_behind.ensures.device.same.as_large,
+    )
 
 pub returns-in_err-before-clause-others : goal.returns-in_err-before-clause-others
 returns-in_err-before-clause-others g c =

@@ -246,7 +246,7 @@ returns-clause-comes g c = IfOk-weaker c.begin_at.result _ _
       c.in_ok-base.base,
       begins_then d c.begin_at.new.store still begins,
       as_read d (λ size n. IsOldest size n c.in_ok-base.base) before quiet honest c.in_ok-told.told.next s.past.next
-      next
+          next
           (c.in_ok-base.ensures.oldest (before.left.disk.device.still honest)),
     ))) c.begin_at.ensures.comes
 

@@ -77,27 +77,27 @@ returns-clause-nothing_forgotten g c = record {
 pub returns-clause-kept : goal.returns-clause-kept
 returns-clause-kept g c = ok_with c.post.result c.post.ensures.ok c.post.ensures.added.done
     (λ reply taken added. record {
-  within = λ honest start deeds desktop keeps can.
-      let d = g.D.Disk in
-      let mid = c.in_ok-make_way.ensures.ended honest start deeds desktop keeps can in
-      let second = c.make_way.ensures.device.same.still honest in
-      post_keeps d mid.0 second (c.shows_what_crashes_leave.ensures.quiet mid.0.usable second) c.post.new.self
-      c.args.event.now mid.1 c.post.ensures.behaves.within taken.usable
-      (added.more second mid.1 mid.0.remembers.standing mid.0.remembers.past.stands);
-  over = λ honest start deeds desktop keeps can.
-      let d = g.D.Disk in
-      let gone = c.in_ok-make_way.ensures.gone_over honest start deeds desktop keeps can in
-      let second = c.make_way.ensures.device.same.still honest in
-      elim gone.0 [
-        | inl mid ↦ inl (post_keeps d mid second (c.shows_what_crashes_leave.ensures.quiet mid.usable second)
-            c.post.new.self c.args.event.now gone.1 c.post.ensures.behaves.within taken.usable
-            (added.more second gone.1 mid.remembers.standing mid.remembers.past.stands))
-        | inr begun ↦ inr (over_keeps d begun second
-            (c.shows_what_crashes_leave.ensures.quiet begun.keeps.usable second) c.post.new.self c.args.event.now gone.1
-            c.post.ensures.behaves.within taken.usable
-            (added.more second gone.1 begun.keeps.remembers.standing begun.keeps.remembers.past.stands))
-      ];
-})
+      within = λ honest start deeds desktop keeps can.
+          let d = g.D.Disk in
+          let mid = c.in_ok-make_way.ensures.ended honest start deeds desktop keeps can in
+          let second = c.make_way.ensures.device.same.still honest in
+          post_keeps d mid.0 second (c.shows_what_crashes_leave.ensures.quiet mid.0.usable second) c.post.new.self
+          c.args.event.now mid.1 c.post.ensures.behaves.within taken.usable
+          (added.more second mid.1 mid.0.remembers.standing mid.0.remembers.past.stands);
+      over = λ honest start deeds desktop keeps can.
+          let d = g.D.Disk in
+          let gone = c.in_ok-make_way.ensures.gone_over honest start deeds desktop keeps can in
+          let second = c.make_way.ensures.device.same.still honest in
+          elim gone.0 [
+            | inl mid ↦ inl (post_keeps d mid second (c.shows_what_crashes_leave.ensures.quiet mid.usable second)
+                c.post.new.self c.args.event.now gone.1 c.post.ensures.behaves.within taken.usable
+                (added.more second gone.1 mid.remembers.standing mid.remembers.past.stands))
+            | inr begun ↦ inr (over_keeps d begun second
+                (c.shows_what_crashes_leave.ensures.quiet begun.keeps.usable second) c.post.new.self c.args.event.now gone.1
+                c.post.ensures.behaves.within taken.usable
+                (added.more second gone.1 begun.keeps.remembers.standing begun.keeps.remembers.past.stands))
+          ];
+    })
 
 pub returns-in_err-make_way-clause-worn : goal.returns-in_err-make_way-clause-worn
 returns-in_err-make_way-clause-worn g c =

@@ -151,8 +151,16 @@ returns-in_default-end_behind-clause-full g c = λ honest start deeds desktop ke
     c.in_default-end_behind.ensures.none
     (omega (arith, short, len))
     (omega (arith, behind_start g.D.Disk keeps, keeps.behind, next))
-    (omega (arith, ends, room.page, room.inside, next, c.min-end.ensures, c.sectors.ensures,
-    c.page_read.ensures.looks.disk.device.as_large))
+    (omega (
+      arith,
+      ends,
+      room.page,
+      room.inside,
+      next,
+      c.min-end.ensures,
+      c.sectors.ensures,
+      c.page_read.ensures.looks.disk.device.as_large,
+    ))
     (omega (arith, room.few, before, count))
 
 pub returns-in_err-info-clause-device : goal.returns-in_err-info-clause-device

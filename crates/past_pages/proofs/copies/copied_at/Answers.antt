@@ -58,7 +58,7 @@ returns-clause-found g c = λ honest to has.
       (
         drop (length (page_bytes p)) (stored at c.args.at (SECTOR_BYTES * c.in-Some-sectors_for.sectors)),
         spelled_there at c.args.at p has.page.held has.page.good c.in_ok-bytes.bytes.items
-        (drop 16 c.in_ok-bytes.bytes.items)
+            (drop 16 c.in_ok-bytes.bytes.items)
             c.in-Some-sectors_for.sectors are
             (c.in_ok-bytes.ensures.bytes (still.left.disk.device.still honest)
             ∙ ap (λ r. stored r c.args.at (SECTOR_BYTES * c.in-Some-sectors_for.sectors)) same) refl,

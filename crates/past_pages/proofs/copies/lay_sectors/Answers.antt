@@ -28,8 +28,12 @@ loop-k-preserved g c =
     let i = c.loop-k.invariant in
     let held = c.lay_sector.ensures in
     record {
-      within = omega (arith, c.in_ok-lay_sector.ensures.long c.if-not-branch.false, c.split_at.ensures.back_len,
-          i.within);
+      within = omega (
+        arith,
+        c.in_ok-lay_sector.ensures.long c.if-not-branch.false,
+        c.split_at.ensures.back_len,
+        i.within,
+      );
       device = record {
         as_large = held.device.as_large ∙ i.device.as_large;
         still = λ h. held.device.still (i.device.still h);
@@ -40,11 +44,10 @@ loop-k-preserved g c =
           let next = next_sector c.loop-k.k sectors are (omega (arith, c.loop-k-test.true, long)) in
           let laid = c.in_ok-lay_sector.ensures.laid (i.device.still honest) next.sector (drop (c.loop-k.k + 1) sectors)
           (sector_spellings (drop (c.loop-k.k + 1) sectors) ++ rest) next.low next.long
-          (next_spelled c.args.bytes.now _ c.loop-k.place c.loop-k.k sectors rest c.split_at.ensures.back was.0 next) in
-          (
+          (next_spelled c.args.bytes.now _ c.loop-k.place c.loop-k.k sectors rest c.split_at.ensures.back was.0 next) in (
             rest_spelled c.args.bytes.now _ c.loop-k.place c.loop-k.k sectors rest c.split_at.ensures.back was.0 next,
             λ n. laid.1 n ∙ ap (λ l. laid_over (now (g.E.Disk.trail c.loop-k.disk)).reads l n) (sym next.here)
-            ∙ was.1 n,
+                ∙ was.1 n,
           );
     }
 

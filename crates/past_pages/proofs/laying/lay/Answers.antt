@@ -30,8 +30,13 @@ returns-clause-stands g c = on_ok_weaker c.lay_slot-2.result (λ laid honest oth
     let second = slot_laid_in (still_reads d two quiet honest)
     (laid (two.left.disk.device.still honest) (held_on.still (held.still other))) first.stays.laying in
     let before = (now (g.E.Disk.trail c.args.disk.now)).reads in
-    resized _ _ t (omega (arith, c.requires.blank.room, held.as_large, held_on.as_large,
-    c.lay_slot-2.ensures.device.as_large))
+    resized _ _ t (omega (
+      arith,
+      c.requires.blank.room,
+      held.as_large,
+      held_on.as_large,
+      c.lay_slot-2.ensures.device.as_large,
+    ))
     (store_laid reads c.args.base
     (subst (λ n. HasLaid reads c.args.base 0 n before (now (g.E.Disk.trail c.lay_some.new.disk)).reads)
     c.image_at.ensures front) first second t at)) c.lay_slot-2.ensures.laid

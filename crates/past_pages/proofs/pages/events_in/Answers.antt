@@ -23,8 +23,7 @@ loop-k-preserved c =
       read = λ events rest valid long is.
           let was = i.read events rest valid long is in
           let on = read_on c.args.bytes.now _ c.loop-k.place c.loop-k.k events rest valid
-          (omega (arith, c.loop-k-test.true, long)) c.split_at.ensures.back was.1 c.decode.ensures.only c.in-Some.is in
-          (
+          (omega (arith, c.loop-k-test.true, long)) c.split_at.ensures.back was.1 c.decode.ensures.only c.in-Some.is in (
             c.in_ok-push.ensures.items ∙ ap (λ l. l ++ c.in-Some.event ∷ []) was.0 ∙ on.0,
             on.1,
           );
