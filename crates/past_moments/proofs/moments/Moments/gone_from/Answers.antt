@@ -43,7 +43,8 @@ returns-in-Events-clause-sought g c = IfOk-weaker c.sought_among-in-Events.resul
     let there = moment_part d place c.in-Some._next c.in-Some.deeds here (steps here (take i events)) i page is.shown
     (λ p read. done_front c.in-Some.deeds p i events here (steps here (take i events))
     (λ version all same. c.as_slice.ensures.value ∙ (rw c.in-Events.is at same)) (λ version all same. (rw c.in-Events.is at same))
-    (λ version n to same. (rw c.in-Events.is at same)) read (few, refl)) past lies in
+    (λ version n to same. (rw c.in-Events.is at same)) (λ version far sectors to same. (rw c.in-Events.is at same)) read
+    (few, refl)) past lies in
     ap (stands word) (sym there.is)))) c.sought_among-in-Events.ensures.sought
 
 pub returns-in-Events-clause-are : goal.returns-in-Events-clause-are
