@@ -11,7 +11,7 @@ use desk_sitting::MOST_TURNS;
 use done_presses::Past;
 use host_files::{HostFault, LockedFile, lock_alone};
 use host_stores::{FileDisk, with_past_room, without_twin};
-use past_viewer::{PastKeys, ViewEnd, Window as Size, view};
+use past_viewer::{HeldKeys, PastKeys, ViewEnd, Window as Size, view};
 use screen_drawing::{ring, send_bytes};
 use sector_disk::Disk;
 use status_line::Saying;
@@ -48,8 +48,10 @@ pub(crate) struct Service {
     pub(crate) made: bool,
 }
 
-/// The keys of a terminal, files of the host's, and what is seen of the store's files, as one keyboard.
-type DeskKeys<'a> = WatchedKeyboard<DeskKeyboard<'a, PastKeys<StandardInput>>, FileDisk<File>>;
+/// The keys of a terminal, files of the host's, what is seen of the store's files, and a text that was copied in the past, as
+/// one keyboard.
+type DeskKeys<'a> =
+    HeldKeys<WatchedKeyboard<DeskKeyboard<'a, PastKeys<StandardInput>>, FileDisk<File>>>;
 
 /// Serves a person at the desktop of a new store in memory, and returns the status.
 pub(crate) fn sit_in_memory(rt: &HostRuntime, service: Service) -> u8 {
@@ -257,15 +259,31 @@ fn sit_watched<D: Disk>(
     };
     let mut writer = CountedWriter::new(output);
     let keys = PastKeys::new(StandardInput::new(rt.stdin()));
-    let mut keyboard = WatchedKeyboard::new(DeskKeyboard::new(rt, keys), watch);
-    let end = serve_through(rt, &mut keyboard, &mut writer, store, service);
-    match keyboard.failed() {
+    let watched = WatchedKeyboard::new(DeskKeyboard::new(rt, keys), watch);
+    let mut keyboard = HeldKeys::new(rt.alloc(), watched);
+    let mut holds = false;
+    let end = serve_through(
+        rt,
+        &mut keyboard,
+        &mut holds,
+        &mut writer,
+        store,
+        service,
+    );
+    match keyboard.keys.failed() {
         Some(leg) if matches!(end, SittingEnd::Closed) => {
             let told = Service {
                 greeting: failure_of(leg),
                 ..service
             };
-            serve_told(rt, &mut keyboard, &mut writer, store, told)
+            serve_told(
+                rt,
+                &mut keyboard,
+                &mut holds,
+                &mut writer,
+                store,
+                told,
+            )
         }
         _ => end,
     }
@@ -283,6 +301,7 @@ fn failure_of(leg: Leg) -> Saying {
 fn serve_told<W: AnswerWriter, D: Disk>(
     rt: &HostRuntime,
     keyboard: &mut DeskKeys<'_>,
+    holds: &mut bool,
     writer: &mut W,
     store: &mut Store<D>,
     service: Service,
@@ -292,14 +311,16 @@ fn serve_told<W: AnswerWriter, D: Disk>(
     if send_bytes(writer, ASK_SIZE).is_err() || ring(writer).is_err() {
         return SittingEnd::Output;
     }
-    serve_through(rt, keyboard, writer, store, service)
+    serve_through(rt, keyboard, holds, writer, store, service)
 }
 
 /// Serves a person by these devices. Where Ctrl-P ends a sitting, and no file that fails, the past is shown, and then the
-/// person sits down again, unless a file failed meanwhile.
+/// person sits down again, unless a file failed meanwhile. What was copied of the past the keyboard holds, until something is
+/// copied in the present: `holds` says whether it does so.
 fn serve_through<W: AnswerWriter, D: Disk>(
     rt: &HostRuntime,
     keyboard: &mut DeskKeys<'_>,
+    holds: &mut bool,
     writer: &mut W,
     store: &mut Store<D>,
     service: Service,
@@ -308,17 +329,20 @@ fn serve_through<W: AnswerWriter, D: Disk>(
     ensures { IsUsableAt result store.new }
 {
     let mut service = service;
-    let failed = keyboard.failed();
+    let failed = keyboard.keys.failed();
     for _count in 0..MOST_TURNS {
-        let end = serve_by(rt, keyboard, writer, store, service);
-        if !matches!(end, SittingEnd::Closed) || keyboard.failed() != failed {
+        let end = serve_by(rt, keyboard, holds, writer, store, service);
+        if !matches!(end, SittingEnd::Closed) || keyboard.keys.failed() != failed {
             return end;
         }
         match view(rt.alloc(), keyboard, writer, store, size_of(service.window)) {
-            Ok(size) => service = seated_again(service, size),
+            Ok(viewed) => {
+                service = seated_again(service, viewed.window);
+                *holds = keyboard.hold(viewed.copied) || *holds;
+            }
             Err(why) => return end_of(why),
         }
-        if keyboard.failed() != failed {
+        if keyboard.keys.failed() != failed {
             return SittingEnd::Closed;
         }
     }
@@ -365,6 +389,7 @@ fn end_of(why: ViewEnd) -> SittingEnd
 fn serve_by<K: Keyboard, W: AnswerWriter, D: Disk>(
     rt: &HostRuntime,
     keyboard: &mut K,
+    holds: &mut bool,
     writer: &mut W,
     store: &mut Store<D>,
     service: Service,
@@ -383,6 +408,7 @@ fn serve_by<K: Keyboard, W: AnswerWriter, D: Disk>(
         service.greeting,
         service.questions,
         service.window.fills,
+        holds,
         past,
     )
 }

@@ -2,6 +2,7 @@ pub mod Called
 pub mod Clips
 pub mod Desk
 pub mod Doing
+pub mod Held
 pub mod Pasts
 pub mod Questions
 pub mod Sittings

@@ -43,6 +43,7 @@ use Rattle.earlier_presses.specs.Replacing.{TypingView, ReplacingView, is_replac
 use Rattle.earlier_presses.specs.Replacing.{replacement}
 use Rattle.done_presses.specs.Past.{PastView, past_after, named, no_past, selects, with_refused}
 use Rattle.desk_sitting.specs.Clips.{is_copying}
+use Rattle.desk_sitting.specs.Held.{held_meant}
 use Rattle.earlier_presses.specs.Twice.{action_meant, cell_again, cell_clicked, cell_kept, is_no_deed, is_nothing}
 use Rattle.earlier_presses.specs.Twice.{is_of_terminal, words_remembered}
 use Rattle.desk_sitting.specs.Questions.{click_made, question_of, questioned, session_place, unasked}
@@ -95,6 +96,7 @@ new_sitting height width greeting questions = record {
   logged = record { items = [] };
   replacing = no_replacing;
   copies = false;
+  holds = false;
   clicked = None;
   missed = false;
   sought = [];
@@ -138,6 +140,7 @@ replied event Done s = record s {
   past = past_after s.joins (is_some s.typed) event s.past;
   joins = true;
   copies = s.copies || is_copying event;
+  holds = s.holds && not (is_copying event);
 }
 replied event (No code) s =
     turned_away (refused_saying event code) (record s {
@@ -468,11 +471,12 @@ with_marks press s = record s {
 }
 
 -- what the hand makes of a press is a way to the beginning of the text, where it is a search behind one that found nothing,
--- it goes on behind a replacement, and words that aren't typed are those that were sought last
+-- it goes on behind a replacement, words that aren't typed are those that were sought last, and a text that is held is typed
+-- where the desktop's own copy would be pasted
 abbrev pub meant_by : Press → Sitting → Hand × Action
 meant_by press s =
     let next = handled s.sight press s.hand in
-    (next.0, action_meant s.missed (is_replaced s.replacing) s.sought next.1)
+    (next.0, held_meant s.holds (action_meant s.missed (is_replaced s.replacing) s.sought next.1))
 
 -- nothing is done after the person has left
 unfoldable pub after_press : Press → Seat → Seat

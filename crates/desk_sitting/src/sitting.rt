@@ -11,6 +11,7 @@ ghost use Rattle.desk_sitting.specs.Sittings.{pointed_no_more, asked_words, with
 ghost use Rattle.desk_sitting.specs.Sittings.{with_hand, with_marks, marked_saying, marks_more};
 ghost use Rattle.desk_sitting.specs.Sittings.{after_completion, asks_rest, hand_typed, is_tabulator};
 ghost use Rattle.desk_sitting.specs.Clips.{is_copying};
+ghost use Rattle.desk_sitting.specs.Held.{held_meant, is_pasting};
 ghost use Rattle.earlier_presses.specs.Twice.{is_of_terminal};
 
 use desk_journal::{Error, Store};
@@ -100,6 +101,9 @@ pub struct Sitting {
     pub replacing: Replacing,
     /// Something was copied since the last scene: the clipboard of the terminal is to be given it.
     pub copies: bool,
+    /// The keyboard holds a text that was copied in the past, and nothing was copied in the present since then: it is typed
+    /// where that would be pasted.
+    pub holds: bool,
     /// The cell at which the left button was clicked last, where nothing else was done since: the next click there selects the
     /// word.
     pub clicked: Option<(u8, u8)>,
@@ -146,6 +150,7 @@ impl Sitting {
             logged: SayingLine::new(),
             replacing: Replacing::none(),
             copies: false,
+            holds: false,
             clicked: None,
             missed: false,
             sought: HostName::none(),
@@ -338,6 +343,7 @@ impl Sitting {
                 self.past.add(event, self.joins, self.typed.is_some());
                 self.joins = true;
                 self.copies = self.copies || is_copying(event);
+                self.holds = self.holds && !is_copying(event);
                 if let Some(typed) = self.typed {
                     self.typed = Some(typed_more(event, typed));
                 }
@@ -390,7 +396,7 @@ impl Sitting {
         self.completes = asks_rest(press, &self.hand);
         self.joins = pastes && self.joins;
         let goes_on = self.replacing.is_replaced();
-        let action = hand_meant(
+        let meant = hand_meant(
             &mut self.hand,
             self.missed,
             goes_on,
@@ -398,6 +404,7 @@ impl Sitting {
             self.sight,
             press,
         );
+        let action = held_meant(self.holds, meant);
         self.missed = still_missed(self.missed, &action);
         self.names = names_behind(self.names, &action);
         self.follows = self.hand.pointer().is_some() || self.follows;
@@ -660,6 +667,24 @@ fn is_unseen(hand: &Hand) -> bool
     ensures { result ≡ is_unseen hand.now }
 {
     hand.asked().is_none() && hand.armed().is_none() && hand.pointer().is_none()
+}
+
+/// What a press means while the keyboard holds a text, or none: a paste has that typed, which has no name.
+fn held_meant(holds: bool, action: Action) -> Action
+    ensures { result ≡ held_meant holds action }
+{
+    if holds && is_pasting(&action) {
+        Action::TypeFile(HostName::none())
+    } else {
+        action
+    }
+}
+
+/// Whether a press pastes what was copied.
+fn is_pasting(action: &Action) -> bool
+    ensures { result ≡ is_pasting action.now }
+{
+    matches!(action, Action::Post(Event::Key(Key::Paste)))
 }
 
 /// Whether an event copies what is selected.

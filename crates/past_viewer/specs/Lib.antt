@@ -1,4 +1,5 @@
 pub mod Calling
 pub mod Copies
+pub mod Held
 pub mod Panes
 pub mod Viewing

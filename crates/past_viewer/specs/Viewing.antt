@@ -1,5 +1,5 @@
 -- The past of a store on the screen of a terminal. `d` is what is known of a disk.
-use Rattle.std.specs.Prelude.{◌≡◌, ◌≢◌, ◌⊎◌, ℕ, List, [], length, Option, Result, MatchResult, Some, None, codes, false, ⊤}
+use Rattle.std.specs.Prelude.{◌≡◌, ◌≢◌, ◌⊎◌, ℕ, List, [], length, Option, Result, MatchResult, Some, None, IfSome, codes, false, ⊤}
 use Rattle.std.specs.Io.KnownBytes.{Appends}
 use Rattle.byte_streams.specs.Counting.{RisesWhere}
 use Rattle.sector_disk.specs.declared.disk.Disk.{Ghosts}
@@ -101,6 +101,21 @@ module _ {D : Type 0} (d : Ghosts D) where
   -- none of them, or some
   abbrev pub TakesSome : StoreView D → Option (List ℕ) → Option (List ℕ) → Type 0
   TakesSome store held held' = (last : Option ℕ) × TakesScenes store last held held'
+
+  -- ---- what is copied
+
+  -- This was copied of a desktop that was seen of a moment, before which the store was only read.
+  pub record IsCopied (old : StoreView D) (text : List ℕ) : Type 0 where
+    pub mid : StoreView D
+    pub read : IsOnlyReadFrom d old mid
+    pub k : ℕ
+    pub desktop : Desktop
+    pub seen : IsSeenAt d k mid desktop
+    pub is : text ≡ exported_selection desktop
+
+  -- what was copied last is still kept, or something else was copied since then
+  abbrev pub KeepsCopied : StoreView D → Option (List ℕ) → Option (List ℕ) → Type 0
+  KeepsCopied old kept kept' = (kept' ≡ kept) ⊎ IfSome kept' (IsCopied old)
 
   -- ---- what becomes of the store, and what a writer took meanwhile
 

@@ -1,10 +1,10 @@
 //! A person who asks for a past that the store doesn't keep.
-ghost use Rattle.std.specs.Prelude.{◌≡◌, false, None, IfErr, OnOk};
+ghost use Rattle.std.specs.Prelude.{◌≡◌, false, None, IfErr, IfOk, OnOk};
 ghost use Rattle.past_pages.specs.Reading.{IsOnlyReadFrom};
 ghost use Rattle.past_viewer.specs.Viewing.{CountsViewOutput, EndsViewBy, TakesScenes};
 
 use crate::pane::{Pane, Window};
-use crate::viewer::{Doing, MOST_TURNS, ViewEnd, hear_on};
+use crate::viewer::{Doing, MOST_TURNS, ViewEnd, Viewed, hear_on};
 use byte_streams::AnswerWriter;
 use desk_journal::Store;
 use past_looks::{ViewHand, Wish};
@@ -26,7 +26,7 @@ struct Absent {
 }
 
 /// Shows the desktop of a store that keeps no past, until the person goes back to their sitting, and returns the size of
-/// the terminal then.
+/// the terminal then. Nothing is copied.
 ///
 /// Errors: those of `view`.
 pub(crate) fn serve_absent<K: Keyboard, W: AnswerWriter, D: Disk>(
@@ -35,11 +35,12 @@ pub(crate) fn serve_absent<K: Keyboard, W: AnswerWriter, D: Disk>(
     writer: &mut W,
     store: &mut Store<D>,
     window: Window,
-) -> Result<Window, ViewEnd>
+) -> Result<Viewed, ViewEnd>
     requires { store.old.must_reopen ≡ false }
     ensures still { IsOnlyReadFrom D.Disk store.old store.new }
     ensures scenes { OnOk result (TakesScenes D.Disk store.new None (W.contents writer.old)
         (W.contents writer.new)) }
+    ensures none { IfOk result (λ viewed. viewed.copied ≡ None) }
     ensures ended { IfErr result (EndsViewBy (K.ended keyboard.new)) }
     ensures output { CountsViewOutput result (W.failures writer.old) (W.failures writer.new) }
 {
@@ -49,7 +50,12 @@ pub(crate) fn serve_absent<K: Keyboard, W: AnswerWriter, D: Disk>(
         absent.show(alloc, writer, store)?;
         let hearing = hear_on(keyboard)?;
         match absent.take(hearing.as_slice()) {
-            Doing::Leaves => return Ok(absent.pane.window),
+            Doing::Leaves => {
+                return Ok(Viewed {
+                    window: absent.pane.window,
+                    copied: None,
+                });
+            }
             Doing::Stays => {}
         }
     }

@@ -11,9 +11,10 @@ use std::alloc::Global;
 use store_documents::host_text;
 use terminal_clipboards::clip_of;
 
-/// What is copied: in words, and as the bytes that give it to the clipboard of a terminal, if there are any.
+/// What is copied, as a text, in words, and as the bytes that give it to the clipboard of a terminal, if there are any.
 #[derive(Drop)]
 pub(crate) struct Copied {
+    pub text: Vec<u8>,
     pub words: Vec<u8>,
     pub clip: Vec<u8>,
 }
@@ -22,6 +23,8 @@ pub(crate) struct Copied {
 ///
 /// Errors: those of `Store::selected`, whose faults are want of memory.
 pub(crate) fn copied_of(alloc: Global, shown: &mut Store<MemoryDisk>) -> Result<Copied, Error>
+    ensures text { IfOk result (λ copied. copied.text.items
+        ≡ exported_selection shown.old.desktop) }
     ensures words { IfOk result (λ copied. copied.words.items
         ≡ copied_words (length (exported_selection shown.old.desktop))) }
     ensures clip { IfOk result (λ copied. copied.clip.items
@@ -31,7 +34,7 @@ pub(crate) fn copied_of(alloc: Global, shown: &mut Store<MemoryDisk>) -> Result<
     let text = selected_text(alloc, shown)?;
     let words = copied_words(alloc, text.len())?;
     let clip = clip_of(alloc, text.as_slice())?;
-    Ok(Copied { words, clip })
+    Ok(Copied { text, words, clip })
 }
 
 /// What is selected, as a text of the host's. Empty where nothing is.

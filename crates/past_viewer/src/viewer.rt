@@ -1,13 +1,16 @@
 //! The past on the screen, turn by turn.
-ghost use Rattle.std.specs.Prelude.{◌≡◌, Some, false, IfErr, IfOk, IfSome, OnOk};
+ghost use Rattle.std.specs.Prelude.{◌≡◌, Some, None, false, IfErr, IfOk, IfSome, OnOk};
 ghost use Rattle.past_pages.specs.Reading.{IsOnlyReadFrom};
 ghost use Rattle.past_looks.specs.Looking.{IsLookerOf, StaysOrTurns};
 ghost use Rattle.past_viewer.specs.declared.viewer.ViewEnd.TheVariants.{Memory, Output as TakesNoMore};
+ghost use Rattle.past_viewer.specs.Copies.{copy_kept, exported_selection};
 ghost use Rattle.past_viewer.specs.Viewing.{CountsViewOutput, DoesKey, EndsViewBy, IsViewed, LeavesViewed, LooksOn, TakesScenes};
+ghost use Rattle.past_viewer.specs.Viewing.{IsCopied, KeepsCopied};
 ghost use Rattle.past_viewer.specs.Viewing.{IsOfStore, IsUsableBehind, TakesSome, TellsBelow, TurnsOrStays, heard_end, view_end_of};
 
 use crate::absent::serve_absent;
-use crate::copies::copied_of;
+use crate::copies::{Copied, copied_of};
+use crate::held::PastText;
 use crate::pane::{Pane, Window};
 use byte_streams::{AnswerWriter, OutputFault};
 use desk_journal::{Error, Store};
@@ -87,12 +90,21 @@ pub(crate) enum Doing {
     Leaves,
 }
 
+/// How a person leaves the past: the size of the terminal, and what was copied there last, if anything was.
+#[derive(Drop)]
+pub struct Viewed {
+    pub window: Window,
+    pub copied: Option<PastText>,
+}
+
 /// A person before a past, at a terminal.
 #[derive(Drop)]
 struct Viewer {
     looker: Looker,
     parser: Parser,
     pane: Pane,
+    /// What was copied last, if anything was.
+    copied: Option<PastText>,
     /// Something that is shown may have changed since the last scene.
     due: bool,
 }
@@ -108,9 +120,10 @@ pub(crate) fn hear_on<K: Keyboard>(keyboard: &mut K) -> Result<Hearing, Keyboard
 }
 
 /// Shows the past of a store to the person at the keyboard, in a terminal of so many rows and columns, until they go back
-/// to their sitting; and returns the size of the terminal then. First it hears the press that called for it. Where the
-/// store keeps no past, or one that can't be read, the line below says so, over the desktop as it is. What the mouse does
-/// at a moment is done in memory alone, and the clipboard of the terminal is given what is selected there.
+/// to their sitting; and returns the size of the terminal then, and what was copied last. First it hears the press that
+/// called for it. Where the store keeps no past, or one that can't be read, the line below says so, over the desktop as it
+/// is. What the mouse does at a moment is done in memory alone, and what is selected there is copied, and given to the
+/// clipboard of the terminal.
 ///
 /// The store is only read, unless the person turns it back to the moment that is shown. Errors: `Closed`, where nothing is
 /// heard, and the others by their names. After `Fault` and `Memory` the store may have to be opened again.
@@ -120,8 +133,10 @@ pub fn view<K: Keyboard, W: AnswerWriter, D: Disk>(
     writer: &mut W,
     store: &mut Store<D>,
     window: Window,
-) -> Result<Window, ViewEnd>
+) -> Result<Viewed, ViewEnd>
     requires { store.old.must_reopen ≡ false }
+    ensures copied { IfOk result (λ viewed. IfSome viewed.copied
+        (IsCopied D.Disk store.old)) }
     ensures viewed { OnOk result (IsViewed D.Disk store.old store.new (W.contents writer.old)
         (W.contents writer.new)) }
     ensures any_moment { LeavesViewed D.Disk store.old store.new (W.contents writer.old)
@@ -149,6 +164,7 @@ impl Viewer {
         requires { store.old.must_reopen ≡ false }
         ensures is { IfOk result (λ found. IfSome found (λ viewer.
             IsLookerOf D.Disk viewer.looker store.new)) }
+        ensures none { IfOk result (λ found. IfSome found (λ viewer. viewer.copied ≡ None)) }
         ensures still { IsOnlyReadFrom D.Disk store.old store.new }
         ensures cause { IfErr result IsOfStore }
     {
@@ -158,6 +174,7 @@ impl Viewer {
                 looker,
                 parser: Parser::new(),
                 pane: Pane::new(window),
+                copied: None,
                 due: true,
             })),
         }
@@ -170,8 +187,10 @@ impl Viewer {
         keyboard: &mut K,
         writer: &mut W,
         store: &mut Store<D>,
-    ) -> Result<Window, ViewEnd>
+    ) -> Result<Viewed, ViewEnd>
         requires { store.old.must_reopen ≡ false }
+        ensures copied { IfOk result (λ viewed. IsLookerOf D.Disk self.old.looker store.old
+            → KeepsCopied D.Disk store.old self.old.copied viewed.copied) }
         ensures viewed { OnOk result (IsLookerOf D.Disk self.old.looker store.old
             → IsViewed D.Disk store.old store.new (W.contents writer.old) (W.contents writer.new)) }
         ensures any_moment { IsLookerOf D.Disk self.old.looker store.old
@@ -186,11 +205,21 @@ impl Viewer {
             self.show_if_due(alloc, store, writer)?;
             let hearing = hear_on(keyboard)?;
             match self.take(alloc, writer, store, hearing.as_slice())? {
-                Doing::Leaves => return Ok(self.pane.window),
+                Doing::Leaves => return Ok(self.leave()),
                 Doing::Stays => {}
             }
         }
         Err(ViewEnd::TooLong)
+    }
+
+    /// What the person leaves with.
+    fn leave(&mut self) -> Viewed
+        ensures { result.copied ≡ self.old.copied }
+    {
+        Viewed {
+            window: self.pane.window,
+            copied: self.copied.take(),
+        }
     }
 
     /// Shows what is in memory, where anything that is shown may have changed.
@@ -204,6 +233,7 @@ impl Viewer {
     ) -> Result<(), ViewEnd>
         ensures looker { IsLookerOf D.Disk self.old.looker store.now
             → IsLookerOf D.Disk self.new.looker store.now }
+        ensures copied { self.new.copied ≡ self.old.copied }
         ensures scenes { OnOk result (IsLookerOf D.Disk self.old.looker store.now
             → TakesSome D.Disk store.now (W.contents writer.old) (W.contents writer.new)) }
         ensures output { CountsViewOutput result (W.failures writer.old) (W.failures writer.new) }
@@ -228,6 +258,7 @@ impl Viewer {
         ensures looker { IsLookerOf D.Disk self.old.looker store.now
             → IsLookerOf D.Disk self.new.looker store.now }
         ensures shown { self.new.looker.shown ≡ self.old.looker.shown }
+        ensures copied { self.new.copied ≡ self.old.copied }
         ensures scenes { OnOk result (IsLookerOf D.Disk self.old.looker store.now
             → TakesScenes D.Disk store.now (Some self.new.looker.shown) (W.contents writer.old)
             (W.contents writer.new)) }
@@ -252,6 +283,7 @@ impl Viewer {
         ensures looker { IsLookerOf D.Disk self.old.looker _store.now
             → IsLookerOf D.Disk self.new.looker _store.now }
         ensures shown { self.new.looker.shown ≡ self.old.looker.shown }
+        ensures copied { self.new.copied ≡ self.old.copied }
         ensures scenes { OnOk result (IsLookerOf D.Disk self.old.looker _store.now
             → TellsBelow D.Disk self.old.looker.shown _store.now
             self.old.looker.look.shown.desktop clip.now line.now
@@ -280,6 +312,8 @@ impl Viewer {
         requires { store.old.must_reopen ≡ false }
         ensures looks { OnOk result (LooksOn D.Disk self.old.looker self.new.looker store.old
             store.new (W.contents writer.old) (W.contents writer.new)) }
+        ensures copied { OnOk result (IsLookerOf D.Disk self.old.looker store.old
+            → KeepsCopied D.Disk store.old self.old.copied self.new.copied) }
         ensures still { IsOnlyReadFrom D.Disk store.old store.new }
         ensures output { CountsViewOutput result (W.failures writer.old) (W.failures writer.new) }
         ensures cause { IfErr result (EndsViewBy (λ why. ⊥)) }
@@ -302,6 +336,8 @@ impl Viewer {
     ) -> Result<(), ViewEnd>
         ensures looker { IsLookerOf D.Disk self.old.looker store.now
             → IsLookerOf D.Disk self.new.looker store.now }
+        ensures copied { OnOk result (self.new.copied ≡ copy_kept self.old.copied
+            (exported_selection self.old.looker.look.shown.desktop)) }
         ensures scenes { OnOk result (IsLookerOf D.Disk self.old.looker store.now
             → TakesScenes D.Disk store.now (Some self.new.looker.shown) (W.contents writer.old)
             (W.contents writer.new)) }
@@ -312,13 +348,22 @@ impl Viewer {
         self.looker.copied(copied.clip.is_empty());
         let last = self.looker.moments.last();
         let line = moment_line(alloc, self.looker.shown, last, copied.words.as_slice())?;
-        self.show_saying(
-            alloc,
-            store,
-            writer,
-            line.as_slice(),
-            copied.clip.as_slice(),
-        )
+        let clip = self.keep(copied);
+        self.show_saying(alloc, store, writer, line.as_slice(), clip.as_slice())
+    }
+
+    /// What was copied is kept, if that is any text. Returns what gives it to the clipboard.
+    fn keep(&mut self, copied: Copied) -> Vec<u8>
+        ensures clip { result.items ≡ copied.clip.items }
+        ensures copied { self.new.copied ≡ copy_kept self.old.copied copied.text.items }
+        ensures looker { self.new.looker ≡ self.old.looker }
+    {
+        let Copied { text, words, clip } = copied;
+        drop(words);
+        if !text.is_empty() {
+            self.copied = Some(PastText::of(text));
+        }
+        clip
     }
 
     /// Does what is pressed by all that was heard.
@@ -334,6 +379,8 @@ impl Viewer {
         requires { store.old.must_reopen ≡ false }
         ensures does { IfOk result (λ doing. DoesKey D.Disk doing self.old.looker self.new.looker
             store.old store.new (W.contents writer.old) (W.contents writer.new)) }
+        ensures copied { IfOk result (λ doing. IsLookerOf D.Disk self.old.looker store.old
+            → KeepsCopied D.Disk store.old self.old.copied self.new.copied) }
         ensures any_moment { IsLookerOf D.Disk self.old.looker store.old
             → LeavesViewed D.Disk store.old store.new (W.contents writer.old)
             (W.contents writer.new) }
@@ -370,6 +417,8 @@ impl Viewer {
         requires { store.old.must_reopen ≡ false }
         ensures does { IfOk result (λ doing. DoesKey D.Disk doing self.old.looker self.new.looker
             store.old store.new (W.contents writer.old) (W.contents writer.new)) }
+        ensures copied { IfOk result (λ doing. IsLookerOf D.Disk self.old.looker store.old
+            → KeepsCopied D.Disk store.old self.old.copied self.new.copied) }
         ensures any_moment { IsLookerOf D.Disk self.old.looker store.old
             → LeavesViewed D.Disk store.old store.new (W.contents writer.old)
             (W.contents writer.new) }
@@ -403,6 +452,8 @@ impl Viewer {
         requires { store.old.must_reopen ≡ false }
         ensures does { IfOk result (λ doing. DoesKey D.Disk doing self.old.looker self.new.looker
             store.old store.new (W.contents writer.old) (W.contents writer.new)) }
+        ensures copied { IfOk result (λ doing. IsLookerOf D.Disk self.old.looker store.old
+            → KeepsCopied D.Disk store.old self.old.copied self.new.copied) }
         ensures any_moment { IsLookerOf D.Disk self.old.looker store.old
             → LeavesViewed D.Disk store.old store.new (W.contents writer.old)
             (W.contents writer.new) }
@@ -437,6 +488,7 @@ impl Viewer {
         store: &mut Store<D>,
     ) -> Result<Doing, ViewEnd>
         requires { store.old.must_reopen ≡ false }
+        ensures copied { self.new.copied ≡ self.old.copied }
         ensures does { IfOk result (λ doing. DoesKey D.Disk doing self.old.looker self.new.looker
             store.old store.new (W.contents writer.old) (W.contents writer.new)) }
         ensures any_moment { IsLookerOf D.Disk self.old.looker store.old
@@ -462,6 +514,7 @@ impl Viewer {
     /// Errors: `Memory`; `Fault`.
     fn come<D: Disk>(&mut self, alloc: Global, store: &mut Store<D>) -> Result<bool, ViewEnd>
         requires { store.old.must_reopen ≡ false }
+        ensures copied { self.new.copied ≡ self.old.copied }
         ensures looker { OnOk result (IsLookerOf D.Disk self.old.looker store.old
             → IsLookerOf D.Disk self.new.looker store.new) }
         ensures still { IsOnlyReadFrom D.Disk store.old store.new }
@@ -480,6 +533,7 @@ impl Viewer {
     /// Errors: `Memory`; `Fault`.
     fn turn_back<D: Disk>(&mut self, alloc: Global, store: &mut Store<D>) -> Result<Doing, ViewEnd>
         requires { store.old.must_reopen ≡ false }
+        ensures copied { self.new.copied ≡ self.old.copied }
         ensures does { IfOk result (λ doing. TurnsOrStays D.Disk doing self.old.looker
             self.new.looker store.old store.new) }
         ensures any_moment { IsLookerOf D.Disk self.old.looker store.old

@@ -9,18 +9,12 @@ use terminal_clipboards::MOST_CLIPPED;
 /// What is said where there is nothing to be copied.
 const NOTHING_SELECTED: &[u8] = b"nothing is selected: drag over a text with the right button";
 
-/// What is said where that is too long.
-const TOO_LONG: &[u8] = b"too long for the terminal's clipboard, which takes 74,994 bytes";
-
 /// What is said of a copy of so many characters.
 pub(crate) fn copied_words(alloc: Global, count: usize) -> Result<Vec<u8>, AllocError>
     ensures { IfOk result (λ words. words.items ≡ copied_words count) }
 {
     if count == 0 {
         return Vec::from_slice(alloc, NOTHING_SELECTED);
-    }
-    if count > MOST_CLIPPED {
-        return Vec::from_slice(alloc, TOO_LONG);
     }
     let mut words = Vec::from_slice(alloc, b"copied ")?;
     push_grouped(&mut words, count as u64)?;
@@ -33,8 +27,10 @@ fn unit_of(count: usize) -> &'static [u8]
     ensures { result.now ≡ copied_unit count }
 {
     if count == 1 {
-        b" character for your terminal's paste"
+        b" character for Ctrl-V and your terminal's paste"
+    } else if count > MOST_CLIPPED {
+        b" characters for Ctrl-V, too many for your terminal's paste"
     } else {
-        b" characters for your terminal's paste"
+        b" characters for Ctrl-V and your terminal's paste"
     }
 }

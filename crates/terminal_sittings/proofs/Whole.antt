@@ -127,7 +127,7 @@ module _ {D : Type 0} (d : Ghosts D) where
 
     sat_with : (end : SittingEnd) (more begun : List Event) (last : TurnState D) (run : HasRun first count place)
         → Ends the_desk d end (run.before + run.within) more begun place last
-        → Sits the_desk d end first last.store (exchange_at last)
+        → Sits the_desk d end place.sitting.holds first last.store (exchange_at last)
     sat_with end more begun last run why = record {
       before = run.before;
       start = run.start;
@@ -138,6 +138,7 @@ module _ {D : Type 0} (d : Ghosts D) where
         turned = run.events;
         place = place;
         run = run.run;
+        held = refl;
         more = more;
         begun = begun;
         last = last;
@@ -154,7 +155,7 @@ module _ {D : Type 0} (d : Ghosts D) where
     -- a turn in which the sitting ends
     turn_to_end : {T : Type 0} {last : TurnState D} (end : SittingEnd) → is_none place.sitting.travels ≡ true
         → TakesTurn the_desk d {T = T} (Err end) place last → d.honest first.store.disk
-        → Sits the_desk d end first last.store (exchange_at last)
+        → Sits the_desk d end place.sitting.holds first last.store (exchange_at last)
     turn_to_end {last = last} end none_asked turn honest =
         let run = come.run honest in
         let why : HasStopped the_desk d end place last =
@@ -162,7 +163,7 @@ module _ {D : Type 0} (d : Ghosts D) where
         sat_with end why.0 why.1 last run (stopped none_asked why.2)
 
     lost_to_end : {T : Type 0} {last : TurnState D} (end : SittingEnd) → TakesBetween the_desk d {T = T} (Err end) place last
-        → d.honest first.store.disk → Sits the_desk d end first last.store (exchange_at last)
+        → d.honest first.store.disk → Sits the_desk d end place.sitting.holds first last.store (exchange_at last)
     lost_to_end {last = last} end turn honest =
         let run = come.run honest in
         record {
@@ -173,6 +174,7 @@ module _ {D : Type 0} (d : Ghosts D) where
             count = run.within;
             place = place;
             stretch = stretch run;
+            held = refl;
             last = last;
             broken = turn.stops (come.device.still honest) (stretch run).goes.durable;
             stands = refl;
@@ -181,7 +183,7 @@ module _ {D : Type 0} (d : Ghosts D) where
         }
 
     pub sat_to_end : {T : Type 0} {last : TurnState D} (end : SittingEnd) → TakesEitherTurn the_desk d {T = T} (Err end) place last
-        → d.honest first.store.disk → Sits the_desk d end first last.store (exchange_at last)
+        → d.honest first.store.disk → Sits the_desk d end place.sitting.holds first last.store (exchange_at last)
     sat_to_end {last = last} end either honest = elim (true_or_false (is_none place.sitting.travels)) [
       | inl none_asked ↦ turn_to_end end none_asked (either.shows none_asked) honest
       | inr asked ↦ lost_to_end end (either.goes asked) honest
@@ -189,7 +191,7 @@ module _ {D : Type 0} (d : Ghosts D) where
 
     -- as many turns as there may be
     pub sat_too_long : count ≡ MOST_TURNS → d.honest first.store.disk
-        → Sits the_desk d TooLong first place.store (exchange_at place)
+        → Sits the_desk d TooLong place.sitting.holds first place.store (exchange_at place)
     sat_too_long most honest =
         let run = come.run honest in
         sat_with TooLong [] [] place run

@@ -153,12 +153,15 @@ module _ (desk : Desk) where
         → IsShownIfDue s old mid known known' held held' waiting waiting'
 
   -- nothing was heard yet, and nothing is known of the terminal
-  abbrev pub first_place : {D : Type 0} → ℕ → ℕ → Saying → Bool → Bool → PastView → StoreView D
-      → Exchange → TurnState D
-  first_place height width greeting questions fills past store out =
+  abbrev pub first_place : {D : Type 0} → ℕ → ℕ → Saying → Bool → Bool → Bool → PastView
+      → StoreView D → Exchange → TurnState D
+  first_place height width greeting questions fills holds past store out =
       turn_state_of desk.parser
-      (record (desk.begins height width greeting questions) { fills = fills; past = past }) store []
-      out
+      (record (desk.begins height width greeting questions) {
+        fills = fills;
+        holds = holds;
+        past = past;
+      }) store [] out
 
   -- the keyboard was asked for the text of the host file that is wanted, and of no other
   pub record IsTextFetched (old new : Sitting) (asked asked' : List ℕ) : Type 0 where

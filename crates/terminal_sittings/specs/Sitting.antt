@@ -1,5 +1,5 @@
 -- A sitting from its first turn to its end. `d` is what is known of a disk.
-use Rattle.std.specs.Prelude.{◌≡◌, ◌⊎◌, ◌+◌, ℕ, List, ◌++◌, Result, is_none, true, false}
+use Rattle.std.specs.Prelude.{◌≡◌, ◌⊎◌, ◌+◌, ℕ, Bool, List, ◌++◌, Result, is_none, true, false}
 use Rattle.sector_disk.specs.declared.disk.Disk.{Ghosts}
 use Rattle.event_bytes.specs.declared.event.Event.{Event}
 use Rattle.desk_journal.specs.View.{StoreView, IsDurable}
@@ -36,15 +36,16 @@ module _ (desk : Desk) {D : Type 0} (d : Ghosts D) where
         → Comes first (before + count + 1) next
 
   -- From the first place of its last stretch, before which there were so many turns, a sitting came to this end, where
-  -- this is the store, and this was heard and asked for, and sent.
-  pub record IsSat (end : SittingEnd) (before : ℕ) (first : TurnState D) (store : StoreView D)
-      (out : Exchange) : Type 0 where
+  -- this is the store, and this was heard and asked for, and sent. Before its last turn a text was held, or none.
+  pub record IsSat (end : SittingEnd) (holds : Bool) (before : ℕ) (first : TurnState D)
+      (store : StoreView D) (out : Exchange) : Type 0 where
     pub durable : IsDurable d first.store
     -- the turns after which it went on, and the events that were accepted in them
     pub count : ℕ
     pub turned : List Event
     pub place : TurnState D
     pub run : IsTurnRun desk d first count turned place
+    pub held : place.sitting.holds ≡ holds
     -- the last turn, the events that were accepted in it, and the one that was begun
     pub more : List Event
     pub begun : List Event
@@ -58,11 +59,12 @@ module _ (desk : Desk) {D : Type 0} (d : Ghosts D) where
     pub survives : SurvivesEnd d end events begun first.store store
 
   -- It ended where an event was to be taken back, or done again.
-  pub record IsLost (end : SittingEnd) (first : TurnState D) (store : StoreView D) (out : Exchange)
-      : Type 0 where
+  pub record IsLost (end : SittingEnd) (holds : Bool) (first : TurnState D) (store : StoreView D)
+      (out : Exchange) : Type 0 where
     pub count : ℕ
     pub place : TurnState D
     pub stretch : IsStretchOfTurns first count place
+    pub held : place.sitting.holds ≡ holds
     pub last : TurnState D
     pub broken : IsBrokenOff desk d end place last
     pub stands : last.store ≡ store
@@ -70,9 +72,9 @@ module _ (desk : Desk) {D : Type 0} (d : Ghosts D) where
 
   -- From its first place a sitting came to this end: by stretches, of each of which a crash leaves the desktop that was
   -- shown at any of its scenes, after the first of the events accepted since then.
-  pub record Sits (end : SittingEnd) (first : TurnState D) (store : StoreView D) (out : Exchange)
-      : Type 0 where
+  pub record Sits (end : SittingEnd) (holds : Bool) (first : TurnState D) (store : StoreView D)
+      (out : Exchange) : Type 0 where
     pub before : ℕ
     pub start : TurnState D
     pub comes : Comes first before start
-    pub ends : IsSat end before start store out ⊎ IsLost end start store out
+    pub ends : IsSat end holds before start store out ⊎ IsLost end holds start store out

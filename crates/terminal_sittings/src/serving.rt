@@ -46,7 +46,8 @@ const SIZE_REQUEST: [u8; 5] = [27, 91, 49, 56, 116];
 /// Serves the person at the keyboard: shows the screen in a terminal of `height` rows and `width` columns, and does what is
 /// pressed, until they leave or something fails. The line below begins with the greeting. With questions it is asked
 /// before a press loses something. Lines are filled from the beginning on, or not. Undos take back what was done in the
-/// past, as the store has it.
+/// past, as the store has it. Where the keyboard holds a text, Ctrl-V has it typed, until something is copied; `holds` says
+/// then whether it does so before the last turn. (In a turn that ends by `Closed` nothing is done.)
 ///
 /// Each event is acknowledged before the next scene is sent, so that no crash takes away what was shown. The store must
 /// be one that needn't be opened again. It can be used on after the sitting, but after `Fault` and `Memory` it must be
@@ -62,11 +63,12 @@ pub fn serve<K: Keyboard, W: AnswerWriter, D: Disk>(
     greeting: Saying,
     questions: bool,
     fills: bool,
+    holds: &mut bool,
     past: Past,
 ) -> SittingEnd
     requires { store.old.must_reopen ≡ false }
-    ensures sat { D.honest store.old.disk → Sits the_desk D.Disk result
-        (first_place the_desk height width greeting questions fills past store.old
+    ensures sat { D.honest store.old.disk → Sits the_desk D.Disk result holds.new
+        (first_place the_desk height width greeting questions fills holds.old past store.old
         (exchange (K.heard keyboard.old) (K.asked keyboard.old) (W.contents writer.old)
         (W.unflushed writer.old)))
         store.new
@@ -84,10 +86,12 @@ pub fn serve<K: Keyboard, W: AnswerWriter, D: Disk>(
     store.shows_what_crashes_leave();
     let mut sitting = Sitting::new(height, width, greeting, questions);
     sitting.fills = fills;
+    sitting.holds = *holds;
     sitting.past = past;
     let mut parser = Parser::new();
     let mut painter = Painter::new();
     for _count in 0..MOST_TURNS {
+        *holds = sitting.holds;
         if let Err(end) = step(
             alloc,
             &mut sitting,
@@ -100,6 +104,7 @@ pub fn serve<K: Keyboard, W: AnswerWriter, D: Disk>(
             return end;
         }
     }
+    *holds = sitting.holds;
     SittingEnd::TooLong
 }
 
