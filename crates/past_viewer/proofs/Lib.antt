@@ -1,3 +1,4 @@
+mod Copying
 mod Ending
 mod Lines
 mod Showing

@@ -9,6 +9,7 @@ use Rattle.terminal_presses.specs.declared.press.Presses.TheVariants.{Nothing, O
 use Rattle.terminal_keyboard.specs.declared.parser.Parser.{Parser}
 use Rattle.terminal_keyboard.specs.Presses.{heard_by}
 use Rattle.past_looks.specs.declared.hand.TheConstants.{CONTROL_P, CONTROL_Q, LEAVES}
+use Rattle.past_viewer.specs.declared.keys.TheConstants.{CONTROL_V}
 
 abbrev pub final_press : Presses → Option Press
 final_press Nothing = None
@@ -23,9 +24,9 @@ is_past_call press = false
 abbrev pub calls_past : Presses → Bool
 calls_past presses = is_past_call (final_press presses)
 
--- a key by which one may leave the past, and which ends no line and isn't Escape
+-- a key by which one may leave the past, or behind which a text that is held may come, and which ends no line and isn't Escape
 abbrev pub is_leaving : Option Press → Bool
-is_leaving (Some (Control byte)) = byte == CONTROL_Q
+is_leaving (Some (Control byte)) = (byte == CONTROL_Q) || (byte == CONTROL_V)
 is_leaving (Some (Character byte)) = byte == LEAVES
 is_leaving press = false
 
@@ -64,7 +65,7 @@ abbrev pub wants_quiet : Parser → Bool → Heard → Bool
 wants_quiet parser pastes heard = not pastes && shows_escape heard (heard_by parser heard).1
 
 -- How much is told at one time: nothing from Ctrl-P on, nor from a byte on that is told behind a quiet while, and nothing
--- behind a key by which one may leave; unless that is pasted.
+-- behind a key by which one may leave, or Ctrl-V; unless that is pasted.
 abbrev pub told_at_once : Parser → Bool → List Heard → ℕ
 told_at_once parser pastes [] = zero
 told_at_once parser pastes (heard ∷ more) =

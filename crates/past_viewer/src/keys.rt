@@ -11,6 +11,9 @@ use past_looks::{CONTROL_P, CONTROL_Q, LEAVES};
 use terminal_keyboard::{Hearing, KeySource, KeyboardEnd, Parser, Trace};
 use terminal_presses::{Heard, Press, Presses};
 
+/// The byte of Ctrl-V.
+const CONTROL_V: u8 = 22;
+
 /// The last one of these presses.
 fn final_press(presses: Presses) -> Option<Press>
     ensures { result ≡ final_press presses }
@@ -29,12 +32,13 @@ fn calls_past(presses: Presses) -> bool
     matches!(final_press(presses), Some(Press::Control(CONTROL_P)))
 }
 
-/// Whether one may leave the past by these presses, with a key that ends no line and isn't Escape.
+/// Whether one may leave the past by these presses, or a text that is held may come behind them, with a key that ends no line
+/// and isn't Escape.
 fn may_leave(presses: Presses) -> bool
     ensures { result ≡ may_leave presses }
 {
     match final_press(presses) {
-        Some(Press::Control(byte)) => byte == CONTROL_Q,
+        Some(Press::Control(byte)) => byte == CONTROL_Q || byte == CONTROL_V,
         Some(Press::Character(byte)) => byte == LEAVES,
         _ => false,
     }
@@ -68,8 +72,8 @@ fn still_pastes(pastes: bool, presses: Presses) -> bool
 /// when they are heard again.
 ///
 /// Behind a press by which one may leave the past nothing is told in the same hearing, so that what was pressed behind it
-/// is still to be heard when one has left. So a byte that shows that an escape byte before it was the key is told behind a
-/// quiet while, which shows that too.
+/// is still to be heard when one has left; nor behind Ctrl-V, so that it is heard behind a text which that brings in. And a
+/// byte that shows that an escape byte before it was the key is told behind a quiet while, which shows that too.
 #[derive(Drop)]
 pub struct PastKeys<K> {
     keys: K,

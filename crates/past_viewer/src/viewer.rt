@@ -152,6 +152,19 @@ pub fn view<K: Keyboard, W: AnswerWriter, D: Disk>(
     }
 }
 
+/// What was copied is kept, if that is any text. Returns what gives it to the clipboard.
+fn keep(kept: &mut Option<PastText>, copied: Copied) -> Vec<u8>
+    ensures clip { result.items ≡ copied.clip.items }
+    ensures kept { kept.new ≡ copy_kept kept.old copied.text.items }
+{
+    let Copied { text, words, clip } = copied;
+    drop(words);
+    if !text.is_empty() {
+        *kept = Some(PastText::of(text));
+    }
+    clip
+}
+
 impl Viewer {
     /// A person to whom the present is shown. None where the past of the store can't be read.
     ///
@@ -348,22 +361,8 @@ impl Viewer {
         self.looker.copied(copied.clip.is_empty());
         let last = self.looker.moments.last();
         let line = moment_line(alloc, self.looker.shown, last, copied.words.as_slice())?;
-        let clip = self.keep(copied);
+        let clip = keep(&mut self.copied, copied);
         self.show_saying(alloc, store, writer, line.as_slice(), clip.as_slice())
-    }
-
-    /// What was copied is kept, if that is any text. Returns what gives it to the clipboard.
-    fn keep(&mut self, copied: Copied) -> Vec<u8>
-        ensures clip { result.items ≡ copied.clip.items }
-        ensures copied { self.new.copied ≡ copy_kept self.old.copied copied.text.items }
-        ensures looker { self.new.looker ≡ self.old.looker }
-    {
-        let Copied { text, words, clip } = copied;
-        drop(words);
-        if !text.is_empty() {
-            self.copied = Some(PastText::of(text));
-        }
-        clip
     }
 
     /// Does what is pressed by all that was heard.

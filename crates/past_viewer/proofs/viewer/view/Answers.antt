@@ -1,7 +1,8 @@
 use Rattle.std.proofs.Common.{None, refl}
-use Rattle.std.proofs.lemmas.Result.{err_from_is_err_and, on_ok_weaker}
+use Rattle.std.proofs.lemmas.Result.{IfOk-weaker, err_from_is_err_and, on_ok_weaker}
 use Rattle.past_pages.proofs.StillReads.{still_both}
 use Rattle.past_viewer.specs.Viewing.IsViewed.{looked}
+use Rattle.past_viewer.proofs.Copying.{copied_first, none_copied}
 use Rattle.past_viewer.proofs.Ending.{in_use, keyboard_other, not_of_keyboard, of_keyboard, output_calm}
 use Rattle.past_viewer.proofs.Showing.{leaves_after, leaves_none, only_read_first, viewed_after}
 use Rattle.past_viewer.proofs.viewer.view.Goals as goal
@@ -68,3 +69,14 @@ pub returns-in-Some-clause-any_moment : goal.returns-in-Some-clause-any_moment
 returns-in-Some-clause-any_moment g c =
     let is = (rw c.in-Some.is at c.in_ok-of.ensures.is) in
     leaves_after g.D.Disk c.of.ensures.still (c.serve.ensures.any_moment is)
+
+-- ---- what was copied
+
+pub returns-in-None-clause-copied : goal.returns-in-None-clause-copied
+returns-in-None-clause-copied g c = IfOk-weaker c.serve_absent.result _ _ (λ viewed none. none_copied g.D.Disk none)
+    c.serve_absent.ensures.none
+
+pub returns-in-Some-clause-copied : goal.returns-in-Some-clause-copied
+returns-in-Some-clause-copied g c = IfOk-weaker c.serve.result _ _ (λ viewed keeps.
+    copied_first g.D.Disk c.of.ensures.still (rw c.in-Some.is at c.in_ok-of.ensures.none)
+    (keeps (rw c.in-Some.is at c.in_ok-of.ensures.is))) c.serve.ensures.copied

@@ -1,5 +1,6 @@
 use Rattle.std.proofs.Common.{Some, refl}
 use Rattle.std.proofs.lemmas.Result.{err_from_is_err_and, on_ok_weaker}
+use Rattle.past_viewer.proofs.Copying.{copy_keeps}
 use Rattle.past_viewer.proofs.Ending.{output_calm}
 use Rattle.past_viewer.proofs.Showing.{looks_read}
 use Rattle.past_viewer.proofs.viewer.Viewer.copy.Goals as goal
@@ -29,3 +30,8 @@ returns-clause-looks g c = on_ok_weaker c.show_copy.result (λ shown. record {
   knows = λ is. c.show_copy.ensures.looker (c.in_ok-come.ensures.looker is);
   scenes = λ is. (Some c.show_copy.new.self.looker.shown, shown (c.in_ok-come.ensures.looker is));
 }) c.show_copy.ensures.scenes
+
+pub returns-clause-copied : goal.returns-clause-copied
+returns-clause-copied g c = on_ok_weaker c.show_copy.result (λ copied is.
+    copy_keeps g.D.Disk c.come.new.self.looker _ _ _ c.come.ensures.still (c.in_ok-come.ensures.looker is)
+    c.come.ensures.copied copied) c.show_copy.ensures.copied

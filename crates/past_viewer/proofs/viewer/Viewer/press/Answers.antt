@@ -1,4 +1,4 @@
-use Rattle.std.proofs.Common.{None}
+use Rattle.std.proofs.Common.{None, inl}
 use Rattle.std.proofs.lemmas.Result.{IfOk-weaker}
 use Rattle.past_pages.proofs.StillReads.{still_none}
 use Rattle.past_viewer.specs.Viewing.IsViewed.{looked}
@@ -39,3 +39,12 @@ returns-in_ok-change-in_default-clause-does g c = looks_read g.D.Disk c.change-i
 
 pub returns-in_ok-change-in_default-clause-any_moment : goal.returns-in_ok-change-in_default-clause-any_moment
 returns-in_ok-change-in_default-clause-any_moment g c = λ is. only_read_first g.D.Disk c.change-in_default.ensures.still
+
+-- ---- what was copied
+
+pub returns-in_ok-copy-in-Copy-clause-copied : goal.returns-in_ok-copy-in-Copy-clause-copied
+returns-in_ok-copy-in-Copy-clause-copied g c = λ is.
+    c.in_ok-copy-in-Copy.ensures.copied (looker_same g.D.Disk c.wish_of.ensures.same is)
+
+pub returns-in-Turn-clause-copied : goal.returns-in-Turn-clause-copied
+returns-in-Turn-clause-copied g c = IfOk-weaker c.turn.result _ _ (λ doing does is. inl c.turn.ensures.copied) c.turn.ensures.does

@@ -1,5 +1,6 @@
 use Rattle.std.proofs.Common.{refl}
 use Rattle.std.proofs.lemmas.Result.{IfOk-weaker}
+use Rattle.past_viewer.proofs.Copying.{keeps_both}
 use Rattle.past_viewer.proofs.Ending.{output_behind}
 use Rattle.past_viewer.proofs.Showing.{does_behind, leaves_looks, leaves_none, looks_same}
 use Rattle.past_viewer.proofs.viewer.Viewer.press_each.Goals as goal
@@ -30,3 +31,11 @@ returns-in-Stays-clause-any_moment g c =
 pub returns-in-Stays-clause-output : goal.returns-in-Stays-clause-output
 returns-in-Stays-clause-output g c =
     output_behind c.press-in-Stays.result _ _ _ c.in_ok-press-in-Two.ensures.output c.press-in-Stays.ensures.output
+
+-- ---- what was copied
+
+pub returns-in-Stays-clause-copied : goal.returns-in-Stays-clause-copied
+returns-in-Stays-clause-copied g c =
+    let first = (rw c.in-Stays.is at c.in_ok-press-in-Two.ensures.does) in
+    IfOk-weaker c.press-in-Stays.result _ _ (λ doing keeps is.
+    keeps_both g.D.Disk first.read (c.in_ok-press-in-Two.ensures.copied is) (keeps (first.knows is))) c.press-in-Stays.ensures.copied

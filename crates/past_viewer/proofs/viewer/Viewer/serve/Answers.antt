@@ -1,6 +1,7 @@
-use Rattle.std.proofs.Common.{◌∙◌, refl}
+use Rattle.std.proofs.Common.{◌∙◌, inl, refl}
 use Rattle.std.proofs.lemmas.Result.{err_from_is_err_and}
 use Rattle.past_viewer.specs.declared.viewer.Doing.TheVariants.{Leaves}
+use Rattle.past_viewer.proofs.Copying.{keeps_both, keeps_same, keeps_then}
 use Rattle.past_viewer.proofs.Ending.{in_use, keyboard_other, not_of_keyboard, of_keyboard, output_calm, rises_behind, too_long_other}
 use Rattle.past_viewer.proofs.Showing.{does_behind, leaves_looks, looks_behind, looks_same, looks_shown, only_read_first}
 use Rattle.past_viewer.proofs.viewer.Viewer.serve.Goals as goal
@@ -9,6 +10,7 @@ pub loop-count-init : goal.loop-count-init
 loop-count-init g c = record {
   looks = looks_same g.D.Disk c.requires (record { moments = refl; shown = refl; look = refl; untouched = refl });
   usable = c.requires;
+  copied = λ is. inl refl;
   calm = refl;
 }
 
@@ -21,6 +23,8 @@ loop-count-preserved g c =
           (looks_shown g.D.Disk so_far.usable c.show_if_due.ensures.looker c.in_ok-show_if_due.ensures.scenes))
           (rw c.in-Stays.is at c.in_ok-take.ensures.does);
       usable = c.in_ok-take.ensures.usable;
+      copied = λ is. keeps_both g.D.Disk so_far.looks.read (so_far.copied is) (keeps_same g.D.Disk c.show_if_due.ensures.copied
+          (c.in_ok-take.ensures.copied (c.show_if_due.ensures.looker (so_far.looks.knows is))));
       calm = c.in_ok-take.ensures.output ∙ c.in_ok-show_if_due.ensures.output ∙ so_far.calm;
     }
 
@@ -119,3 +123,11 @@ returns-clause-any_moment g c = λ is. only_read_first g.D.Disk c.loop-count.inv
 
 pub returns-clause-output : goal.returns-clause-output
 returns-clause-output g c = output_calm _ _ _ too_long_other c.loop-count.invariant.calm
+
+-- ---- what was copied
+
+pub returns-in-Leaves-clause-copied : goal.returns-in-Leaves-clause-copied
+returns-in-Leaves-clause-copied g c = λ is.
+    let so_far = c.loop-count.invariant in
+    keeps_then g.D.Disk (keeps_both g.D.Disk so_far.looks.read (so_far.copied is) (keeps_same g.D.Disk c.show_if_due.ensures.copied
+    (c.in_ok-take.ensures.copied (c.show_if_due.ensures.looker (so_far.looks.knows is))))) c.leave.ensures

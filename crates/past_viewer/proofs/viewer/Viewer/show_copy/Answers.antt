@@ -1,8 +1,9 @@
-use Rattle.std.proofs.Common.{◌∙◌, ℕ, ap, refl}
+use Rattle.std.proofs.Common.{◌∙◌, ℕ, List, ap, refl}
 use Rattle.std.proofs.lemmas.Result.{err_from_is_err_and, on_ok_weaker}
 use Rattle.past_moments.proofs.Telling.{last_is}
 use Rattle.past_moments.specs.declared.moments.Look.{Look}
 use Rattle.past_looks.specs.Words.{moment_line}
+use Rattle.past_viewer.specs.Copies.{copy_kept}
 use Rattle.past_looks.proofs.Carrying.{looker_read, looker_same}
 use Rattle.past_viewer.proofs.Ending.{of_memory_alone, of_store, output_calm}
 use Rattle.past_viewer.proofs.Showing.{says_copied}
@@ -54,7 +55,11 @@ returns-clause-scenes g c = on_ok_weaker c.show_saying.result (λ shown is.
     c.args.self.now.looker.look.shown.desktop _ _ _ _
     (last_is g.D.Disk c.copied.new.self.moments.in_use.extent of.moments.known.in_use.extent)
     (ap (λ (look : Look). look.shown.desktop) c.copied.ensures.same.look ∙ c.copied_of.ensures.same)
-    (c.as_slice-3.ensures.value ∙ c.in_ok-copied.ensures.clip)
+    (c.as_slice-3.ensures.value ∙ c.keep.ensures.clip ∙ c.in_ok-copied.ensures.clip)
     (c.as_slice.ensures.value ∙ c.in_ok-copied.ensures.words)
     (c.as_slice-2.ensures.value ∙ c.in_ok-line.ensures
     ∙ ap (λ (n : ℕ). moment_line c.copied.new.self.shown n c.as_slice.result.now) c.last-last.ensures))) c.show_saying.ensures.scenes
+
+pub returns-clause-copied : goal.returns-clause-copied
+returns-clause-copied g c = on_ok_weaker c.show_saying.result (λ shown. c.show_saying.ensures.copied ∙ c.keep.ensures.kept
+    ∙ ap (λ (text : List ℕ). copy_kept c.args.self.now.copied text) c.in_ok-copied.ensures.text) c.show_saying.ensures.scenes

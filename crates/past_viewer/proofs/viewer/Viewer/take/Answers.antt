@@ -1,7 +1,8 @@
-use Rattle.std.proofs.Common.{◌∙◌, refl}
+use Rattle.std.proofs.Common.{◌∙◌, inl, refl}
 use Rattle.std.proofs.lemmas.Result.{err_from_is_err_and}
 use Rattle.past_pages.proofs.StillReads.{still_both}
 use Rattle.past_viewer.specs.declared.viewer.Doing.TheVariants.{Leaves, Stays}
+use Rattle.past_viewer.proofs.Copying.{keeps_both}
 use Rattle.past_viewer.proofs.Ending.{in_use, of_store, output_calm, rises_behind}
 use Rattle.past_looks.proofs.Carrying.{looker_same}
 use Rattle.past_viewer.proofs.Showing.{does_behind, does_same, leaves_looks, looks_behind, looks_read, looks_same, only_read_first}
@@ -11,6 +12,7 @@ pub loop-heard-init : goal.loop-heard-init
 loop-heard-init g c = record {
   looks = looks_same g.D.Disk c.requires (record { moments = refl; shown = refl; look = refl; untouched = refl });
   usable = c.requires;
+  copied = λ is. inl refl;
   calm = refl;
 }
 
@@ -21,6 +23,9 @@ loop-heard-preserved g c =
           (does_same g.D.Disk Stays _ _ _ _ _ _ _ (record { moments = refl; shown = refl; look = refl; untouched = refl })
           (rw c.in-Stays.is at c.in_ok-press_each.ensures.does));
       usable = c.in_ok-press_each.ensures.usable;
+      copied = λ is. keeps_both g.D.Disk so_far.looks.read (so_far.copied is)
+          (c.in_ok-press_each.ensures.copied (looker_same g.D.Disk (record { moments = refl; shown = refl; look = refl; untouched = refl })
+          (so_far.looks.knows is)));
       calm = c.in_ok-press_each.ensures.output ∙ so_far.calm;
     }
 
@@ -93,3 +98,12 @@ returns-clause-does g c =
 pub returns-clause-any_moment : goal.returns-clause-any_moment
 returns-clause-any_moment g c = λ is.
     only_read_first g.D.Disk (still_both g.D.Disk c.loop-heard.invariant.looks.read c.go_on.ensures.still)
+
+-- ---- what was copied
+
+pub returns-in-Leaves-clause-copied : goal.returns-in-Leaves-clause-copied
+returns-in-Leaves-clause-copied g c = λ is.
+    let so_far = c.loop-heard.invariant in
+    keeps_both g.D.Disk so_far.looks.read (so_far.copied is)
+    (c.in_ok-press_each.ensures.copied (looker_same g.D.Disk (record { moments = refl; shown = refl; look = refl; untouched = refl })
+    (so_far.looks.knows is)))
