@@ -1,4 +1,6 @@
 mod Copying
 mod Ending
+mod Holding
 mod Lines
+mod Places
 mod Showing

@@ -1,13 +1,22 @@
 //! A text that was copied in the past, for the present.
-ghost use Rattle.std.specs.Prelude.{◌≡◌, ◌||◌, true, false, [], map, IfSome, IsNone, is_ok, is_some};
+ghost use Rattle.std.specs.Prelude.{◌≡◌, ◌||◌, ℕ, true, false, List, [], map, Some, IfSome, IsNone, is_ok, is_some};
 ghost use Rattle.terminal_keyboard.specs.Hearings.{answer_number};
-ghost use Rattle.terminal_keyboard.specs.HostPastes.{harmless};
-ghost use Rattle.past_viewer.specs.Held.{AnswersHeld, TellsHeld, is_coming, piece_told, text_held, told_next};
+ghost use Rattle.terminal_keyboard.specs.Presses.{at_rest, presses_heard};
+ghost use Rattle.terminal_keyboard.specs.Spelling.{pasted};
+ghost use Rattle.terminal_presses.specs.declared.hand.Hand.{Hand as AHand};
+ghost use Rattle.terminal_presses.specs.declared.press.Heard.{Heard};
+ghost use Rattle.terminal_presses.specs.Hands.{idle};
+ghost use Rattle.terminal_presses.specs.Runs.{Types, pasted_text, posted_events};
+ghost use Rattle.terminal_presses.specs.Sights.{Sight as ASight};
+ghost use Rattle.past_viewer.specs.declared.held.Coming.TheVariants.{No};
+ghost use Rattle.past_viewer.specs.Held.{AnswersHeld, AreHeld, TellsHeld, harmless, is_coming, piece_told, text_held, told_next};
 
 use host_files::HostFault;
 use std::alloc::Global;
 use std::marker::Model;
-use terminal_keyboard::{Completion, Hearing, Keyboard, KeyboardEnd, MOST_HEARD, Trace};
+use terminal_keyboard::{
+    Completion, Hearing, Keyboard, KeyboardEnd, MOST_HEARD, Trace, pastes_are_heard,
+};
 use terminal_presses::Heard;
 
 /// What is told first of a text: an escape byte and `[200~`.
@@ -115,7 +124,7 @@ impl<K: Keyboard> HeldKeys<K> {
     /// What is told next of the text that is held. None where it isn't on its way in.
     fn told_of_text(&mut self) -> Option<Hearing>
         ensures told { IfSome result (λ told. (is_coming self.old.coming ≡ true)
-            × ((self.new.coming, told) ≡ told_next self.old.text.items self.old.coming)) }
+            × ((told, self.new.coming) ≡ told_next self.old.text.items self.old.coming)) }
         ensures none { IsNone result → (is_coming self.old.coming ≡ false)
             × (self.new.coming ≡ self.old.coming) }
         ensures text { self.new.text ≡ self.old.text }
@@ -200,7 +209,7 @@ impl<K: Keyboard> Keyboard for HeldKeys<K> {
 
 /// What is told of a text of which so many bytes are told: more of it, or its end. How far it has come then.
 fn piece_told(text: &[u8], from: usize) -> (Hearing, Coming)
-    ensures { (result.1, result.0) ≡ piece_told text.now from }
+    ensures { result ≡ piece_told text.now from }
 {
     if from >= text.len() {
         return (Hearing::of_bytes(&PASTE_ENDS), Coming::No);
@@ -223,7 +232,7 @@ fn make_harmless(text: &mut [u8])
 }
 
 /// The byte, or another one that can't be typed where it is an escape byte.
-#[tactic(auto, unfolding(Rattle::terminal_keyboard::specs::HostPastes::harmless))]
+#[tactic(auto, unfolding(crate::specs::Held::harmless))]
 fn harmless(byte: u8) -> u8
     ensures { result ≡ harmless byte }
 {
@@ -238,4 +247,17 @@ fn number_of(answer: Result<(), HostFault>) -> u8
         Ok(()) => 0,
         Err(why) => why.number(),
     }
+}
+
+/// What is told of a text that is held, from its beginning to its end, is a paste of it, and its events type it: of each line
+/// the end is a carriage return, and a question mark stands for each character that can't be typed.
+pub fn held_texts_are_typed()
+    ensures pasted { (text : List ℕ) (told : List Heard) → AreHeld text No told
+        → told ≡ pasted text }
+    ensures typed { (old text : List ℕ) (told : List Heard) (sight : ASight) (hand : AHand)
+        → AreHeld (text_held old (Some text)) No told
+        → Types (posted_events sight (idle hand) (presses_heard at_rest told))
+        (pasted_text (text_held old (Some text))) }
+{
+    pastes_are_heard();
 }

@@ -14,7 +14,7 @@ mod pane;
 mod viewer;
 mod words;
 
-pub use held::{HeldKeys, PastText};
+pub use held::{HeldKeys, PastText, held_texts_are_typed};
 pub use keys::PastKeys;
 pub use pane::Window;
 pub use viewer::{ViewEnd, Viewed, view};
