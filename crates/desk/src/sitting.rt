@@ -50,8 +50,9 @@ pub(crate) struct Service {
 
 /// The keys of a terminal, files of the host's, what is seen of the store's files, and a text that was copied in the past, as
 /// one keyboard.
-type DeskKeys<'a> =
-    HeldKeys<WatchedKeyboard<DeskKeyboard<'a, PastKeys<StandardInput>>, FileDisk<File>>>;
+type DeskKeys<'a> = HeldKeys<
+    WatchedKeyboard<DeskKeyboard<'a, PastKeys<StandardInput>>, FileDisk<File>>,
+>;
 
 /// Serves a person at the desktop of a new store in memory, and returns the status.
 pub(crate) fn sit_in_memory(rt: &HostRuntime, service: Service) -> u8 {
@@ -262,28 +263,14 @@ fn sit_watched<D: Disk>(
     let watched = WatchedKeyboard::new(DeskKeyboard::new(rt, keys), watch);
     let mut keyboard = HeldKeys::new(rt.alloc(), watched);
     let mut holds = false;
-    let end = serve_through(
-        rt,
-        &mut keyboard,
-        &mut holds,
-        &mut writer,
-        store,
-        service,
-    );
+    let end = serve_through(rt, &mut keyboard, &mut holds, &mut writer, store, service);
     match keyboard.keys.failed() {
         Some(leg) if matches!(end, SittingEnd::Closed) => {
             let told = Service {
                 greeting: failure_of(leg),
                 ..service
             };
-            serve_told(
-                rt,
-                &mut keyboard,
-                &mut holds,
-                &mut writer,
-                store,
-                told,
-            )
+            serve_told(rt, &mut keyboard, &mut holds, &mut writer, store, told)
         }
         _ => end,
     }
