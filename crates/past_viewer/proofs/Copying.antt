@@ -2,7 +2,6 @@
 use Rattle.std.proofs.Common.{◌≡◌, ◌∙◌, ℕ, true, false, List, length, Option, Some, None, inl, inr, refl, sym, subst}
 use Rattle.std.specs.Prelude.{◌==◌, IfSome}
 use Rattle.std.proofs.lemmas.Bool.{cond-true, cond-false}
-use Rattle.store_layout.proofs.Bits.{true_or_false}
 use Rattle.sector_disk.specs.declared.disk.Disk.{Ghosts}
 use Rattle.desktop_definitions.specs.Desktop.{Desktop}
 use Rattle.desk_journal.specs.View.{StoreView}
@@ -10,6 +9,7 @@ use Rattle.past_pages.specs.Reading.{IsOnlyReadFrom}
 use Rattle.past_pages.proofs.StillReads.{still_both}
 use Rattle.past_looks.specs.Looking.{IsLookerOf, IsSeenAt}
 use Rattle.past_looks.specs.declared.looker.Looker.{Looker}
+use Rattle.past_viewer.proofs.Holding.{true_or_false}
 use Rattle.past_viewer.specs.Copies.{copy_kept, exported_selection}
 use Rattle.past_viewer.specs.Viewing.{IsCopied, KeepsCopied}
 

@@ -1,12 +1,11 @@
 -- What is told of a text that is held, from its beginning on.
-use Rattle.std.proofs.Common.{◌≡◌, ◌∙◌, ℕ, zero, suc, ◌+◌, true, false, List, [], ◌∷◌, ◌++◌, length, take, drop, map, min}
+use Rattle.std.proofs.Common.{◌≡◌, ◌∙◌, ℕ, ◌+◌, true, false, List, [], ◌∷◌, ◌++◌, length, take, drop, map, min}
 use Rattle.std.proofs.Common.{inl, inr, refl, sym, ap, subst, arith, append-nil}
-use Rattle.std.specs.Prelude.{◌==◌, ◌≤◌, not, nat_le, IsTrue}
+use Rattle.std.specs.Prelude.{◌==◌, ◌≤◌, ◌⊎◌, Bool, not, nat_le, IsTrue}
 use Rattle.std.specs.List.{list_all}
 use Rattle.std.proofs.lemmas.Bool.{cond-true, cond-false}
 use Rattle.std.proofs.lemmas.Bool.Decides.{nat_tests}
-use Rattle.std.proofs.lemmas.List.{append_assoc}
-use Rattle.store_layout.proofs.Bits.{true_or_false}
+use Rattle.std.proofs.lemmas.List.{append_assoc, drop-take, take-append-drop, take-take, take_all}
 use Rattle.terminal_presses.specs.declared.press.Heard.{Heard}
 use Rattle.terminal_presses.specs.declared.press.Heard.TheVariants.{Byte}
 use Rattle.terminal_keyboard.specs.declared.hearing.TheConstants.{MOST_HEARD}
@@ -16,21 +15,24 @@ use Rattle.past_viewer.specs.declared.held.Coming.{Coming}
 use Rattle.past_viewer.specs.declared.held.Coming.TheVariants.{No, Begins, GoesOn}
 use Rattle.past_viewer.specs.Held.{AreHeld, harmless, is_coming, next_piece, nothing, one_more, piece_told, told_next}
 
+pub true_or_false : (b : Bool) → (b ≡ true) ⊎ (b ≡ false)
+true_or_false true = inl refl
+true_or_false false = inr refl
+
 bytes_both : (xs ys : List ℕ) → bytes_heard (xs ++ ys) ≡ bytes_heard xs ++ bytes_heard ys
 bytes_both [] ys = refl
 bytes_both (x ∷ xs) ys = ap (λ l. Byte x ∷ l) (bytes_both xs ys)
 
 front_whole : (n : ℕ) (xs : List ℕ) → nat_le (length xs) n ≡ true → take n xs ≡ xs
-front_whole zero [] is = refl
-front_whole zero (x ∷ xs) is = absurd cc
-front_whole (suc n) [] is = refl
-front_whole (suc n) (x ∷ xs) is = ap (λ l. x ∷ l) (front_whole n xs is)
+front_whole n xs is =
+    let short : length xs ≤ n = grind (arith, nat_tests, is) in
+    take_all n xs short
 
 front_longer : (n m : ℕ) (xs : List ℕ) → take (n + m) xs ≡ take n xs ++ take m (drop n xs)
-front_longer zero m xs = refl
-front_longer (suc n) zero [] = refl
-front_longer (suc n) (suc m) [] = refl
-front_longer (suc n) m (x ∷ xs) = ap (λ l. x ∷ l) (front_longer n m xs)
+front_longer n m xs =
+    let less : n ≤ n + m = omega arith in
+    sym (take-append-drop n (take (n + m) xs)) ∙ ap (λ l. l ++ drop n (take (n + m) xs)) (take-take n (n + m) xs less)
+    ∙ ap (λ l. take n xs ++ l) (drop-take n m xs)
 
 -- what was told so far, by how far the text has come
 abbrev Known : List ℕ → Coming → List Heard → Type 0
