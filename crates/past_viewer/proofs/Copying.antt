@@ -40,13 +40,13 @@ module _ {D : Type 0} (d : Ghosts D) where
   keeps_both {c = c} still first (inr second) = inr (copied_after c still second)
 
   -- it was the same before, and is the same behind it
-  pub keeps_same : {store : StoreView D} {a b c : Option (List ℕ)} → b ≡ a → KeepsCopied d store b c → KeepsCopied d store a c
-  keeps_same before (inl same) = inl (same ∙ before)
-  keeps_same before (inr is) = inr is
+  pub keeps_same : (store : StoreView D) {a b c : Option (List ℕ)} → b ≡ a → KeepsCopied d store b c → KeepsCopied d store a c
+  keeps_same store before (inl same) = inl (same ∙ before)
+  keeps_same store before (inr is) = inr is
 
-  pub keeps_then : {store : StoreView D} {a b c : Option (List ℕ)} → KeepsCopied d store a b → c ≡ b → KeepsCopied d store a c
-  keeps_then (inl same) behind = inl (behind ∙ same)
-  keeps_then {store = store} (inr is) behind = inr (subst (λ x. IfSome x (IsCopied d store)) (sym behind) is)
+  pub keeps_then : (store : StoreView D) {a b c : Option (List ℕ)} → KeepsCopied d store a b → c ≡ b → KeepsCopied d store a c
+  keeps_then store (inl same) behind = inl (behind ∙ same)
+  keeps_then store (inr is) behind = inr (subst (λ x. IfSome x (IsCopied d store)) (sym behind) is)
 
   -- nothing was copied before
   pub copied_first : {old mid : StoreView D} {kept kept' : Option (List ℕ)} → IsOnlyReadFrom d old mid → kept ≡ None
@@ -54,8 +54,8 @@ module _ {D : Type 0} (d : Ghosts D) where
   copied_first {old = old} still none (inl same) = subst (λ x. IfSome x (IsCopied d old)) (sym (same ∙ none)) tt
   copied_first {kept' = kept'} still none (inr is) = copied_after kept' still is
 
-  pub none_copied : {old : StoreView D} {kept : Option (List ℕ)} → kept ≡ None → IfSome kept (IsCopied d old)
-  none_copied {old = old} none = subst (λ x. IfSome x (IsCopied d old)) (sym none) tt
+  pub none_copied : (old : StoreView D) {kept : Option (List ℕ)} → kept ≡ None → IfSome kept (IsCopied d old)
+  none_copied old none = subst (λ x. IfSome x (IsCopied d old)) (sym none) tt
 
   -- what is selected at the moment that came is copied, if anything is
   pub copy_keeps : {old mid : StoreView D} (looker : Looker) (kept before kept' : Option (List ℕ)) → IsOnlyReadFrom d old mid

@@ -73,7 +73,7 @@ returns-in-Some-clause-any_moment g c =
 -- ---- what was copied
 
 pub returns-in-None-clause-copied : goal.returns-in-None-clause-copied
-returns-in-None-clause-copied g c = IfOk-weaker c.serve_absent.result _ _ (λ viewed none. none_copied g.D.Disk none)
+returns-in-None-clause-copied g c = IfOk-weaker c.serve_absent.result _ _ (λ viewed none. none_copied g.D.Disk _ none)
     c.serve_absent.ensures.none
 
 pub returns-in-Some-clause-copied : goal.returns-in-Some-clause-copied

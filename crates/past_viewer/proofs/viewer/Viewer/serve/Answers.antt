@@ -23,7 +23,7 @@ loop-count-preserved g c =
           (looks_shown g.D.Disk so_far.usable c.show_if_due.ensures.looker c.in_ok-show_if_due.ensures.scenes))
           (rw c.in-Stays.is at c.in_ok-take.ensures.does);
       usable = c.in_ok-take.ensures.usable;
-      copied = λ is. keeps_both g.D.Disk so_far.looks.read (so_far.copied is) (keeps_same g.D.Disk c.show_if_due.ensures.copied
+      copied = λ is. keeps_both g.D.Disk so_far.looks.read (so_far.copied is) (keeps_same g.D.Disk _ c.show_if_due.ensures.copied
           (c.in_ok-take.ensures.copied (c.show_if_due.ensures.looker (so_far.looks.knows is))));
       calm = c.in_ok-take.ensures.output ∙ c.in_ok-show_if_due.ensures.output ∙ so_far.calm;
     }
@@ -129,5 +129,5 @@ returns-clause-output g c = output_calm _ _ _ too_long_other c.loop-count.invari
 pub returns-in-Leaves-clause-copied : goal.returns-in-Leaves-clause-copied
 returns-in-Leaves-clause-copied g c = λ is.
     let so_far = c.loop-count.invariant in
-    keeps_then g.D.Disk (keeps_both g.D.Disk so_far.looks.read (so_far.copied is) (keeps_same g.D.Disk c.show_if_due.ensures.copied
+    keeps_then g.D.Disk _ (keeps_both g.D.Disk so_far.looks.read (so_far.copied is) (keeps_same g.D.Disk _ c.show_if_due.ensures.copied
     (c.in_ok-take.ensures.copied (c.show_if_due.ensures.looker (so_far.looks.knows is))))) c.leave.ensures

@@ -55,11 +55,11 @@ returns-clause-scenes g c = on_ok_weaker c.show_saying.result (λ shown is.
     c.args.self.now.looker.look.shown.desktop _ _ _ _
     (last_is g.D.Disk c.copied.new.self.moments.in_use.extent of.moments.known.in_use.extent)
     (ap (λ (look : Look). look.shown.desktop) c.copied.ensures.same.look ∙ c.copied_of.ensures.same)
-    (c.as_slice-3.ensures.value ∙ c.keep.ensures.clip ∙ c.in_ok-copied.ensures.clip)
+    (c.as_slice-3.ensures.value ∙ c.keep-clip.ensures.clip ∙ c.in_ok-copied.ensures.clip)
     (c.as_slice.ensures.value ∙ c.in_ok-copied.ensures.words)
     (c.as_slice-2.ensures.value ∙ c.in_ok-line.ensures
     ∙ ap (λ (n : ℕ). moment_line c.copied.new.self.shown n c.as_slice.result.now) c.last-last.ensures))) c.show_saying.ensures.scenes
 
 pub returns-clause-copied : goal.returns-clause-copied
-returns-clause-copied g c = on_ok_weaker c.show_saying.result (λ shown. c.show_saying.ensures.copied ∙ c.keep.ensures.kept
+returns-clause-copied g c = on_ok_weaker c.show_saying.result (λ shown. c.show_saying.ensures.copied ∙ c.keep-clip.ensures.kept
     ∙ ap (λ (text : List ℕ). copy_kept c.args.self.now.copied text) c.in_ok-copied.ensures.text) c.show_saying.ensures.scenes
