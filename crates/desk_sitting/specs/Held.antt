@@ -6,10 +6,10 @@ use Rattle.terminal_presses.specs.declared.action.Action.{Action}
 use Rattle.terminal_presses.specs.declared.action.Action.TheVariants.{Post, TypeFile}
 
 -- whether a press pastes what was copied
-abbrev pub is_pasting : Action → Bool
-is_pasting (Post (Key Paste)) = true
-is_pasting _ = false
+abbrev pub pastes_copy : Action → Bool
+pastes_copy (Post (Key Paste)) = true
+pastes_copy _ = false
 
 -- What a press means while a text is held, or none. It has no name, as no file has that a person may name.
 abbrev pub held_meant : Bool → Action → Action
-held_meant holds a = if holds && is_pasting a then TypeFile [] else a
+held_meant holds a = if holds && pastes_copy a then TypeFile [] else a

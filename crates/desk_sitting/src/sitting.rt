@@ -11,7 +11,7 @@ ghost use Rattle.desk_sitting.specs.Sittings.{pointed_no_more, asked_words, with
 ghost use Rattle.desk_sitting.specs.Sittings.{with_hand, with_marks, marked_saying, marks_more};
 ghost use Rattle.desk_sitting.specs.Sittings.{after_completion, asks_rest, hand_typed, is_tabulator};
 ghost use Rattle.desk_sitting.specs.Clips.{is_copying};
-ghost use Rattle.desk_sitting.specs.Held.{held_meant, is_pasting};
+ghost use Rattle.desk_sitting.specs.Held.{held_meant, pastes_copy};
 ghost use Rattle.earlier_presses.specs.Twice.{is_of_terminal};
 
 use desk_journal::{Error, Store};
@@ -673,7 +673,7 @@ fn is_unseen(hand: &Hand) -> bool
 fn held_meant(holds: bool, action: Action) -> Action
     ensures { result ≡ held_meant holds action }
 {
-    if holds && is_pasting(&action) {
+    if holds && pastes_copy(&action) {
         Action::TypeFile(HostName::none())
     } else {
         action
@@ -681,8 +681,8 @@ fn held_meant(holds: bool, action: Action) -> Action
 }
 
 /// Whether a press pastes what was copied.
-fn is_pasting(action: &Action) -> bool
-    ensures { result ≡ is_pasting action.now }
+fn pastes_copy(action: &Action) -> bool
+    ensures { result ≡ pastes_copy action.now }
 {
     matches!(action, Action::Post(Event::Key(Key::Paste)))
 }

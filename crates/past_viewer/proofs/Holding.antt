@@ -9,11 +9,11 @@ use Rattle.std.proofs.lemmas.List.{append_assoc, drop-take, take-append-drop, ta
 use Rattle.terminal_presses.specs.declared.press.Heard.{Heard}
 use Rattle.terminal_presses.specs.declared.press.Heard.TheVariants.{Byte}
 use Rattle.terminal_keyboard.specs.declared.hearing.TheConstants.{MOST_HEARD}
-use Rattle.terminal_keyboard.specs.HostPastes.{paste_begins, paste_ends}
+use Rattle.terminal_keyboard.specs.HostPastes.{harmless, paste_begins, paste_ends}
 use Rattle.terminal_keyboard.specs.Spelling.{bytes_heard, pasted}
 use Rattle.past_viewer.specs.declared.held.Coming.{Coming}
 use Rattle.past_viewer.specs.declared.held.Coming.TheVariants.{No, Begins, GoesOn}
-use Rattle.past_viewer.specs.Held.{AreHeld, harmless, is_coming, next_piece, nothing, one_more, piece_told, told_next}
+use Rattle.past_viewer.specs.Held.{AreHeld, is_coming_in, next_piece, nothing, one_more, piece_told, told_next}
 
 pub true_or_false : (b : Bool) → (b ≡ true) ⊎ (b ≡ false)
 true_or_false true = inl refl
@@ -61,7 +61,7 @@ known_piece text n told known =
           subst Reads (sym (cond-false (nat_le (length text) n) (bytes_heard paste_ends, No) (next_piece n (drop n text)) more)) longer
     ]
 
-known_next : (text : List ℕ) (at : Coming) (told : List Heard) → Known text at told → is_coming at ≡ true
+known_next : (text : List ℕ) (at : Coming) (told : List Heard) → Known text at told → is_coming_in at ≡ true
     → Known text (told_next text at).1 (told ++ (told_next text at).0)
 known_next text No told known is = absurd cc
 known_next text Begins told known is = ap (λ l. l ++ bytes_heard paste_begins) known ∙ sym (append-nil (bytes_heard paste_begins))

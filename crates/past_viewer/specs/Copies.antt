@@ -21,8 +21,8 @@ exported_selection d = exported_within d (newest d)
 abbrev pub copied_unit : ℕ → List ℕ
 copied_unit n =
     if n == 1 then codes " character for Ctrl-V and your terminal's paste" else
-    (if nat_lt MOST_CLIPPED n then codes " characters for Ctrl-V, too many for your terminal's paste"
-    else codes " characters for Ctrl-V and your terminal's paste")
+    if nat_lt MOST_CLIPPED n then codes " characters for Ctrl-V, too many for your terminal's paste"
+    else codes " characters for Ctrl-V and your terminal's paste"
 
 -- what is said of a copy of so many
 abbrev pub copied_words : ℕ → List ℕ

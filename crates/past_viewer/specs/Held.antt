@@ -1,23 +1,19 @@
 -- A text that is held for the present, and on its way in as a paste.
-use Rattle.std.specs.Prelude.{◌≡◌, ℕ, ◌+◌, ◌==◌, Bool, true, false, if◌then◌else◌, min, nat_le, List, [], ◌∷◌, ◌++◌, length, map, take, drop}
+use Rattle.std.specs.Prelude.{◌≡◌, ℕ, ◌+◌, Bool, true, false, if◌then◌else◌, min, nat_le, List, [], ◌∷◌, ◌++◌, length, map, take, drop}
 use Rattle.std.specs.Prelude.{Option, Some, None, Result, Ok, ⊤}
 use Rattle.host_files.specs.declared.HostFault.{HostFault}
 use Rattle.terminal_presses.specs.declared.press.Heard.{Heard}
 use Rattle.terminal_keyboard.specs.declared.hearing.TheConstants.{MOST_HEARD}
-use Rattle.terminal_keyboard.specs.HostPastes.{paste_begins, paste_ends}
+use Rattle.terminal_keyboard.specs.HostPastes.{harmless, paste_begins, paste_ends}
 use Rattle.terminal_keyboard.specs.Spelling.{bytes_heard}
 use Rattle.past_viewer.specs.declared.held.Coming.{Coming}
 use Rattle.past_viewer.specs.declared.held.Coming.TheVariants.{No, Begins, GoesOn}
 
 -- whether it is on its way in
-abbrev pub is_coming : Coming → Bool
-is_coming No = false
-is_coming Begins = true
-is_coming (GoesOn n) = true
-
--- An escape byte of it is told as a byte that can't be typed, and any other byte as itself.
-unfoldable pub harmless : ℕ → ℕ
-harmless b = if b == 27 then 28 else b
+abbrev pub is_coming_in : Coming → Bool
+is_coming_in No = false
+is_coming_in Begins = true
+is_coming_in (GoesOn n) = true
 
 -- The text that is held after this one was to be, if any was. Nothing in it is a key.
 abbrev pub text_held : List ℕ → Option (List ℕ) → List ℕ
@@ -57,5 +53,5 @@ AnswersHeld other text text' at' (b ∷ name) answer = other × (at' ≡ No) × 
 -- All that was told so far of a text that is on its way in, and how far it has come.
 pub data AreHeld (text : List ℕ) : Coming → List Heard → Type 0 where
   nothing : AreHeld text Begins []
-  one_more : {at : Coming} {told : List Heard} → AreHeld text at told → is_coming at ≡ true
+  one_more : {at : Coming} {told : List Heard} → AreHeld text at told → is_coming_in at ≡ true
       → AreHeld text (told_next text at).1 (told ++ (told_next text at).0)

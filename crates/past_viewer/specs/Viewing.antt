@@ -105,7 +105,7 @@ module _ {D : Type 0} (d : Ghosts D) where
   -- ---- what is copied
 
   -- This was copied of a desktop that was seen of a moment, before which the store was only read.
-  pub record IsCopied (old : StoreView D) (text : List ℕ) : Type 0 where
+  pub record IsTextCopied (old : StoreView D) (text : List ℕ) : Type 0 where
     pub mid : StoreView D
     pub read : IsOnlyReadFrom d old mid
     pub k : ℕ
@@ -115,7 +115,7 @@ module _ {D : Type 0} (d : Ghosts D) where
 
   -- what was copied last is still kept, or something else was copied since then
   abbrev pub KeepsCopied : StoreView D → Option (List ℕ) → Option (List ℕ) → Type 0
-  KeepsCopied old kept kept' = (kept' ≡ kept) ⊎ IfSome kept' (IsCopied old)
+  KeepsCopied old kept kept' = (kept' ≡ kept) ⊎ IfSome kept' (IsTextCopied old)
 
   -- ---- what becomes of the store, and what a writer took meanwhile
 

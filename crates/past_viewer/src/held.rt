@@ -5,11 +5,12 @@ ghost use Rattle.terminal_keyboard.specs.Presses.{at_rest, presses_heard};
 ghost use Rattle.terminal_keyboard.specs.Spelling.{pasted};
 ghost use Rattle.terminal_presses.specs.declared.hand.Hand.{Hand as AHand};
 ghost use Rattle.terminal_presses.specs.declared.press.Heard.{Heard};
+ghost use Rattle.terminal_keyboard.specs.HostPastes.{harmless};
 ghost use Rattle.terminal_presses.specs.Hands.{idle};
 ghost use Rattle.terminal_presses.specs.Runs.{Types, pasted_text, posted_events};
 ghost use Rattle.terminal_presses.specs.Sights.{Sight as ASight};
 ghost use Rattle.past_viewer.specs.declared.held.Coming.TheVariants.{No};
-ghost use Rattle.past_viewer.specs.Held.{AnswersHeld, AreHeld, TellsHeld, harmless, is_coming, piece_told, text_held, told_next};
+ghost use Rattle.past_viewer.specs.Held.{AnswersHeld, AreHeld, TellsHeld, is_coming_in, piece_told, text_held, told_next};
 
 use host_files::HostFault;
 use std::alloc::Global;
@@ -91,7 +92,7 @@ impl<K: Keyboard> HeldKeys<K> {
         ensures none { result.log.items ≡ [] }
         ensures unasked { result.asked.items ≡ [] }
         ensures text { result.text.items ≡ [] }
-        ensures calm { is_coming result.coming ≡ false }
+        ensures calm { is_coming_in result.coming ≡ false }
     {
         HeldKeys {
             keys,
@@ -123,9 +124,9 @@ impl<K: Keyboard> HeldKeys<K> {
 
     /// What is told next of the text that is held. None where it isn't on its way in.
     fn told_of_text(&mut self) -> Option<Hearing>
-        ensures told { IfSome result (λ told. (is_coming self.old.coming ≡ true)
+        ensures told { IfSome result (λ told. (is_coming_in self.old.coming ≡ true)
             × ((told, self.new.coming) ≡ told_next self.old.text.items self.old.coming)) }
-        ensures none { IsNone result → (is_coming self.old.coming ≡ false)
+        ensures none { IsNone result → (is_coming_in self.old.coming ≡ false)
             × (self.new.coming ≡ self.old.coming) }
         ensures text { self.new.text ≡ self.old.text }
         ensures keys { self.new.keys ≡ self.old.keys }
@@ -150,7 +151,7 @@ impl<K: Keyboard> HeldKeys<K> {
     fn brought(&mut self, name: &[u8]) -> Result<(), HostFault>
         ensures answered { AnswersHeld (K.answers self.old.keys self.new.keys name.now result)
             self.old.text.items self.new.text.items self.new.coming name.now result }
-        ensures brings { is_coming self.new.coming || K.brings self.new.keys ≡ is_ok result }
+        ensures brings { is_coming_in self.new.coming || K.brings self.new.keys ≡ is_ok result }
         ensures unread { K.left self.new.keys ≡ K.left self.old.keys }
         ensures log { self.new.log ≡ self.old.log }
         ensures asked { self.new.asked ≡ self.old.asked }
@@ -171,7 +172,7 @@ impl<K: Keyboard> Keyboard for HeldKeys<K> {
 
     ghost asked = { λ k. k.asked.items };
 
-    ghost brings = { λ k. is_coming k.coming || K.brings k.keys };
+    ghost brings = { λ k. is_coming_in k.coming || K.brings k.keys };
 
     ghost tells = { λ old new told. TellsHeld (K.tells old.keys new.keys told) old.text.items
         new.text.items old.coming new.coming told };
@@ -232,7 +233,7 @@ fn make_harmless(text: &mut [u8])
 }
 
 /// The byte, or another one that can't be typed where it is an escape byte.
-#[tactic(auto, unfolding(crate::specs::Held::harmless))]
+#[tactic(auto, unfolding(terminal_keyboard::specs::HostPastes::harmless))]
 fn harmless(byte: u8) -> u8
     ensures { result ≡ harmless byte }
 {

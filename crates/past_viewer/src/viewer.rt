@@ -5,7 +5,7 @@ ghost use Rattle.past_looks.specs.Looking.{IsLookerOf, StaysOrTurns};
 ghost use Rattle.past_viewer.specs.declared.viewer.ViewEnd.TheVariants.{Memory, Output as TakesNoMore};
 ghost use Rattle.past_viewer.specs.Copies.{copy_kept, exported_selection};
 ghost use Rattle.past_viewer.specs.Viewing.{CountsViewOutput, DoesKey, EndsViewBy, IsViewed, LeavesViewed, LooksOn, TakesScenes};
-ghost use Rattle.past_viewer.specs.Viewing.{IsCopied, KeepsCopied};
+ghost use Rattle.past_viewer.specs.Viewing.{IsTextCopied, KeepsCopied};
 ghost use Rattle.past_viewer.specs.Viewing.{IsOfStore, IsUsableBehind, TakesSome, TellsBelow, TurnsOrStays, heard_end, view_end_of};
 
 use crate::absent::serve_absent;
@@ -136,7 +136,7 @@ pub fn view<K: Keyboard, W: AnswerWriter, D: Disk>(
 ) -> Result<Viewed, ViewEnd>
     requires { store.old.must_reopen ≡ false }
     ensures copied { IfOk result (λ viewed. IfSome viewed.copied
-        (IsCopied D.Disk store.old)) }
+        (IsTextCopied D.Disk store.old)) }
     ensures viewed { OnOk result (IsViewed D.Disk store.old store.new (W.contents writer.old)
         (W.contents writer.new)) }
     ensures any_moment { LeavesViewed D.Disk store.old store.new (W.contents writer.old)

@@ -2,7 +2,7 @@ use Rattle.std.proofs.Common.{map, subst, sym}
 use Rattle.terminal_keyboard.specs.Presses.{at_rest, presses_heard}
 use Rattle.terminal_presses.specs.Hands.{idle}
 use Rattle.terminal_presses.specs.Runs.{Types, posted_events, pasted_text}
-use Rattle.past_viewer.specs.Held.{harmless}
+use Rattle.terminal_keyboard.specs.HostPastes.{harmless}
 use Rattle.past_viewer.proofs.Holding.{none_escapes, whole_is_pasted}
 use Rattle.past_viewer.proofs.held.held_texts_are_typed.Goals as goal
 

@@ -1,5 +1,5 @@
 use Rattle.std.proofs.Common.{◌∙◌, ap, set, length-set, arith}
-use Rattle.past_viewer.specs.Held.{harmless}
+use Rattle.terminal_keyboard.specs.HostPastes.{harmless}
 use Rattle.past_viewer.proofs.Places.{next_changed}
 use Rattle.past_viewer.proofs.held.make_harmless.Goals as goal
 

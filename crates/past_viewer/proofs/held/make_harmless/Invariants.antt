@@ -1,5 +1,5 @@
 use Rattle.std.proofs.Common.{◌≡◌, length}
-use Rattle.past_viewer.specs.Held.{harmless}
+use Rattle.terminal_keyboard.specs.HostPastes.{harmless}
 use Rattle.past_viewer.proofs.Places.{changed_to}
 use Rattle.past_viewer.proofs.held.make_harmless.Given as goal
 
