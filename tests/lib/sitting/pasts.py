@@ -17,7 +17,8 @@ import reader  # noqa: E402, beside the other tests of a past
 SECTORS = int(os.environ.get('PAST_SECTORS', reader.SITTING))
 PRESSES = 120
 MOMENTS = 100
-KEYS = [b'\x7f', b'\r', b'\x1b[A', b'\x1b[D', b'\x1b[1;2D', b'\x03', b'\x16', b'\x0b']
+COPY = b'\x10\x1b[D\x03\x10'  # Ctrl-P, Left, Ctrl-C, and Ctrl-P again: Ctrl-V then types what was selected there, if anything was
+KEYS = [b'\x7f', b'\r', b'\x1b[A', b'\x1b[D', b'\x1b[1;2D', b'\x03', b'\x16', b'\x0b', COPY]
 
 
 def press_of(chance):
