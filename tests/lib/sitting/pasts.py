@@ -38,6 +38,11 @@ def now_of(path):
     return slot.before + len(reader.journal(disk, 0, slot.slot))
 
 
+def keeps_none(path):
+    """Whether the head tells of no past: what was done before it began was taken back, and nobody has sat down since then."""
+    return reader.Slot(reader.Disk(path), 0).next == 0
+
+
 def start_of(path):
     """How many deeds came before the part in use, as far as its start's head tells."""
     disk = reader.Disk(path)
@@ -103,6 +108,9 @@ def attempt(seed, desk, oberon):
     trial, looked, former = Trial(desk, oberon, chance), 0, 0
     try:
         seen = sit(trial, chance)
+        if keeps_none(trial.path):
+            trial.stop()
+            return trial.wrong, 0, 0
         begun = start_of(trial.path)
         for moment in chance.sample(sorted(seen), min(MOMENTS, len(seen))):
             found = screen_at(trial, moment)
